@@ -1,0 +1,57 @@
+#!/bin/sh
+# archive.sh NAME [PROCESSOR]: in a repository of Rattle, proves the library NAME and prints the path of a static archive of it, for C or
+# Rust on this processor (or the one named) to link.
+#
+# On x86-64 it is rt's own. For another processor the same proved module is compiled anew: rt runs with a folder in the place of its kit
+# that differs in one file, bin/clang, a wrapper that puts the processor's name in the place of x86-64. Such an archive is for tests and
+# measurements only.
+set -eu
+name=${1:?usage: archive.sh NAME [PROCESSOR]}
+processor=${2:-$(uname -m)}
+root=$PWD
+while [ ! -f "$root/crates.txt" ]; do
+    [ "$root" != / ] || { echo "archive: no crates.txt in this folder or above it" >&2; exit 2; }
+    root=$(dirname "$root")
+done
+say=$root/target/archive.say
+mkdir -p "$root/target"
+prove() { rt staticlib "$name" >"$say" 2>&1 || { cat "$say" >&2; exit 1; }; }
+
+if [ "$processor" = x86_64 ]; then
+    prove
+    echo "$root/target/staticlib/lib$name.a"
+    exit 0
+fi
+
+kit=$(cd "$(dirname "$(rt doc)")/.." && pwd)
+mirror=$(mktemp -d)
+trap 'rm -rf "$mirror"' EXIT
+# All of a folder but one entry, by links.
+link() { # FROM TO BUT
+    mkdir -p "$2"
+    for entry in "$1"/*; do [ "${entry##*/}" = "$3" ] || ln -s "$entry" "$2/"; done
+}
+own=on/$(uname -m)
+link "$kit" "$mirror" on
+link "$kit/$own" "$mirror/$own" toolchain
+link "$kit/$own/toolchain" "$mirror/$own/toolchain" bin
+link "$kit/$own/toolchain/bin" "$mirror/$own/toolchain/bin" clang
+clang=$mirror/$own/toolchain/bin/clang
+cat >"$clang" <<EOF
+#!/bin/sh
+for word in "\$@"; do
+    shift
+    case \$word in
+    --target=*) set -- "\$@" --target=$processor-unknown-linux-gnu -Wno-override-module ;;
+    -march=*) ;;
+    *) set -- "\$@" "\$word" ;;
+    esac
+done
+# It warns of the x86-64 that the module names as its processor; what it says is of interest only where it fails.
+"$kit/$own/toolchain/bin/clang" "\$@" 2>"$mirror/said" || { cat "$mirror/said" >&2; exit 1; }
+EOF
+chmod +x "$clang"
+RATTLE_HOME=$mirror prove
+mkdir -p "$root/target/staticlib/$processor"
+mv "$root/target/staticlib/lib$name.a" "$root/target/staticlib/$processor/"
+echo "$root/target/staticlib/$processor/lib$name.a"

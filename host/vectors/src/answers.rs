@@ -1,0 +1,159 @@
+//! What the Rust's words say in document 01's numbers. What it does not tell is `UNTOLD`.
+
+use crate::oracle::{Oracle, value};
+
+pub const UNTOLD: u32 = u32::MAX;
+/// After an include's value the Rust has one error for refusals 5 and 6.
+pub const FIVE_OR_SIX: u32 = 56;
+
+#[derive(Clone, Copy, Debug, PartialEq)]
+pub struct Refusal {
+    pub number: u32,
+    pub keyword: u32,
+    pub position: u32,
+}
+
+/// A scan's answer: what was read, a refusal, or a line that says neither.
+#[derive(Debug, PartialEq)]
+pub enum Scan<T> {
+    Good(T),
+    Refused(Refusal),
+    Silent(String),
+}
+
+type Value = Option<Vec<u8>>;
+
+#[derive(Debug, PartialEq)]
+pub struct Dependencies {
+    pub imports: Vec<[Value; 3]>,
+    pub includes: Vec<[Value; 2]>,
+    pub page: Vec<u8>,
+}
+
+const MESSAGES: [(&str, u32, u32); 12] = [
+    ("Expected module name after 'import'", 4, 8),
+    ("Expected submodule name after 'include'", 4, 9),
+    ("Expected prefix value", 4, 5),
+    ("Expected revision-date value", 4, 10),
+    ("Expected module name", 4, 1),
+    ("Expected submodule name", 4, 2),
+    ("Expected parent module name", 4, 3),
+    ("Expected namespace value", 4, 4),
+    ("Expected revision date", 4, 7),
+    ("Expected ';' or '{' after include statement", FIVE_OR_SIX, 9),
+    ("Missing required 'prefix' in import statement", 7, 8),
+    ("Module/submodule name not found", 9, 0),
+];
+
+/// The refusal behind a message of the scans.
+pub fn refusal(message: &str) -> Option<Refusal> {
+    for (text, number, keyword) in MESSAGES {
+        if message == text {
+            return Some(Refusal { number, keyword, position: UNTOLD });
+        }
+    }
+    let rest = message.strip_prefix("Expected '{', found ").or(message.strip_prefix("Expected ';', found "))?;
+    if rest == "EOF" {
+        return Some(Refusal { number: 6, keyword: UNTOLD, position: UNTOLD });
+    }
+    let (_, position) = rest.rsplit_once(" at position: ")?;
+    Some(Refusal { number: 5, keyword: UNTOLD, position: position.parse().ok()? })
+}
+
+/// An unclosed import or include block is the only thing at which a scan never returns.
+const HANG: Refusal = Refusal { number: 8, keyword: UNTOLD, position: UNTOLD };
+
+fn scan<T>(line: String, good: impl FnOnce(&[&str]) -> T) -> Scan<T> {
+    let words: Vec<&str> = line.split(' ').collect();
+    match words.as_slice() {
+        ["ok", rest @ ..] => Scan::Good(good(rest)),
+        ["hang"] => Scan::Refused(HANG),
+        ["err", message] => {
+            let message = String::from_utf8(value(message).expect("a message")).expect("a message");
+            refusal(&message).map_or(Scan::Silent(message), Scan::Refused)
+        }
+        _ => Scan::Silent(line),
+    }
+}
+
+pub fn dependencies(oracle: &mut Oracle, text: &[u8]) -> Scan<Dependencies> {
+    let mut answer = scan(oracle.ask("deps", &[text]), |words| {
+        let count = |w: &str| w.parse::<usize>().expect("a count");
+        let (imports, includes) = words[2..].split_at(3 * count(words[0]));
+        assert_eq!(includes.len(), 2 * count(words[1]));
+        Dependencies {
+            imports: imports.chunks(3).map(|c| [value(c[0]), value(c[1]), value(c[2])]).collect(),
+            includes: includes.chunks(2).map(|c| [value(c[0]), value(c[1])]).collect(),
+            page: Vec::new(),
+        }
+    });
+    if let Scan::Good(d) = &mut answer {
+        let line = oracle.ask("print", &[text]);
+        d.page = value(line.strip_prefix("ok ").expect("a page")).expect("a page");
+    }
+    answer
+}
+
+/// Name, namespace, prefix, first revision, parent.
+pub fn metadata(oracle: &mut Oracle, text: &[u8]) -> Scan<Vec<Value>> {
+    scan(oracle.ask("meta", &[text]), |words| words.iter().map(|w| value(w)).collect())
+}
+
+/// Module, submodule, import-only module of a name, and the last one's revisions.
+pub fn finds(oracle: &mut Oracle, image: &[u8], name: &[u8]) -> [u32; 4] {
+    let mut out = [UNTOLD; 4];
+    for (i, kind) in ["module", "submodule", "import-only"].iter().enumerate() {
+        let line = oracle.ask(kind, &[image, name]);
+        let words: Vec<&str> = line.split(' ').collect();
+        for (k, word) in words[1..].iter().enumerate() {
+            assert_eq!(words[0], "ok", "{line}");
+            out[i + k] = word.parse().expect("a place");
+        }
+    }
+    out
+}
+
+#[derive(Debug, PartialEq)]
+pub enum Graph {
+    /// The places of the nodes' names, and the edges.
+    Built(Vec<u32>, Vec<[u32; 2]>),
+    /// The graph's refusal, and the scan's at 25.
+    Refused(u32, Refusal),
+    Silent(String),
+}
+
+const NO_SCAN: Refusal = Refusal { number: 0, keyword: 0, position: 0 };
+
+fn graph_refusal(message: &str) -> Option<u32> {
+    match message {
+        m if m.starts_with("No schema for ") => Some(23),
+        m if m.starts_with("No module ") && m.ends_with(" found in YANG Library") => Some(26),
+        m if m.starts_with("No submodule ") && m.ends_with(" found in YANG Library") => Some(27),
+        m if m.starts_with("No submodule ") && m.ends_with(" found in graph") => Some(28),
+        _ => None,
+    }
+}
+
+pub fn graph(oracle: &mut Oracle, image: &[u8], bundle: &[u8]) -> Graph {
+    let line = oracle.ask("graph", &[image, bundle]);
+    let words: Vec<&str> = line.split(' ').collect();
+    match words.as_slice() {
+        ["ok", nodes, _, rest @ ..] => {
+            let number = |w: &str| w.parse::<u32>().expect("a number");
+            let (nodes, edges) = rest.split_at(number(nodes) as usize);
+            let place = |w: &&str| number(w.split_once(':').expect("a node").0);
+            let edge = |w: &&str| w.split_once('-').map(|(a, b)| [number(a), number(b)]).expect("an edge");
+            Graph::Built(nodes.iter().map(place).collect(), edges.iter().map(edge).collect())
+        }
+        ["panic"] => Graph::Refused(24, NO_SCAN),
+        ["overflow"] => Graph::Refused(29, NO_SCAN),
+        ["hang"] => Graph::Refused(25, HANG),
+        ["err", message] => {
+            let message = String::from_utf8(value(message).expect("a message")).expect("a message");
+            let refused = graph_refusal(&message).map(|n| Graph::Refused(n, NO_SCAN));
+            let scanned = || refusal(&message).map(|r| Graph::Refused(25, r));
+            refused.or_else(scanned).unwrap_or(Graph::Silent(message))
+        }
+        _ => Graph::Silent(line.clone()),
+    }
+}

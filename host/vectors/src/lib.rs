@@ -1,0 +1,8 @@
+//! Generated inputs, the oracle's answers to them, and the files in which they are recorded.
+
+pub mod answers;
+pub mod libraries;
+pub mod oracle;
+pub mod records;
+pub mod rng;
+pub mod texts;

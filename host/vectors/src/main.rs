@@ -1,0 +1,174 @@
+//! vectors tally SEED COUNT: asks the oracle for COUNT generated texts and a twentieth as many libraries, and counts its answers.
+//! vectors real SEED COUNT FILE..: the same for real modules and COUNT damaged copies of each.
+//! vectors record DIR: writes the recorded answers below DIR (the repository's crates folder).
+//! vectors verify DIR: makes them anew and says which files there differ.
+
+use std::collections::BTreeMap;
+use std::path::{Path, PathBuf};
+use vectors::answers::{self, Graph, Scan};
+use vectors::oracle::Oracle;
+use vectors::rng::Rng;
+use vectors::{libraries, records, texts};
+
+fn main() {
+    let args: Vec<String> = std::env::args().collect();
+    let words: Vec<&str> = args.iter().map(|a| a.as_str()).collect();
+    let number = |w: &str| w.parse::<u64>().expect("a number");
+    match words[1..] {
+        ["tally", seed, count] => tally(number(seed), number(count) as usize),
+        ["real", seed, count, ref files @ ..] => real(number(seed), number(count) as usize, files),
+        ["record", dir] => all(&mut oracle()).iter().for_each(|f| f.write(Path::new(dir))),
+        ["verify", dir] => verify(Path::new(dir)),
+        _ => {
+            eprintln!("vectors: tally SEED COUNT | real SEED COUNT FILE.. | record DIR | verify DIR");
+            std::process::exit(2);
+        }
+    }
+}
+
+/// The oracle that was built beside this folder.
+fn oracle() -> Oracle {
+    let host = PathBuf::from(env!("CARGO_MANIFEST_DIR"));
+    Oracle::start(&host.join("../oracle/build/oracle"))
+}
+
+// ---- how often which answer comes
+
+fn kind<T>(answer: &Scan<T>) -> String {
+    match answer {
+        Scan::Good(_) => "good".to_string(),
+        Scan::Refused(r) if r.number == answers::FIVE_OR_SIX => "5 or 6".to_string(),
+        Scan::Refused(r) => r.number.to_string(),
+        Scan::Silent(line) => format!("silent: {line}"),
+    }
+}
+
+#[derive(Default)]
+struct Tally(BTreeMap<(&'static str, String), usize>);
+
+impl Tally {
+    fn count(&mut self, what: &'static str, answer: String) {
+        *self.0.entry((what, answer)).or_default() += 1;
+    }
+
+    fn text(&mut self, oracle: &mut Oracle, text: &str) {
+        self.count("dependencies", kind(&answers::dependencies(oracle, text.as_bytes())));
+        self.count("metadata", kind(&answers::metadata(oracle, text.as_bytes())));
+    }
+
+    fn library(&mut self, oracle: &mut Oracle, library: &libraries::Library) {
+        let answer = match answers::graph(oracle, &library.image(), &library.bundle()) {
+            Graph::Built(..) => "built".to_string(),
+            Graph::Refused(25, scan) => format!("25 by {}", kind::<()>(&Scan::Refused(scan))),
+            Graph::Refused(n, _) => n.to_string(),
+            Graph::Silent(line) => format!("silent: {line}"),
+        };
+        self.count("graph", answer);
+    }
+
+    fn print(&self) {
+        for ((what, answer), n) in &self.0 {
+            println!("{what:12} {answer:12} {n:8}");
+        }
+    }
+}
+
+fn tally(seed: u64, count: usize) {
+    let (mut oracle, mut r, mut tally) = (oracle(), Rng::new(seed), Tally::default());
+    for _ in 0..count {
+        tally.text(&mut oracle, &texts::any(&mut r));
+    }
+    for _ in 0..count / 20 {
+        tally.library(&mut oracle, &libraries::library(&mut r));
+    }
+    tally.print();
+}
+
+fn real(seed: u64, count: usize, files: &[&str]) {
+    let (mut oracle, mut r, mut tally) = (oracle(), Rng::new(seed), Tally::default());
+    for file in files {
+        let Ok(text) = String::from_utf8(std::fs::read(file).expect("a file")) else {
+            tally.count("real", "no UTF-8".to_string());
+            continue;
+        };
+        if !text.is_ascii() {
+            tally.count("real", "not below 128".to_string());
+            continue;
+        }
+        tally.count("real", "asked".to_string());
+        tally.text(&mut oracle, &text);
+        for _ in 0..count {
+            tally.text(&mut oracle, &texts::damaged(&mut r, &text));
+        }
+    }
+    tally.print();
+}
+
+// ---- the recorded files
+
+struct File {
+    name: &'static str,
+    bytes: Vec<u8>,
+    records: usize,
+}
+
+impl File {
+    fn new(name: &'static str) -> File {
+        File { name, bytes: Vec::new(), records: 0 }
+    }
+
+    fn add(&mut self, record: Vec<u8>) {
+        self.records += usize::from(!record.is_empty());
+        self.bytes.extend(record);
+    }
+
+    fn write(&self, dir: &Path) {
+        let path = dir.join(self.name);
+        std::fs::create_dir_all(path.parent().expect("a folder")).expect("a folder");
+        std::fs::write(&path, &self.bytes).expect("a file");
+        println!("{}: {} records, {} bytes", self.name, self.records, self.bytes.len());
+    }
+}
+
+/// README.md says what is in each; the seeds are here.
+fn all(oracle: &mut Oracle) -> Vec<File> {
+    let mut dependencies = File::new("yangparser_run/data/dependencies.vec");
+    let mut metadata = File::new("yangparser_run/data/metadata.vec");
+    let mut r = Rng::new(1);
+    let short = (0..3).flat_map(texts::short);
+    let generated = (0..2_000).map(|_| texts::any(&mut r));
+    for text in short.chain(generated) {
+        let text = text.as_bytes();
+        dependencies.add(records::dependencies(text, &answers::dependencies(oracle, text)));
+        metadata.add(records::metadata(text, &answers::metadata(oracle, text)));
+    }
+    let mut finds = File::new("image_run/data/finds.vec");
+    let mut graph = File::new("yanglib_run/data/graph.vec");
+    let mut r = Rng::new(2);
+    for i in 0..500 {
+        let library = libraries::library(&mut r);
+        let (image, bundle) = (library.image(), library.bundle());
+        graph.add(records::graph(&image, &bundle, &answers::graph(oracle, &image, &bundle)));
+        if i % 5 == 0 {
+            for name in ["m", "x", "s", "types", "m-sub", "zz"] {
+                let name = name.as_bytes();
+                finds.add(records::finds(&image, name, &answers::finds(oracle, &image, name)));
+            }
+        }
+    }
+    vec![dependencies, metadata, finds, graph]
+}
+
+fn verify(dir: &Path) {
+    let mut wrong = 0;
+    for file in all(&mut oracle()) {
+        let there = std::fs::read(dir.join(file.name)).unwrap_or_default();
+        if there != file.bytes {
+            wrong += 1;
+            println!("vectors: {} is not what the Rust answers", file.name);
+        } else {
+            println!("vectors: {} is what the Rust answers ({} records)", file.name, file.records);
+        }
+    }
+    std::process::exit(i32::from(wrong != 0));
+}

@@ -1,0 +1,84 @@
+//! Recorded answers as a program without a heap can read them.
+//!
+//! A file is fields, one behind the other. A field is its length, two bytes, low byte first, and its bytes; length 65535 stands for a
+//! value that is missing, and no bytes follow. A word in a field is four bytes, low byte first.
+
+use crate::answers::{Dependencies, Graph, Refusal, Scan};
+
+pub fn field(out: &mut Vec<u8>, bytes: &[u8]) {
+    assert!(bytes.len() < 65_535);
+    out.extend_from_slice(&(bytes.len() as u16).to_le_bytes());
+    out.extend_from_slice(bytes);
+}
+
+fn value(out: &mut Vec<u8>, v: &Option<Vec<u8>>) {
+    match v {
+        Some(bytes) => field(out, bytes),
+        None => out.extend_from_slice(&u16::MAX.to_le_bytes()),
+    }
+}
+
+fn words(out: &mut Vec<u8>, all: &[u32]) {
+    let bytes: Vec<u8> = all.iter().flat_map(|w| w.to_le_bytes()).collect();
+    field(out, &bytes);
+}
+
+/// Text; number, keyword, position, imports, includes; if the number is 0 the values, row by row, and the printed page.
+/// Nothing for a text of which the Rust says neither.
+pub fn dependencies(text: &[u8], answer: &Scan<Dependencies>) -> Vec<u8> {
+    let mut out = Vec::new();
+    field(&mut out, text);
+    match answer {
+        Scan::Silent(_) => return Vec::new(),
+        Scan::Refused(r) => words(&mut out, &[r.number, r.keyword, r.position, 0, 0]),
+        Scan::Good(d) => {
+            words(&mut out, &[0, 0, 0, d.imports.len() as u32, d.includes.len() as u32]);
+            d.imports.iter().flatten().for_each(|v| value(&mut out, v));
+            d.includes.iter().flatten().for_each(|v| value(&mut out, v));
+            field(&mut out, &d.page);
+        }
+    }
+    out
+}
+
+/// Text; number, keyword, position; if the number is 0 the five values.
+pub fn metadata(text: &[u8], answer: &Scan<Vec<Option<Vec<u8>>>>) -> Vec<u8> {
+    let mut out = Vec::new();
+    field(&mut out, text);
+    match answer {
+        Scan::Silent(_) => return Vec::new(),
+        Scan::Refused(r) => words(&mut out, &[r.number, r.keyword, r.position]),
+        Scan::Good(values) => {
+            words(&mut out, &[0, 0, 0]);
+            values.iter().for_each(|v| value(&mut out, v));
+        }
+    }
+    out
+}
+
+/// Image; name; places of the module, the submodule and the import-only module, and the last one's revisions.
+pub fn finds(image: &[u8], name: &[u8], answer: &[u32; 4]) -> Vec<u8> {
+    let mut out = Vec::new();
+    field(&mut out, image);
+    field(&mut out, name);
+    words(&mut out, answer);
+    out
+}
+
+/// Image; bundle; number, and the scan's number, keyword and position; the places of the nodes' names; the edges, from and to.
+pub fn graph(image: &[u8], bundle: &[u8], answer: &Graph) -> Vec<u8> {
+    let mut out = Vec::new();
+    field(&mut out, image);
+    field(&mut out, bundle);
+    let (number, scan, nodes, edges) = match answer {
+        Graph::Silent(_) => return Vec::new(),
+        Graph::Refused(n, r) => (*n, *r, [].as_slice(), [].as_slice()),
+        Graph::Built(nodes, edges) => {
+            (0, Refusal { number: 0, keyword: 0, position: 0 }, nodes.as_slice(), edges.as_slice())
+        }
+    };
+    words(&mut out, &[number, scan.number, scan.keyword, scan.position]);
+    words(&mut out, nodes);
+    words(&mut out, &edges.concat());
+    out
+}

@@ -1,0 +1,214 @@
+//! Texts: every short string over a small alphabet, rows of tokens, statements with and without faults, damaged copies of good modules.
+//! Every byte is below 128.
+
+use crate::rng::Rng;
+
+/// Words that a scan looks for, and some that only look like one.
+const KEYWORDS: [&str; 30] = [
+    "import", "include", "prefix", "revision-date", "organization", "contact", "description", "reference", "module",
+    "submodule", "belongs-to", "namespace", "yang-version", "revision", "container", "list", "leaf", "grouping", "typedef",
+    "identity", "augment", "rpc", "notification", "imports", "import-", "_import", "revision_date", "Prefix", "leaf-list",
+    "x:include",
+];
+const NAMES: [&str; 12] = ["a", "b", "m", "base", "m-types", "_x", "x:y", "A.b", "2024-05-01", "1.1", "9", "import"];
+const STRINGS: [&str; 22] = [
+    "\"a\"", "'b'", "\"\"", "''", "\"a b\"", "\"2024-05-01\"", "\"\\n\\t\"", "\"\\\"\"", "\"\\\\\"", "\"\\x\"", "'\\'", "'a\\'",
+    "'\"'", "\"'\"", "\"a;}\"", "'{'", "\"//\"", "\"/*\"", "\"a\nb\"", "\"a", "'a", "\"a\\\"",
+];
+const MARKS: [&str; 9] = ["{", "}", ";", "+", "{", "}", ";", "/", "*"];
+const COMMENTS: [&str; 8] = ["//c\n", "/*c*/", "/**/", "/*/", "//", "/* ", "/*\n*/", "//\n//\n"];
+const ODD: [&str; 10] = ["\u{b}", "\u{c}", "\r", "\u{1c}", "\u{0}", "\u{7f}", "$", "0", ":", "\\"];
+const GAPS: [&str; 12] = [" ", " ", " ", " ", "", "", "\n", "\t", "  ", "\r\n", "/*c*/", " //c\n"];
+
+fn gap(r: &mut Rng, out: &mut String) {
+    let gap = r.pick(&GAPS);
+    out.push_str(gap);
+}
+
+fn token(r: &mut Rng) -> &'static str {
+    match r.below(16) {
+        0..=4 => r.pick(&KEYWORDS),
+        5..=6 => r.pick(&NAMES),
+        7..=9 => r.pick(&STRINGS),
+        10..=13 => r.pick(&MARKS),
+        14 => r.pick(&COMMENTS),
+        _ => r.pick(&ODD),
+    }
+}
+
+/// A row of tokens with gaps between.
+pub fn tokens(r: &mut Rng) -> String {
+    let mut out = String::new();
+    for _ in 0..1 + r.below(14) {
+        out.push_str(token(r));
+        gap(r, &mut out);
+    }
+    out
+}
+
+/// A value as its writer means it: a name, a string, or strings joined.
+pub fn value(r: &mut Rng) -> String {
+    if r.below(3) > 0 {
+        return r.pick(&NAMES).to_string();
+    }
+    let mut out = r.pick(&STRINGS[..19]).to_string();
+    while r.once_in(3) {
+        gap(r, &mut out);
+        out.push('+');
+        gap(r, &mut out);
+        out.push_str(r.pick(&STRINGS[..19]));
+    }
+    out
+}
+
+fn line(r: &mut Rng, keyword: &str, value: &str) -> String {
+    let mut out = format!("{keyword} ");
+    gap(r, &mut out);
+    out.push_str(value);
+    gap(r, &mut out);
+    out + ";"
+}
+
+fn block(r: &mut Rng, keyword: &str, value: &str, body: &str) -> String {
+    let mut out = format!("{keyword} {value}");
+    gap(r, &mut out);
+    out.push('{');
+    gap(r, &mut out);
+    out.push_str(body);
+    gap(r, &mut out);
+    out + "}"
+}
+
+fn dated(r: &mut Rng) -> String {
+    let date = value(r);
+    line(r, "revision-date", &date)
+}
+
+pub fn import(r: &mut Rng, name: &str) -> String {
+    let mut body = String::new();
+    for _ in 0..1 + r.below(3) {
+        let inner = match r.below(6) {
+            0..=2 => {
+                let v = value(r);
+                line(r, "prefix", &v)
+            }
+            3..=4 => dated(r),
+            _ => r.pick(&["description \"a;b\";", "x { y { z; } }", "reference 'r';", "x;"]).to_string(),
+        };
+        body.push_str(&inner);
+        gap(r, &mut body);
+    }
+    block(r, "import", name, &body)
+}
+
+pub fn include(r: &mut Rng, name: &str) -> String {
+    if r.below(3) > 0 {
+        return line(r, "include", name);
+    }
+    let body = dated(r);
+    block(r, "include", name, &body)
+}
+
+/// A statement that one of the scans reads or skips.
+pub fn statement(r: &mut Rng) -> String {
+    let v = value(r);
+    match r.below(15) {
+        0..=2 => import(r, &v),
+        3..=4 => include(r, &v),
+        5 => line(r, "prefix", &v),
+        6 => line(r, "namespace", &v),
+        7 => line(r, "yang-version", &v),
+        8 => line(r, "revision", &v),
+        9 => block(r, "revision", &v, "description \"d;\"; x;"),
+        10 => block(r, "belongs-to", &v, "prefix p;"),
+        11 => format!("module {v} {{"),
+        12 => format!("submodule {v} {{"),
+        13 => {
+            let stop = r.pick(&KEYWORDS[4..8]);
+            line(r, stop, &v)
+        }
+        _ => r.pick(&["x:y z;", "feature f;", "}", "deviation /a:b { x; }"]).to_string(),
+    }
+}
+
+/// Statements one after the other, some of them with a token too much or a byte too few.
+pub fn statements(r: &mut Rng) -> String {
+    let mut out = String::new();
+    for _ in 0..1 + r.below(5) {
+        let one = statement(r);
+        out.push_str(&if r.once_in(4) { damaged(r, &one) } else { one });
+        gap(r, &mut out);
+    }
+    out
+}
+
+/// The header of a module as it should be.
+pub fn module(r: &mut Rng) -> String {
+    let name = r.pick(&NAMES[..8]);
+    let sub = r.once_in(3);
+    let mut out = format!("{} {name} {{\n  yang-version 1.1;\n", if sub { "submodule" } else { "module" });
+    out += &if sub {
+        "  belongs-to m {\n    prefix p;\n  }\n".to_string()
+    } else {
+        format!("  namespace \"urn:{name}\";\n  prefix {name};\n")
+    };
+    for _ in 0..r.below(4) {
+        let other = r.pick(&NAMES[..8]);
+        let one = import(r, other);
+        out += &format!("  {one}\n");
+    }
+    for _ in 0..r.below(3) {
+        let other = r.pick(&NAMES[..8]);
+        let one = include(r, other);
+        out += &format!("  {one}\n");
+    }
+    out += "  organization \"o\";\n  contact 'c';\n  description\n    \"d { import x; }\";\n";
+    for year in 0..r.below(3) {
+        out += &format!("  revision 202{year}-01-0{} {{\n    description \"first;\";\n  }}\n", 1 + r.below(9));
+    }
+    out + "  container c {\n    leaf l { type string; }\n  }\n}\n"
+}
+
+/// A copy with one fault: a byte gone, doubled or another one, the end cut off, a piece gone, a token put in.
+pub fn damaged(r: &mut Rng, text: &str) -> String {
+    let n = text.len();
+    if n == 0 {
+        return r.pick(&MARKS).to_string();
+    }
+    let (a, b) = (r.below(n), r.below(n));
+    let (a, b) = (a.min(b), a.max(b));
+    match r.below(6) {
+        0 => format!("{}{}", &text[..a], &text[a + 1..]),
+        1 => format!("{}{}", &text[..=a], &text[a..]),
+        2 => format!("{}{}{}", &text[..a], r.pick(&["\"", "'", "\\", "{", "}", ";", "+", "*", "a"]), &text[a + 1..]),
+        3 => text[..a].to_string(),
+        4 => format!("{}{}", &text[..a], &text[b..]),
+        _ => format!("{}{}{}", &text[..a], token(r), &text[a..]),
+    }
+}
+
+/// A text of the mixture that is recorded and compared.
+pub fn any(r: &mut Rng) -> String {
+    match r.below(8) {
+        0..=2 => tokens(r),
+        3..=5 => statements(r),
+        6 => module(r),
+        _ => {
+            let good = module(r);
+            damaged(r, &good)
+        }
+    }
+}
+
+const ALPHABET: [u8; 12] = *b"\"'\\+/*{};a \n";
+const FRONTS: [&str; 6] = ["", "import ", "import a{", "import a{prefix ", "include ", "module m{prefix "];
+
+/// Every string of `length` bytes of the alphabet behind each beginning.
+pub fn short(length: u32) -> impl Iterator<Item = String> {
+    FRONTS.iter().flat_map(move |front| {
+        (0..ALPHABET.len().pow(length)).map(move |k| {
+            let byte = |i: u32| ALPHABET[k / ALPHABET.len().pow(i) % ALPHABET.len()] as char;
+            front.chars().chain((0..length).map(byte)).collect()
+        })
+    })
+}
