@@ -1,2 +1,9 @@
 pub mod ClassLaws
+pub mod DueLaws
+pub mod Examples
+pub mod Here
+pub mod KeywordLaws
+pub mod Laws
 pub mod Table
+pub mod Turns
+pub mod Writing

@@ -1,2 +1,6 @@
 pub mod Bytes
 pub mod Class
+pub mod Due
+pub mod Keyword
+pub mod Scan
+pub mod Turns

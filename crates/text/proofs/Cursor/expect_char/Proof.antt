@@ -1,0 +1,30 @@
+-- `text::Cursor::expect_char`. What stands after the gap is the byte, the end, or another byte: one law for each.
+-- Assumes nothing.
+use mathlib.Core.Path.{sym}
+use native.Mathlib.Omega.{arith}
+use Rattle.text.proofs.Here.{here}
+use Rattle.text.proofs.DueLaws.{due-after, due-end, due-other}
+use borrow.Author.Needs.{needs}
+use Rattle.text.proofs.Cursor.expect_char.Statement.{statement}
+use Rattle.text.proofs.Cursor.expect_char.Tie as tie
+
+skip-whitespace-and-comments-requires : tie.Need-skip-whitespace-and-comments-requires
+skip-whitespace-and-comments-requires c κs = search needs
+
+peek-char-requires : tie.Need-peek-char-requires
+peek-char-requires c κs = search needs
+
+add-end : tie.Need-add-end
+add-end c = omega (arith, here (c .before .before .before .before .args .s .now) (c .before .before .skip-whitespace-and-comments .result .at) (λ e. omega arith))
+
+returns : tie.Need-returns
+returns c = let a = c .before .before .before .before .args in sym (due-after (a .s .now) (a .self .at) (a .b) (a .keyword) (c .before .before .skip-whitespace-and-comments .ensures) (c .before .peek-char .ensures) (c .if1 .taken))
+
+returns-2 : tie.Need-returns-2
+returns-2 c = let a = c .before .before .before .before .before .args in sym (due-end (a .s .now) (a .self .at) (a .b) (a .keyword) (c .before .before .before .skip-whitespace-and-comments .ensures) (c .before .before .peek-char .ensures) (c .before .if1 .left) (c .if2 .taken))
+
+returns-3 : tie.Need-returns-3
+returns-3 c = let a = c .before .before .before .before .before .args in sym (due-other (a .s .now) (a .self .at) (a .b) (a .keyword) (c .before .before .before .skip-whitespace-and-comments .ensures) (c .before .before .peek-char .ensures) (c .before .if1 .left) (c .if2 .left))
+
+pub expect-char-spec : {M : Type 1} → statement M
+expect-char-spec = tie.close (tie.spec skip-whitespace-and-comments-requires peek-char-requires add-end returns returns-2 returns-3)

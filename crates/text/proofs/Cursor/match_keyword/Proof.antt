@@ -1,0 +1,56 @@
+-- `text::Cursor::match_keyword`. No byte that ends a keyword belongs to an identifier, so bytes that begin with the word are the identifier
+-- here.
+-- Assumes nothing.
+use mathlib.Core.Path.{sym}
+use native.Mathlib.Omega.{arith}
+use borrow.Author.Needs.{needs}
+use Rattle.text.proofs.KeywordLaws.{match-other, match-room, match-after, match-longer}
+use Rattle.text.proofs.Cursor.match_keyword.Statement.{statement}
+use Rattle.text.proofs.Cursor.match_keyword.Tie as tie
+
+begins-requires : tie.Need-begins-requires
+begins-requires c κs = search needs
+
+add-end : tie.Need-add-end
+add-end c =
+    let begins = c .before in
+    let start = begins .before .before .before in
+    let a = start .args in
+    omega (arith, match-room (a .s .now) (a .self .at) (a .word .now) (start .pre .1) (begins .begins .ensures) (c .if1 .taken))
+
+peek-char-requires : tie.Need-peek-char-requires
+peek-char-requires c κs = search needs
+
+ends-keyword-requires : tie.Need-ends-keyword-requires
+ends-keyword-requires c κs = search needs
+
+returns : tie.Need-returns
+returns c =
+    let ends = c .before in
+    let peek = ends .before in
+    let if1 = peek .before in
+    let begins = if1 .before in
+    let start = begins .before .before .before in
+    let a = start .args in
+    sym (match-after (a .s .now) (a .self .at) (a .word .now) (start .pre .1) (begins .begins .ensures) (if1 .if1 .taken) (peek .peek-char .ensures) (ends .ends-keyword .ensures) (c .if2 .taken))
+
+returns-2 : tie.Need-returns-2
+returns-2 c =
+    let ends = c .before in
+    let peek = ends .before in
+    let if1 = peek .before in
+    let begins = if1 .before in
+    let start = begins .before .before .before in
+    let a = start .args in
+    sym (match-longer (a .s .now) (a .self .at) (a .word .now) (start .pre .1) (begins .begins .ensures) (if1 .if1 .taken) (peek .peek-char .ensures) (ends .ends-keyword .ensures) (c .if2 .left))
+
+returns-3 : tie.Need-returns-3
+returns-3 c =
+    let begins = c .before in
+    let start = begins .before .before .before in
+    let a = start .args in
+    sym (match-other (a .s .now) (a .self .at) (a .word .now) (start .pre .1) (begins .begins .ensures) (c .if1 .left))
+
+pub match-keyword-spec : {M : Type 1} → statement M
+match-keyword-spec =
+    tie.close (tie.spec begins-requires add-end peek-char-requires ends-keyword-requires returns returns-2 returns-3)

@@ -1,0 +1,64 @@
+-- `text::in_run`. Each kind has its own test, which is its clause of the definition.
+-- Assumes nothing.
+use mathlib.Core.Path.{sym, _∙_}
+use borrow.Author.Needs.{needs}
+use Rattle.text.proofs.Laws.{in-white, in-line, in-ident, in-name, in-name-too}
+use Rattle.text.proofs.in_run.Statement.{statement}
+use Rattle.text.proofs.in_run.Tie as tie
+
+enum-told : tie.Need-enum-told
+enum-told c = search needs
+
+class-requires : tie.Need-class-requires
+class-requires c κs = search needs
+
+enum-told-2 : tie.Need-enum-told-2
+enum-told-2 c = search needs
+
+enum-told-3 : tie.Need-enum-told-3
+enum-told-3 c = search needs
+
+in-ident-requires : tie.Need-in-ident-requires
+in-ident-requires c κs = search needs
+
+enum-told-4 : tie.Need-enum-told-4
+enum-told-4 c = search needs
+
+in-ident-requires-2 : tie.Need-in-ident-requires-2
+in-ident-requires-2 c κs = search needs
+
+returns : tie.Need-returns
+returns c =
+    let b = c .before .before .before .before .args .b in
+    cc (in-name b (sym (c .before .in-ident2 .ensures) ∙ c .if1 .taken), c .before .before .enum-told4 .given .1)
+
+returns-2 : tie.Need-returns-2
+returns-2 c = cc (in-white (c .before .before .before .args .b), c .before .enum-told .given .1)
+
+returns-3 : tie.Need-returns-3
+returns-3 c = cc (in-line (c .before .before .args .b), c .enum-told2 .given .1)
+
+returns-4 : tie.Need-returns-4
+returns-4 c = cc (in-ident (c .before .before .before .args .b), c .before .enum-told3 .given .1)
+
+returns-5 : tie.Need-returns-5
+returns-5 c =
+    let b = c .before .before .before .before .args .b in
+    cc (in-name-too b (sym (c .before .in-ident2 .ensures) ∙ c .if1 .left), c .before .before .enum-told4 .given .1)
+
+pub in-run-spec : {M : Type 1} → statement M
+in-run-spec =
+    tie.close
+    (tie.spec
+    enum-told
+    class-requires
+    enum-told-2
+    enum-told-3
+    in-ident-requires
+    enum-told-4
+    in-ident-requires-2
+    returns
+    returns-2
+    returns-3
+    returns-4
+    returns-5)

@@ -1,0 +1,39 @@
+-- `text::pair_at`. Two bytes are looked at, each of them below the end's number, so the second place exists where the first byte was found.
+-- Assumes nothing.
+use mathlib.Core.Path.{sym, _∙_}
+use native.Mathlib.Omega.{arith}
+use borrow.Author.Needs.{needs}
+use Rattle.text.proofs.Here.{here}
+use Rattle.text.proofs.Laws.{pair-yes, pair-no, pair-no-more}
+use Rattle.text.proofs.pair_at.Statement.{statement}
+use Rattle.text.proofs.pair_at.Tie as tie
+
+peek-char-requires : tie.Need-peek-char-requires
+peek-char-requires c κs = search needs
+
+add-peek-char : tie.Need-add-peek-char
+add-peek-char c =
+    let a = c .before .before .before .args in
+    omega (arith, here (a .s .now) (a .at) (λ e. omega arith))
+
+peek-char-requires-2 : tie.Need-peek-char-requires-2
+peek-char-requires-2 c κs = search needs
+
+returns : tie.Need-returns
+returns c =
+    let a = c .before .before .before .before .before .args in
+    sym (pair-yes (a .s .now) (a .at) (a .b) (a .c) (cc) (cc))
+
+returns-2 : tie.Need-returns-2
+returns-2 c =
+    let a = c .before .before .before .before .before .args in
+    sym (pair-no-more (a .s .now) (a .at) (a .b) (a .c) (cc) (λ e. c .if2 .left (c .before .peek-char2 .ensures ∙ e)))
+
+returns-3 : tie.Need-returns-3
+returns-3 c =
+    let a = c .before .before .before .args in
+    sym (pair-no (a .s .now) (a .at) (a .b) (a .c) (λ e. c .if1 .left (c .before .peek-char .ensures ∙ e)))
+
+pub pair-at-spec : {M : Type 1} → statement M
+pair-at-spec =
+    tie.close (tie.spec peek-char-requires add-peek-char peek-char-requires-2 returns returns-2 returns-3)

@@ -1,0 +1,35 @@
+-- A byte that is required after a gap. 5: another byte than the one required after it. 6: the end instead of that byte.
+-- A refusal has its number, its keyword and its position, which is the cursor after the gap.
+-- Assumes nothing.
+use Prim.Native.Nat.{ℕ, _+_}
+use mathlib.Core.Bool.{cond}
+use mathlib.Core.List.{List}
+use lib.Dec.{eqb}
+use Rattle.text.specs.Bytes.{theEnd, look}
+use Rattle.text.specs.Scan.{gapEnd}
+use Rattle.text.specs.declared.Due.{Due}
+use Rattle.text.specs.declared.Due.the-variants.{After, Not}
+
+-- the refusals of this layer; 4: no value after the keyword
+abbrev pub noValue : ℕ
+noValue = 4
+
+abbrev pub otherByte : ℕ
+otherByte = 5
+
+abbrev pub endOfText : ℕ
+endOfText = 6
+
+-- c stands where b is due: the end, or another byte
+unfoldable pub dueNumber : ℕ → ℕ
+dueNumber c = cond (eqb c theEnd) endOfText otherByte
+
+-- the byte b at a place, for the keyword k
+unfoldable pub dueHere : List ℕ → ℕ → ℕ → ℕ → Due
+dueHere s at b k =
+    cond (eqb (look s at) b) (After (record { at = at + 1 }))
+    (Not (record { number = dueNumber (look s at); keyword = k; at = at }))
+
+-- and after a gap
+unfoldable pub dueAt : List ℕ → ℕ → ℕ → ℕ → Due
+dueAt s at b k = dueHere s (gapEnd s at) b k
