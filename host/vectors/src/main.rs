@@ -130,6 +130,10 @@ impl File {
     }
 }
 
+/// Where these stand among metadata's values.
+const NAMESPACE: usize = 1;
+const PREFIX: usize = 2;
+
 /// README.md says what is in each; the seeds are here.
 fn all(oracle: &mut Oracle) -> Vec<File> {
     let mut dependencies = File::new("yangparser_run/data/dependencies.vec");
@@ -141,6 +145,19 @@ fn all(oracle: &mut Oracle) -> Vec<File> {
         let text = text.as_bytes();
         dependencies.add(records::dependencies(text, &answers::dependencies(oracle, text)));
         metadata.add(records::metadata(text, &answers::metadata(oracle, text)));
+    }
+    let mut values = File::new("text_run/data/values.vec");
+    let mut r = Rng::new(3);
+    let short = (0..4).flat_map(texts::short_values);
+    let generated = (0..1_000).map(|_| texts::one_value(&mut r));
+    for text in short.chain(generated) {
+        values.add(records::one_value(text.as_bytes(), &answers::metadata(oracle, text.as_bytes()), NAMESPACE));
+    }
+    let mut skips = File::new("text_run/data/skips.vec");
+    let mut r = Rng::new(4);
+    for i in 0..2_000 {
+        let text = if i % 2 == 0 { texts::one_statement(&mut r) } else { texts::some_tokens(&mut r) };
+        skips.add(records::one_value(text.as_bytes(), &answers::metadata(oracle, text.as_bytes()), PREFIX));
     }
     let mut finds = File::new("image_run/data/finds.vec");
     let mut graph = File::new("yanglib_run/data/graph.vec");
@@ -156,7 +173,7 @@ fn all(oracle: &mut Oracle) -> Vec<File> {
             }
         }
     }
-    vec![dependencies, metadata, finds, graph]
+    vec![dependencies, metadata, values, skips, finds, graph]
 }
 
 fn verify(dir: &Path) {

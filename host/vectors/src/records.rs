@@ -82,3 +82,13 @@ pub fn graph(image: &[u8], bundle: &[u8], answer: &Graph) -> Vec<u8> {
     words(&mut out, &edges.concat());
     out
 }
+
+/// Text; number, keyword, position; if the number is 0 the one value that the text was made around: of metadata's five the one at `which`.
+pub fn one_value(text: &[u8], answer: &Scan<Vec<Option<Vec<u8>>>>, which: usize) -> Vec<u8> {
+    let one = match answer {
+        Scan::Good(values) => Scan::Good(vec![values[which].clone()]),
+        Scan::Refused(r) => Scan::Refused(*r),
+        Scan::Silent(_) => return Vec::new(),
+    };
+    metadata(text, &one)
+}

@@ -203,12 +203,59 @@ pub fn any(r: &mut Rng) -> String {
 const ALPHABET: [u8; 12] = *b"\"'\\+/*{};a \n";
 const FRONTS: [&str; 6] = ["", "import ", "import a{", "import a{prefix ", "include ", "module m{prefix "];
 
-/// Every string of `length` bytes of the alphabet behind each beginning.
-pub fn short(length: u32) -> impl Iterator<Item = String> {
-    FRONTS.iter().flat_map(move |front| {
-        (0..ALPHABET.len().pow(length)).map(move |k| {
-            let byte = |i: u32| ALPHABET[k / ALPHABET.len().pow(i) % ALPHABET.len()] as char;
-            front.chars().chain((0..length).map(byte)).collect()
-        })
+/// Every string of `length` bytes of the alphabet.
+fn words(length: u32) -> impl Iterator<Item = String> {
+    (0..ALPHABET.len().pow(length)).map(move |k| {
+        let byte = |i: u32| ALPHABET[k / ALPHABET.len().pow(i) % ALPHABET.len()] as char;
+        (0..length).map(byte).collect()
     })
+}
+
+/// Each of these behind each beginning.
+pub fn short(length: u32) -> impl Iterator<Item = String> {
+    FRONTS.iter().flat_map(move |front| words(length).map(move |w| format!("{front}{w}")))
+}
+
+// ---- one value, one statement, some tokens: what the text layer is asked alone
+
+/// What may stand around one value. No keyword can be made of it.
+const PIECES: [&str; 24] = [
+    "\"", "\"", "'", "\\", "\\", "+", "+", " ", "\n", "\t", "\u{b}", "\u{1c}", "//", "/*", "*/", "/", ";", "{", "}", "a", "n", "t", "1", ":-._",
+];
+
+fn pieces(r: &mut Rng, most: usize) -> String {
+    (0..1 + r.below(most)).map(|_| r.pick(&PIECES)).collect()
+}
+
+pub const NAMESPACE: &str = "module m{namespace";
+pub const BELONGS: &str = "module m{belongs-to x";
+pub const OPENED: &str = "module m{";
+
+/// A namespace statement: the metadata scan reads its value and requires the semicolon.
+pub fn one_value(r: &mut Rng) -> String {
+    let gap = r.pick(&[" ", "\n", " /*c*/ "]);
+    let strings: String = (0..r.below(3)).map(|_| r.pick(&STRINGS).to_string() + r.pick(&["+", " + ", "/**/+\n", " "])).collect();
+    let last = if r.once_in(3) { pieces(r, 6) } else { value(r) };
+    let end = if r.once_in(4) { pieces(r, 3) } else { ";".to_string() };
+    format!("{NAMESPACE}{gap}{strings}{last}{end}")
+}
+
+/// Prefix statements with a value each, and other pieces between: the first one that the metadata scan meets as a statement tells where it stood.
+fn prefixes(r: &mut Rng) -> String {
+    (0..1 + r.below(6)).map(|i| format!("{}{}prefix p{i};", pieces(r, 5), r.pick(&["", " ", ";", "}", "\""]))).collect()
+}
+
+/// A belongs-to statement, whose rest the metadata scan skips as a statement.
+pub fn one_statement(r: &mut Rng) -> String {
+    format!("{BELONGS}{}{}", r.pick(&[" ", "{", "{{", ";", "\"", "'", " \"a\"{"]), prefixes(r))
+}
+
+/// Tokens up to a prefix statement.
+pub fn some_tokens(r: &mut Rng) -> String {
+    format!("{OPENED}{}", prefixes(r))
+}
+
+/// Every string of `length` bytes of the alphabet behind a namespace keyword and a blank.
+pub fn short_values(length: u32) -> impl Iterator<Item = String> {
+    words(length).map(|w| format!("{NAMESPACE} {w}"))
 }
