@@ -1,7 +1,7 @@
 -- Worked examples of tokens and statements, one list and one claim: each definition computes how the token or the statement at the text's
 -- start ends, and where.
 -- Assumes nothing.
-use mathlib.Core.Bool.{Bool, true, false, _&&_}
+use mathlib.Core.Bool.{Bool, true, _&&_}
 use mathlib.Core.List.{List, [], _∷_}
 use Prim.Native.Nat.{ℕ}
 use lib.Dec.{eqb, T}

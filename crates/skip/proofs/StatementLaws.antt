@@ -9,9 +9,9 @@ use Prim.Native.Nat.{ℕ, suc, _+_, _-_, _<_, _≤_}
 use native.Mathlib.Omega.{arith}
 use lib.ListN.{length, getD, drop, drop-of-length-le, length-drop}
 use lib.Dec.{eqb, leb}
-use borrow.Author.Tests.{eq-eqb, ne-eqb, eqb-true, eqb-false, le-leb, lt-leb, leb-true, leb-false}
+use borrow.Author.Tests.{ne-eqb, eqb-true, le-leb, lt-leb, leb-true, leb-false}
 use Rattle.text.specs.Scan.{gapEnd}
-use Rattle.text.specs.Turns.{Turn, stop, on}
+use Rattle.text.specs.Turns.{stop, on}
 use Rattle.text.specs.declared.Cursor.{Cursor}
 use Rattle.text.proofs.Here.{by-test, inside, rest}
 use Rattle.text.proofs.Laws.{gap-from, gap-within}

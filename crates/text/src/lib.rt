@@ -204,7 +204,7 @@ pub fn class(classes: &[u8; 128], b: u16) -> u8
     }
 }
 
-// A place in a text.
+// A place in a text. The Rust's advance is `at + 1` here, and its is_eof is that the end stands here.
 pub struct Cursor {
     pub at: usize,
 }

@@ -3,7 +3,7 @@
 -- Assumes nothing.
 use mathlib.Core.Path.{_≡_, refl, sym, ap, _∙_}
 use mathlib.Core.List.{List, []}
-use Prim.Native.Nat.{ℕ, _+_, _<_, _≤_}
+use Prim.Native.Nat.{ℕ, _+_, _-_, _<_, _≤_}
 use native.Mathlib.Omega.{arith}
 use lib.ListN.{length}
 use Rattle.text.specs.Due.{dueAt, refusalOf}
@@ -86,6 +86,10 @@ pub argument-far : (s : List ℕ) (at u k : ℕ) (c : Cursor) (n : ℕ) → argu
 unfolding argumentAt
 argument-far s at u k c n h = far-of s at u k (valueAt s at) c n refl h
 
+-- room in the store for the rest of the text stays
+pub argument-room : (s : List ℕ) (at u k l : ℕ) (c : Cursor) (n : ℕ) → argumentAt s at u k ≡ Read c n → u + (length s - at) ≤ l → n + (length s - c .at) ≤ l
+argument-room s at u k l c n h r = let f = argument-far s at u k c n h in omega arith
+
 -- a refused one stores nothing; its place is within the text, where the scan stands within it
 refused-of : (s : List ℕ) (at u k : ℕ) (w : Val) (r : Refusal) → at ≤ length s → valueAt s at ≡ w → argumentOf u k w ≡ Refused r
     → (r .number ≡ 4) × (r .keyword ≡ k) × (at ≤ r .at) × (r .at ≤ length s) × (valueBytes w ≡ [])
@@ -121,6 +125,9 @@ pub line-far : (s : List ℕ) (at u k b : ℕ) (c : Cursor) (n : ℕ) → b < 25
     → (at + length (valueBytes (valueAt s at)) < c .at) × (c .at ≤ length s) × (n ≡ u + length (valueBytes (valueAt s at)))
 unfolding lineAt
 line-far s at u k b c n small h = line-of s at u k b (argumentAt s at u k) c n small refl h
+
+pub line-room : (s : List ℕ) (at u k b l : ℕ) (c : Cursor) (n : ℕ) → b < 256 → lineAt s at u k b ≡ Read c n → u + (length s - at) ≤ l → n + (length s - c .at) ≤ l
+line-room s at u k b l c n small h r = let f = line-far s at u k b c n small h in omega arith
 
 due-not : (n : ℕ) (d : Due) (r : Refusal) → afterDue n d ≡ Refused r → d ≡ Not r
 unfolding afterDue

@@ -14,7 +14,7 @@ use Rattle.text.specs.Scan.{inIdent, gapEnd, runEnd}
 use Rattle.text.specs.Class.{classOf}
 use Rattle.text.specs.Keyword.{part}
 use Rattle.text.specs.declared.Run.the-variants.{Name}
-use Rattle.text.specs.Turns.{stop, on, turns}
+use Rattle.text.specs.Turns.{stop, on}
 use Rattle.text.proofs.Turns.{turns-stop, turns-on, turns-rule}
 use Rattle.text.proofs.Here.{by-test, here, never}
 use Rattle.text.proofs.Laws.{in-name, gap-from, gap-within, run-more, run-from, run-within}

@@ -14,9 +14,9 @@ use Rattle.text.specs.Keyword.{part}
 use Rattle.text.specs.Scan.{gapEnd}
 use Rattle.text.specs.declared.Cursor.{Cursor}
 use Rattle.value.specs.Str.{Str, whole, cut, strAt, answerOf, bytesOf}
-use Rattle.value.specs.Value.{isQuote, added, ends, broken, addedBy, afterPlus, afterGap, moreAt, moreAnswer, moreBytes}
+use Rattle.value.specs.Value.{isQuote, ends, addedBy, afterPlus, afterGap, moreAt, moreAnswer, moreBytes}
 use Rattle.value.specs.declared.Quoted.the-variants.{Closed, Unclosed}
-use Rattle.value.specs.declared.Part.the-variants.{Added, Last, Cut}
+use Rattle.value.specs.declared.Part.the-variants.{Added, Cut}
 
 -- ---- bytes
 

@@ -1,6 +1,6 @@
 -- `skip::skip_statement`. The loop keeps how the statement ends from here: a part that was passed leaves that as it was, at its own depth.
 -- Assumes nothing.
-use mathlib.Core.Path.{_≡_, refl, sym, _∙_}
+use mathlib.Core.Path.{_≡_, sym, _∙_}
 use Prim.Native.Nat.{_-_, _≤_}
 use lib.ListN.{length}
 use native.Mathlib.Omega.{arith}

@@ -1,6 +1,6 @@
 -- `value::read_argument`. A refused value is the answer as it is; after a value the answer is that of the byte due there.
 -- Assumes nothing.
-use mathlib.Core.Path.{sym, _∙_}
+use mathlib.Core.Path.{sym}
 use borrow.Author.Needs.{needs}
 use Rattle.value.proofs.ArgumentLaws.{line-refused, line-other, line-read}
 use Rattle.value.proofs.read_argument.Statement.{statement}
