@@ -316,6 +316,13 @@ pub starts-here : (s : List ℕ) (at : ℕ) → startsIdent (getD s at 256) ≡ 
 unfolding startsIdent classOf
 starts-here s at h = here s at (λ e. never (ap startsIdent e) h)
 
+-- an identifier takes a byte at least
+pub ident-far : (s : List ℕ) (at : ℕ) → startsIdent (getD s at 256) ≡ true → (at < runEnd Ident s at) × (runEnd Ident s at ≤ length s)
+ident-far s at y =
+    let l = starts-here s at y in
+    let e = in-ident (getD s at 256) ∙ starts-in (getD s at 256) y in
+    omega (arith, run-more Ident s at l refl (sym e) refl, run-from Ident s (at + 1), run-within Ident s at (omega arith))
+
 after-is : {m : Match} (a b : Cursor) → m ≡ After a → m ≡ After b → a .at ≡ b .at
 after-is a b e f = cc
 
@@ -346,10 +353,7 @@ keyword-word s at word h =
 pub match-far : (s : List ℕ) (at : ℕ) (word : List ℕ) (c : Cursor) → matchAt s at word ≡ After c → (at < c .at) × (c .at ≤ length s)
 match-far s at word c h =
     let g = match-given s at word c h in
-    let y = keyword-starts s at word (g .0) in
-    let l = starts-here s at y in
-    let e = in-ident (getD s at 256) ∙ starts-in (getD s at 256) y in
-    omega (arith, g .1, run-more Ident s at l refl (sym e) refl, run-from Ident s (at + 1), run-within Ident s at (omega arith))
+    omega (arith, g .1, ident-far s at (keyword-starts s at word (g .0)))
 
 -- it takes just its own bytes
 pub match-end : (s : List ℕ) (at : ℕ) (word : List ℕ) (c : Cursor) → matchAt s at word ≡ After c → c .at ≡ at + length word

@@ -9,8 +9,12 @@ use Rattle.text.specs.Bytes.{theEnd, look}
 use Rattle.text.specs.Scan.{gapEnd}
 use Rattle.text.specs.declared.Due.{Due}
 use Rattle.text.specs.declared.Due.the-variants.{After, Not}
+use Rattle.text.specs.declared.Refusal.{Refusal}
 
--- the refusals of this layer; 4: no value after the keyword
+-- the numbers of this layer; 4: no value after the keyword
+abbrev pub noRefusal : ℕ
+noRefusal = 0
+
 abbrev pub noValue : ℕ
 noValue = 4
 
@@ -33,3 +37,8 @@ dueHere s at b k =
 -- and after a gap
 unfoldable pub dueAt : List ℕ → ℕ → ℕ → ℕ → Due
 dueAt s at b k = dueHere s (gapEnd s at) b k
+
+-- 0, 0, 0 where there is none
+unfoldable pub refusalOf : Due → Refusal
+refusalOf (After c) = record { number = noRefusal; keyword = 0; at = 0 }
+refusalOf (Not r) = r

@@ -9,7 +9,7 @@ ghost use Rattle.text.specs.Bytes.{look, theEnd};
 ghost use Rattle.text.specs.Class.{classOf, classTable};
 ghost use Rattle.text.specs.Scan.{inIdent, inRun, runEnd, blockEnd, pairAt, commentEnd, gapEnd};
 ghost use Rattle.text.specs.Keyword.{startsIdent, endsKeyword, wordly, begins, matchAt};
-ghost use Rattle.text.specs.Due.{dueAt};
+ghost use Rattle.text.specs.Due.{dueAt, refusalOf};
 
 // What stands at a place: a byte, or the end.
 pub const NEWLINE: u16 = b'\n' as u16;
@@ -204,7 +204,7 @@ pub fn class(classes: &[u8; 128], b: u16) -> u8
     }
 }
 
-// A place in a text.
+// A place in a text. The Rust's advance is `at + 1` here, and its is_eof is that the end stands here.
 pub struct Cursor {
     pub at: usize,
 }
@@ -222,7 +222,9 @@ pub struct Refusal {
     pub at: usize,
 }
 
-// The numbers of the refusals of this layer: no value after the keyword, another byte than the one required, the end instead of it.
+// The numbers of this layer: no refusal, no value after the keyword, another byte than the one required, the end instead of it.
+pub const NO_REFUSAL: u32 = 0;
+
 pub const NO_VALUE: u32 = 4;
 
 pub const OTHER_BYTE: u32 = 5;
@@ -233,6 +235,20 @@ pub const END_OF_TEXT: u32 = 6;
 pub enum Due {
     After(Cursor),
     Not(Refusal),
+}
+
+// The refusal of a byte that was due; 0, 0, 0 where there is none.
+pub fn refusal_of(d: Due) -> Refusal
+    ensures { λ r. ⌜ r ≡ refusalOf d ⌝ }
+{
+    match d {
+        Due::After(_) => Refusal {
+            number: NO_REFUSAL,
+            keyword: 0,
+            at: 0,
+        },
+        Due::Not(r) => r,
+    }
 }
 
 impl Cursor {

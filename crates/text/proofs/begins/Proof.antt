@@ -1,7 +1,7 @@
 -- `text::begins`. The loop keeps whether the rest of the text begins with the rest of the word: a byte that agrees keeps that, one that
 -- differs decides it.
 -- Assumes nothing.
-use mathlib.Core.Path.{_≡_, refl, sym, _∙_}
+use mathlib.Core.Path.{_≡_, sym, _∙_}
 use Prim.Native.Nat.{_+_, _-_}
 use lib.ListN.{length, drop}
 use native.Mathlib.Omega.{arith}

@@ -1,0 +1,24 @@
+-- `text::refusal_of`. Each arm of the `match` is its clause of the definition.
+-- Assumes nothing.
+use mathlib.Core.Path.{sym, ap}
+use Rattle.text.specs.Due.{refusalOf}
+use borrow.Author.Needs.{needs}
+use Rattle.text.proofs.refusal_of.Statement.{statement}
+use Rattle.text.proofs.refusal_of.Tie as tie
+
+enum-told : tie.Need-enum-told
+enum-told c = search needs
+
+enum-known-d : tie.Need-enum-known-d
+enum-known-d c = search needs
+
+returns : tie.Need-returns
+unfolding refusalOf
+returns c = sym (ap refusalOf (c .enum-told .given .1))
+
+returns-2 : tie.Need-returns-2
+unfolding refusalOf
+returns-2 c = sym (ap refusalOf (c .before .d .given .1))
+
+pub refusal-of-spec : {M : Type 1} → statement M
+refusal-of-spec = tie.close (tie.spec enum-told enum-known-d returns returns-2)

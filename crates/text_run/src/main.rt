@@ -1,0 +1,276 @@
+// Replays recorded answers of the Rust for single values, statements and tokens, and runs the traps of document 01.
+use libc::STDOUT_FILENO;
+use text::Cursor;
+use text::Match;
+use value::Argument;
+use value::Value;
+ghost use mathlib.Core.Path.{_≡_};
+ghost use Rattle.text.specs.Class.{classTable};
+
+// Document 01's numbers of the two keywords that the recorded texts are made around.
+const NAMESPACE: u32 = 4;
+
+const PREFIX: u32 = 5;
+
+// What the Rust does not tell.
+const UNTOLD: u32 = 4294967295;
+
+// How many records there are, and how many of them are answered otherwise.
+struct Tally {
+    records: u64,
+    different: u64,
+}
+
+// Whether a refusal's word is the recorded one, where the Rust tells it.
+fn told(recorded: u32, is: u32) -> bool {
+    if recorded == UNTOLD {
+        return true;
+    }
+    recorded == is
+}
+
+// The first n bytes, where there are as many.
+fn first(s: &[u8], n: usize) -> &[u8] {
+    if s.len() < n {
+        return s;
+    }
+    let start: usize = 0;
+    &s[start..n]
+}
+
+// Whether what was read is what was recorded: answer has number, keyword and position, kept the value's bytes.
+fn agrees(read: Argument, store: &[u8], answer: &[u8], kept: &[u8]) -> bool {
+    let number = replay::word(answer, 0);
+    match read {
+        Argument::Read { next: _, used } => {
+            if number != 0 {
+                return false;
+            }
+            check::same(first(store, used), kept)
+        }
+        Argument::Refused(r) => {
+            if number != r.number {
+                return false;
+            }
+            if !told(replay::word(answer, 4), r.keyword) {
+                return false;
+            }
+            let at = (r.at % 4294967296) as u32;
+            told(replay::word(answer, 8), at)
+        }
+    }
+}
+
+// A value and its semicolon, from a place on.
+fn value_agrees(here: Cursor, keyword: u32, s: &[u8], answer: &[u8], kept: &[u8]) -> bool {
+    let mut store = io::buffer();
+    if store.len() < s.len() {
+        return false;
+    }
+    let classes = text::classes();
+    let read = value::read_argument(here, &classes, s, &mut store, 0, keyword, text::SEMICOLON);
+    agrees(read, &store, answer, kept)
+}
+
+// The place behind the next keyword prefix, past a token, or nothing more.
+enum Found {
+    At(Cursor),
+    On(Cursor),
+    Nothing,
+}
+
+fn next_token(from: Cursor, classes: &[u8; 128], s: &[u8]) -> Found
+    requires { ⌜ now classes ≡ classTable ⌝ }
+{
+    let here = from.skip_whitespace_and_comments(classes, s);
+    let at = here.at;
+    if s.len() <= at {
+        return Found::Nothing;
+    }
+    let prefix = here.match_keyword(classes, s, b"prefix");
+    match prefix {
+        Match::After(c) => Found::At(c),
+        Match::Not => {
+            let token = skip::skip_one_token(here, classes, s);
+            let end = skip::token_end(token);
+            Found::On(end)
+        }
+    }
+}
+
+// Tokens are skipped until prefix matches. A token takes a byte at least.
+fn find_prefix(from: Cursor, classes: &[u8; 128], s: &[u8]) -> Found
+    requires { ⌜ now classes ≡ classTable ⌝ }
+{
+    let mut here = from;
+    let mut turns = s.len();
+    while 0 < turns {
+        match next_token(here, classes, s) {
+            Found::On(c) => {
+                here = c;
+                turns -= 1;
+            }
+            Found::At(c) => {
+                return Found::At(c);
+            }
+            Found::Nothing => {
+                return Found::Nothing;
+            }
+        }
+    }
+    Found::Nothing
+}
+
+// Behind the 9 bytes of `module m{`; and where `belongs-to x` follows, behind the statement of which these 12 bytes are the start.
+fn tokens_from(classes: &[u8; 128], s: &[u8]) -> Cursor
+    requires { ⌜ now classes ≡ classTable ⌝ }
+{
+    let opened = Cursor { at: 9 };
+    let belongs = opened.match_keyword(classes, s, b"belongs-to");
+    match belongs {
+        Match::After(_) => {
+            let rest = Cursor { at: 21 };
+            let skipped = skip::skip_statement(rest, classes, s);
+            skip::ended_at(skipped)
+        }
+        Match::Not => opened,
+    }
+}
+
+// The first prefix statement that is met as one tells where the skipped statement ended and the tokens began.
+fn skip_agrees(s: &[u8], answer: &[u8], kept: &[u8], missing: bool) -> bool {
+    let classes = text::classes();
+    let from = tokens_from(&classes, s);
+    let found = find_prefix(from, &classes, s);
+    match found {
+        Found::At(c) => value_agrees(c, PREFIX, s, answer, kept),
+        Found::On(_) => false,
+        Found::Nothing => missing,
+    }
+}
+
+// A record: text, answer and, where the answer's number is 0, the value.
+fn record_agrees(data: &[u8], at: usize, values: bool) -> bool {
+    let s = replay::field(data, at);
+    let behind = replay::after(data, at);
+    let answer = replay::field(data, behind);
+    let last = replay::after(data, behind);
+    let kept = replay::field(data, last);
+    if values {
+        let here = Cursor { at: 18 };
+        return value_agrees(here, NAMESPACE, s, answer, kept);
+    }
+    skip_agrees(s, answer, kept, replay::missing(data, last))
+}
+
+fn behind_record(data: &[u8], at: usize) -> usize {
+    let behind = replay::after(data, at);
+    let answer = replay::field(data, behind);
+    let last = replay::after(data, behind);
+    if replay::word(answer, 0) == 0 {
+        return replay::after(data, last);
+    }
+    last
+}
+
+// One more of the records that differ, unless this one agrees.
+fn count_unless(agrees: bool, n: u64) -> u64 {
+    if agrees {
+        return n;
+    }
+    std::num::wrapping_add_u64(n, 1)
+}
+
+// All records of a file. A record takes a byte at least.
+fn replay_all(data: &[u8], values: bool) -> Tally {
+    let mut at: usize = 0;
+    let mut records: u64 = 0;
+    let mut different: u64 = 0;
+    let mut turns = data.len();
+    while 0 < turns {
+        if data.len() <= at {
+            return Tally { records, different };
+        }
+        different = count_unless(record_agrees(data, at, values), different);
+        records = std::num::wrapping_add_u64(records, 1);
+        at = behind_record(data, at);
+        turns -= 1;
+    }
+    Tally { records, different }
+}
+
+// Says how many records a file has and how many differ.
+fn say(name: &[u8], t: Tally) {
+    io::write_all(STDOUT_FILENO, name);
+    io::write_all(STDOUT_FILENO, b": ");
+    io::print_decimal(STDOUT_FILENO, t.records);
+    io::write_all(STDOUT_FILENO, b" replayed, ");
+    io::print_decimal(STDOUT_FILENO, t.different);
+    io::write_all(STDOUT_FILENO, b" different\n");
+}
+
+fn replay_file(name: &[u8], values: bool) {
+    let mut space = [0u8; 524288];
+    let fd = os::open_read(name);
+    let n = io::read_full(fd, &mut space);
+    libc::close(fd);
+    say(name, replay_all(&space[..n], values));
+}
+
+// Whether the statement at the text's start ends at a place.
+fn statement_ends(s: &[u8], at: usize) -> bool {
+    let classes = text::classes();
+    let start = Cursor { at: 0 };
+    let skipped = skip::skip_statement(start, &classes, s);
+    let end = skip::ended_at(skipped);
+    end.at == at
+}
+
+// Whether the value at the text's start is these bytes and ends at a place.
+fn value_is(s: &[u8], kept: &[u8], at: usize) -> bool {
+    let mut store = io::buffer();
+    if store.len() < s.len() {
+        return false;
+    }
+    let classes = text::classes();
+    let start = Cursor { at: 0 };
+    let read = value::read_string_or_identifier(start, &classes, s, &mut store, 0);
+    let Value::Read { next, used } = read else {
+        return false;
+    };
+    if next.at != at {
+        return false;
+    }
+    check::same(first(&store, used), kept)
+}
+
+// What document 01 calls easy to get wrong, as far as this layer goes.
+fn trap(name: &[u8], right: bool) {
+    io::write_all(STDOUT_FILENO, name);
+    if right {
+        io::write_all(STDOUT_FILENO, b": right\n");
+        return;
+    }
+    io::write_all(STDOUT_FILENO, b": WRONG\n");
+}
+
+fn traps() {
+    trap(
+        b"a skipped string closed by the value rules",
+        statement_ends(b"x \"\\\\\";y", 8),
+    );
+    trap(
+        b"a skipped string in single quotes",
+        statement_ends(b"'a\\';';z", 7),
+    );
+    trap(
+        b"the first part of an unclosed added string",
+        value_is(b"\"m\"+\"x", b"m", 6),
+    );
+}
+
+fn main() {
+    replay_file(b"values.vec", true);
+    replay_file(b"skips.vec", false);
+    traps();
+}

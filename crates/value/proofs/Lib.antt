@@ -1,0 +1,5 @@
+pub mod ArgumentLaws
+pub mod Examples
+pub mod JoinLaws
+pub mod StrLaws
+pub mod ValueLaws

@@ -1,0 +1,87 @@
+-- `value::read_argument`. A refused value is the answer as it is; after a value the answer is that of the byte due there.
+-- Assumes nothing.
+use mathlib.Core.Path.{sym}
+use borrow.Author.Needs.{needs}
+use Rattle.value.proofs.ArgumentLaws.{line-refused, line-other, line-read}
+use Rattle.value.proofs.read_argument.Statement.{statement}
+use Rattle.value.proofs.read_argument.Tie as tie
+
+read-value-requires : tie.Need-read-value-requires
+read-value-requires c κs = search needs
+
+enum-known-got : tie.Need-enum-known-got
+enum-known-got c = search needs
+
+enum-told : tie.Need-enum-told
+enum-told c = search needs
+
+same-length : tie.Need-same-length
+same-length c = search needs
+
+returns : tie.Need-returns
+returns c =
+    let at-read = c .before .before .before .before in
+    let a = at-read .before .before .before .before .args in
+    let v = at-read .read-value in
+    let k = c .enum-told .given in
+    (sym (line-refused (a .s .now) (a .here .at) (a .used) (a .keyword) (a .b) (v .ensures .0) (k .0 .0) (k .1)), v .ensures .1)
+
+expect-char-requires : tie.Need-expect-char-requires
+expect-char-requires c κs = search needs
+
+enum-known-due : tie.Need-enum-known-due
+enum-known-due c = search needs
+
+enum-told-2 : tie.Need-enum-told-2
+enum-told-2 c = search needs
+
+refusal-of-requires : tie.Need-refusal-of-requires
+refusal-of-requires c κs = search needs
+
+same-length-2 : tie.Need-same-length-2
+same-length-2 c = search needs
+
+returns-2 : tie.Need-returns-2
+returns-2 c =
+    let told = c .before in
+    let at-due = told .before .before in
+    let got = at-due .before .before in
+    let at-read = got .before .before .before .before in
+    let a = at-read .before .before .before .before .args in
+    let v = at-read .read-value in
+    let k = got .got .given in
+    let d = told .enum-told2 .given in
+    (sym (line-other (a .s .now) (a .here .at) (a .used) (a .keyword) (a .b) (v .ensures .0) (k .0 .0) (k .0 .1 .0) (k .1) (at-due .expect-char .ensures) (d .0 .0) (d .1) (c .refusal-of .ensures)), v .ensures .1)
+
+same-length-3 : tie.Need-same-length-3
+same-length-3 c = search needs
+
+returns-3 : tie.Need-returns-3
+returns-3 c =
+    let due = c .before in
+    let at-due = due .before .before in
+    let got = at-due .before .before in
+    let at-read = got .before .before .before .before in
+    let a = at-read .before .before .before .before .args in
+    let v = at-read .read-value in
+    let k = got .got .given in
+    let d = due .due .given in
+    (sym (line-read (a .s .now) (a .here .at) (a .used) (a .keyword) (a .b) (v .ensures .0) (k .0 .0) (k .0 .1 .0) (k .1) (at-due .expect-char .ensures) (d .0 .0) (d .1)), v .ensures .1)
+
+pub read-argument-spec : {M : Type 1} → statement M
+read-argument-spec =
+    tie.close
+    (tie.spec
+    read-value-requires
+    enum-known-got
+    enum-told
+    same-length
+    returns
+    expect-char-requires
+    enum-known-due
+    enum-told-2
+    refusal-of-requires
+    same-length-2
+    returns-2
+    same-length-3
+    returns-3)

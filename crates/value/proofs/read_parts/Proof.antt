@@ -1,0 +1,92 @@
+-- `value::read_parts`. The loop's invariant is `Joining`: the bytes of all that was added stand in the store. Each part takes more bytes
+-- than it adds, so there is room and an end.
+-- Assumes nothing.
+use mathlib.Core.Path.{_≡_, sym, _∙_}
+use Prim.Native.Nat.{_-_}
+use lib.ListN.{length}
+use native.Mathlib.Omega.{arith}
+use borrow.Author.Needs.{needs}
+use Rattle.value.specs.Value.{moreAt, moreAnswer, moreBytes}
+use Rattle.value.specs.declared.Part.the-variants.{Added, Last, Cut}
+use Rattle.value.proofs.JoinLaws.{Joining, join-begun, join-long, join-more, join-done, join-cut, more-size, added-answer}
+use Rattle.value.proofs.read_parts.Statement.{statement}
+use Rattle.value.proofs.read_parts.Tie as tie
+
+abbrev Inv-loop : tie.InvT-loop
+Inv-loop classes s store₀ used at₀ n₀ store at n = Joining s store₀ used at₀ store at n
+
+abbrev μ-loop : tie.MeasureT-loop
+μ-loop classes s store₀ used at₀ n₀ store at n = length s - at
+
+loop-holds : tie.Need-loop-holds Inv-loop μ-loop
+loop-holds c = join-begun (omega arith)
+
+read-part-requires : tie.Need-read-part-requires Inv-loop μ-loop
+read-part-requires c κs = (c .before .before .before .before .pre .0, omega (arith, join-long (c .before .loop .inv)))
+
+enum-known-next : tie.Need-enum-known-next Inv-loop μ-loop
+enum-known-next c = search needs
+
+loop-less : tie.Need-loop-less Inv-loop μ-loop
+loop-less c =
+    let at-loop = c .before .before .before .before .before .before .before .loop in
+    let s = c .before .before .before .before .before .before .before .before .before .before .args .s .now in
+    let read = c .before .before .before .before .before .read-part in
+    let got = c .before .next .given .0 in
+    let told : moreAnswer (at-loop .n) (moreAt s (at-loop .at)) ≡ Added (got .0) (got .1 .0) = sym (read .ensures .0) ∙ c .before .next .given .1 in
+    omega (arith, more-size s (at-loop .at) (moreBytes (moreAt s (at-loop .at))) (got .0 .at) (added-answer (at-loop .n) (moreAt s (at-loop .at)) (got .0) (got .1 .0) told .0))
+
+loop-again : tie.Need-loop-again Inv-loop μ-loop
+loop-again c =
+    let at-loop = c .before .before .before .before .before .before .before .loop in
+    let s = c .before .before .before .before .before .before .before .before .before .before .args .s .now in
+    let read = c .before .before .before .before .before .read-part in
+    let got = c .before .next .given .0 in
+    let told : moreAnswer (at-loop .n) (moreAt s (at-loop .at)) ≡ Added (got .0) (got .1 .0) = sym (read .ensures .0) ∙ c .before .next .given .1 in
+    join-more (got .0) (got .1 .0) (at-loop .inv) told (read .ensures .1)
+
+enum-known-end : tie.Need-enum-known-end Inv-loop μ-loop
+enum-known-end c = search needs
+
+same-length : tie.Need-same-length Inv-loop μ-loop
+same-length c = c .before .before .before .before .before .read-part .kept .1 .1 .1 .0 ∙ join-long (c .before .before .before .before .before .before .before .loop .inv)
+
+returns : tie.Need-returns Inv-loop μ-loop
+returns c =
+    let at-loop = c .before .before .before .before .before .before .before .loop in
+    let read = c .before .before .before .before .before .read-part in
+    let end = c .before .end .given .0 .0 in
+    let told : moreAnswer (at-loop .n) (moreAt (c .before .before .before .before .before .before .before .before .before .before .args .s .now) (at-loop .at)) ≡ Last end = sym (read .ensures .0) ∙ c .before .end .given .1 in
+    join-done end (at-loop .inv) told (read .ensures .1)
+
+enum-known-end-2 : tie.Need-enum-known-end-2 Inv-loop μ-loop
+enum-known-end-2 c = search needs
+
+same-length-2 : tie.Need-same-length-2 Inv-loop μ-loop
+same-length-2 c = c .before .before .before .before .before .read-part .kept .1 .1 .1 .0 ∙ join-long (c .before .before .before .before .before .before .before .loop .inv)
+
+returns-2 : tie.Need-returns-2 Inv-loop μ-loop
+returns-2 c =
+    let at-loop = c .before .before .before .before .before .before .before .loop in
+    let read = c .before .before .before .before .before .read-part in
+    let end = c .before .end2 .given .0 .0 in
+    let told : moreAnswer (at-loop .n) (moreAt (c .before .before .before .before .before .before .before .before .before .before .args .s .now) (at-loop .at)) ≡ Cut end = sym (read .ensures .0) ∙ c .before .end2 .given .1 in
+    join-cut end (at-loop .inv) told (read .ensures .1)
+
+pub read-parts-spec : {M : Type 1} → statement M
+read-parts-spec =
+    tie.close
+    (tie.spec
+    Inv-loop
+    μ-loop
+    loop-holds
+    read-part-requires
+    enum-known-next
+    loop-less
+    loop-again
+    enum-known-end
+    same-length
+    returns
+    enum-known-end-2
+    same-length-2
+    returns-2)

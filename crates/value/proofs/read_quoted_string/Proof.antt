@@ -1,0 +1,75 @@
+-- `value::read_quoted_string`. The first pass finds where the string closes and the second copies it, so one that never closes stores
+-- nothing.
+-- Assumes nothing.
+use mathlib.Core.Path.{sym, ap, _∙_}
+use lib.Seq.{sets}
+use Rattle.value.specs.Str.{answerOf, bytesOf}
+use Rattle.value.specs.declared.Quoted.the-variants.{Closed}
+use Rattle.value.proofs.StrLaws.{str-whole, str-cut, str-past}
+use borrow.Author.Needs.{needs}
+use Rattle.value.proofs.read_quoted_string.Statement.{statement}
+use Rattle.value.proofs.read_quoted_string.Tie as tie
+
+shared-slice-read-q : tie.Need-shared-slice-read-q
+shared-slice-read-q c = search needs
+
+add-close-of : tie.Need-add-close-of
+add-close-of c = search needs
+
+close-of-requires : tie.Need-close-of-requires
+close-of-requires c κs = search needs
+
+enum-known-end : tie.Need-enum-known-end
+enum-known-end c = search needs
+
+enum-told : tie.Need-enum-told
+enum-told c = search needs
+
+returns : tie.Need-returns
+unfolding answerOf bytesOf
+returns c =
+    let a = c .before .before .before .before .before .before .before .args in
+    let e = str-cut (a .s .now) (a .here .at) (c .before .before .before .before .if1 .taken) (cc (c .enum-told .given .1)) in
+    (sym (ap (answerOf (a .used)) e), sym (ap (λ t. sets (a .store .now) (a .used) (bytesOf t)) e))
+
+add-copy-string : tie.Need-add-copy-string
+add-copy-string c = search needs
+
+copy-string-requires : tie.Need-copy-string-requires
+copy-string-requires c κs = search needs
+
+same-length : tie.Need-same-length
+same-length c = search needs
+
+returns-2 : tie.Need-returns-2
+unfolding answerOf bytesOf
+returns-2 c =
+    let a = c .before .before .before .before .before .before .before .before .before .before .before .before .args in
+    let e = str-whole (a .s .now) (a .here .at) (c .before .before .before .before .before .end .given .0 .0) (c .before .before .before .before .before .before .before .before .before .if1 .taken) (cc (c .before .before .before .before .before .end .given .1)) in
+    let copied = c .before .before .copy-string .ensures in (
+      ap (Closed (record { at = c .before .before .before .before .before .end .given .0 .0 })) (copied .0) ∙ sym (ap (answerOf (a .used)) e),
+      copied .1 ∙ sym (ap (λ t. sets (a .store .now) (a .used) (bytesOf t)) e),
+    )
+
+returns-3 : tie.Need-returns-3
+unfolding answerOf bytesOf
+returns-3 c =
+    let a = c .before .before .before .args in
+    let e = str-past (a .s .now) (a .here .at) (c .if1 .left) in
+    (sym (ap (answerOf (a .used)) e), sym (ap (λ t. sets (a .store .now) (a .used) (bytesOf t)) e))
+
+pub read-quoted-string-spec : {M : Type 1} → statement M
+read-quoted-string-spec =
+    tie.close
+    (tie.spec
+    shared-slice-read-q
+    add-close-of
+    close-of-requires
+    enum-known-end
+    enum-told
+    returns
+    add-copy-string
+    copy-string-requires
+    same-length
+    returns-2
+    returns-3)
