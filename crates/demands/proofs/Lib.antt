@@ -1,0 +1,4 @@
+pub mod Same
+pub mod Examples
+pub mod Trimming
+pub mod Differences

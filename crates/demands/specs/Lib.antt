@@ -1,0 +1,2 @@
+pub mod Rfc
+pub mod Domain
