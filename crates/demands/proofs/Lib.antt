@@ -1,7 +1,9 @@
-pub mod Same
-pub mod Examples
-pub mod Trimming
-pub mod Differences
-pub mod Tests
-pub mod Trim
-pub mod Strings
+pub mod RfcTests
+pub mod RfcTrim
+pub mod RfcStrings
+pub mod RfcGaps
+pub mod RfcEqual
+pub mod RfcSame
+pub mod RfcExamples
+pub mod RfcTrimming
+pub mod RfcDifferences

@@ -1,2 +1,3 @@
 pub mod Rfc
-pub mod Domain
+pub mod RfcDomain
+pub mod RfcEquality

@@ -35,9 +35,9 @@ commentClose [] at = none
 commentClose (b ∷ xs) at = cond (areAt (b ∷ xs) 0 star slash) (some (at + 2)) (commentClose xs (at + 1))
 
 -- a comment that closes is passed over; one that never closes leaves nothing to read
-unfoldable pub closing : Option ℕ → Turn ℕ (Option ℕ)
-closing none = stop none
-closing (some end) = on end
+unfoldable pub pastComment : Option ℕ → Turn ℕ (Option ℕ)
+pastComment none = stop none
+pastComment (some end) = on end
 
 -- White space between tokens is blanks, tabs and line breaks; comments are `//` to the end of the line and `/*` to `*/`.
 -- One of them is passed over, or the gap ends here.
@@ -47,7 +47,7 @@ separator s at =
     (cond (eqb (look s at) newline) (on (at + 1))
     (cond (areAt s at carriage newline) (on (at + 2))
     (cond (areAt s at slash slash) (on (at + 2 + toLineEnd (drop (at + 2) s)))
-    (cond (areAt s at slash star) (closing (commentClose (drop (at + 2) s) (at + 2)))
+    (cond (areAt s at slash star) (pastComment (commentClose (drop (at + 2) s) (at + 2)))
     (stop (some at))))))
 
 -- the place after all white space and comments from a place on; each takes a byte at least, so a turn for each byte is enough
@@ -120,12 +120,15 @@ gapAt s at = gapTo s (pastGap s at)
 unfoldable pub gapAndString : (ℕ → Read (List Piece)) → List ℕ → ℕ → Read (List Piece)
 gapAndString rest s at = first (gapAt s at) (λ here. first (stringAt s here) rest)
 
--- A quoted string followed by `+` and another quoted string is the two joined, as often as that repeats. White space, line breaks
--- and comments may stand between the strings and the `+`. An unquoted string is never joined. n: more than there can be strings.
+-- A quoted string followed by `+` and another quoted string is the two joined. White space, line breaks and comments may stand between
+-- the strings and the `+`. An unquoted string is never joined. Where no `+` stands the value has ended.
+unfoldable pub plusAndString : (ℕ → Read (List Piece)) → List ℕ → ℕ → Read (List Piece)
+plusAndString rest s at = cond (eqb (look s at) plus) (gapAndString rest s (at + 1)) (reads [] at)
+
+-- As often as that repeats. n: more than there can be strings
 unfoldable pub addedStrings : ℕ → List ℕ → ℕ → Read (List Piece)
 addedStrings zero s at = nothing
-addedStrings (suc n) s at =
-    first (gapAt s at) (λ here. cond (eqb (look s here) plus) (gapAndString (λ end. addedStrings n s end) s (here + 1)) (reads [] here))
+addedStrings (suc n) s at = first (gapAt s at) (λ here. plusAndString (λ end. addedStrings n s end) s here)
 
 -- all pieces of a value, from the gap before it to the gap after it
 unfoldable pub piecesAt : List ℕ → ℕ → Read (List Piece)

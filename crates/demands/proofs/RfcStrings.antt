@@ -15,8 +15,8 @@ use Rattle.value.specs.Str.{escaped, escapes, strEnd, strBytes, whole, closedBy
 use Rattle.value.specs.Value.{isQuote}
 use Rattle.value.specs.declared.Close.the-variants.{At}
 use Rattle.demands.specs.Rfc.{Read, reads, nothing, with, Piece, double, single, gap, singleBody, doubleBody, columnOf, stringAt, escape, joining, unescaped, trimmed, meaning}
-use Rattle.demands.specs.Domain.{oneLine, plain}
-use Rattle.demands.proofs.Trim.{trimmed-same}
+use Rattle.demands.specs.RfcDomain.{oneLine, plain}
+use Rattle.demands.proofs.RfcTrim.{trimmed-same}
 
 -- ---- what an answer says
 
@@ -68,11 +68,11 @@ escape-same b cs h =
 
 -- ---- double quotes
 
-at-escape : (b : ℕ) (xs : List ℕ) → eqb b 92 ≡ true → unescaped false (b ∷ xs) ≡ unescaped true xs
+pub at-escape : (b : ℕ) (xs : List ℕ) → eqb b 92 ≡ true → unescaped false (b ∷ xs) ≡ unescaped true xs
 unfolding unescaped
 at-escape b xs h = rw h
 
-at-byte : (b : ℕ) (xs : List ℕ) → eqb b 92 ≡ false → unescaped false (b ∷ xs) ≡ joining (some (b ∷ [])) (unescaped false xs)
+pub at-byte : (b : ℕ) (xs : List ℕ) → eqb b 92 ≡ false → unescaped false (b ∷ xs) ≡ joining (some (b ∷ [])) (unescaped false xs)
 unfolding unescaped
 at-byte b xs h = rw h
 
@@ -105,7 +105,7 @@ double-same false (b ∷ xs) at raw end bs h k =
     (λ s. let w = with-reads (b ∷_) (doubleBody false xs (at + 1)) raw end (rw s at n) in
     let j = joining-some (some (b ∷ [])) (unescaped false (w .0)) bs (sym (at-byte b (w .0) s) ∙ ap (unescaped false) (w .2) ∙ k) in
     let m = double-same false xs (at + 1) (w .0) end (j .1) (w .1) (j .3) in
-    rw q (rw s (m .0, put-byte (some-is (j .0) (b ∷ []) (j .2) refl) (j .4) (m .1)))))
+    rw q (rw s (m .0, put-byte {cs = j .0} {ds = j .1} (some-is (j .0) (b ∷ []) (j .2) refl) (j .4) (m .1)))))
 
 -- ---- single quotes
 

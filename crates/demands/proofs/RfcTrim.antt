@@ -7,8 +7,8 @@ use Prim.Native.Nat.{ℕ}
 use lib.ListN.{getD}
 use lib.Dec.{eqb}
 use Rattle.demands.specs.Rfc.{areAt, breakAt, blankToBreak, unless, trimEnds, trimStarts, trimmed}
-use Rattle.demands.specs.Domain.{oneLine}
-use Rattle.demands.proofs.Tests.{both, negated}
+use Rattle.demands.specs.RfcDomain.{oneLine}
+use Rattle.demands.proofs.RfcTests.{both, negated}
 
 module _ (b : ℕ) (xs : List ℕ) (h : oneLine (b ∷ xs) ≡ true) where
   line-head : eqb b 10 ≡ false

@@ -1,0 +1,18 @@
+-- Our quoted values and the RFC's: what is proved of them.
+-- Assumes nothing.
+use mathlib.Core.Path.{_≡_}
+use mathlib.Core.Bool.{true}
+use mathlib.Core.List.{List}
+use Prim.Native.Nat.{ℕ}
+use Rattle.value.specs.Value.{value, valueAt}
+use Rattle.demands.specs.Rfc.{reads, trimmed, rfcValue}
+use Rattle.demands.specs.RfcDomain.{oneLine, plainAt, legalAt}
+
+pub record RfcEquality : Type 0 where
+  -- where the RFC gives a value, no double-quoted string of it holds a line break and its gaps have no other white bytes, it is our value:
+  -- the same bytes, up to the same place
+  pub equal : (s : List ℕ) (at : ℕ) (bs : List ℕ) (end : ℕ) → rfcValue s at ≡ reads bs end → plainAt s at ≡ true → valueAt s at ≡ value bs end
+  -- and the RFC does give a value there, if the escapes are legal
+  pub gives : (s : List ℕ) (at : ℕ) → plainAt s at ≡ true → legalAt s at ≡ true → (bs : List ℕ) × (end : ℕ) × (rfcValue s at ≡ reads bs end)
+  -- where there is no line break trimming does nothing
+  pub untrimmed : (column : ℕ) (raw : List ℕ) → oneLine raw ≡ true → trimmed column raw ≡ raw
