@@ -3,6 +3,7 @@ pub mod RfcTrim
 pub mod RfcStrings
 pub mod RfcGaps
 pub mod RfcEqual
+pub mod RfcCounts
 pub mod RfcSame
 pub mod RfcExamples
 pub mod RfcTrimming

@@ -10,7 +10,7 @@ use Rattle.text.specs.Scan.{inIdent, inRun, span, runEnd, pairAt, closing, bloc
 use Rattle.value.specs.Str.{escaped, escapes, strEnd, strBytes, closedBy, strAt}
 use Rattle.value.specs.Value.{isQuote, startsName, addedBy, afterPlus, afterGap, moreAt, addTo, joinTurn, joinedWith, joined, ofString, valueHere, valueAt, Val, value, none}
 use Rattle.text.specs.Turns.{turns}
-use Rattle.demands.specs.Rfc.{Read, reads, nothing, isBlank, areAt, breakAt, toLineEnd, commentClose, pastComment, separator, pastGap, with, first, singleBody, doubleBody, width, columnAfter, columnOf, stringAt, gapTo, gapAt, gapAndString, plusAndString, addedStrings, piecesAt, blankToBreak, unless, trimEnds, trimStarts, trimmed, escape, joining, unescaped, meaning, meanings, endingAt, meant, rfcValue}
+use Rattle.demands.specs.Rfc.{Read, reads, nothing, isBlank, areAt, breakAt, toLineEnd, commentClose, pastComment, separator, pastGap, with, first, singleBody, doubleBody, width, columnAfter, columnOf, stringAt, gapTo, gapAt, gapAndString, plusAndString, addedStrings, moreStrings, piecesAt, blankToBreak, unless, trimEnds, trimStarts, trimmed, escape, joining, unescaped, meaning, meanings, endingAt, meant, rfcValue}
 use Rattle.demands.specs.RfcDomain.{oddWhite, oneLine, legal, plain, legalIn, every, found, plainAt, legalAt}
 use Rattle.demands.proofs.RfcSame.{same, sameBool, sameVal, sameRead, agree}
 
@@ -60,5 +60,5 @@ differences =
     ∷ []
 
 holds : T (all differences)
-unfolding differences all differ valueAt valueHere ofString joined joinedWith joinTurn addTo moreAt afterGap afterPlus addedBy isQuote startsName strAt closedBy strBytes strEnd escaped escapes part gapEnd gapTurn afterWhite commentEnd blockEnd closing pairAt runEnd span inRun inIdent classOf turns isBlank areAt breakAt toLineEnd commentClose pastComment separator pastGap with first singleBody doubleBody width columnAfter columnOf stringAt gapTo gapAt gapAndString plusAndString addedStrings piecesAt blankToBreak unless trimEnds trimStarts trimmed escape joining unescaped meaning meanings endingAt meant rfcValue oddWhite oneLine legal plain legalIn every found plainAt legalAt
+unfolding differences all differ valueAt valueHere ofString joined joinedWith joinTurn addTo moreAt afterGap afterPlus addedBy isQuote startsName strAt closedBy strBytes strEnd escaped escapes part gapEnd gapTurn afterWhite commentEnd blockEnd closing pairAt runEnd span inRun inIdent classOf turns isBlank areAt breakAt toLineEnd commentClose pastComment separator pastGap with first singleBody doubleBody width columnAfter columnOf stringAt gapTo gapAt gapAndString plusAndString addedStrings moreStrings piecesAt blankToBreak unless trimEnds trimStarts trimmed escape joining unescaped meaning meanings endingAt meant rfcValue oddWhite oneLine legal plain legalIn every found plainAt legalAt
 holds = tt

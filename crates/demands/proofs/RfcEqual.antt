@@ -15,7 +15,7 @@ use Rattle.value.specs.Str.{whole, strAt}
 use Rattle.value.specs.Value.{isQuote, added, ends, addedBy, moreAt, joinedWith, joined, Bytes, value, valueAt}
 use Rattle.value.proofs.ValueLaws.{more-plain, more-string}
 use Rattle.value.proofs.JoinLaws.{join-on, join-stop, value-string}
-use Rattle.demands.specs.Rfc.{Read, reads, nothing, with, first, Piece, double, single, gap, pastGap, separator, stringAt, gapTo, gapAt, gapAndString, plusAndString, addedStrings, piecesAt, escape, joining, unescaped, trimmed, meaning, meanings, endingAt, meant, rfcValue}
+use Rattle.demands.specs.Rfc.{Read, reads, nothing, with, first, Piece, double, single, gap, pastGap, separator, stringAt, gapTo, gapAt, gapAndString, plusAndString, addedStrings, moreStrings, piecesAt, escape, joining, unescaped, trimmed, meaning, meanings, endingAt, meant, rfcValue}
 use Rattle.demands.specs.RfcDomain.{oddWhite, legal, plain, legalIn, every, found, plainAt, legalAt}
 use Rattle.demands.specs.RfcEquality.{RfcEquality}
 use Rattle.demands.proofs.RfcTests.{both}
@@ -91,12 +91,11 @@ strung s at rest ps end bs h l k =
     let al = every-first (a .piece) (a .others) ps (a .all) plain l in
     let ak = meanings-first (a .piece) (a .others) ps (a .all) bs k in
     let g = gap-same s at (a .piece) (a .next) (ak .0) (a .one) (al .0) (ak .2) in
-    let n : ak .1 ≡ bs = no-bytes (ak .4) (g .1) in
+    let m : meanings (a .others) ≡ some bs = ak .3 ∙ ap some (no-bytes (ak .4) (g .1)) in
     let b = first-parts (stringAt s (a .next)) rest (a .others) end (a .more) in
     let bl = every-first (b .piece) (b .others) (a .others) (b .all) plain (al .1) in
-    let bk = meanings-first (b .piece) (b .others) (a .others) (b .all) (ak .1) (ak .3) in
+    let bk = meanings-first (b .piece) (b .others) (a .others) (b .all) bs m in
     let q = string-same s (a .next) (b .piece) (b .next) (bk .0) (b .one) (bl .0) (bk .2) in
-    let m : bs ≡ bk .0 ++ bk .1 = sym n ∙ bk .4 in
     record {
       here = a .next;
       next = b .next;
@@ -109,7 +108,7 @@ strung s at rest ps end bs h l k =
       plainly = bl .1;
       adds = bk .1;
       mean = bk .3;
-      all = m;
+      all = bk .4;
     }
 
 -- ---- what is added
@@ -161,10 +160,10 @@ meant-is (reads ps e) bs end h = by-meaning (meanings ps) refl h
 meant-is nothing bs end h = absurd (nothing-read refl h)
 
 value-same : (s : List ℕ) (at : ℕ) (bs : List ℕ) (end : ℕ) → rfcValue s at ≡ reads bs end → plainAt s at ≡ true → valueAt s at ≡ value bs end
-unfolding rfcValue plainAt found piecesAt joined
+unfolding rfcValue plainAt found piecesAt moreStrings joined
 value-same s at bs end h l =
     let m = meant-is (piecesAt s at) bs end h in
-    let t = strung s at (λ e. addedStrings (suc (length s)) s e) (m .0) end bs (m .1) (ap (found plain) (sym (m .1)) ∙ l) (m .2) in
+    let t = strung s at (λ e. moreStrings s e) (m .0) end bs (m .1) (ap (found plain) (sym (m .1)) ∙ l) (m .2) in
     let j : joined s (t .next) ≡ record { bytes = t .adds; end = end }
     = added-same s (suc (length s)) (t .next) (t .others) end [] (t .adds) (t .more) (t .plainly) (t .mean) in
     value-string s at (sym (t .gapped)) refl refl (t .quoted) (t .own) (t .next) (t .string)

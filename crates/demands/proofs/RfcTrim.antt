@@ -6,14 +6,15 @@ use mathlib.Core.List.{List, [], _∷_}
 use Prim.Native.Nat.{ℕ}
 use lib.ListN.{getD}
 use lib.Dec.{eqb}
+use borrow.Author.Tests.{not-true}
 use Rattle.demands.specs.Rfc.{areAt, breakAt, blankToBreak, unless, trimEnds, trimStarts, trimmed}
 use Rattle.demands.specs.RfcDomain.{oneLine}
-use Rattle.demands.proofs.RfcTests.{both, negated}
+use Rattle.demands.proofs.RfcTests.{both}
 
 module _ (b : ℕ) (xs : List ℕ) (h : oneLine (b ∷ xs) ≡ true) where
   line-head : eqb b 10 ≡ false
   unfolding oneLine
-  line-head = negated (eqb b 10) (both (not (eqb b 10)) (oneLine xs) h .0)
+  line-head = not-true (eqb b 10) (both (not (eqb b 10)) (oneLine xs) h .0)
 
   line-tail : oneLine xs ≡ true
   unfolding oneLine

@@ -5,7 +5,7 @@ use mathlib.Core.List.{List, [], _∷_}
 use Prim.Native.Nat.{ℕ}
 use lib.Dec.{eqb, T}
 use Rattle.text.specs.Turns.{turns}
-use Rattle.demands.specs.Rfc.{Read, reads, nothing, isBlank, areAt, breakAt, toLineEnd, commentClose, pastComment, separator, pastGap, with, first, singleBody, doubleBody, width, columnAfter, columnOf, stringAt, gapTo, gapAt, gapAndString, plusAndString, addedStrings, piecesAt, blankToBreak, unless, trimEnds, trimStarts, trimmed, escape, joining, unescaped, meaning, meanings, endingAt, meant, rfcValue}
+use Rattle.demands.specs.Rfc.{Read, reads, nothing, isBlank, areAt, breakAt, toLineEnd, commentClose, pastComment, separator, pastGap, with, first, singleBody, doubleBody, width, columnAfter, columnOf, stringAt, gapTo, gapAt, gapAndString, plusAndString, addedStrings, moreStrings, piecesAt, blankToBreak, unless, trimEnds, trimStarts, trimmed, escape, joining, unescaped, meaning, meanings, endingAt, meant, rfcValue}
 use Rattle.demands.proofs.RfcSame.{same, sameRead}
 
 record Example : Type 0 where
@@ -42,5 +42,5 @@ examples =
     ∷ []
 
 holds : T (all examples)
-unfolding examples all isBlank areAt breakAt toLineEnd commentClose pastComment separator pastGap with first singleBody doubleBody width columnAfter columnOf stringAt gapTo gapAt gapAndString plusAndString addedStrings piecesAt blankToBreak unless trimEnds trimStarts trimmed escape joining unescaped meaning meanings endingAt meant rfcValue turns
+unfolding examples all isBlank areAt breakAt toLineEnd commentClose pastComment separator pastGap with first singleBody doubleBody width columnAfter columnOf stringAt gapTo gapAt gapAndString plusAndString addedStrings moreStrings piecesAt blankToBreak unless trimEnds trimStarts trimmed escape joining unescaped meaning meanings endingAt meant rfcValue turns
 holds = tt

@@ -125,14 +125,18 @@ gapAndString rest s at = first (gapAt s at) (λ here. first (stringAt s here) re
 unfoldable pub plusAndString : (ℕ → Read (List Piece)) → List ℕ → ℕ → Read (List Piece)
 plusAndString rest s at = cond (eqb (look s at) plus) (gapAndString rest s (at + 1)) (reads [] at)
 
--- As often as that repeats. n: more than there can be strings
+-- As often as that repeats, up to n times.
 unfoldable pub addedStrings : ℕ → List ℕ → ℕ → Read (List Piece)
 addedStrings zero s at = nothing
 addedStrings (suc n) s at = first (gapAt s at) (λ here. plusAndString (λ end. addedStrings n s end) s here)
 
+-- each takes two bytes at least, so one for each byte of the text is enough
+unfoldable pub moreStrings : List ℕ → ℕ → Read (List Piece)
+moreStrings s at = addedStrings (suc (length s)) s at
+
 -- all pieces of a value, from the gap before it to the gap after it
 unfoldable pub piecesAt : List ℕ → ℕ → Read (List Piece)
-piecesAt s at = gapAndString (λ end. addedStrings (suc (length s)) s end) s at
+piecesAt s at = gapAndString (λ end. moreStrings s end) s at
 
 -- ---- what it means
 

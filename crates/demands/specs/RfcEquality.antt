@@ -4,8 +4,9 @@ use mathlib.Core.Path.{_≡_}
 use mathlib.Core.Bool.{true}
 use mathlib.Core.List.{List}
 use Prim.Native.Nat.{ℕ}
+use Rattle.text.specs.Turns.{after}
 use Rattle.value.specs.Value.{value, valueAt}
-use Rattle.demands.specs.Rfc.{reads, trimmed, rfcValue}
+use Rattle.demands.specs.Rfc.{reads, first, separator, pastGap, gapAt, plusAndString, moreStrings, trimmed, rfcValue}
 use Rattle.demands.specs.RfcDomain.{oneLine, plainAt, legalAt}
 
 pub record RfcEquality : Type 0 where
@@ -16,3 +17,8 @@ pub record RfcEquality : Type 0 where
   pub gives : (s : List ℕ) (at : ℕ) → plainAt s at ≡ true → legalAt s at ≡ true → (bs : List ℕ) × (end : ℕ) × (rfcValue s at ≡ reads bs end)
   -- where there is no line break trimming does nothing
   pub untrimmed : (column : ℕ) (raw : List ℕ) → oneLine raw ≡ true → trimmed column raw ≡ raw
+
+-- The counts in the RFC's definition do not matter: what a gap is and what is added is the same question again after each step.
+pub record RfcUncounted : Type 0 where
+  pub gaps : (s : List ℕ) (at : ℕ) → pastGap s at ≡ after (λ next. pastGap s next) (separator s at)
+  pub strings : (s : List ℕ) (at : ℕ) → moreStrings s at ≡ first (gapAt s at) (λ here. plusAndString (λ end. moreStrings s end) s here)
