@@ -31,31 +31,31 @@ all : List Difference → Bool
 all [] = true
 all (x ∷ xs) = differ x && all xs
 
--- an added string that never closes: "a"+"b
--- a + with no string after it: "a" + b
--- byte 11 in a gap: "a", 11, +"b"
--- byte 12 in a gap
--- byte 13 on its own in a gap
--- byte 11 after the +
--- byte 11 before the value
--- byte 11 after the value: the bytes are the same, the place after them is not
--- a comment that never closes
--- a line break in double quotes, with blanks after it
--- a line break in double quotes, with a blank before it
--- an illegal escape: "\x"
 differences : List Difference
 differences =
+    -- an added string that never closes: "a"+"b
     record { text = 34 ∷ 97 ∷ 34 ∷ 43 ∷ 34 ∷ 98 ∷ []; ours = value (97 ∷ []) 6; rfc = nothing; plainly = false; legally = false }
+    -- a + with no string after it: "a" + b
     ∷ record { text = 34 ∷ 97 ∷ 34 ∷ 32 ∷ 43 ∷ 32 ∷ 98 ∷ []; ours = value (97 ∷ []) 6; rfc = nothing; plainly = false; legally = false }
+    -- byte 11 in a gap: "a", 11, +"b"
     ∷ record { text = 34 ∷ 97 ∷ 34 ∷ 11 ∷ 43 ∷ 34 ∷ 98 ∷ 34 ∷ []; ours = value (97 ∷ 98 ∷ []) 8; rfc = reads (97 ∷ []) 3; plainly = false; legally = true }
+    -- byte 12 in a gap
     ∷ record { text = 34 ∷ 97 ∷ 34 ∷ 12 ∷ 43 ∷ 34 ∷ 98 ∷ 34 ∷ []; ours = value (97 ∷ 98 ∷ []) 8; rfc = reads (97 ∷ []) 3; plainly = false; legally = true }
+    -- byte 13 on its own in a gap
     ∷ record { text = 34 ∷ 97 ∷ 34 ∷ 13 ∷ 43 ∷ 34 ∷ 98 ∷ 34 ∷ []; ours = value (97 ∷ 98 ∷ []) 8; rfc = reads (97 ∷ []) 3; plainly = false; legally = true }
+    -- byte 11 after the +
     ∷ record { text = 34 ∷ 97 ∷ 34 ∷ 43 ∷ 11 ∷ 34 ∷ 98 ∷ 34 ∷ []; ours = value (97 ∷ 98 ∷ []) 8; rfc = nothing; plainly = false; legally = false }
+    -- byte 11 before the value
     ∷ record { text = 11 ∷ 34 ∷ 97 ∷ 34 ∷ []; ours = value (97 ∷ []) 4; rfc = nothing; plainly = false; legally = false }
+    -- byte 11 after the value: the bytes are the same, the place after them is not
     ∷ record { text = 34 ∷ 97 ∷ 34 ∷ 11 ∷ []; ours = value (97 ∷ []) 4; rfc = reads (97 ∷ []) 3; plainly = false; legally = true }
+    -- a comment that never closes
     ∷ record { text = 34 ∷ 97 ∷ 34 ∷ 47 ∷ 42 ∷ []; ours = value (97 ∷ []) 5; rfc = nothing; plainly = false; legally = false }
+    -- a line break in double quotes, with blanks after it
     ∷ record { text = 34 ∷ 97 ∷ 10 ∷ 32 ∷ 32 ∷ 98 ∷ 34 ∷ []; ours = value (97 ∷ 10 ∷ 32 ∷ 32 ∷ 98 ∷ []) 7; rfc = reads (97 ∷ 10 ∷ 32 ∷ 98 ∷ []) 7; plainly = false; legally = true }
+    -- a line break in double quotes, with a blank before it
     ∷ record { text = 34 ∷ 97 ∷ 32 ∷ 10 ∷ 98 ∷ 34 ∷ []; ours = value (97 ∷ 32 ∷ 10 ∷ 98 ∷ []) 6; rfc = reads (97 ∷ 10 ∷ 98 ∷ []) 6; plainly = false; legally = true }
+    -- an illegal escape: "\x"
     ∷ record { text = 34 ∷ 92 ∷ 120 ∷ 34 ∷ []; ours = value (120 ∷ []) 4; rfc = nothing; plainly = true; legally = false }
     ∷ []
 

@@ -61,6 +61,7 @@ pub data Read (A : Type 0) : Type 0 where
   reads : A → ℕ → Read A
   nothing : Read A
 
+-- the same with f done to it
 module _ {A B : Type 0} where
   unfoldable pub with : (A → B) → Read A → Read B
   with f (reads a end) = reads (f a) end
@@ -145,6 +146,7 @@ unfoldable pub blankToBreak : List ℕ → Bool
 blankToBreak [] = false
 blankToBreak (b ∷ xs) = breakAt (b ∷ xs) 0 || (isBlank b && blankToBreak xs)
 
+-- a byte before a list, unless it is taken away
 unfoldable pub unless : Bool → ℕ → List ℕ → List ℕ
 unless true b xs = xs
 unless false b xs = b ∷ xs
@@ -176,7 +178,7 @@ escape b =
     (cond (eqb b quote) (some (quote ∷ []))
     (cond (eqb b backslash) (some (backslash ∷ [])) none)))
 
--- two values joined
+-- two joined, where both mean something
 unfoldable pub joining : Option (List ℕ) → Option (List ℕ) → Option (List ℕ)
 joining none cs = none
 joining (some bs) none = none

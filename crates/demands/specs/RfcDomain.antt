@@ -1,4 +1,5 @@
--- Where our values are the RFC's: conditions on the pieces of a value as they stand in the text.
+-- Where our values are the RFC's: conditions on the pieces of a value as they stand in the text. That each string closes and each `+` has
+-- a string after it is not among them: elsewhere the RFC gives no value.
 -- Assumes nothing.
 use Prim.Native.Nat.{ℕ}
 use mathlib.Core.Bool.{Bool, true, false, not, _&&_, _||_}
@@ -13,7 +14,7 @@ verticalTab = 11
 abbrev pub formFeed : ℕ
 formFeed = 12
 
--- bytes that are white for us and no white space of the RFC's, but for the carriage return of a CR LF
+-- White for us are bytes 9 to 13 and 32, for the RFC only blanks, tabs and line breaks: these make the difference.
 unfoldable pub oddWhite : ℕ → Bool
 oddWhite b = eqb b verticalTab || eqb b formFeed || eqb b carriage
 
@@ -29,7 +30,8 @@ legal false [] = true
 legal true (b ∷ xs) = (eqb b smallN || eqb b smallT || eqb b quote || eqb b backslash) && legal false xs
 legal false (b ∷ xs) = legal (eqb b backslash) xs
 
--- A double-quoted string holds no line break. A gap is blanks, tabs, line breaks and comments: none of the other white bytes goes on with it.
+-- A double-quoted string holds no line break. A gap is bytes 9, 10, 32 and comments: no other white byte follows on what the RFC reads
+-- as the gap. (That may hold a CR LF too.)
 unfoldable pub plain : Piece → Bool
 plain (double column raw) = oneLine raw
 plain (single raw) = true
