@@ -1,8 +1,8 @@
 -- The counts in the RFC's definition do not matter: what is passed over in a gap takes a byte at least, and so does an added string, so the
 -- text ends before the count does.
 -- Assumes nothing.
-use mathlib.Core.Path.{_≡_, refl, sym, ap, _∙_}
-use mathlib.Core.Bool.{Bool, true, false, cond, _&&_, _||_}
+use mathlib.Core.Path.{_≡_, refl, ap, _∙_}
+use mathlib.Core.Bool.{Bool, true, false, cond}
 use mathlib.Core.List.{List, [], _∷_}
 use mathlib.Core.Option.{Option, none, some}
 use Prim.Native.Nat.{ℕ, zero, suc, _+_, _-_, _<_, _≤_}
@@ -14,7 +14,7 @@ use borrow.Author.Tests.{eqb-true}
 use Rattle.text.specs.Turns.{Turn, stop, on, after, turns}
 use Rattle.text.proofs.Here.{by-test, here}
 use Rattle.text.proofs.Turns.{turns-stop, turns-on, turns-rule}
-use Rattle.demands.specs.Rfc.{isBlank, areAt, toLineEnd, commentClose, pastComment, separator, pastGap, Read, reads, nothing, with, first, Piece, double, single, gap, singleBody, doubleBody, columnOf, stringAt, gapTo, gapAt, gapAndString, plusAndString, addedStrings, moreStrings}
+use Rattle.demands.specs.Rfc.{isBlank, areAt, commentClose, pastComment, separator, pastGap, Read, reads, nothing, with, first, Piece, double, single, gap, singleBody, doubleBody, columnOf, stringAt, gapTo, gapAt, gapAndString, plusAndString, addedStrings, moreStrings}
 use Rattle.demands.specs.RfcEquality.{RfcUncounted}
 use Rattle.demands.proofs.RfcTests.{both}
 use Rattle.demands.proofs.RfcStrings.{nothing-read, read-is, with-reads, none-some, some-is}

@@ -2,7 +2,7 @@
 -- same place, by induction over the RFC's strings.
 -- Assumes nothing.
 use mathlib.Core.Path.{_≡_, refl, sym, ap, _∙_}
-use mathlib.Core.Bool.{Bool, true, false, cond, not, _&&_, _||_}
+use mathlib.Core.Bool.{Bool, true, false, _||_}
 use mathlib.Core.List.{List, [], _∷_, _++_, append-assoc, append-nil}
 use mathlib.Core.Option.{Option, none, some}
 use Prim.Native.Nat.{ℕ, zero, suc, _+_}
@@ -15,12 +15,11 @@ use Rattle.value.specs.Str.{whole, strAt}
 use Rattle.value.specs.Value.{isQuote, added, ends, addedBy, moreAt, joinedWith, joined, Bytes, value, valueAt}
 use Rattle.value.proofs.ValueLaws.{more-plain, more-string}
 use Rattle.value.proofs.JoinLaws.{join-on, join-stop, value-string}
-use Rattle.demands.specs.Rfc.{Read, reads, nothing, with, first, Piece, double, single, gap, pastGap, separator, stringAt, gapTo, gapAt, gapAndString, plusAndString, addedStrings, moreStrings, piecesAt, escape, joining, unescaped, trimmed, meaning, meanings, endingAt, meant, rfcValue}
+use Rattle.demands.specs.Rfc.{Read, reads, nothing, first, Piece, double, single, gap, pastGap, stringAt, gapTo, gapAt, gapAndString, plusAndString, addedStrings, moreStrings, piecesAt, escape, joining, unescaped, meaning, meanings, endingAt, meant, rfcValue}
 use Rattle.demands.specs.RfcDomain.{oddWhite, legal, plain, legalIn, every, found, plainAt, legalAt}
-use Rattle.demands.specs.RfcEquality.{RfcEquality}
 use Rattle.demands.proofs.RfcTests.{both}
 use Rattle.demands.proofs.RfcTrim.{trimmed-same}
-use Rattle.demands.proofs.RfcStrings.{nothing-read, read-is, with-reads, none-some, some-is, joining-some, at-escape, at-byte, string-same}
+use Rattle.demands.proofs.RfcStrings.{nothing-read, read-is, with-reads, some-is, joining-some, at-escape, at-byte, string-same}
 use Rattle.demands.proofs.RfcGaps.{past-same}
 
 -- ---- a piece and the rest
@@ -159,7 +158,7 @@ meant-is (reads ps e) bs end h = by-meaning (meanings ps) refl h
     by-meaning (some cs) k h = let r = read-is cs bs e end refl h in (ps, ap (reads ps) (r .1), k ∙ ap some (r .0))
 meant-is nothing bs end h = absurd (nothing-read refl h)
 
-value-same : (s : List ℕ) (at : ℕ) (bs : List ℕ) (end : ℕ) → rfcValue s at ≡ reads bs end → plainAt s at ≡ true → valueAt s at ≡ value bs end
+pub value-same : (s : List ℕ) (at : ℕ) (bs : List ℕ) (end : ℕ) → rfcValue s at ≡ reads bs end → plainAt s at ≡ true → valueAt s at ≡ value bs end
 unfolding rfcValue plainAt found piecesAt moreStrings joined
 value-same s at bs end h l =
     let m = meant-is (piecesAt s at) bs end h in
@@ -214,13 +213,10 @@ pieces-some (p ∷ ps) l h =
     let r = pieces-some ps (pl .1) (ph .1) in
     (a .0 ++ r .0, joining-both (a .0) (r .0) (a .1) (r .1))
 
-value-given : (s : List ℕ) (at : ℕ) → plainAt s at ≡ true → legalAt s at ≡ true → (bs : List ℕ) × (end : ℕ) × (rfcValue s at ≡ reads bs end)
+pub value-given : (s : List ℕ) (at : ℕ) → plainAt s at ≡ true → legalAt s at ≡ true → (bs : List ℕ) × (end : ℕ) × (rfcValue s at ≡ reads bs end)
 unfolding plainAt legalAt rfcValue found meant endingAt
 value-given s at l h = by-pieces (piecesAt s at) l h
   where
     by-pieces : (r : Read (List Piece)) → found plain r ≡ true → found legalIn r ≡ true → (bs : List ℕ) × (end : ℕ) × (meant r ≡ reads bs end)
     by-pieces (reads ps end) l h = let m = pieces-some ps l h in (m .0, end, ap (endingAt end) (m .1))
     by-pieces nothing l h = absurd (never refl l)
-
-pub rfc-equality : RfcEquality
-rfc-equality = record { equal = value-same; gives = value-given; untrimmed = trimmed-same }

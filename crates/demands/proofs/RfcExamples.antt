@@ -1,18 +1,18 @@
 -- Values on the domain, one list and one claim: the conditions hold, and the RFC and we read these bytes up to this place.
 -- Assumes nothing.
-use mathlib.Core.Bool.{Bool, true, false, not, _&&_}
+use mathlib.Core.Bool.{Bool, true, _&&_}
 use mathlib.Core.List.{List, [], _∷_}
 use Prim.Native.Nat.{ℕ}
-use lib.Dec.{eqb, T}
+use lib.Dec.{T}
 use Rattle.text.specs.Class.{classOf}
 use Rattle.text.specs.Keyword.{part}
 use Rattle.text.specs.Scan.{inIdent, inRun, span, runEnd, pairAt, closing, blockEnd, commentEnd, afterWhite, gapTurn, gapEnd}
 use Rattle.value.specs.Str.{escaped, escapes, strEnd, strBytes, closedBy, strAt}
-use Rattle.value.specs.Value.{isQuote, startsName, addedBy, afterPlus, afterGap, moreAt, addTo, joinTurn, joinedWith, joined, ofString, valueHere, valueAt, Val, value, none}
+use Rattle.value.specs.Value.{isQuote, startsName, addedBy, afterPlus, afterGap, moreAt, addTo, joinTurn, joinedWith, joined, ofString, valueHere, valueAt, value}
 use Rattle.text.specs.Turns.{turns}
-use Rattle.demands.specs.Rfc.{Read, reads, nothing, isBlank, areAt, breakAt, toLineEnd, commentClose, pastComment, separator, pastGap, with, first, singleBody, doubleBody, width, columnAfter, columnOf, stringAt, gapTo, gapAt, gapAndString, plusAndString, addedStrings, moreStrings, piecesAt, blankToBreak, unless, trimEnds, trimStarts, trimmed, escape, joining, unescaped, meaning, meanings, endingAt, meant, rfcValue}
+use Rattle.demands.specs.Rfc.{reads, nothing, isBlank, areAt, breakAt, toLineEnd, commentClose, pastComment, separator, pastGap, with, first, singleBody, doubleBody, width, columnAfter, columnOf, stringAt, gapTo, gapAt, gapAndString, plusAndString, addedStrings, moreStrings, piecesAt, blankToBreak, unless, trimEnds, trimStarts, trimmed, escape, joining, unescaped, meaning, meanings, endingAt, meant, rfcValue}
 use Rattle.demands.specs.RfcDomain.{oddWhite, oneLine, legal, plain, legalIn, every, found, plainAt, legalAt}
-use Rattle.demands.proofs.RfcSame.{same, sameVal, sameRead, agree}
+use Rattle.demands.proofs.RfcSame.{sameVal, sameRead, agree}
 
 record Example : Type 0 where
   text : List ℕ

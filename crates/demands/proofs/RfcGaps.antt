@@ -2,7 +2,7 @@
 -- one by one, and our gap from the place before each of them ends where it ends from the place after it.
 -- Assumes nothing.
 use mathlib.Core.Path.{_≡_, refl, sym, ap, _∙_}
-use mathlib.Core.Bool.{Bool, true, false, cond, not, _&&_, _||_}
+use mathlib.Core.Bool.{true, false, _||_}
 use mathlib.Core.List.{List, [], _∷_}
 use mathlib.Core.Option.{Option, none, some}
 use Prim.Native.Nat.{ℕ, zero, suc, _+_, _<_, _≤_}
@@ -11,13 +11,13 @@ use native.Mathlib.Decide.{decLe}
 use native.Mathlib.Omega.{arith}
 use lib.ListN.{length, getD, drop}
 use lib.Dec.{eqb, leb}
-use borrow.Author.Tests.{eqb-true, eqb-false, leb-true, leb-false}
+use borrow.Author.Tests.{eqb-true, eqb-false, leb-true}
 use Rattle.text.specs.Class.{classOf, letter, digit, white}
 use Rattle.text.specs.Scan.{inRun, span, runEnd, pairAt, closing, blockEnd, commentEnd, gapEnd}
 use Rattle.text.specs.Turns.{Turn, stop, on, after, turns}
 use Rattle.text.specs.declared.Run.the-variants.{White, Line}
 use Rattle.text.proofs.Here.{by-test, here, never}
-use Rattle.text.proofs.Laws.{run-more, run-stop, run-past, run-from, block-from, comment-line, comment-block, comment-none, gap-stop, gap-more}
+use Rattle.text.proofs.Laws.{run-more, run-stop, run-past, block-from, comment-line, comment-block, comment-none, gap-stop, gap-more}
 use Rattle.demands.specs.Rfc.{isBlank, areAt, toLineEnd, commentClose, pastComment, separator, pastGap}
 use Rattle.demands.specs.RfcDomain.{oddWhite}
 use Rattle.demands.proofs.RfcTests.{both, neither}
@@ -77,7 +77,7 @@ module _ (s : List ℕ) (i : ℕ) where
   unfolding areAt pairAt
   ends-here h l b = gap-stop s i (sym (no-white h)) refl (comment-none s i l b)
 
-  slash : (c : ℕ) → areAt s i 47 c ≡ true → inRun White (getD s i 256) ≡ false
+  pub slash : (c : ℕ) → areAt s i 47 c ≡ true → inRun White (getD s i 256) ≡ false
   unfolding areAt inRun classOf
   slash c h = ap (inRun White) (eqb-true (getD s i 256) 47 (both (eqb (getD s i 256) 47) (eqb (getD s (i + 1) 256) c) h .0))
 

@@ -2,7 +2,7 @@
 -- Both go over the same bytes with the same mark for an escape, and the four escapes give what ours give.
 -- Assumes nothing.
 use mathlib.Core.Path.{_≡_, refl, sym, ap, _∙_}
-use mathlib.Core.Bool.{Bool, true, false, cond}
+use mathlib.Core.Bool.{Bool, true, false}
 use mathlib.Core.List.{List, [], _∷_, _++_}
 use mathlib.Core.Option.{Option, none, some}
 use Prim.Native.Nat.{ℕ, _+_}
@@ -14,8 +14,8 @@ use Rattle.text.proofs.Here.{by-test}
 use Rattle.value.specs.Str.{escaped, escapes, strEnd, strBytes, whole, closedBy, strAt}
 use Rattle.value.specs.Value.{isQuote}
 use Rattle.value.specs.declared.Close.the-variants.{At}
-use Rattle.demands.specs.Rfc.{Read, reads, nothing, with, Piece, double, single, gap, singleBody, doubleBody, columnOf, stringAt, escape, joining, unescaped, trimmed, meaning}
-use Rattle.demands.specs.RfcDomain.{oneLine, plain}
+use Rattle.demands.specs.Rfc.{Read, reads, nothing, with, Piece, double, single, singleBody, doubleBody, columnOf, stringAt, escape, joining, unescaped, meaning}
+use Rattle.demands.specs.RfcDomain.{plain}
 use Rattle.demands.proofs.RfcTrim.{trimmed-same}
 
 -- ---- what an answer says

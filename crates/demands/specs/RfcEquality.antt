@@ -8,12 +8,15 @@ use Rattle.text.specs.Turns.{after}
 use Rattle.value.specs.Value.{value, valueAt}
 use Rattle.demands.specs.Rfc.{reads, first, separator, pastGap, gapAt, plusAndString, moreStrings, trimmed, rfcValue}
 use Rattle.demands.specs.RfcDomain.{oneLine, plainAt, legalAt}
+use Rattle.demands.specs.RfcQuoted.{Quoted}
 
 pub record RfcEquality : Type 0 where
-  -- where the RFC gives a value, no double-quoted string of it holds a line break and its gaps have no other white bytes, it is our value:
-  -- the same bytes, up to the same place
+  -- a quoted value under the conditions: the RFC's value and ours are the same bytes, up to the same place
+  pub same : (s : List ℕ) (at : ℕ) → Quoted s at → (bs : List ℕ) × (end : ℕ) × (rfcValue s at ≡ reads bs end) × (valueAt s at ≡ value bs end)
+  -- the same from the RFC's side: where the RFC gives a value, none of its double-quoted strings holds a line break and no other white byte
+  -- follows on its gaps, it is our value
   pub equal : (s : List ℕ) (at : ℕ) (bs : List ℕ) (end : ℕ) → rfcValue s at ≡ reads bs end → plainAt s at ≡ true → valueAt s at ≡ value bs end
-  -- and the RFC does give a value there, if the escapes are legal
+  -- where the escapes are legal too, the RFC does give a value
   pub gives : (s : List ℕ) (at : ℕ) → plainAt s at ≡ true → legalAt s at ≡ true → (bs : List ℕ) × (end : ℕ) × (rfcValue s at ≡ reads bs end)
   -- where there is no line break trimming does nothing
   pub untrimmed : (column : ℕ) (raw : List ℕ) → oneLine raw ≡ true → trimmed column raw ≡ raw
