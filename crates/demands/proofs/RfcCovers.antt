@@ -252,16 +252,26 @@ unfolding gapAndString
 gap-and-string s at end rest f c a =
     first-all (λ here. first (stringAt s here) rest) (gap-passes s at f) (first-all rest (string-passes s (gapEnd s at) end c) a)
 
+module _ (s : List ℕ) (at : ℕ) where
+  plus-none : (rest : ℕ → Read (List Piece)) → eqb (getD s at 256) 43 ≡ false → All (plusAndString rest s at)
+  unfolding plusAndString every
+  plus-none rest h = record { pieces = []; end = at; read = rw h; plainly = refl; legally = refl }
+
+  plus-some : (rest : ℕ → Read (List Piece)) → eqb (getD s at 256) 43 ≡ true → All (gapAndString rest s (at + 1)) → All (plusAndString rest s at)
+  unfolding plusAndString
+  plus-some rest h a = record { pieces = a .pieces; end = a .end; read = rw h (a .read); plainly = a .plainly; legally = a .legally }
+
+  gap-and-plus : Filled s (gapEnd s at) at → All (plusAndString (λ end. moreStrings s end) s (gapEnd s at)) → All (moreStrings s at)
+  gap-and-plus f a =
+      let b = first-all (λ here. plusAndString (λ end. moreStrings s end) s here) (gap-passes s at f) a in
+      record { pieces = b .pieces; end = b .end; read = rfc-uncounted .strings s at ∙ b .read; plainly = b .plainly; legally = b .legally }
+
 added-all : (s : List ℕ) (at : ℕ) → Added s at → All (moreStrings s at)
-unfolding plusAndString every
-added-all s at (last f p) =
-    rw (rfc-uncounted .strings s at)
-    (first-all (λ here. plusAndString (λ end. moreStrings s end) s here) (gap-passes s at f)
-    (rw p (record { pieces = []; end = gapEnd s at; read = refl; plainly = refl; legally = refl })))
+added-all s at (last f p) = gap-and-plus s at f (plus-none s (gapEnd s at) (λ end. moreStrings s end) p)
 added-all s at (more {end} f p g c a) =
-    rw (rfc-uncounted .strings s at)
-    (first-all (λ here. plusAndString (λ end. moreStrings s end) s here) (gap-passes s at f)
-    (rw p (gap-and-string s (gapEnd s at + 1) end (λ end. moreStrings s end) g c (added-all s end a))))
+    gap-and-plus s at f
+    (plus-some s (gapEnd s at) (λ end. moreStrings s end) p
+    (gap-and-string s (gapEnd s at + 1) end (λ end. moreStrings s end) g c (added-all s end a)))
 
 all-found : (p : Piece → Bool) {r : Read (List Piece)} (ps : List Piece) (end : ℕ) → r ≡ reads ps end → every p ps ≡ true → found p r ≡ true
 unfolding found
