@@ -2,7 +2,7 @@
 -- stands, so the RFC's ends there too, and a string that closes for us closes for the RFC.
 -- Assumes nothing.
 use mathlib.Core.Path.{_≡_, refl, sym, ap, _∙_}
-use mathlib.Core.Bool.{Bool, true, false, not, _&&_, and-false}
+use mathlib.Core.Bool.{Bool, true, false, _&&_, and-false}
 use mathlib.Core.List.{List, [], _∷_}
 use mathlib.Core.Option.{some}
 use Prim.Native.Nat.{ℕ, zero, suc, _+_, _-_, _<_}
@@ -154,7 +154,7 @@ gap-passes s at f =
     record {
       piece = gap (getD s g 256);
       read = ap (gapTo s) (filled-past s g at (ends-there s g e) f);
-      plainly = ap not (no-odd (getD s g 256) (e .0));
+      plainly = cc (no-odd (getD s g 256) (e .0));
       legally = refl;
     }
 
