@@ -1,0 +1,13 @@
+pub mod RfcTests
+pub mod RfcTrim
+pub mod RfcStrings
+pub mod RfcGaps
+pub mod RfcEqual
+pub mod RfcCounts
+pub mod RfcCovers
+pub mod RfcEquality
+pub mod RfcSame
+pub mod RfcExamples
+pub mod RfcTrimming
+pub mod RfcDifferences
+pub mod RfcInstance
