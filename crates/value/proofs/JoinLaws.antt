@@ -19,7 +19,7 @@ use Rattle.text.proofs.Turns.{turns-stop, turns-on, turns-rule}
 use Rattle.text.proofs.Here.{by-test, here, never}
 use Rattle.text.proofs.Laws.{in-name, gap-from, gap-within, run-more, run-from, run-within}
 use Rattle.value.specs.Str.{Str, whole, cut, strEnd, strBytes, strAt, closedBy, escapes, answerOf, bytesOf}
-use Rattle.value.specs.Value.{isQuote, More, added, ends, broken, addedBy, moreAt, Bytes, addTo, joinTurn, joinedWith, joined, moreAnswer, moreBytes, joinAnswer, Val, value, none, ofString, nameAt, valueHere, valueAt, startsName, valueAnswer}
+use Rattle.value.specs.Value.{isQuote, More, added, ends, broken, addedBy, moreAt, Bytes, addTo, joinTurn, joinedWith, joined, moreAnswer, moreBytes, joinAnswer, Val, value, none, ofString, nameAt, valueHere, valueAt, startsName, valueAnswer, valueEnd, placeOf}
 use Rattle.text.specs.declared.Cursor.{Cursor}
 use Rattle.text.proofs.Writing.{sets-append}
 use Rattle.value.specs.declared.Joined.{Joined}
@@ -406,3 +406,47 @@ none-size s at k l h =
     by-str : (t : Str) → strAt s (gapEnd s at) ≡ t → isQuote (getD s (gapEnd s at) 256) ≡ true → (at ≤ k) × (k ≤ length s)
     by-str (whole cs f) w q = absurd (none-not h (value-string s at refl refl refl q cs f w))
     by-str cut w q = omega (arith, none-is (length s) k (value-cut s at refl refl refl q w) h)
+
+-- ---- where a value ends, whatever it stores
+
+any-stop : (s : List ℕ) (a : Bytes) (m : More) (r : Bytes) → moreAt s (a .end) ≡ m → addTo (a .bytes) m ≡ stop r → (cs : List ℕ) → joinedWith s cs (a .end) .end ≡ r .end
+unfolding addTo
+any-stop s a (added ds e) r k h cs = let z : _≡_ {A = ℕ} 0 1 = cc in absurd (omega arith)
+any-stop s a (ends e) r k h cs = let n : e ≡ r .end = cc in ap (λ b. b .end) (join-stop s cs (a .end) e k) ∙ n
+any-stop s a (broken e) r k h cs = let n : e ≡ r .end = cc in ap (λ b. b .end) (join-broken s cs (a .end) e k) ∙ n
+
+-- the place after all that is added does not depend on the bytes before
+joined-any : (s cs : List ℕ) (at : ℕ) → joinedWith s cs at .end ≡ joined s at .end
+unfolding joined joinedWith joinTurn
+joined-any s cs at =
+    turns-rule (joinTurn s) (record { bytes = []; end = 0 }) (λ b. length s - b .end) (join-falls s)
+    (λ a r. (ds : List ℕ) → joinedWith s ds (a .end) .end ≡ r .end)
+    (λ a r e. any-stop s a (moreAt s (a .end)) r refl e)
+    (λ a b r e k ds. let m = to-on (a .bytes) (moreAt s (a .end)) b e in
+    ap (λ x. x .end) (join-on s ds (a .end) (m .0) (b .end) (m .1)) ∙ k (ds ++ m .0))
+    (suc (length s)) (record { bytes = []; end = at }) (omega arith) cs
+
+module _ (s : List ℕ) (at : ℕ) where
+  pub joined-on : (cs : List ℕ) (e : ℕ) → moreAt s at ≡ added cs e → joined s at .end ≡ joined s e .end
+  joined-on cs e h = sym (joined-any s [] at) ∙ ap (λ b. b .end) (join-on s [] at cs e h) ∙ joined-any s cs e
+
+  pub joined-stop : (e : ℕ) → moreAt s at ≡ ends e → joined s at .end ≡ e
+  joined-stop e h = sym (joined-any s [] at) ∙ ap (λ b. b .end) (join-stop s [] at e h)
+
+  pub joined-broken : (e : ℕ) → moreAt s at ≡ broken e → joined s at .end ≡ e
+  joined-broken e h = sym (joined-any s [] at) ∙ ap (λ b. b .end) (join-broken s [] at e h)
+
+-- the answer and the value say the same place
+pub place-is : (u : ℕ) (v : Val) → valueEnd (valueAnswer u v) ≡ placeOf v
+unfolding valueEnd valueAnswer placeOf
+place-is u (value bs e) = refl
+place-is u (none at) = refl
+
+-- it is within the text, where the scan stands within it
+pub place-size : (s : List ℕ) (at : ℕ) → at ≤ length s → (at ≤ placeOf (valueAt s at)) × (placeOf (valueAt s at) ≤ length s)
+unfolding placeOf
+place-size s at l = by-val (valueAt s at) refl
+  where
+    by-val : (v : Val) → valueAt s at ≡ v → (at ≤ placeOf v) × (placeOf v ≤ length s)
+    by-val (value bs e) h = omega (arith, value-size s at bs e h)
+    by-val (none e) h = none-size s at e l h
