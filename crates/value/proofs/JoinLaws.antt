@@ -25,6 +25,7 @@ use Rattle.text.proofs.Writing.{sets-append}
 use Rattle.value.specs.declared.Joined.{Joined}
 use Rattle.value.specs.declared.Quoted.the-variants.{Closed, Unclosed}
 use Rattle.value.specs.declared.Value.the-variants.{Read}
+use Rattle.value.specs.declared.Part.{Part}
 use Rattle.value.specs.declared.Part.the-variants.{Added, Last, Cut}
 use Rattle.value.specs.declared.Close.{Close}
 use Rattle.value.specs.declared.Close.the-variants.{At, Open}
@@ -164,39 +165,42 @@ module _ {s d : List ℕ} {u from : ℕ} where
   pub join-long : {e : List ℕ} {at n : ℕ} → Joining s d u from e at n → length e ≡ length d
   join-long j = ap length (j .kept) ∙ length-sets d u (j .bytes)
 
-  pub join-more : {e f : List ℕ} {at n : ℕ} (next : Cursor) (k : ℕ) → Joining s d u from e at n → moreAnswer n (moreAt s at) ≡ Added next k
-      → f ≡ sets e n (moreBytes (moreAt s at)) → Joining s d u from f (next .at) k
-  join-more {e} {f} {at} {n} next k j a q =
-      let cs = moreBytes (moreAt s at) in
-      let m = added-answer n (moreAt s at) next k a in
-      record {
-        bytes = j .bytes ++ cs;
-        same = sym (join-on s (j .bytes) at cs (next .at) (m .0)) ∙ j .same;
-        kept = sets-twice d e f u n (j .bytes) cs (j .kept) (j .count) q;
-        count = omega (arith, m .1, j .count, length-append (j .bytes) cs);
-        room = omega (arith, m .1, j .room, more-size s at cs (next .at) (m .0));
-      }
+  -- p: what reading the next part answered
+  module _ {e : List ℕ} {at n : ℕ} (j : Joining s d u from e at n) {p : Part} (pe : p ≡ moreAnswer n (moreAt s at)) where
+    pub join-nearer : (next : Cursor) (k : ℕ) → p ≡ Added next k → length s - next .at < length s - at
+    join-nearer next k h = omega (arith, more-size s at (moreBytes (moreAt s at)) (next .at) (added-answer n (moreAt s at) next k (sym pe ∙ h) .0))
 
-  -- nothing is added: the loop is at its end
-  join-ended : {e f : List ℕ} {at n : ℕ} (end : Cursor) (j : Joining s d u from e at n) → joinedWith s (j .bytes) at ≡ record { bytes = j .bytes; end = end .at }
-      → moreBytes (moreAt s at) ≡ [] → f ≡ sets e n (moreBytes (moreAt s at))
-      → (record { next = end; used = n } ≡ joinAnswer u (joined s from)) × (f ≡ sets d u (joined s from .bytes))
-  unfolding joinAnswer
-  join-ended {e} {f} {at} {n} end j w z q =
-      let r : joined s from ≡ record { bytes = j .bytes; end = end .at } = sym (j .same) ∙ w in
-      (rw r (ap (λ k. record { next = end; used = k }) (j .count)), q ∙ ap (sets e n) z ∙ j .kept ∙ rw r)
+    -- f: the store after it
+    module _ {f : List ℕ} (fe : f ≡ sets e n (moreBytes (moreAt s at))) where
+      pub join-more : (next : Cursor) (k : ℕ) → p ≡ Added next k → Joining s d u from f (next .at) k
+      join-more next k h =
+          let cs = moreBytes (moreAt s at) in
+          let m = added-answer n (moreAt s at) next k (sym pe ∙ h) in
+          record {
+            bytes = j .bytes ++ cs;
+            same = sym (join-on s (j .bytes) at cs (next .at) (m .0)) ∙ j .same;
+            kept = sets-twice d e f u n (j .bytes) cs (j .kept) (j .count) fe;
+            count = omega (arith, m .1, j .count, length-append (j .bytes) cs);
+            room = omega (arith, m .1, j .room, more-size s at cs (next .at) (m .0));
+          }
 
-  pub join-done : {e f : List ℕ} {at n : ℕ} (end : Cursor) → Joining s d u from e at n → moreAnswer n (moreAt s at) ≡ Last end
-      → f ≡ sets e n (moreBytes (moreAt s at)) → (record { next = end; used = n } ≡ joinAnswer u (joined s from)) × (f ≡ sets d u (joined s from .bytes))
-  join-done {e} {f} {at} {n} end j a q =
-      let m = last-answer n (moreAt s at) end a in
-      join-ended end j (join-stop s (j .bytes) at (end .at) (m .0)) (m .1) q
+      -- nothing is added: the loop is at its end
+      join-ended : (end : Cursor) → joinedWith s (j .bytes) at ≡ record { bytes = j .bytes; end = end .at } → moreBytes (moreAt s at) ≡ []
+          → (record { next = end; used = n } ≡ joinAnswer u (joined s from)) × (f ≡ sets d u (joined s from .bytes))
+      unfolding joinAnswer
+      join-ended end w z =
+          let r : joined s from ≡ record { bytes = j .bytes; end = end .at } = sym (j .same) ∙ w in
+          (rw r (ap (λ k. record { next = end; used = k }) (j .count)), fe ∙ ap (sets e n) z ∙ j .kept ∙ rw r)
 
-  pub join-cut : {e f : List ℕ} {at n : ℕ} (end : Cursor) → Joining s d u from e at n → moreAnswer n (moreAt s at) ≡ Cut end
-      → f ≡ sets e n (moreBytes (moreAt s at)) → (record { next = end; used = n } ≡ joinAnswer u (joined s from)) × (f ≡ sets d u (joined s from .bytes))
-  join-cut {e} {f} {at} {n} end j a q =
-      let m = broken-answer n (moreAt s at) end a in
-      join-ended end j (join-broken s (j .bytes) at (end .at) (m .0)) (m .1) q
+      pub join-done : (end : Cursor) → p ≡ Last end → (record { next = end; used = n } ≡ joinAnswer u (joined s from)) × (f ≡ sets d u (joined s from .bytes))
+      join-done end h =
+          let m = last-answer n (moreAt s at) end (sym pe ∙ h) in
+          join-ended end (join-stop s (j .bytes) at (end .at) (m .0)) (m .1)
+
+      pub join-cut : (end : Cursor) → p ≡ Cut end → (record { next = end; used = n } ≡ joinAnswer u (joined s from)) × (f ≡ sets d u (joined s from .bytes))
+      join-cut end h =
+          let m = broken-answer n (moreAt s at) end (sym pe ∙ h) in
+          join-ended end (join-broken s (j .bytes) at (end .at) (m .0)) (m .1)
 
 -- ---- a value
 
