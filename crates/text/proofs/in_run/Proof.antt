@@ -2,7 +2,7 @@
 -- Assumes nothing.
 use mathlib.Core.Path.{sym, _∙_}
 use borrow.Author.Needs.{needs}
-use Rattle.text.proofs.Laws.{in-white, in-line, in-ident, in-name, in-name-too}
+use Rattle.text.proofs.Laws.{in-white, in-line, in-ident, in-name, in-name-too, in-low}
 use Rattle.text.proofs.in_run.Statement.{statement}
 use Rattle.text.proofs.in_run.Tie as tie
 
@@ -27,6 +27,9 @@ enum-told-4 c = search needs
 in-ident-requires-2 : tie.Need-in-ident-requires-2
 in-ident-requires-2 c κs = search needs
 
+enum-told-5 : tie.Need-enum-told-5
+enum-told-5 c = search needs
+
 returns : tie.Need-returns
 returns c =
     let b = c .before .before .before .before .args .b in
@@ -46,6 +49,9 @@ returns-5 c =
     let b = c .before .before .before .before .args .b in
     cc (in-name-too b (sym (c .before .in-ident2 .ensures) ∙ c .if1 .left), c .before .before .enum-told4 .given .1)
 
+returns-6 : tie.Need-returns-6
+returns-6 c = cc (in-low (c .before .before .args .b), c .enum-told5 .given .1)
+
 pub in-run-spec : {M : Type 1} → statement M
 in-run-spec =
     tie.close
@@ -58,7 +64,9 @@ in-run-spec =
     enum-told-4
     in-ident-requires-2
     returns
+    enum-told-5
     returns-2
     returns-3
     returns-4
-    returns-5)
+    returns-5
+    returns-6)
