@@ -1,5 +1,6 @@
 -- Skipping a token: a whole quoted string, a whole name if it starts with letter or `_`, else one byte.
 -- The string closes by the rules of a value.
+-- `yang-version`, value if there is one: that value is skipped by the rules of a value too, and nothing of it is stored.
 -- Assumes nothing.
 use Prim.Native.Nat.{ℕ, _+_}
 use mathlib.Core.Bool.{false, cond}
@@ -11,9 +12,11 @@ use Rattle.text.specs.Keyword.{startsIdent}
 use Rattle.text.specs.Scan.{runEnd}
 use Rattle.text.specs.declared.Run.the-variants.{Name}
 use Rattle.value.specs.Str.{strEnd}
-use Rattle.value.specs.Value.{isQuote}
+use Rattle.value.specs.Value.{isQuote, More, added, ends, broken}
 use Rattle.value.specs.declared.Close.{Close}
 use Rattle.value.specs.declared.Close.the-variants.{At, Open}
+use Rattle.skip.specs.declared.Tail.{Tail}
+use Rattle.skip.specs.declared.Tail.the-variants.{More as MoreTail, Last}
 use Rattle.skip.specs.declared.Token.{Token}
 use Rattle.skip.specs.declared.Token.the-variants.{Past, Cut}
 
@@ -36,3 +39,9 @@ tokenAt s at = cond (leb (length s) at) (Past (record { at = at })) (tokenHere s
 unfoldable pub tokenEnd : Token → ℕ
 tokenEnd (Past c) = c .at
 tokenEnd (Cut c) = c .at
+
+-- what follows a string of a value that is skipped: one more that is added, or the value's end
+unfoldable pub tailOf : More → Tail
+tailOf (added bs end) = MoreTail (record { at = end })
+tailOf (ends end) = Last (record { at = end })
+tailOf (broken end) = Last (record { at = end })

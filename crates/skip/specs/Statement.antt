@@ -26,7 +26,7 @@ unfoldable pub quotedLen : ℕ → ℕ → List ℕ → ℕ
 quotedLen q p [] = 0
 quotedLen q p (b ∷ xs) = cond (closes q p b) 1 (suc (quotedLen q b xs))
 
--- the place after the string whose bytes start at a place
+-- the place after the string whose bytes start at a place: the byte before the first is its quote
 unfoldable pub quotedEnd : List ℕ → ℕ → ℕ → ℕ
 quotedEnd s at q = at + quotedLen q q (drop at s)
 

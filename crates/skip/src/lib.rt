@@ -1,11 +1,12 @@
-// Skipping: a token, and a statement. A token's string closes by the rules of a value; a statement's string has a rule of its own.
+// Skipping: a token, a value, and a statement. A token's string closes by the rules of a value; a statement's string has a rule of its own.
 use text::Cursor;
 use text::Run;
 use value::Close;
 ghost use mathlib.Core.Path.{_≡_};
 ghost use Prim.Native.Nat.{_≤_};
 ghost use Rattle.text.specs.Class.{classTable};
-ghost use Rattle.skip.specs.Skip.{tokenAt, tokenEnd};
+ghost use Rattle.value.specs.Value.{moreAt, joined, valueAt, placeOf};
+ghost use Rattle.skip.specs.Skip.{tokenAt, tokenEnd, tailOf};
 ghost use Rattle.skip.specs.Statement.{closes, quotedEnd, atSemicolon, atClose, partAt, statementAt, endedAt};
 
 // A token was passed; or it is a string that never closes, and the text has ended.
@@ -47,6 +48,75 @@ pub fn token_end(t: Token) -> Cursor
         Token::Past(c) => c,
         Token::Cut(c) => c,
     }
+}
+
+// Skips the value that stands after a gap, and stores nothing: the cursor after it, or where there is none.
+pub fn skip_value(here: Cursor, classes: &[u8; 128], s: &[u8]) -> Cursor
+    requires { ⌜ now classes ≡ classTable ⌝ }
+    ensures { λ r. ⌜ r .at ≡ placeOf (valueAt (now (s .entry)) (here .at)) ⌝ }
+{
+    let first = here.skip_whitespace_and_comments(classes, s);
+    let at = first.at;
+    let b = text::peek_char(s, at);
+    if value::is_quote(b) {
+        let Token::Past(end) = skip_one_token(first, classes, s) else {
+            return Cursor { at: s.len() };
+        };
+        return skip_added(end, classes, s);
+    }
+    if value::starts_name(classes, b) {
+        let name_end = text::run_end(classes, Run::Name, s, at);
+        return Cursor { at: name_end };
+    }
+    first
+}
+
+// Skips all that is added to a string.
+fn skip_added(here: Cursor, classes: &[u8; 128], s: &[u8]) -> Cursor
+    requires { ⌜ now classes ≡ classTable ⌝ }
+    ensures { λ r. ⌜ r .at ≡ joined (now (s .entry)) (here .at) .end ⌝ }
+{
+    let mut at = here.at;
+    loop {
+        let from = Cursor { at };
+        match skip_string(from, classes, s) {
+            Tail::More(next) => {
+                at = next.at;
+            }
+            Tail::Last(end) => {
+                return end;
+            }
+        }
+    }
+}
+
+// A string that is added was passed; or the value ends here.
+pub enum Tail {
+    More(Cursor),
+    Last(Cursor),
+}
+
+// What follows a string: a gap, and if `+` follows, a gap and a string.
+fn skip_string(here: Cursor, classes: &[u8; 128], s: &[u8]) -> Tail
+    requires { ⌜ now classes ≡ classTable ⌝ }
+    ensures { λ r. ⌜ r ≡ tailOf (moreAt (now (s .entry)) (here .at)) ⌝ }
+{
+    let plus = here.skip_whitespace_and_comments(classes, s);
+    let p = plus.at;
+    if text::peek_char(s, p) != text::PLUS {
+        return Tail::Last(plus);
+    }
+    let next = p + 1;
+    let after = Cursor { at: next };
+    let quote = after.skip_whitespace_and_comments(classes, s);
+    let q = quote.at;
+    if value::is_quote(text::peek_char(s, q)) {
+        let Token::Past(end) = skip_one_token(quote, classes, s) else {
+            return Tail::Last(Cursor { at: s.len() });
+        };
+        return Tail::More(end);
+    }
+    Tail::Last(quote)
 }
 
 // How a statement ended: by its semicolon, by its block, before a closing brace that is not its own, or by the text's end.

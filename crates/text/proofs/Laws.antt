@@ -45,6 +45,27 @@ pub in-name-too : (b : ℕ) → inIdent b ≡ false → inRun Name b ≡ eqb b 5
 unfolding inRun
 in-name-too b h = simp h
 
+-- Each law takes the kind of run and what the call on the way answered: c the class, i whether the byte belongs to an identifier.
+module _ {k : Run} (b : ℕ) where
+  pub run-white : k ≡ White → {c : ℕ} → c ≡ classOf b → eqb c 1 ≡ inRun k b
+  run-white h e = ap (λ x. eqb x 1) e ∙ sym (ap (λ r. inRun r b) h ∙ in-white b)
+
+  pub run-line : k ≡ Line → not (eqb b 10) ≡ inRun k b
+  run-line h = sym (ap (λ r. inRun r b) h ∙ in-line b)
+
+  pub run-low : k ≡ Low → ltb b 128 ≡ inRun k b
+  run-low h = sym (ap (λ r. inRun r b) h ∙ in-low b)
+
+  pub run-ident : k ≡ Ident → {i : Bool} → i ≡ inIdent b → i ≡ inRun k b
+  run-ident h e = e ∙ sym (ap (λ r. inRun r b) h ∙ in-ident b)
+
+  module _ (h : k ≡ Name) {i : Bool} (e : i ≡ inIdent b) where
+    pub run-name : i ≡ true → inRun k b ≡ true
+    run-name y = ap (λ r. inRun r b) h ∙ in-name b (sym e ∙ y)
+
+    pub run-name-too : i ≡ false → inRun k b ≡ eqb b 58
+    run-name-too n = ap (λ r. inRun r b) h ∙ in-name-too b (sym e ∙ n)
+
 -- ---- a run
 
 -- Both laws take what the calls on the way answered: b stands here, t whether it belongs to the run.

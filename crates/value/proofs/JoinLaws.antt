@@ -19,12 +19,13 @@ use Rattle.text.proofs.Turns.{turns-stop, turns-on, turns-rule}
 use Rattle.text.proofs.Here.{by-test, here, never}
 use Rattle.text.proofs.Laws.{in-name, gap-from, gap-within, run-more, run-from, run-within}
 use Rattle.value.specs.Str.{Str, whole, cut, strEnd, strBytes, strAt, closedBy, escapes, answerOf, bytesOf}
-use Rattle.value.specs.Value.{isQuote, More, added, ends, broken, addedBy, moreAt, Bytes, addTo, joinTurn, joinedWith, joined, moreAnswer, moreBytes, joinAnswer, Val, value, none, ofString, nameAt, valueHere, valueAt, startsName, valueAnswer}
+use Rattle.value.specs.Value.{isQuote, More, added, ends, broken, addedBy, moreAt, Bytes, addTo, joinTurn, joinedWith, joined, moreAnswer, moreBytes, joinAnswer, Val, value, none, ofString, nameAt, valueHere, valueAt, startsName, valueAnswer, valueEnd, placeOf}
 use Rattle.text.specs.declared.Cursor.{Cursor}
 use Rattle.text.proofs.Writing.{sets-append}
 use Rattle.value.specs.declared.Joined.{Joined}
 use Rattle.value.specs.declared.Quoted.the-variants.{Closed, Unclosed}
 use Rattle.value.specs.declared.Value.the-variants.{Read}
+use Rattle.value.specs.declared.Part.{Part}
 use Rattle.value.specs.declared.Part.the-variants.{Added, Last, Cut}
 use Rattle.value.specs.declared.Close.{Close}
 use Rattle.value.specs.declared.Close.the-variants.{At, Open}
@@ -164,39 +165,42 @@ module _ {s d : List ℕ} {u from : ℕ} where
   pub join-long : {e : List ℕ} {at n : ℕ} → Joining s d u from e at n → length e ≡ length d
   join-long j = ap length (j .kept) ∙ length-sets d u (j .bytes)
 
-  pub join-more : {e f : List ℕ} {at n : ℕ} (next : Cursor) (k : ℕ) → Joining s d u from e at n → moreAnswer n (moreAt s at) ≡ Added next k
-      → f ≡ sets e n (moreBytes (moreAt s at)) → Joining s d u from f (next .at) k
-  join-more {e} {f} {at} {n} next k j a q =
-      let cs = moreBytes (moreAt s at) in
-      let m = added-answer n (moreAt s at) next k a in
-      record {
-        bytes = j .bytes ++ cs;
-        same = sym (join-on s (j .bytes) at cs (next .at) (m .0)) ∙ j .same;
-        kept = sets-twice d e f u n (j .bytes) cs (j .kept) (j .count) q;
-        count = omega (arith, m .1, j .count, length-append (j .bytes) cs);
-        room = omega (arith, m .1, j .room, more-size s at cs (next .at) (m .0));
-      }
+  -- p: what reading the next part answered
+  module _ {e : List ℕ} {at n : ℕ} (j : Joining s d u from e at n) {p : Part} (pe : p ≡ moreAnswer n (moreAt s at)) where
+    pub join-nearer : (next : Cursor) (k : ℕ) → p ≡ Added next k → length s - next .at < length s - at
+    join-nearer next k h = omega (arith, more-size s at (moreBytes (moreAt s at)) (next .at) (added-answer n (moreAt s at) next k (sym pe ∙ h) .0))
 
-  -- nothing is added: the loop is at its end
-  join-ended : {e f : List ℕ} {at n : ℕ} (end : Cursor) (j : Joining s d u from e at n) → joinedWith s (j .bytes) at ≡ record { bytes = j .bytes; end = end .at }
-      → moreBytes (moreAt s at) ≡ [] → f ≡ sets e n (moreBytes (moreAt s at))
-      → (record { next = end; used = n } ≡ joinAnswer u (joined s from)) × (f ≡ sets d u (joined s from .bytes))
-  unfolding joinAnswer
-  join-ended {e} {f} {at} {n} end j w z q =
-      let r : joined s from ≡ record { bytes = j .bytes; end = end .at } = sym (j .same) ∙ w in
-      (rw r (ap (λ k. record { next = end; used = k }) (j .count)), q ∙ ap (sets e n) z ∙ j .kept ∙ rw r)
+    -- f: the store after it
+    module _ {f : List ℕ} (fe : f ≡ sets e n (moreBytes (moreAt s at))) where
+      pub join-more : (next : Cursor) (k : ℕ) → p ≡ Added next k → Joining s d u from f (next .at) k
+      join-more next k h =
+          let cs = moreBytes (moreAt s at) in
+          let m = added-answer n (moreAt s at) next k (sym pe ∙ h) in
+          record {
+            bytes = j .bytes ++ cs;
+            same = sym (join-on s (j .bytes) at cs (next .at) (m .0)) ∙ j .same;
+            kept = sets-twice d e f u n (j .bytes) cs (j .kept) (j .count) fe;
+            count = omega (arith, m .1, j .count, length-append (j .bytes) cs);
+            room = omega (arith, m .1, j .room, more-size s at cs (next .at) (m .0));
+          }
 
-  pub join-done : {e f : List ℕ} {at n : ℕ} (end : Cursor) → Joining s d u from e at n → moreAnswer n (moreAt s at) ≡ Last end
-      → f ≡ sets e n (moreBytes (moreAt s at)) → (record { next = end; used = n } ≡ joinAnswer u (joined s from)) × (f ≡ sets d u (joined s from .bytes))
-  join-done {e} {f} {at} {n} end j a q =
-      let m = last-answer n (moreAt s at) end a in
-      join-ended end j (join-stop s (j .bytes) at (end .at) (m .0)) (m .1) q
+      -- nothing is added: the loop is at its end
+      join-ended : (end : Cursor) → joinedWith s (j .bytes) at ≡ record { bytes = j .bytes; end = end .at } → moreBytes (moreAt s at) ≡ []
+          → (record { next = end; used = n } ≡ joinAnswer u (joined s from)) × (f ≡ sets d u (joined s from .bytes))
+      unfolding joinAnswer
+      join-ended end w z =
+          let r : joined s from ≡ record { bytes = j .bytes; end = end .at } = sym (j .same) ∙ w in
+          (rw r (ap (λ k. record { next = end; used = k }) (j .count)), fe ∙ ap (sets e n) z ∙ j .kept ∙ rw r)
 
-  pub join-cut : {e f : List ℕ} {at n : ℕ} (end : Cursor) → Joining s d u from e at n → moreAnswer n (moreAt s at) ≡ Cut end
-      → f ≡ sets e n (moreBytes (moreAt s at)) → (record { next = end; used = n } ≡ joinAnswer u (joined s from)) × (f ≡ sets d u (joined s from .bytes))
-  join-cut {e} {f} {at} {n} end j a q =
-      let m = broken-answer n (moreAt s at) end a in
-      join-ended end j (join-broken s (j .bytes) at (end .at) (m .0)) (m .1) q
+      pub join-done : (end : Cursor) → p ≡ Last end → (record { next = end; used = n } ≡ joinAnswer u (joined s from)) × (f ≡ sets d u (joined s from .bytes))
+      join-done end h =
+          let m = last-answer n (moreAt s at) end (sym pe ∙ h) in
+          join-ended end (join-stop s (j .bytes) at (end .at) (m .0)) (m .1)
+
+      pub join-cut : (end : Cursor) → p ≡ Cut end → (record { next = end; used = n } ≡ joinAnswer u (joined s from)) × (f ≡ sets d u (joined s from .bytes))
+      join-cut end h =
+          let m = broken-answer n (moreAt s at) end (sym pe ∙ h) in
+          join-ended end (join-broken s (j .bytes) at (end .at) (m .0)) (m .1)
 
 -- ---- a value
 
@@ -406,3 +410,47 @@ none-size s at k l h =
     by-str : (t : Str) → strAt s (gapEnd s at) ≡ t → isQuote (getD s (gapEnd s at) 256) ≡ true → (at ≤ k) × (k ≤ length s)
     by-str (whole cs f) w q = absurd (none-not h (value-string s at refl refl refl q cs f w))
     by-str cut w q = omega (arith, none-is (length s) k (value-cut s at refl refl refl q w) h)
+
+-- ---- where a value ends, whatever it stores
+
+any-stop : (s : List ℕ) (a : Bytes) (m : More) (r : Bytes) → moreAt s (a .end) ≡ m → addTo (a .bytes) m ≡ stop r → (cs : List ℕ) → joinedWith s cs (a .end) .end ≡ r .end
+unfolding addTo
+any-stop s a (added ds e) r k h cs = let z : _≡_ {A = ℕ} 0 1 = cc in absurd (omega arith)
+any-stop s a (ends e) r k h cs = let n : e ≡ r .end = cc in ap (λ b. b .end) (join-stop s cs (a .end) e k) ∙ n
+any-stop s a (broken e) r k h cs = let n : e ≡ r .end = cc in ap (λ b. b .end) (join-broken s cs (a .end) e k) ∙ n
+
+-- the place after all that is added does not depend on the bytes before
+joined-any : (s cs : List ℕ) (at : ℕ) → joinedWith s cs at .end ≡ joined s at .end
+unfolding joined joinedWith joinTurn
+joined-any s cs at =
+    turns-rule (joinTurn s) (record { bytes = []; end = 0 }) (λ b. length s - b .end) (join-falls s)
+    (λ a r. (ds : List ℕ) → joinedWith s ds (a .end) .end ≡ r .end)
+    (λ a r e. any-stop s a (moreAt s (a .end)) r refl e)
+    (λ a b r e k ds. let m = to-on (a .bytes) (moreAt s (a .end)) b e in
+    ap (λ x. x .end) (join-on s ds (a .end) (m .0) (b .end) (m .1)) ∙ k (ds ++ m .0))
+    (suc (length s)) (record { bytes = []; end = at }) (omega arith) cs
+
+module _ (s : List ℕ) (at : ℕ) where
+  pub joined-on : (cs : List ℕ) (e : ℕ) → moreAt s at ≡ added cs e → joined s at .end ≡ joined s e .end
+  joined-on cs e h = sym (joined-any s [] at) ∙ ap (λ b. b .end) (join-on s [] at cs e h) ∙ joined-any s cs e
+
+  pub joined-stop : (e : ℕ) → moreAt s at ≡ ends e → joined s at .end ≡ e
+  joined-stop e h = sym (joined-any s [] at) ∙ ap (λ b. b .end) (join-stop s [] at e h)
+
+  pub joined-broken : (e : ℕ) → moreAt s at ≡ broken e → joined s at .end ≡ e
+  joined-broken e h = sym (joined-any s [] at) ∙ ap (λ b. b .end) (join-broken s [] at e h)
+
+-- the answer and the value say the same place
+pub place-is : (u : ℕ) (v : Val) → valueEnd (valueAnswer u v) ≡ placeOf v
+unfolding valueEnd valueAnswer placeOf
+place-is u (value bs e) = refl
+place-is u (none at) = refl
+
+-- it is within the text, where the scan stands within it
+pub place-size : (s : List ℕ) (at : ℕ) → at ≤ length s → (at ≤ placeOf (valueAt s at)) × (placeOf (valueAt s at) ≤ length s)
+unfolding placeOf
+place-size s at l = by-val (valueAt s at) refl
+  where
+    by-val : (v : Val) → valueAt s at ≡ v → (at ≤ placeOf v) × (placeOf v ≤ length s)
+    by-val (value bs e) h = omega (arith, value-size s at bs e h)
+    by-val (none e) h = none-size s at e l h

@@ -15,6 +15,7 @@ use Rattle.text.specs.Scan.{gapEnd}
 use Rattle.text.specs.declared.Cursor.{Cursor}
 use Rattle.value.specs.Str.{Str, whole, cut, strAt, answerOf, bytesOf}
 use Rattle.value.specs.Value.{isQuote, ends, addedBy, afterPlus, afterGap, moreAt, moreAnswer, moreBytes}
+use Rattle.value.specs.declared.Quoted.{Quoted}
 use Rattle.value.specs.declared.Quoted.the-variants.{Closed, Unclosed}
 use Rattle.value.specs.declared.Part.the-variants.{Added, Cut}
 
@@ -47,6 +48,23 @@ part-length s i end h k = simp (length-take, length-drop) (omega arith)
 
 -- ---- what follows a string
 
+-- what reading the string answered says what is added
+module _ (s : List ℕ) (used : ℕ) where
+  added-closed : (t : Str) (c : Cursor) (n : ℕ) → answerOf used t ≡ Closed c n → moreAnswer used (addedBy s t) ≡ Added c n
+  unfolding answerOf moreAnswer addedBy
+  added-closed (whole bs end) c n e = cc
+  added-closed cut c n e = cc
+
+  added-cut : (t : Str) → answerOf used t ≡ Unclosed → moreAnswer used (addedBy s t) ≡ Cut (record { at = length s })
+  unfolding answerOf moreAnswer addedBy
+  added-cut (whole bs end) e = cc
+  added-cut cut e = refl
+
+  added-bytes : (t : Str) → moreBytes (addedBy s t) ≡ bytesOf t
+  unfolding moreBytes bytesOf addedBy
+  added-bytes (whole bs end) = refl
+  added-bytes cut = refl
+
 -- Each law takes what the calls on the way answered, in their order: g after the gap, p what stands there, h after the second gap, q what
 -- stands there, t whether that is a quote.
 module _ (s : List ℕ) (at : ℕ) {g p : ℕ} (ge : g ≡ gapEnd s at) (pe : p ≡ getD s g 256) where
@@ -67,19 +85,13 @@ module _ (s : List ℕ) (at : ℕ) {g p : ℕ} (ge : g ≡ gapEnd s at) (pe : p 
         let quote : isQuote (getD s h 256) ≡ true = cc in
         rw (← ge, eq-eqb (getD s g 256) 43 (sym pe ∙ plus)) (rw (← he) (rw quote))
 
--- what reading the string answered says what is added
-module _ (s : List ℕ) (used : ℕ) where
-  pub added-closed : (t : Str) (c : Cursor) (n : ℕ) → answerOf used t ≡ Closed c n → moreAnswer used (addedBy s t) ≡ Added c n
-  unfolding answerOf moreAnswer addedBy
-  added-closed (whole bs end) c n e = cc
-  added-closed cut c n e = cc
+    -- a: what reading the string there answered
+    module _ (y : t ≡ true) (used : ℕ) {a : Quoted} (ae : a ≡ answerOf used (strAt s h)) where
+      pub more-added : (c : Cursor) (n : ℕ) → a ≡ Closed c n → moreAnswer used (moreAt s at) ≡ Added c n
+      more-added c n m = ap (moreAnswer used) (more-string y) ∙ added-closed s used (strAt s h) c n (sym ae ∙ m)
 
-  pub added-cut : (t : Str) → answerOf used t ≡ Unclosed → moreAnswer used (addedBy s t) ≡ Cut (record { at = length s })
-  unfolding answerOf moreAnswer addedBy
-  added-cut (whole bs end) e = cc
-  added-cut cut e = refl
+      pub more-cut : a ≡ Unclosed → moreAnswer used (moreAt s at) ≡ Cut (record { at = length s })
+      more-cut m = ap (moreAnswer used) (more-string y) ∙ added-cut s used (strAt s h) (sym ae ∙ m)
 
-  pub added-bytes : (t : Str) → moreBytes (addedBy s t) ≡ bytesOf t
-  unfolding moreBytes bytesOf addedBy
-  added-bytes (whole bs end) = refl
-  added-bytes cut = refl
+      pub more-stored : moreBytes (moreAt s at) ≡ bytesOf (strAt s h)
+      more-stored = ap moreBytes (more-string y) ∙ added-bytes s used (strAt s h)

@@ -118,7 +118,11 @@ unfoldable pub valueBytes : Val → List ℕ
 valueBytes (value bs end) = bs
 valueBytes (none at) = []
 
--- where the scan stands then
+-- where the scan stands then, by the answer and by the value
 unfoldable pub valueEnd : Value → ℕ
 valueEnd (Read c n) = c .at
 valueEnd (Missing c) = c .at
+
+unfoldable pub placeOf : Val → ℕ
+placeOf (value bs end) = end
+placeOf (none at) = at

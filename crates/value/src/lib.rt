@@ -110,7 +110,7 @@ fn read_identifier(
 }
 
 // Whether a name begins so: a letter, a digit or _.
-fn starts_name(classes: &[u8; 128], b: u16) -> bool
+pub fn starts_name(classes: &[u8; 128], b: u16) -> bool
     requires { ⌜ now classes ≡ classTable ⌝ }
     ensures { λ r. ⌜ r ≡ startsName b ⌝ }
 {

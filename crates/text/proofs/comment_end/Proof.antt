@@ -12,37 +12,49 @@ pair-at-requires c κs = search needs
 
 add-run-end : tie.Need-add-run-end
 add-run-end c =
-    let a = c .before .before .before .args in
-    omega (arith, pair-room (a .s .now) (a .at) 47 47 (omega arith) (sym (c .before .pair-at .ensures) ∙ c .if1 .taken))
+    let pair = c .before in
+    let a = pair .before .before .args in
+    omega (arith, pair-room (a .s .now) (a .at) 47 47 (omega arith) (sym (pair .pair-at .ensures) ∙ c .if1 .taken))
 
 run-end-requires : tie.Need-run-end-requires
 run-end-requires c κs = search needs
 
 returns : tie.Need-returns
 returns c =
-    let a = c .before .before .before .before .args in
-    c .run-end .ensures ∙ sym (comment-line (a .s .now) (a .at) (sym (c .before .before .pair-at .ensures) ∙ c .before .if1 .taken))
+    let if1 = c .before in
+    let pair = if1 .before in
+    let a = pair .before .before .args in
+    c .run-end .ensures ∙ sym (comment-line (a .s .now) (a .at) (sym (pair .pair-at .ensures) ∙ if1 .if1 .taken))
 
 pair-at-requires-2 : tie.Need-pair-at-requires-2
 pair-at-requires-2 c κs = search needs
 
 add-block-end : tie.Need-add-block-end
 add-block-end c =
-    let a = c .before .before .before .before .before .args in
-    omega (arith, pair-room (a .s .now) (a .at) 47 42 (omega arith) (sym (c .before .pair-at2 .ensures) ∙ c .if2 .taken))
+    let pair2 = c .before in
+    let a = pair2 .before .before .before .before .args in
+    omega (arith, pair-room (a .s .now) (a .at) 47 42 (omega arith) (sym (pair2 .pair-at2 .ensures) ∙ c .if2 .taken))
 
 block-end-requires : tie.Need-block-end-requires
 block-end-requires c κs = search needs
 
 returns-2 : tie.Need-returns-2
 returns-2 c =
-    let a = c .before .before .before .before .before .before .args in
-    c .block-end .ensures ∙ sym (comment-block (a .s .now) (a .at) (sym (c .before .before .before .before .pair-at .ensures) ∙ c .before .before .before .if1 .left) (sym (c .before .before .pair-at2 .ensures) ∙ c .before .if2 .taken))
+    let if2 = c .before in
+    let pair2 = if2 .before in
+    let if1 = pair2 .before in
+    let pair = if1 .before in
+    let a = pair .before .before .args in
+    c .block-end .ensures
+    ∙ sym (comment-block (a .s .now) (a .at) (sym (pair .pair-at .ensures) ∙ if1 .if1 .left) (sym (pair2 .pair-at2 .ensures) ∙ if2 .if2 .taken))
 
 returns-3 : tie.Need-returns-3
 returns-3 c =
-    let a = c .before .before .before .before .before .args in
-    sym (comment-none (a .s .now) (a .at) (sym (c .before .before .before .pair-at .ensures) ∙ c .before .before .if1 .left) (sym (c .before .pair-at2 .ensures) ∙ c .if2 .left))
+    let pair2 = c .before in
+    let if1 = pair2 .before in
+    let pair = if1 .before in
+    let a = pair .before .before .args in
+    sym (comment-none (a .s .now) (a .at) (sym (pair .pair-at .ensures) ∙ if1 .if1 .left) (sym (pair2 .pair-at2 .ensures) ∙ c .if2 .left))
 
 pub comment-end-spec : {M : Type 1} → statement M
 comment-end-spec =

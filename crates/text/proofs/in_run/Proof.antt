@@ -1,8 +1,8 @@
 -- `text::in_run`. Each kind has its own test, which is its clause of the definition.
 -- Assumes nothing.
-use mathlib.Core.Path.{sym, _∙_}
+use mathlib.Core.Path.{sym}
 use borrow.Author.Needs.{needs}
-use Rattle.text.proofs.Laws.{in-white, in-line, in-ident, in-name, in-name-too, in-low}
+use Rattle.text.proofs.Laws.{run-white, run-line, run-ident, run-name, run-name-too, run-low}
 use Rattle.text.proofs.in_run.Statement.{statement}
 use Rattle.text.proofs.in_run.Tie as tie
 
@@ -32,25 +32,31 @@ enum-told-5 c = search needs
 
 returns : tie.Need-returns
 returns c =
-    let b = c .before .before .before .before .args .b in
-    cc (in-name b (sym (c .before .in-ident2 .ensures) ∙ c .if1 .taken), c .before .before .enum-told4 .given .1)
+    let ident = c .before in
+    let kind = ident .before in
+    sym (run-name (kind .before .before .args .b) (kind .enum-told4 .given .1) (ident .in-ident2 .ensures) (c .if1 .taken))
 
 returns-2 : tie.Need-returns-2
-returns-2 c = cc (in-white (c .before .before .before .args .b), c .before .enum-told .given .1)
+returns-2 c =
+    let kind = c .before in
+    run-white (kind .before .before .args .b) (kind .enum-told .given .1) (c .class .ensures)
 
 returns-3 : tie.Need-returns-3
-returns-3 c = cc (in-line (c .before .before .args .b), c .enum-told2 .given .1)
+returns-3 c = run-line (c .before .before .args .b) (c .enum-told2 .given .1)
 
 returns-4 : tie.Need-returns-4
-returns-4 c = cc (in-ident (c .before .before .before .args .b), c .before .enum-told3 .given .1)
+returns-4 c =
+    let kind = c .before in
+    run-ident (kind .before .before .args .b) (kind .enum-told3 .given .1) (c .in-ident .ensures)
 
 returns-5 : tie.Need-returns-5
 returns-5 c =
-    let b = c .before .before .before .before .args .b in
-    cc (in-name-too b (sym (c .before .in-ident2 .ensures) ∙ c .if1 .left), c .before .before .enum-told4 .given .1)
+    let ident = c .before in
+    let kind = ident .before in
+    sym (run-name-too (kind .before .before .args .b) (kind .enum-told4 .given .1) (ident .in-ident2 .ensures) (c .if1 .left))
 
 returns-6 : tie.Need-returns-6
-returns-6 c = cc (in-low (c .before .before .args .b), c .enum-told5 .given .1)
+returns-6 c = run-low (c .before .before .args .b) (c .enum-told5 .given .1)
 
 pub in-run-spec : {M : Type 1} → statement M
 in-run-spec =

@@ -21,18 +21,25 @@ peek-char-requires-2 c κs = search needs
 
 returns : tie.Need-returns
 returns c =
-    let a = c .before .before .before .before .before .args in
-    sym (pair-yes (a .s .now) (a .at) (a .b) (a .c) (cc) (cc))
+    let peek2 = c .before in
+    let if1 = peek2 .before in
+    let peek = if1 .before in
+    let a = peek .before .before .args in
+    sym (pair-yes (a .s .now) (a .at) (a .b) (a .c) (sym (peek .peek-char .ensures) ∙ if1 .if1 .taken) (sym (peek2 .peek-char2 .ensures) ∙ c .if2 .taken))
 
 returns-2 : tie.Need-returns-2
 returns-2 c =
-    let a = c .before .before .before .before .before .args in
-    sym (pair-no-more (a .s .now) (a .at) (a .b) (a .c) (cc) (λ e. c .if2 .left (c .before .peek-char2 .ensures ∙ e)))
+    let peek2 = c .before in
+    let if1 = peek2 .before in
+    let peek = if1 .before in
+    let a = peek .before .before .args in
+    sym (pair-no-more (a .s .now) (a .at) (a .b) (a .c) (sym (peek .peek-char .ensures) ∙ if1 .if1 .taken) (λ e. c .if2 .left (peek2 .peek-char2 .ensures ∙ e)))
 
 returns-3 : tie.Need-returns-3
 returns-3 c =
-    let a = c .before .before .before .args in
-    sym (pair-no (a .s .now) (a .at) (a .b) (a .c) (λ e. c .if1 .left (c .before .peek-char .ensures ∙ e)))
+    let peek = c .before in
+    let a = peek .before .before .args in
+    sym (pair-no (a .s .now) (a .at) (a .b) (a .c) (λ e. c .if1 .left (peek .peek-char .ensures ∙ e)))
 
 pub pair-at-spec : {M : Type 1} → statement M
 pair-at-spec =

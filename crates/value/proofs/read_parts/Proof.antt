@@ -1,14 +1,12 @@
 -- `value::read_parts`. The loop's invariant is `Joining`: the bytes of all that was added stand in the store. Each part takes more bytes
 -- than it adds, so there is room and an end.
 -- Assumes nothing.
-use mathlib.Core.Path.{_≡_, sym, _∙_}
+use mathlib.Core.Path.{_∙_}
 use Prim.Native.Nat.{_-_}
 use lib.ListN.{length}
 use native.Mathlib.Omega.{arith}
 use borrow.Author.Needs.{needs}
-use Rattle.value.specs.Value.{moreAt, moreAnswer, moreBytes}
-use Rattle.value.specs.declared.Part.the-variants.{Added, Last, Cut}
-use Rattle.value.proofs.JoinLaws.{Joining, join-begun, join-long, join-more, join-done, join-cut, more-size, added-answer}
+use Rattle.value.proofs.JoinLaws.{Joining, join-begun, join-long, join-nearer, join-more, join-done, join-cut}
 use Rattle.value.proofs.read_parts.Statement.{statement}
 use Rattle.value.proofs.read_parts.Tie as tie
 
@@ -29,49 +27,54 @@ enum-known-next c = search needs
 
 loop-less : tie.Need-loop-less Inv-loop μ-loop
 loop-less c =
-    let at-loop = c .before .before .before .before .before .before .before .loop in
-    let s = c .before .before .before .before .before .before .before .before .before .before .args .s .now in
-    let read = c .before .before .before .before .before .read-part in
-    let got = c .before .next .given .0 in
-    let told : moreAnswer (at-loop .n) (moreAt s (at-loop .at)) ≡ Added (got .0) (got .1 .0) = sym (read .ensures .0) ∙ c .before .next .given .1 in
-    omega (arith, more-size s (at-loop .at) (moreBytes (moreAt s (at-loop .at))) (got .0 .at) (added-answer (at-loop .n) (moreAt s (at-loop .at)) (got .0) (got .1 .0) told .0))
+    let known = c .before in
+    let at-read = known .before .before .before .before in
+    let at-loop = at-read .before .before in
+    let got = known .next .given in
+    join-nearer (at-loop .loop .inv) (at-read .read-part .ensures .0) (got .0 .0) (got .0 .1 .0) (got .1)
 
 loop-again : tie.Need-loop-again Inv-loop μ-loop
 loop-again c =
-    let at-loop = c .before .before .before .before .before .before .before .loop in
-    let s = c .before .before .before .before .before .before .before .before .before .before .args .s .now in
-    let read = c .before .before .before .before .before .read-part in
-    let got = c .before .next .given .0 in
-    let told : moreAnswer (at-loop .n) (moreAt s (at-loop .at)) ≡ Added (got .0) (got .1 .0) = sym (read .ensures .0) ∙ c .before .next .given .1 in
-    join-more (got .0) (got .1 .0) (at-loop .inv) told (read .ensures .1)
+    let known = c .before in
+    let at-read = known .before .before .before .before in
+    let at-loop = at-read .before .before in
+    let read = at-read .read-part in
+    let got = known .next .given in
+    join-more (at-loop .loop .inv) (read .ensures .0) (read .ensures .1) (got .0 .0) (got .0 .1 .0) (got .1)
 
 enum-known-end : tie.Need-enum-known-end Inv-loop μ-loop
 enum-known-end c = search needs
 
 same-length : tie.Need-same-length Inv-loop μ-loop
-same-length c = c .before .before .before .before .before .read-part .kept .1 .1 .1 .0 ∙ join-long (c .before .before .before .before .before .before .before .loop .inv)
+same-length c =
+    let at-read = c .before .before .before .before .before in
+    let at-loop = at-read .before .before in
+    at-read .read-part .kept .1 .1 .1 .0 ∙ join-long (at-loop .loop .inv)
 
 returns : tie.Need-returns Inv-loop μ-loop
 returns c =
-    let at-loop = c .before .before .before .before .before .before .before .loop in
-    let read = c .before .before .before .before .before .read-part in
-    let end = c .before .end .given .0 .0 in
-    let told : moreAnswer (at-loop .n) (moreAt (c .before .before .before .before .before .before .before .before .before .before .args .s .now) (at-loop .at)) ≡ Last end = sym (read .ensures .0) ∙ c .before .end .given .1 in
-    join-done end (at-loop .inv) told (read .ensures .1)
+    let known = c .before in
+    let at-read = known .before .before .before .before in
+    let at-loop = at-read .before .before in
+    let read = at-read .read-part in
+    join-done (at-loop .loop .inv) (read .ensures .0) (read .ensures .1) (known .end .given .0 .0) (known .end .given .1)
 
 enum-known-end-2 : tie.Need-enum-known-end-2 Inv-loop μ-loop
 enum-known-end-2 c = search needs
 
 same-length-2 : tie.Need-same-length-2 Inv-loop μ-loop
-same-length-2 c = c .before .before .before .before .before .read-part .kept .1 .1 .1 .0 ∙ join-long (c .before .before .before .before .before .before .before .loop .inv)
+same-length-2 c =
+    let at-read = c .before .before .before .before .before in
+    let at-loop = at-read .before .before in
+    at-read .read-part .kept .1 .1 .1 .0 ∙ join-long (at-loop .loop .inv)
 
 returns-2 : tie.Need-returns-2 Inv-loop μ-loop
 returns-2 c =
-    let at-loop = c .before .before .before .before .before .before .before .loop in
-    let read = c .before .before .before .before .before .read-part in
-    let end = c .before .end2 .given .0 .0 in
-    let told : moreAnswer (at-loop .n) (moreAt (c .before .before .before .before .before .before .before .before .before .before .args .s .now) (at-loop .at)) ≡ Cut end = sym (read .ensures .0) ∙ c .before .end2 .given .1 in
-    join-cut end (at-loop .inv) told (read .ensures .1)
+    let known = c .before in
+    let at-read = known .before .before .before .before in
+    let at-loop = at-read .before .before in
+    let read = at-read .read-part in
+    join-cut (at-loop .loop .inv) (read .ensures .0) (read .ensures .1) (known .end2 .given .0 .0) (known .end2 .given .1)
 
 pub read-parts-spec : {M : Type 1} → statement M
 read-parts-spec =

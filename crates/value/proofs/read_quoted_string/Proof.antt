@@ -28,8 +28,10 @@ enum-told c = search needs
 returns : tie.Need-returns
 unfolding answerOf bytesOf
 returns c =
-    let a = c .before .before .before .before .before .before .before .args in
-    let e = str-cut (a .s .now) (a .here .at) (c .before .before .before .before .if1 .taken) (cc (c .enum-told .given .1)) in
+    let close = c .before .before in
+    let if1 = close .before .before in
+    let a = if1 .before .before .before .args in
+    let e = str-cut (a .s .now) (a .here .at) (if1 .if1 .taken) (sym (close .close-of .ensures) ∙ c .enum-told .given .1) in
     (sym (ap (answerOf (a .used)) e), sym (ap (λ t. sets (a .store .now) (a .used) (bytesOf t)) e))
 
 add-copy-string : tie.Need-add-copy-string
@@ -44,10 +46,15 @@ same-length c = search needs
 returns-2 : tie.Need-returns-2
 unfolding answerOf bytesOf
 returns-2 c =
-    let a = c .before .before .before .before .before .before .before .before .before .before .before .before .args in
-    let e = str-whole (a .s .now) (a .here .at) (c .before .before .before .before .before .end .given .0 .0) (c .before .before .before .before .before .before .before .before .before .if1 .taken) (cc (c .before .before .before .before .before .end .given .1)) in
-    let copied = c .before .before .copy-string .ensures in (
-      ap (Closed (record { at = c .before .before .before .before .before .end .given .0 .0 })) (copied .0) ∙ sym (ap (answerOf (a .used)) e),
+    let copy = c .before .before in
+    let known = copy .before .before .before in
+    let close = known .before .before in
+    let if1 = close .before .before in
+    let a = if1 .before .before .before .args in
+    let end = known .end .given .0 .0 in
+    let copied = copy .copy-string .ensures in
+    let e = str-whole (a .s .now) (a .here .at) end (if1 .if1 .taken) (sym (close .close-of .ensures) ∙ known .end .given .1) in (
+      ap (Closed (record { at = end })) (copied .0) ∙ sym (ap (answerOf (a .used)) e),
       copied .1 ∙ sym (ap (λ t. sets (a .store .now) (a .used) (bytesOf t)) e),
     )
 

@@ -15,16 +15,32 @@ peek-char-requires : tie.Need-peek-char-requires
 peek-char-requires c κs = search needs
 
 add-end : tie.Need-add-end
-add-end c = omega (arith, here (c .before .before .before .before .args .s .now) (c .before .before .skip-whitespace-and-comments .result .at) (λ e. omega arith))
+add-end c =
+    let gap = c .before .before in
+    omega (arith, here (gap .before .before .args .s .now) (gap .skip-whitespace-and-comments .result .at) (λ e. omega arith))
 
 returns : tie.Need-returns
-returns c = let a = c .before .before .before .before .args in sym (due-after (a .s .now) (a .self .at) (a .b) (a .keyword) (c .before .before .skip-whitespace-and-comments .ensures) (c .before .peek-char .ensures) (c .if1 .taken))
+returns c =
+    let peek = c .before in
+    let gap = peek .before in
+    let a = gap .before .before .args in
+    sym (due-after (a .s .now) (a .self .at) (a .b) (a .keyword) (gap .skip-whitespace-and-comments .ensures) (peek .peek-char .ensures) (c .if1 .taken))
 
 returns-2 : tie.Need-returns-2
-returns-2 c = let a = c .before .before .before .before .before .args in sym (due-end (a .s .now) (a .self .at) (a .b) (a .keyword) (c .before .before .before .skip-whitespace-and-comments .ensures) (c .before .before .peek-char .ensures) (c .before .if1 .left) (c .if2 .taken))
+returns-2 c =
+    let if1 = c .before in
+    let peek = if1 .before in
+    let gap = peek .before in
+    let a = gap .before .before .args in
+    sym (due-end (a .s .now) (a .self .at) (a .b) (a .keyword) (gap .skip-whitespace-and-comments .ensures) (peek .peek-char .ensures) (if1 .if1 .left) (c .if2 .taken))
 
 returns-3 : tie.Need-returns-3
-returns-3 c = let a = c .before .before .before .before .before .args in sym (due-other (a .s .now) (a .self .at) (a .b) (a .keyword) (c .before .before .before .skip-whitespace-and-comments .ensures) (c .before .before .peek-char .ensures) (c .before .if1 .left) (c .if2 .left))
+returns-3 c =
+    let if1 = c .before in
+    let peek = if1 .before in
+    let gap = peek .before in
+    let a = gap .before .before .args in
+    sym (due-other (a .s .now) (a .self .at) (a .b) (a .keyword) (gap .skip-whitespace-and-comments .ensures) (peek .peek-char .ensures) (if1 .if1 .left) (c .if2 .left))
 
 pub expect-char-spec : {M : Type 1} → statement M
 expect-char-spec = tie.close (tie.spec skip-whitespace-and-comments-requires peek-char-requires add-end returns returns-2 returns-3)

@@ -1,0 +1,95 @@
+-- `skip::skip_value`. A string that closes or not, a name, or none stands after the gap: one law for each, over what reading the value
+-- says.
+-- Assumes nothing.
+use mathlib.Core.Path.{sym}
+use borrow.Author.Needs.{needs}
+use Rattle.skip.proofs.PassLaws.{passed-string, passed-cut, passed-name, passed-none}
+use Rattle.skip.proofs.skip_value.Statement.{statement}
+use Rattle.skip.proofs.skip_value.Tie as tie
+
+skip-whitespace-and-comments-requires : tie.Need-skip-whitespace-and-comments-requires
+skip-whitespace-and-comments-requires c κs = search needs
+
+peek-char-requires : tie.Need-peek-char-requires
+peek-char-requires c κs = search needs
+
+is-quote-requires : tie.Need-is-quote-requires
+is-quote-requires c κs = search needs
+
+skip-one-token-requires : tie.Need-skip-one-token-requires
+skip-one-token-requires c κs = search needs
+
+enum-known-end : tie.Need-enum-known-end
+enum-known-end c = search needs
+
+enum-told : tie.Need-enum-told
+enum-told c = search needs
+
+returns : tie.Need-returns
+returns c =
+    let token = c .before .before in
+    let if1 = token .before in
+    let quote = if1 .before in
+    let peek = quote .before in
+    let gap = peek .before in
+    let a = gap .before .before .args in
+    sym (passed-cut (a .s .now) (a .here .at) (gap .skip-whitespace-and-comments .ensures) (peek .peek-char .ensures) (quote .is-quote .ensures) (if1 .if1 .taken) (token .skip-one-token .ensures) (c .enum-told .given .0 .0) (c .enum-told .given .1))
+
+skip-added-requires : tie.Need-skip-added-requires
+skip-added-requires c κs = search needs
+
+returns-2 : tie.Need-returns-2
+returns-2 c =
+    let known = c .before .before in
+    let token = known .before .before in
+    let if1 = token .before in
+    let quote = if1 .before in
+    let peek = quote .before in
+    let gap = peek .before in
+    let a = gap .before .before .args in
+    sym (passed-string (a .s .now) (a .here .at) (gap .skip-whitespace-and-comments .ensures) (peek .peek-char .ensures) (quote .is-quote .ensures) (if1 .if1 .taken) (token .skip-one-token .ensures) (known .end .given .0 .0) (known .end .given .1) (c .skip-added .ensures))
+
+starts-name-requires : tie.Need-starts-name-requires
+starts-name-requires c κs = search needs
+
+run-end-requires : tie.Need-run-end-requires
+run-end-requires c κs = search needs
+
+returns-3 : tie.Need-returns-3
+returns-3 c =
+    let if2 = c .before in
+    let starts = if2 .before in
+    let if1 = starts .before in
+    let quote = if1 .before in
+    let peek = quote .before in
+    let gap = peek .before in
+    let a = gap .before .before .args in
+    sym (passed-name (a .s .now) (a .here .at) (gap .skip-whitespace-and-comments .ensures) (peek .peek-char .ensures) (quote .is-quote .ensures) (if1 .if1 .left) (starts .starts-name .ensures) (if2 .if2 .taken) (c .run-end .ensures))
+
+returns-4 : tie.Need-returns-4
+returns-4 c =
+    let starts = c .before in
+    let if1 = starts .before in
+    let quote = if1 .before in
+    let peek = quote .before in
+    let gap = peek .before in
+    let a = gap .before .before .args in
+    sym (passed-none (a .s .now) (a .here .at) (gap .skip-whitespace-and-comments .ensures) (peek .peek-char .ensures) (quote .is-quote .ensures) (if1 .if1 .left) (starts .starts-name .ensures) (c .if2 .left))
+
+pub skip-value-spec : {M : Type 1} → statement M
+skip-value-spec =
+    tie.close
+    (tie.spec
+    skip-whitespace-and-comments-requires
+    peek-char-requires
+    is-quote-requires
+    skip-one-token-requires
+    enum-known-end
+    enum-told
+    returns
+    skip-added-requires
+    returns-2
+    starts-name-requires
+    run-end-requires
+    returns-3
+    returns-4)
