@@ -2,6 +2,7 @@
 -- (name, then revision).
 -- Assumes nothing.
 use Prim.Native.Nat.{ℕ, zero, suc, _+_, _*_}
+use mathlib.Core.Path.{_≡_}
 use mathlib.Core.Bool.{cond}
 use mathlib.Core.List.{List, [], _∷_, _++_}
 use lib.Dec.{eqb}
@@ -33,12 +34,30 @@ includeWords i =
     i .«submodule_name» .start ∷ i .«submodule_name» .size
     ∷ markOf (i .«revision_date») ∷ i .«revision_date» .start ∷ i .«revision_date» .size ∷ []
 
--- what a row can hold: a name and a prefix that are present, a missing revision with 0, 0
+-- what a row can hold: numbers that are words
 abbrev pub FitsImport : YangImport → Type 0
 FitsImport i = Fits (i .«module_name») × Fits (i .prefix) × Fits (i .«revision_date»)
 
 abbrev pub FitsInclude : YangInclude → Type 0
 FitsInclude i = Fits (i .«submodule_name») × Fits (i .«revision_date»)
+
+-- what a row tells whole: a value that is always there, and one that may be missing, then with 0, 0
+abbrev pub There : Span → Type 0
+There x = x ≡ held (x .start) (x .size)
+
+abbrev pub Plain : Span → Type 0
+Plain x = x ≡ cond (x .present) (held (x .start) (x .size)) missing
+
+abbrev pub PlainImport : YangImport → Type 0
+PlainImport i = There (i .«module_name») × There (i .prefix) × Plain (i .«revision_date»)
+
+abbrev pub PlainInclude : YangInclude → Type 0
+PlainInclude i = There (i .«submodule_name») × Plain (i .«revision_date»)
+
+module _ {A : Type 0} where
+  unfoldable pub Each : (A → Type 0) → List A → Type 0
+  Each P [] = Unit {0}
+  Each P (i ∷ is) = P i × Each P is
 
 -- ---- a table: rows one behind the other
 

@@ -4,7 +4,7 @@ ghost use Prim.Native.Nat.{_+_, _*_, _≤_, _<_};
 ghost use lib.ListN.{length};
 ghost use lib.Seq.{sets};
 ghost use Rattle.rows.specs.Span.{markOf};
-ghost use Rattle.rows.specs.Rows.{importSize, includeSize, mostRows, importWords, includeWords, FitsImport, FitsInclude, importAt, includeAt};
+ghost use Rattle.rows.specs.Rows.{importSize, includeSize, mostRows, importWords, includeWords, FitsImport, FitsInclude, spanAt, markedAt, importAt, includeAt};
 
 // Words to a row, and rows at the most.
 pub const IMPORT_SIZE: usize = 7;
@@ -71,6 +71,35 @@ pub fn put_include(table: &mut [u32], row: usize, i: YangInclude)
     table[at + 4] = revision.size as u32;
 }
 
+// The value whose start and length stand at a word.
+fn get_span(table: &[u32], at: usize) -> Span
+    requires { ⌜ at + 2 ≤ length (now table) ⌝ }
+    ensures { λ r. ⌜ r ≡ spanAt (now (table .entry)) at ⌝ }
+{
+    let start = table[at] as usize;
+    let size = table[at + 1] as usize;
+    Span {
+        present: true,
+        start,
+        size,
+    }
+}
+
+// The same behind its mark, or the missing value.
+fn get_marked(table: &[u32], at: usize) -> Span
+    requires { ⌜ at + 3 ≤ length (now table) ⌝ }
+    ensures { λ r. ⌜ r ≡ markedAt (now (table .entry)) at ⌝ }
+{
+    if table[at] == 0 {
+        return Span {
+            present: false,
+            start: 0,
+            size: 0,
+        };
+    }
+    get_span(table, at + 1)
+}
+
 // A row read back.
 pub fn get_import(table: &[u32], row: usize) -> YangImport
     requires { ⌜ (row < mostRows) × (mostRows * importSize ≤ length (now table)) ⌝ }
@@ -83,6 +112,19 @@ pub fn get_import(table: &[u32], row: usize) -> YangImport
     YangImport {
         module_name,
         prefix,
+        revision_date,
+    }
+}
+
+pub fn get_include(table: &[u32], row: usize) -> YangInclude
+    requires { ⌜ (row < mostRows) × (mostRows * includeSize ≤ length (now table)) ⌝ }
+    ensures { λ r. ⌜ r ≡ includeAt (now (table .entry)) (row * includeSize) ⌝ }
+{
+    let at = row * INCLUDE_SIZE;
+    let submodule_name = get_span(table, at);
+    let revision_date = get_marked(table, at + 2);
+    YangInclude {
+        submodule_name,
         revision_date,
     }
 }
