@@ -12,13 +12,14 @@ use Rattle.text.specs.Scan.{gapEnd}
 use Rattle.text.specs.Turns.{Turn, stop, on, turns}
 use Rattle.text.specs.declared.Match.{Match}
 use Rattle.text.specs.declared.Match.the-variants.{After, Not}
+use Rattle.text.specs.Due.{noRefusal}
 use Rattle.text.specs.declared.Refusal.{Refusal}
 use Rattle.value.specs.Value.{valueAt, valueBytes}
 use Rattle.value.specs.Argument.{lineAt}
 use Rattle.value.specs.declared.Argument.{Argument}
 use Rattle.value.specs.declared.Argument.the-variants.{Read, Refused as RefusedLine}
 use Rattle.skip.specs.Statement.{statementAt, endedAt}
-use Rattle.imports.specs.Left.{Left}
+use Rattle.imports.specs.Left.{Left, nothing}
 use Rattle.rows.specs.Span.{held, missing}
 use Rattle.imports.specs.Words.{prefixWord, revisionDateWord, prefixKeyword, importKeyword, revisionDateKeyword}
 use Rattle.imports.specs.declared.Block.{Block}
@@ -48,12 +49,6 @@ lineKind s at k =
 
 -- ---- one statement, or the end of the block; b: what the block gave so far, and where it stands
 
--- the bytes that the statement stores: those of its value, also where the semicolon is missing after it
-unfoldable pub kindBytes : List ℕ → Line → List ℕ
-kindBytes s (Prefix c) = valueBytes (valueAt s (c .at))
-kindBytes s (Revision c) = valueBytes (valueAt s (c .at))
-kindBytes s Other = []
-
 unfoldable pub withPrefix : Body → Argument → Inside
 withPrefix b (Read c n) = On (record { at = c .at; used = n; prefix = held (b .used) (n - b .used); revision = b .revision })
 withPrefix b (RefusedLine r) = Refused r
@@ -63,30 +58,25 @@ withRevision b (Read c n) = On (record { at = c .at; used = n; prefix = b .prefi
 withRevision b (RefusedLine r) = Refused r
 
 -- the same from another place
-unfoldable pub moved : Body → ℕ → Body
+abbrev pub moved : Body → ℕ → Body
 moved b at = record { at = at; used = b .used; prefix = b .prefix; revision = b .revision }
 
-unfoldable pub afterKind : List ℕ → ℕ → Body → Line → Inside
-afterKind s at b (Prefix c) = withPrefix b (lineAt s (c .at) (b .used) prefixKeyword semicolon)
-afterKind s at b (Revision c) = withRevision b (lineAt s (c .at) (b .used) revisionDateKeyword semicolon)
-afterKind s at b Other = On (moved b (endedAt (statementAt s at)))
+-- a value's bytes are stored, also where the semicolon is missing after it
+unfoldable pub afterKind : List ℕ → ℕ → Body → Line → Left Inside
+afterKind s at b (Prefix c) =
+    record { answer = withPrefix b (lineAt s (c .at) (b .used) prefixKeyword semicolon); bytes = valueBytes (valueAt s (c .at)) }
+afterKind s at b (Revision c) =
+    record { answer = withRevision b (lineAt s (c .at) (b .used) revisionDateKeyword semicolon); bytes = valueBytes (valueAt s (c .at)) }
+afterKind s at b Other = nothing (On (moved b (endedAt (statementAt s at))))
 
 -- at the place after the gap
-unfoldable pub insideHere : List ℕ → ℕ → ℕ → Body → Inside
+unfoldable pub insideHere : List ℕ → ℕ → ℕ → Body → Left Inside
 insideHere s at k b =
-    cond (eqb (look s at) theEnd) (Refused (record { number = openEnded; keyword = k; at = at }))
-    (cond (eqb (look s at) closeBrace) (Closed (moved b (at + 1))) (afterKind s at b (lineKind s at k)))
+    cond (eqb (look s at) theEnd) (nothing (Refused (record { number = openEnded; keyword = k; at = at })))
+    (cond (eqb (look s at) closeBrace) (nothing (Closed (moved b (at + 1)))) (afterKind s at b (lineKind s at k)))
 
-unfoldable pub insideAt : List ℕ → ℕ → Body → Inside
+unfoldable pub insideAt : List ℕ → ℕ → Body → Left Inside
 insideAt s k b = insideHere s (gapEnd s (b .at)) k b
-
--- what it stores
-unfoldable pub hereBytes : List ℕ → ℕ → ℕ → List ℕ
-hereBytes s at k =
-    cond (eqb (look s at) theEnd) [] (cond (eqb (look s at) closeBrace) [] (kindBytes s (lineKind s at k)))
-
-unfoldable pub insideBytes : List ℕ → ℕ → ℕ → List ℕ
-insideBytes s at k = hereBytes s (gapEnd s at) k
 
 -- ---- the whole block
 
@@ -95,17 +85,30 @@ pub record Stored : Type 0 where
   pub body : Body
   pub bytes : List ℕ
 
-unfoldable pub afterInside : List ℕ → ℕ → Stored → Inside → Turn Stored (Left Block)
-afterInside s k g (On b) = on (record { body = b; bytes = g .bytes ++ insideBytes s (g .body .at) k })
-afterInside s k g (Closed b) = stop (record { answer = Whole b; bytes = g .bytes })
-afterInside s k g (Refused r) = stop (record { answer = Broken r; bytes = g .bytes ++ insideBytes s (g .body .at) k })
+unfoldable pub afterInside : List ℕ → Inside → Turn Stored (Left Block)
+afterInside bytes (On b) = on (record { body = b; bytes = bytes })
+afterInside bytes (Closed b) = stop (record { answer = Whole b; bytes = bytes })
+afterInside bytes (Refused r) = stop (record { answer = Broken r; bytes = bytes })
 
 unfoldable pub blockTurn : List ℕ → ℕ → Stored → Turn Stored (Left Block)
-blockTurn s k g = afterInside s k g (insideAt s k (g .body))
+blockTurn s k g = afterInside (g .bytes ++ insideAt s k (g .body) .bytes) (insideAt s k (g .body) .answer)
 
 unfoldable pub blockFrom : List ℕ → ℕ → Stored → Left Block
-blockFrom s k g = turns (blockTurn s k) (record { answer = Broken (record { number = 0; keyword = 0; at = 0 }); bytes = [] }) (suc (length s)) g
+blockFrom s k g = turns (blockTurn s k) (nothing (Broken (record { number = noRefusal; keyword = 0; at = 0 }))) (suc (length s)) g
 
--- from behind its `{`, at the store's place u
+-- nothing read yet: behind its `{`, at the store's place u
+abbrev pub begun : ℕ → ℕ → Body
+begun at u = record { at = at; used = u; prefix = missing; revision = missing }
+
 unfoldable pub blockAt : List ℕ → ℕ → ℕ → ℕ → Left Block
-blockAt s at u k = blockFrom s k (record { body = record { at = at; used = u; prefix = missing; revision = missing }; bytes = [] })
+blockAt s at u k = blockFrom s k (record { body = begun at u; bytes = [] })
+
+-- ---- the refusal of an answer; 0, 0, 0 where there is none
+
+unfoldable pub argumentRefusal : Argument → Refusal
+argumentRefusal (Read c n) = record { number = noRefusal; keyword = 0; at = 0 }
+argumentRefusal (RefusedLine r) = r
+
+unfoldable pub blockRefusal : Block → Refusal
+blockRefusal (Whole b) = record { number = noRefusal; keyword = 0; at = 0 }
+blockRefusal (Broken r) = r

@@ -20,6 +20,7 @@ use Rattle.rows.specs.Span.{held, missing}
 use Rattle.imports.specs.Words.{importKeyword, includeKeyword}
 use Rattle.imports.specs.declared.Block.{Block}
 use Rattle.imports.specs.declared.Block.the-variants.{Whole, Broken}
+use Rattle.imports.specs.declared.Body.{Body}
 use Rattle.imports.specs.declared.Imported.{Imported}
 use Rattle.imports.specs.declared.Imported.the-variants.{Import, NoImport}
 use Rattle.imports.specs.declared.Included.{Included}
@@ -31,11 +32,15 @@ noPrefix = 7
 
 -- ---- an import, behind its keyword, at the store's place u
 
-unfoldable pub importOf : Span → Block → Imported
-importOf name (Whole b) =
+-- prefix is required
+unfoldable pub ofBody : Span → Body → Imported
+ofBody name b =
     cond (b .prefix .present)
     (Import (record { at = b .at }) (b .used) (record { «module_name» = name; prefix = b .prefix; «revision_date» = b .revision }))
     (NoImport (record { number = noPrefix; keyword = importKeyword; at = b .at }))
+
+unfoldable pub importOf : Span → Block → Imported
+importOf name (Whole b) = ofBody name b
 importOf name (Broken r) = NoImport r
 
 unfoldable pub withName : Span → List ℕ → Left Block → Left Imported

@@ -11,11 +11,15 @@ ghost use mathlib.Core.Path.{_≡_};
 ghost use Prim.Native.Nat.{_+_, _-_, _≤_};
 ghost use lib.ListN.{length};
 ghost use lib.Seq.{sets};
+ghost use Rattle.text.specs.Bytes.{semicolon};
 ghost use Rattle.text.specs.Class.{classTable};
 ghost use Rattle.text.specs.Keyword.{matchAt};
-ghost use Rattle.imports.specs.Words.{prefixWord, revisionDateWord};
-ghost use Rattle.imports.specs.Block.{lineKind, moved, insideAt, insideBytes, blockAt};
-ghost use Rattle.imports.specs.Statement.{importAt, includeAt};
+ghost use Rattle.rows.specs.Span.{held, missing};
+ghost use Rattle.value.specs.Argument.{lineAt};
+ghost use Rattle.value.specs.Value.{valueAt, valueBytes};
+ghost use Rattle.imports.specs.Words.{prefixWord, revisionDateWord, prefixKeyword, includeKeyword, revisionDateKeyword};
+ghost use Rattle.imports.specs.Block.{orRevision, orPrefix, lineKind, argumentRefusal, withPrefix, withRevision, begun, moved, insideAt, blockRefusal, blockAt};
+ghost use Rattle.imports.specs.Statement.{ofBody, importAt, includeOf, includeAt};
 
 // Document 01's numbers of the keywords.
 pub const PREFIX: u32 = 5;
@@ -26,7 +30,7 @@ pub const INCLUDE: u32 = 9;
 
 pub const REVISION_DATE: u32 = 10;
 
-// 7: import closed without prefix; 8: end inside a block.
+// Refusals: an import closed without prefix, and the end inside a block.
 pub const NO_PREFIX: u32 = 7;
 
 pub const OPEN_ENDED: u32 = 8;
@@ -42,7 +46,7 @@ pub enum Imported {
 }
 
 // Reads what follows the keyword import.
-fn parse_import(
+pub fn parse_import(
     here: Cursor,
     classes: &[u8; 128],
     s: &[u8],
@@ -54,26 +58,29 @@ fn parse_import(
 {
     let name = value::read_argument(here, classes, s, store, used, IMPORT, text::OPEN_BRACE);
     let Argument::Read { next, used: n } = name else {
-        return Imported::NoImport(refused_argument(name));
+        return Imported::NoImport(argument_refusal(name));
     };
+    let size = n - used;
+    let span = held(used, size);
     let block = parse_block(next, classes, s, store, n, IMPORT);
     let Block::Whole(body) = block else {
-        return Imported::NoImport(refused_block(block));
+        return Imported::NoImport(block_refusal(block));
     };
+    import_of(span, body)
+}
+
+// The import of a name and its block. A prefix is required.
+fn import_of(name: Span, body: Body) -> Imported
+    ensures { λ r. ⌜ r ≡ ofBody name body ⌝ }
+{
     let prefix = body.prefix;
     let revision_date = body.revision;
     if prefix.present {
-        let size = n - used;
-        let module_name = Span {
-            present: true,
-            start: used,
-            size,
-        };
         return Imported::Import {
             next: Cursor { at: body.at },
             used: body.used,
             import: YangImport {
-                module_name,
+                module_name: name,
                 prefix,
                 revision_date,
             },
@@ -97,7 +104,7 @@ pub enum Included {
 }
 
 // Reads what follows the keyword include.
-fn parse_include(
+pub fn parse_include(
     here: Cursor,
     classes: &[u8; 128],
     s: &[u8],
@@ -109,30 +116,53 @@ fn parse_include(
 {
     let name = value::read_value(here, classes, s, store, used, INCLUDE);
     let Argument::Read { next, used: n } = name else {
-        return Included::NoInclude(refused_argument(name));
+        return Included::NoInclude(argument_refusal(name));
     };
     let size = n - used;
-    let submodule_name = Span {
-        present: true,
-        start: used,
-        size,
-    };
+    let span = held(used, size);
     let end = next.skip_whitespace_and_comments(classes, s);
     let at = end.at;
     if text::peek_char(s, at) == text::OPEN_BRACE {
         let inner = at + 1;
-        return include_block(submodule_name, Cursor { at: inner }, classes, s, store, n);
+        return include_block(span, Cursor { at: inner }, classes, s, store, n);
     }
     let due = end.expect_char(classes, s, text::SEMICOLON, INCLUDE);
-    let Due::After(next) = due else {
+    let Due::After(after) = due else {
         return Included::NoInclude(text::refusal_of(due));
     };
     Included::Include {
-        next,
+        next: after,
         used: n,
         include: YangInclude {
-            submodule_name,
-            revision_date: NO_SPAN,
+            submodule_name: span,
+            revision_date: missing(),
+        },
+    }
+}
+
+// Reads the block of an include with this name.
+fn include_block(
+    name: Span,
+    here: Cursor,
+    classes: &[u8; 128],
+    s: &[u8],
+    store: &mut [u8],
+    used: usize,
+) -> Included
+    requires { ⌜ (now classes ≡ classTable) × (used + (length (now s) - here .at) ≤ length (now store)) ⌝ }
+    ensures { λ r. ⌜ (r ≡ includeOf name (blockAt (now (s .entry)) (here .at) used includeKeyword .answer)) × (now (store .exit) ≡ sets (now (store .entry)) used (blockAt (now (s .entry)) (here .at) used includeKeyword .bytes)) ⌝ }
+{
+    let block = parse_block(here, classes, s, store, used, INCLUDE);
+    let Block::Whole(body) = block else {
+        return Included::NoInclude(block_refusal(block));
+    };
+    let revision_date = body.revision;
+    Included::Include {
+        next: Cursor { at: body.at },
+        used: body.used,
+        include: YangInclude {
+            submodule_name: name,
+            revision_date,
         },
     }
 }
@@ -143,6 +173,34 @@ pub struct Body {
     pub used: usize,
     pub prefix: Span,
     pub revision: Span,
+}
+
+// Nothing was read yet.
+fn begun(here: Cursor, used: usize) -> Body
+    ensures { λ r. ⌜ r ≡ begun (here .at) used ⌝ }
+{
+    let prefix = missing();
+    let revision = missing();
+    Body {
+        at: here.at,
+        used,
+        prefix,
+        revision,
+    }
+}
+
+// The same from another place.
+fn moved(body: Body, at: usize) -> Body
+    ensures { λ r. ⌜ r ≡ moved body at ⌝ }
+{
+    let prefix = body.prefix;
+    let revision = body.revision;
+    Body {
+        at,
+        used: body.used,
+        prefix,
+        revision,
+    }
 }
 
 // A block that its brace closed, or a refusal.
@@ -163,12 +221,7 @@ fn parse_block(
     requires { ⌜ (now classes ≡ classTable) × (used + (length (now s) - here .at) ≤ length (now store)) ⌝ }
     ensures { λ r. ⌜ (r ≡ blockAt (now (s .entry)) (here .at) used keyword .answer) × (now (store .exit) ≡ sets (now (store .entry)) used (blockAt (now (s .entry)) (here .at) used keyword .bytes)) ⌝ }
 {
-    let mut body = Body {
-        at: here.at,
-        used,
-        prefix: NO_SPAN,
-        revision: NO_SPAN,
-    };
+    let mut body = begun(here, used);
     loop {
         match parse_inside(body, classes, s, store, keyword) {
             Inside::On(next) => {
@@ -181,6 +234,20 @@ fn parse_block(
                 return Block::Broken(r);
             }
         }
+    }
+}
+
+// The refusal of a block; 0, 0, 0 where there is none.
+fn block_refusal(b: Block) -> Refusal
+    ensures { λ r. ⌜ r ≡ blockRefusal b ⌝ }
+{
+    match b {
+        Block::Whole(_) => Refusal {
+            number: text::NO_REFUSAL,
+            keyword: 0,
+            at: 0,
+        },
+        Block::Broken(r) => r,
     }
 }
 
@@ -200,7 +267,7 @@ fn parse_inside(
     keyword: u32,
 ) -> Inside
     requires { ⌜ (now classes ≡ classTable) × (body .used + (length (now s) - body .at) ≤ length (now store)) ⌝ }
-    ensures { λ r. ⌜ (r ≡ insideAt (now (s .entry)) keyword body) × (now (store .exit) ≡ sets (now (store .entry)) (body .used) (insideBytes (now (s .entry)) (body .at) keyword)) ⌝ }
+    ensures { λ r. ⌜ (r ≡ insideAt (now (s .entry)) keyword body .answer) × (now (store .exit) ≡ sets (now (store .entry)) (body .used) (insideAt (now (s .entry)) keyword body .bytes)) ⌝ }
 {
     let from = Cursor { at: body.at };
     let here = from.skip_whitespace_and_comments(classes, s);
@@ -217,15 +284,75 @@ fn parse_inside(
         let end = at + 1;
         return Inside::Closed(moved(body, end));
     }
-    let line = line_kind(here, classes, s, keyword);
-    match line {
+    match line_kind(here, classes, s, keyword) {
         Line::Prefix(c) => read_prefix(body, c, classes, s, store),
         Line::Revision(c) => read_revision(body, c, classes, s, store),
         Line::Other => {
-            let skipped = skip::skip_statement(here, classes, s);
-            let end = skip::ended_at(skipped);
+            let end = skip::ended_at(skip::skip_statement(here, classes, s));
             Inside::On(moved(body, end.at))
         }
+    }
+}
+
+// Reads the value of a prefix and its semicolon.
+fn read_prefix(body: Body, here: Cursor, classes: &[u8; 128], s: &[u8], store: &mut [u8]) -> Inside
+    requires { ⌜ (now classes ≡ classTable) × (body .used + (length (now s) - here .at) ≤ length (now store)) ⌝ }
+    ensures { λ r. ⌜ (r ≡ withPrefix body (lineAt (now (s .entry)) (here .at) (body .used) prefixKeyword semicolon)) × (now (store .exit) ≡ sets (now (store .entry)) (body .used) (valueBytes (valueAt (now (s .entry)) (here .at)))) ⌝ }
+{
+    let used = body.used;
+    let revision = body.revision;
+    let line = value::read_argument(here, classes, s, store, used, PREFIX, text::SEMICOLON);
+    let Argument::Read { next, used: n } = line else {
+        return Inside::Refused(argument_refusal(line));
+    };
+    let size = n - used;
+    let prefix = held(used, size);
+    Inside::On(Body {
+        at: next.at,
+        used: n,
+        prefix,
+        revision,
+    })
+}
+
+// Reads the value of a revision-date and its semicolon.
+fn read_revision(
+    body: Body,
+    here: Cursor,
+    classes: &[u8; 128],
+    s: &[u8],
+    store: &mut [u8],
+) -> Inside
+    requires { ⌜ (now classes ≡ classTable) × (body .used + (length (now s) - here .at) ≤ length (now store)) ⌝ }
+    ensures { λ r. ⌜ (r ≡ withRevision body (lineAt (now (s .entry)) (here .at) (body .used) revisionDateKeyword semicolon)) × (now (store .exit) ≡ sets (now (store .entry)) (body .used) (valueBytes (valueAt (now (s .entry)) (here .at)))) ⌝ }
+{
+    let used = body.used;
+    let prefix = body.prefix;
+    let line = value::read_argument(here, classes, s, store, used, REVISION_DATE, text::SEMICOLON);
+    let Argument::Read { next, used: n } = line else {
+        return Inside::Refused(argument_refusal(line));
+    };
+    let size = n - used;
+    let revision = held(used, size);
+    Inside::On(Body {
+        at: next.at,
+        used: n,
+        prefix,
+        revision,
+    })
+}
+
+// The refusal of a keyword's value; 0, 0, 0 where there is none.
+fn argument_refusal(a: Argument) -> Refusal
+    ensures { λ r. ⌜ r ≡ argumentRefusal a ⌝ }
+{
+    match a {
+        Argument::Read { next: _, used: _ } => Refusal {
+            number: text::NO_REFUSAL,
+            keyword: 0,
+            at: 0,
+        },
+        Argument::Refused(r) => r,
     }
 }
 
@@ -234,4 +361,79 @@ pub enum Line {
     Prefix(Cursor),
     Revision(Cursor),
     Other,
+}
+
+// What the statement is that stands here. No keyword is tried where no identifier begins.
+fn line_kind(here: Cursor, classes: &[u8; 128], s: &[u8], keyword: u32) -> Line
+    requires { ⌜ now classes ≡ classTable ⌝ }
+    ensures { λ r. ⌜ r ≡ lineKind (now (s .entry)) (here .at) keyword ⌝ }
+{
+    let at = here.at;
+    if text::starts_ident(classes, text::peek_char(s, at)) {
+        if keyword == IMPORT {
+            return import_line(here, classes, s);
+        }
+        return revision_line(here, classes, s);
+    }
+    Line::Other
+}
+
+// In an import's block.
+fn import_line(here: Cursor, classes: &[u8; 128], s: &[u8]) -> Line
+    requires { ⌜ now classes ≡ classTable ⌝ }
+    ensures { λ r. ⌜ r ≡ orPrefix (now (s .entry)) (here .at) (matchAt (now (s .entry)) (here .at) prefixWord) ⌝ }
+{
+    match match_prefix(here, classes, s) {
+        Match::After(c) => Line::Prefix(c),
+        Match::Not => revision_line(here, classes, s),
+    }
+}
+
+// In an include's block.
+fn revision_line(here: Cursor, classes: &[u8; 128], s: &[u8]) -> Line
+    requires { ⌜ now classes ≡ classTable ⌝ }
+    ensures { λ r. ⌜ r ≡ orRevision (matchAt (now (s .entry)) (here .at) revisionDateWord) ⌝ }
+{
+    match match_revision_date(here, classes, s) {
+        Match::After(c) => Line::Revision(c),
+        Match::Not => Line::Other,
+    }
+}
+
+// Past the keyword prefix.
+fn match_prefix(here: Cursor, classes: &[u8; 128], s: &[u8]) -> Match
+    requires { ⌜ now classes ≡ classTable ⌝ }
+    ensures { λ r. ⌜ r ≡ matchAt (now (s .entry)) (here .at) prefixWord ⌝ }
+{
+    here.match_keyword(classes, s, b"prefix")
+}
+
+// Past the keyword revision-date.
+fn match_revision_date(here: Cursor, classes: &[u8; 128], s: &[u8]) -> Match
+    requires { ⌜ now classes ≡ classTable ⌝ }
+    ensures { λ r. ⌜ r ≡ matchAt (now (s .entry)) (here .at) revisionDateWord ⌝ }
+{
+    here.match_keyword(classes, s, b"revision-date")
+}
+
+// A value in the store.
+fn held(start: usize, size: usize) -> Span
+    ensures { λ r. ⌜ r ≡ held start size ⌝ }
+{
+    Span {
+        present: true,
+        start,
+        size,
+    }
+}
+
+// A missing value.
+fn missing() -> Span
+    ensures { λ r. ⌜ r ≡ missing ⌝ }
+{
+    Span {
+        present: false,
+        start: 0,
+        size: 0,
+    }
 }

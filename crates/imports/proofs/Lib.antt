@@ -1,0 +1,5 @@
+pub mod BlockLaws
+pub mod FarLaws
+pub mod InsideLaws
+pub mod Spans
+pub mod StatementLaws
