@@ -1,4 +1,4 @@
--- Dependencies: the imports and includes of a text. 1: text over 1,048,576 bytes. 2: store or table too short. 3: a byte is 128 or more (keyword 0,
+-- Dependencies: the imports and includes of a text. 1: text over 1,048,576 bytes. 2: store, table or page too short. 3: a byte is 128 or more (keyword 0,
 -- first such place). 10: a 257th import or include, at the cursor after its keyword. 4 to 10 come in reading order.
 -- Assumes nothing.
 use Prim.Native.Nat.{ℕ, suc, _+_, _*_}
@@ -22,6 +22,8 @@ use Rattle.imports.specs.declared.Imported.the-variants.{Import as ReadImport, 
 use Rattle.imports.specs.declared.Included.{Included}
 use Rattle.imports.specs.declared.Included.the-variants.{Include as ReadInclude, NoInclude}
 use Rattle.yangparser.specs.Word.{wordAt}
+use Rattle.yangparser.specs.declared.Lent.{Lent}
+use Rattle.yangparser.specs.declared.Lent.the-variants.{Fit, Unfit}
 use Rattle.yangparser.specs.declared.Next.{Next}
 use Rattle.yangparser.specs.declared.Next.the-variants.{On, Done, Stop}
 use Rattle.yangparser.specs.declared.Parsed.{Parsed}
@@ -45,6 +47,10 @@ tooMany = 10
 
 abbrev pub mostText : ℕ
 mostText = 1048576
+
+-- by so much the page is longer than the text
+abbrev pub pageMore : ℕ
+pageMore = 6944
 
 -- ---- what a scan reads: imports and includes in order, and the bytes stored
 
@@ -138,20 +144,30 @@ start = record { at = 0; used = 0; imports = 0; includes = 0 }
 unfoldable pub scanned : List ℕ → Scan
 scanned s = scanFrom s (record { far = start; read = none })
 
--- ---- with the checks that come first; the lengths lent: store, import table, include table
+-- ---- with the checks that come first
 
-unfoldable pub tooShort : List ℕ → ℕ → ℕ → ℕ → Bool
-tooShort s store imports includes =
-    ltb store (length s) || ltb imports (mostRows * importSize) || ltb includes (mostRows * includeSize)
+-- the lengths lent: store, import table, include table; and the page of the printed form
+-- text: the text's length
+unfoldable pub tooShort : ℕ → ℕ → ℕ → ℕ → Bool
+tooShort text store imports includes =
+    ltb store text || ltb imports (mostRows * importSize) || ltb includes (mostRows * includeSize)
 
-unfoldable pub refusedBy : ℕ → ℕ → Scan
-refusedBy n at = bad (record { number = n; keyword = 0; at = at }) none
+unfoldable pub pageShort : ℕ → ℕ → Bool
+pageShort text page = ltb page (text + pageMore)
 
-unfoldable pub dependencies : List ℕ → ℕ → ℕ → ℕ → Scan
-dependencies s store imports includes =
-    cond (ltb mostText (length s)) (refusedBy textTooLong 0)
-    (cond (tooShort s store imports includes) (refusedBy lentTooShort 0)
-    (cond (ltb (runEnd Low s 0) (length s)) (refusedBy highByteMet (runEnd Low s 0)) (scanned s)))
+-- short: whether something lent is too short
+unfoldable pub lentAt : List ℕ → Bool → Lent
+lentAt s short =
+    cond (ltb mostText (length s)) (Unfit (record { number = textTooLong; keyword = 0; at = 0 }))
+    (cond short (Unfit (record { number = lentTooShort; keyword = 0; at = 0 }))
+    (cond (ltb (runEnd Low s 0) (length s)) (Unfit (record { number = highByteMet; keyword = 0; at = runEnd Low s 0 })) Fit))
+
+unfoldable pub ifFit : Lent → Scan → Scan
+ifFit Fit x = x
+ifFit (Unfit r) x = bad r none
+
+unfoldable pub dependencies : List ℕ → Bool → Scan
+dependencies s short = ifFit (lentAt s short) (scanned s)
 
 -- ---- what is answered, written and kept
 

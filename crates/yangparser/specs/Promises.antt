@@ -1,13 +1,14 @@
 -- What the functions answer and leave. d, t and u: the store, the import table and the include table at entry; e, f and g: at exit.
 -- Assumes nothing.
-use Prim.Native.Nat.{ℕ, _*_}
+use Prim.Native.Nat.{ℕ, _*_, _≤_, _<_}
 use mathlib.Core.Path.{_≡_}
 use mathlib.Core.List.{List}
 use lib.ListN.{length}
 use lib.Seq.{sets}
-use Rattle.buffers.specs.Padded.{padded}
-use Rattle.rows.specs.Rows.{importSize, includeSize, importTable, includeTable}
-use Rattle.yangparser.specs.Dependencies.{Step, importHere, includeHere, stepAt, scanned, dependencies, parsedOf, readOf, keptOf}
+use Rattle.text.specs.Class.{classTable}
+use Rattle.buffers.specs.Padded.{zeros, padded}
+use Rattle.rows.specs.Rows.{importSize, includeSize, mostRows, importTable, includeTable}
+use Rattle.yangparser.specs.Dependencies.{Step, importHere, includeHere, stepAt, Scan, scanned, tooShort, dependencies, parsedOf, readOf, keptOf}
 use Rattle.yangparser.specs.declared.Next.{Next}
 use Rattle.yangparser.specs.declared.Parsed.{Parsed}
 use Rattle.yangparser.specs.declared.Sofar.{Sofar}
@@ -38,9 +39,24 @@ pub record Parses (s : List ℕ) (d t u : List ℕ) (r : Parsed) (e f g : List �
   pub imports : f ≡ sets t 0 (importTable (readOf (scanned s) .imports))
   pub includes : g ≡ sets u 0 (includeTable (readOf (scanned s) .includes))
 
--- the entry: all beyond what is used is zero, and on a refusal all
-pub record Extracts (s : List ℕ) (d t u : List ℕ) (r : Parsed) (e f g : List ℕ) : Type 0 where
-  pub answer : r ≡ parsedOf (dependencies s (length d) (length t) (length u))
-  pub stored : e ≡ padded (length d) (keptOf (dependencies s (length d) (length t) (length u)) .bytes)
-  pub imports : f ≡ padded (length t) (importTable (keptOf (dependencies s (length d) (length t) (length u)) .imports))
-  pub includes : g ≡ padded (length u) (includeTable (keptOf (dependencies s (length d) (length t) (length u)) .includes))
+-- the lent slices are zero and long enough
+pub record Cleared (classes s d t u : List ℕ) : Type 0 where
+  pub table : classes ≡ classTable
+  pub store : d ≡ zeros (length d)
+  pub imports : t ≡ zeros (length t)
+  pub includes : u ≡ zeros (length u)
+  pub room : length s ≤ length d
+  pub words : length s < 4294967296
+  pub importRoom : mostRows * importSize ≤ length t
+  pub includeRoom : mostRows * includeSize ≤ length u
+
+-- what an entry leaves of a scan x: all beyond what is used is zero, and on a refusal all
+pub record Leaves (x : Scan) (d t u : List ℕ) (r : Parsed) (e f g : List ℕ) : Type 0 where
+  pub answer : r ≡ parsedOf x
+  pub stored : e ≡ padded (length d) (keptOf x .bytes)
+  pub imports : f ≡ padded (length t) (importTable (keptOf x .imports))
+  pub includes : g ≡ padded (length u) (includeTable (keptOf x .includes))
+
+-- the lengths lent are part of the input
+abbrev pub Extracts : List ℕ → List ℕ → List ℕ → List ℕ → Parsed → List ℕ → List ℕ → List ℕ → Type 0
+Extracts s d t u r e f g = Leaves (dependencies s (tooShort (length s) (length d) (length t) (length u))) d t u r e f g
