@@ -61,12 +61,12 @@ pub fn parse_import(
         return Imported::NoImport(argument_refusal(name));
     };
     let size = n - used;
-    let span = held(used, size);
+    let module_name = held(used, size);
     let block = parse_block(next, classes, s, store, n, IMPORT);
     let Block::Whole(body) = block else {
         return Imported::NoImport(block_refusal(block));
     };
-    import_of(span, body)
+    import_of(module_name, body)
 }
 
 // The import of a name and its block. A prefix is required.
@@ -119,12 +119,12 @@ pub fn parse_include(
         return Included::NoInclude(argument_refusal(name));
     };
     let size = n - used;
-    let span = held(used, size);
+    let submodule_name = held(used, size);
     let end = next.skip_whitespace_and_comments(classes, s);
     let at = end.at;
     if text::peek_char(s, at) == text::OPEN_BRACE {
         let inner = at + 1;
-        return include_block(span, Cursor { at: inner }, classes, s, store, n);
+        return include_block(submodule_name, Cursor { at: inner }, classes, s, store, n);
     }
     let due = end.expect_char(classes, s, text::SEMICOLON, INCLUDE);
     let Due::After(after) = due else {
@@ -134,7 +134,7 @@ pub fn parse_include(
         next: after,
         used: n,
         include: YangInclude {
-            submodule_name: span,
+            submodule_name,
             revision_date: missing(),
         },
     }

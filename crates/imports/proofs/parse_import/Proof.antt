@@ -1,82 +1,101 @@
+-- `imports::parse_import`. The name, then the block: each way out is a law.
+-- Assumes nothing.
+use mathlib.Core.Path.{sym, _∙_}
+use native.Mathlib.Omega.{arith}
+use lib.ListN.{length}
+use Rattle.value.proofs.ArgumentLaws.{line-room}
+use Rattle.imports.proofs.InsideLaws.{line-grows}
+use Rattle.imports.proofs.StatementLaws.{import-refused, import-broken, import-whole}
 use borrow.Author.Needs.{needs}
 use Rattle.imports.proofs.parse_import.Statement.{statement}
 use Rattle.imports.proofs.parse_import.Tie as tie
-use Rattle.imports.proofs.parse_import.Reads as reads
-use Rattle.imports.proofs.parse_import.Lts as lts
-use Rattle.imports.proofs.argument_refusal.Reads as argument-refusal-reads
-use Rattle.imports.proofs.block_refusal.Reads as block-refusal-reads
-use Rattle.imports.proofs.held.Reads as held-reads
-use Rattle.imports.proofs.import_of.Reads as import-of-reads
-use Rattle.imports.proofs.parse_block.Reads as parse-block-reads
-use Rattle.value.proofs.read_argument.Reads as read-argument-reads
 
--- src/lib.rt:59:9
 read-argument-requires : tie.Need-read-argument-requires
 read-argument-requires c κs = search needs
 
--- src/lib.rt:60:26
 enum-known-name : tie.Need-enum-known-name
 enum-known-name c = search needs
 
--- src/lib.rt:61:35
 enum-told : tie.Need-enum-told
 enum-told c = search needs
 
--- src/lib.rt:61:35
 argument-refusal-requires : tie.Need-argument-refusal-requires
 argument-refusal-requires c κs = search needs
 
--- src/lib.rt:61:9
 same-length : tie.Need-same-length
 same-length c = search needs
 
--- src/lib.rt:61:9
 returns : tie.Need-returns
-returns c = ?
+returns c =
+    let told = c .before in
+    let at-read = told .before .before .before .before in
+    let a = at-read .before .before .before .before .args in
+    let v = at-read .read-argument .ensures in
+    let k = told .enum-told .given in
+    import-refused (a .s .now) (a .here .at) (a .used) (a .store .now) (v .0) (v .1) (k .0 .0) (k .1) (c .argument-refusal .ensures)
 
--- src/lib.rt:63:16
 sub-size : tie.Need-sub-size
-sub-size c = ?
+sub-size c =
+    let named = c .before in
+    let at-read = named .before .before .before .before in
+    let a = at-read .before .before .before .before .args in
+    let k = named .name .given in
+    line-grows (a .s .now) (a .here .at) (a .used) 8 123 (k .0 .0) (k .0 .1 .0) (omega arith) (at-read .read-argument .ensures .0) (k .1)
 
--- src/lib.rt:64:9
 held-requires : tie.Need-held-requires
 held-requires c κs = search needs
 
--- src/lib.rt:65:9
 parse-block-requires : tie.Need-parse-block-requires
-parse-block-requires c κs = ?
+parse-block-requires c κs =
+    let named = c .before .before .before in
+    let at-read = named .before .before .before .before in
+    let a = at-read .before .before .before .before .args in
+    let k = named .name .given in
+    let start = at-read .before .before .before .before in
+    let room = line-room (a .s .now) (a .here .at) (a .used) 8 123 (length (a .store .now)) (k .0 .0) (k .0 .1 .0) (omega arith) (sym (at-read .read-argument .ensures .0) ∙ k .1) (start .pre .1) in
+    (start .pre .0, omega (arith, room, at-read .read-argument .kept .1 .1 .1 .0))
 
--- src/lib.rt:66:22
 enum-known-block : tie.Need-enum-known-block
 enum-known-block c = search needs
 
--- src/lib.rt:67:35
 enum-told-2 : tie.Need-enum-told-2
 enum-told-2 c = search needs
 
--- src/lib.rt:67:35
 block-refusal-requires : tie.Need-block-refusal-requires
 block-refusal-requires c κs = search needs
 
--- src/lib.rt:67:9
 same-length-2 : tie.Need-same-length-2
 same-length-2 c = search needs
 
--- src/lib.rt:67:9
 returns-2 : tie.Need-returns-2
-returns-2 c = ?
+returns-2 c =
+    let opened = c .before in
+    let at-block = opened .before .before .before .before in
+    let named = at-block .before .before .before .before in
+    let at-read = named .before .before .before .before in
+    let a = at-read .before .before .before .before .args in
+    let k = named .name .given in
+    let v = at-read .read-argument .ensures in
+    let b = opened .enum-told2 .given in
+    import-broken (a .s .now) (a .here .at) (a .used) (a .store .now) (v .0) (v .1) (k .0 .0) (k .0 .1 .0) (k .1) (at-block .parse-block .ensures) (b .0 .0) (b .1) (c .block-refusal .ensures)
 
--- src/lib.rt:69:5
 import-of-requires : tie.Need-import-of-requires
 import-of-requires c κs = search needs
 
--- src/lib.rt:49:1
 same-length-3 : tie.Need-same-length-3
 same-length-3 c = search needs
 
--- src/lib.rt:49:1
 returns-3 : tie.Need-returns-3
-returns-3 c = ?
+returns-3 c =
+    let opened = c .before .before in
+    let at-block = opened .before .before .before .before in
+    let named = at-block .before .before .before .before in
+    let at-read = named .before .before .before .before in
+    let a = at-read .before .before .before .before .args in
+    let k = named .name .given in
+    let v = at-read .read-argument .ensures in
+    let b = opened .block .given in
+    import-whole (a .s .now) (a .here .at) (a .used) (a .store .now) (v .0) (v .1) (k .0 .0) (k .0 .1 .0) (k .1) (at-block .parse-block .ensures) (at-block .before .before .held .ensures) (b .0 .0) (b .1) (c .import-of .ensures)
 
 pub parse-import-spec : {M : Type 1} → statement M
 parse-import-spec =

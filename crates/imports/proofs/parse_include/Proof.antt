@@ -1,109 +1,136 @@
+-- `imports::parse_include`. The name, then a block or a semicolon: each way out is a law.
+-- Assumes nothing.
+use mathlib.Core.Path.{sym, _∙_}
+use native.Mathlib.Omega.{arith}
+use lib.ListN.{length}
+use Rattle.text.proofs.Here.{here}
+use Rattle.text.proofs.Laws.{gap-from}
+use Rattle.value.proofs.ArgumentLaws.{argument-room}
+use Rattle.imports.proofs.StatementLaws.{argument-grows, include-refused, include-open, include-other, include-plain}
 use borrow.Author.Needs.{needs}
 use Rattle.imports.proofs.parse_include.Statement.{statement}
 use Rattle.imports.proofs.parse_include.Tie as tie
-use Rattle.imports.proofs.parse_include.Reads as reads
-use Rattle.imports.proofs.parse_include.Lts as lts
-use Rattle.imports.proofs.argument_refusal.Reads as argument-refusal-reads
-use Rattle.imports.proofs.held.Reads as held-reads
-use Rattle.imports.proofs.include_block.Reads as include-block-reads
-use Rattle.imports.proofs.missing.Reads as missing-reads
-use Rattle.text.proofs.Cursor.expect_char.Reads as expect-char-reads
-use Rattle.text.proofs.Cursor.skip_whitespace_and_comments.Reads as skip-whitespace-and-comments-reads
-use Rattle.text.proofs.peek_char.Reads as peek-char-reads
-use Rattle.text.proofs.refusal_of.Reads as refusal-of-reads
-use Rattle.value.proofs.read_value.Reads as read-value-reads
 
--- src/lib.rt:117:9
 read-value-requires : tie.Need-read-value-requires
 read-value-requires c κs = search needs
 
--- src/lib.rt:118:26
 enum-known-name : tie.Need-enum-known-name
 enum-known-name c = search needs
 
--- src/lib.rt:119:36
 enum-told : tie.Need-enum-told
 enum-told c = search needs
 
--- src/lib.rt:119:36
 argument-refusal-requires : tie.Need-argument-refusal-requires
 argument-refusal-requires c κs = search needs
 
--- src/lib.rt:119:9
 same-length : tie.Need-same-length
 same-length c = search needs
 
--- src/lib.rt:119:9
 returns : tie.Need-returns
-returns c = ?
+returns c =
+    let told = c .before in
+    let at-read = told .before .before .before .before in
+    let a = at-read .before .before .before .before .args in
+    let v = at-read .read-value .ensures in
+    let k = told .enum-told .given in
+    include-refused (a .s .now) (a .here .at) (a .used) (a .store .now) (v .0) (v .1) (k .0 .0) (k .1) (c .argument-refusal .ensures)
 
--- src/lib.rt:121:16
 sub-size : tie.Need-sub-size
-sub-size c = ?
+sub-size c =
+    let named = c .before in
+    let at-read = named .before .before .before .before in
+    let a = at-read .before .before .before .before .args in
+    let k = named .name .given in
+    let v = at-read .read-value .ensures in
+    argument-grows (a .s .now) (a .here .at) (a .used) 9 (k .0 .0) (k .0 .1 .0) (v .0) (k .1)
 
--- src/lib.rt:122:9
 held-requires : tie.Need-held-requires
 held-requires c κs = search needs
 
--- src/lib.rt:123:9
 skip-whitespace-and-comments-requires : tie.Need-skip-whitespace-and-comments-requires
 skip-whitespace-and-comments-requires c κs = search needs
 
--- src/lib.rt:125:8
 peek-char-requires : tie.Need-peek-char-requires
 peek-char-requires c κs = search needs
 
--- src/lib.rt:126:21
 add-inner : tie.Need-add-inner
-add-inner c = ?
+add-inner c =
+    let at-gap = c .before .before in
+    let start = at-gap .before .before .before .before .before .before .before .before .before .before .before in
+    let a = start .args in
+    omega (arith, start .good, here (a .s .now) (at-gap .skip-whitespace-and-comments .result .at) (λ e. omega arith))
 
--- src/lib.rt:127:9
 include-block-requires : tie.Need-include-block-requires
-include-block-requires c κs = ?
+include-block-requires c κs =
+    let at-gap = c .before .before .before in
+    let named = at-gap .before .before .before in
+    let at-read = named .before .before .before .before in
+    let a = at-read .before .before .before .before .args in
+    let k = named .name .given in
+    let v = at-read .read-value .ensures in
+    let start = at-read .before .before .before .before in
+    let room = argument-room (a .s .now) (a .here .at) (a .used) 9 (length (a .store .now)) (k .0 .0) (k .0 .1 .0) (sym (v .0) ∙ k .1) (start .pre .1) in
+    (start .pre .0, omega (arith, room, gap-from (a .s .now) (k .0 .0 .at), at-read .read-value .kept .1 .1 .1 .0))
 
--- src/lib.rt:127:9
 same-length-2 : tie.Need-same-length-2
 same-length-2 c = search needs
 
--- src/lib.rt:127:9
 returns-2 : tie.Need-returns-2
-returns-2 c = ?
+returns-2 c =
+    let at-peek = c .before .before .before .before .before in
+    let at-gap = at-peek .before in
+    let named = at-gap .before .before .before in
+    let at-read = named .before .before .before .before in
+    let a = at-read .before .before .before .before .args in
+    let k = named .name .given in
+    let v = at-read .read-value .ensures in
+    let b = c .before .before .include-block .ensures in
+    include-open (a .s .now) (a .here .at) (a .used) (a .store .now) (v .0) (v .1) (k .0 .0) (k .0 .1 .0) (k .1) (at-gap .before .held .ensures) (at-gap .skip-whitespace-and-comments .ensures) (at-peek .peek-char .ensures) (c .before .before .before .before .if1 .taken) (b .0) (b .1)
 
--- src/lib.rt:129:9
 expect-char-requires : tie.Need-expect-char-requires
 expect-char-requires c κs = search needs
 
--- src/lib.rt:130:20
 enum-known-due : tie.Need-enum-known-due
 enum-known-due c = search needs
 
--- src/lib.rt:131:36
 enum-told-2 : tie.Need-enum-told-2
 enum-told-2 c = search needs
 
--- src/lib.rt:131:36
 refusal-of-requires : tie.Need-refusal-of-requires
 refusal-of-requires c κs = search needs
 
--- src/lib.rt:131:9
 same-length-3 : tie.Need-same-length-3
 same-length-3 c = search needs
 
--- src/lib.rt:131:9
 returns-3 : tie.Need-returns-3
-returns-3 c = ?
+returns-3 c =
+    let at-peek = c .before .before .before .before .before in
+    let at-gap = at-peek .before in
+    let named = at-gap .before .before .before in
+    let at-read = named .before .before .before .before in
+    let a = at-read .before .before .before .before .args in
+    let k = named .name .given in
+    let v = at-read .read-value .ensures in
+    let t = c .before .enum-told2 .given in
+    include-other (a .s .now) (a .here .at) (a .used) (a .store .now) (v .0) (v .1) (k .0 .0) (k .0 .1 .0) (k .1) (at-gap .before .held .ensures) (at-gap .skip-whitespace-and-comments .ensures) (at-peek .peek-char .ensures) (c .before .before .before .before .if1 .left) (c .before .before .before .expect-char .ensures) (t .0 .0) (t .1) (c .refusal-of .ensures)
 
--- src/lib.rt:138:28
 missing-requires : tie.Need-missing-requires
 missing-requires c κs = search needs
 
--- src/lib.rt:107:1
 same-length-4 : tie.Need-same-length-4
 same-length-4 c = search needs
 
--- src/lib.rt:107:1
 returns-4 : tie.Need-returns-4
-returns-4 c = ?
+returns-4 c =
+    let at-peek = c .before .before .before .before .before .before in
+    let at-gap = at-peek .before in
+    let named = at-gap .before .before .before in
+    let at-read = named .before .before .before .before in
+    let a = at-read .before .before .before .before .args in
+    let k = named .name .given in
+    let v = at-read .read-value .ensures in
+    let t = c .before .before .due .given in
+    include-plain (a .s .now) (a .here .at) (a .used) (a .store .now) (v .0) (v .1) (k .0 .0) (k .0 .1 .0) (k .1) (at-gap .before .held .ensures) (at-gap .skip-whitespace-and-comments .ensures) (at-peek .peek-char .ensures) (c .before .before .before .before .before .if1 .left) (c .before .before .before .before .expect-char .ensures) (t .0 .0) (t .1) (c .missing .ensures)
 
 pub parse-include-spec : {M : Type 1} → statement M
 parse-include-spec =
