@@ -31,14 +31,14 @@ on-far s b ys bs (On y) h w e = let k : y ≡ h .body = cc in (subst (Forth s b 
 on-far s b ys bs (Closed y) h w e = let z : _≡_ {A = ℕ} 0 1 = cc in absurd (omega arith)
 on-far s b ys bs (Refused r) h w e = let z : _≡_ {A = ℕ} 0 1 = cc in absurd (omega arith)
 
-turn-far : (s : List ℕ) (k : ℕ) (g h : Stored) → blockTurn s k g ≡ on h
+pub turn-far : (s : List ℕ) (k : ℕ) (g h : Stored) → blockTurn s k g ≡ on h
     → Forth s (g .body) (insideAt s k (g .body) .bytes) (h .body) × (h .bytes ≡ g .bytes ++ insideAt s k (g .body) .bytes)
 unfolding blockTurn
 turn-far s k g h e =
     let i = insideAt s k (g .body) in
     on-far s (g .body) (g .bytes ++ i .bytes) (i .bytes) (i .answer) h (inside-went s k (g .body)) e
 
-block-falls : (s : List ℕ) (k : ℕ) (g h : Stored) → blockTurn s k g ≡ on h → length s - h .body .at < length s - g .body .at
+pub block-falls : (s : List ℕ) (k : ℕ) (g h : Stored) → blockTurn s k g ≡ on h → length s - h .body .at < length s - g .body .at
 block-falls s k g h e = let f = turn-far s k g h e .0 in omega (arith, f .0, f .1)
 
 module _ (s : List ℕ) (k : ℕ) (g : Stored) where

@@ -1,5 +1,6 @@
 pub mod BlockLaws
 pub mod FarLaws
 pub mod InsideLaws
+pub mod ReachLaws
 pub mod Spans
 pub mod StatementLaws

@@ -6,6 +6,7 @@ use mathlib.Core.Logic.{_⊎_, inl, inr, ⊎-elim}
 use mathlib.Core.Bool.{true}
 use Prim.Native.Nat.{ℕ, _+_, _-_, _≤_}
 use native.Mathlib.Omega.{arith}
+use Rattle.text.proofs.Here.{never}
 use Rattle.rows.specs.Span.{held, missing}
 use Rattle.rows.specs.declared.Span.{Span}
 use Rattle.imports.specs.Block.{moved, begun}
@@ -32,8 +33,15 @@ pub may-size : {u n : ℕ} {x : Span} → u ≤ n → MayLie u n x → u + x .si
 may-size h m = ⊎-elim (λ e. omega (arith, missing-size e)) (λ l. omega (arith, l .1, l .2)) m
 
 -- said of a part of the store, it holds of a larger one
+pub lies-more : {u v n m : ℕ} (x : Span) → v ≤ u → n ≤ m → Lies u n x → Lies v m x
+lies-more x h k l = (l .0, omega (arith, l .1), omega (arith, l .2))
+
 pub may-more : {u v n m : ℕ} {x : Span} → v ≤ u → n ≤ m → MayLie u n x → MayLie v m x
-may-more h k l = ⊎-elim (λ e. inl e) (λ l. inr (l .0, omega (arith, l .1), omega (arith, l .2))) l
+may-more {x = x} h k m = ⊎-elim (λ e. inl e) (λ l. inr (lies-more x h k l)) m
+
+-- a present one lies there
+pub may-lies : {u n : ℕ} {x : Span} → x .present ≡ true → MayLie u n x → Lies u n x
+may-lies h m = ⊎-elim (λ e. absurd (never (ap (λ y. y .present) e) h)) (λ l. l) m
 
 -- the values of a block that began at u
 abbrev pub Sound : ℕ → Body → Type 0
