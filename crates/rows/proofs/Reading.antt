@@ -1,18 +1,18 @@
 -- A row tells what was written: its words stand where the row is read, and no word of a plain row is lost.
 -- Assumes nothing.
 use mathlib.Core.Path.{_≡_, refl, sym, ap, _∙_}
-use mathlib.Core.Bool.{Bool, true, false, cond}
+use mathlib.Core.Bool.{cond}
 use mathlib.Core.List.{List, [], _∷_, _++_, append-assoc}
-use Prim.Native.Nat.{ℕ, zero, suc, _+_, _-_, _*_, _<_, _≤_}
+use Prim.Native.Nat.{ℕ, _+_, _*_, _≤_}
 use native.Mathlib.Nat.{add-zero}
 use native.Mathlib.Omega.{arith}
 use lib.Dec.{eqb}
-use lib.ListN.{length, getD, take, drop, length-append}
+use lib.ListN.{length, getD, drop, length-append}
 use lib.Seq.{sets, sets-eq, getD-append-add}
 use borrow.Author.Tests.{eq-eqb, ne-eqb}
 use Rattle.text.proofs.Here.{by-test}
 use Rattle.rows.specs.Span.{held, missing, markOf}
-use Rattle.rows.specs.Rows.{importSize, includeSize, importWords, includeWords, There, Plain, PlainImport, PlainInclude, Each, table, importTable, includeTable, spanAt, markedAt, importAt, includeAt, rowsOf, importsIn, includesIn}
+use Rattle.rows.specs.Rows.{importSize, includeSize, importWords, includeWords, Plain, PlainImport, PlainInclude, Each, table, importTable, includeTable, spanAt, markedAt, importAt, includeAt, rowsOf, importsIn, includesIn}
 use Rattle.rows.specs.declared.Span.{Span}
 use Rattle.rows.specs.declared.YangImport.{YangImport}
 use Rattle.rows.specs.declared.YangInclude.{YangInclude}

@@ -1,7 +1,7 @@
 -- Import rows of seven 32-bit words (name start, length; prefix start, length; 1 or 0 for revision present, start, length), include rows of five
 -- (name, then revision).
 -- Assumes nothing.
-use Prim.Native.Nat.{ℕ, zero, suc, _+_, _*_}
+use Prim.Native.Nat.{ℕ, zero, suc, _+_}
 use mathlib.Core.Path.{_≡_}
 use mathlib.Core.Bool.{cond}
 use mathlib.Core.List.{List, [], _∷_, _++_}

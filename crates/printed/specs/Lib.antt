@@ -1,0 +1,4 @@
+pub mod Pieces
+pub mod Printed
+pub mod Sizes
+pub mod Wrote
