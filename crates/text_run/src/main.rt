@@ -226,7 +226,7 @@ fn statement_ends(s: &[u8], at: usize) -> bool {
     end.at == at
 }
 
-// Whether the value at the text's start is these bytes and ends at a place.
+// Whether the value at the text's start is these bytes and ends at a place, read or skipped.
 fn value_is(s: &[u8], kept: &[u8], at: usize) -> bool {
     let mut store = io::buffer();
     if store.len() < s.len() {
@@ -239,6 +239,10 @@ fn value_is(s: &[u8], kept: &[u8], at: usize) -> bool {
         return false;
     };
     if next.at != at {
+        return false;
+    }
+    let passed = skip::skip_value(start, &classes, s);
+    if passed.at != at {
         return false;
     }
     check::same(first(&store, used), kept)

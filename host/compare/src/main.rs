@@ -1,0 +1,113 @@
+//! The port and the original Rust on the same inputs.
+//!
+//! compare texts SEED COUNT: COUNT generated texts, and every short string over the generator's alphabet.
+//! compare files SEED COUNT FILE..: real modules, and COUNT damaged copies of each.
+//! compare edges: lengths around each boundary, which the Rust does not have.
+
+use std::path::PathBuf;
+use vectors::answers::{self, Dependencies, FIVE_OR_SIX, Refusal, Scan, UNTOLD};
+use vectors::oracle::Oracle;
+use vectors::rng::Rng;
+use vectors::texts;
+
+mod edges;
+mod port;
+
+fn main() {
+    let args: Vec<String> = std::env::args().collect();
+    let words: Vec<&str> = args.iter().map(|a| a.as_str()).collect();
+    let number = |w: &str| w.parse::<u64>().expect("a number");
+    let mut run = Run::new();
+    match words[1..] {
+        ["texts", seed, count] => {
+            (0..4).flat_map(texts::short).for_each(|t| run.text(t.as_bytes()));
+            let mut r = Rng::new(number(seed));
+            (0..number(count)).for_each(|_| run.text(texts::any(&mut r).as_bytes()));
+        }
+        ["files", seed, count, ref files @ ..] => {
+            let mut r = Rng::new(number(seed));
+            for file in files {
+                let text = String::from_utf8(std::fs::read(file).expect("a file")).unwrap_or_default();
+                if text.is_ascii() {
+                    run.text(text.as_bytes());
+                    (0..number(count)).for_each(|_| run.text(texts::damaged(&mut r, &text).as_bytes()));
+                }
+            }
+        }
+        ["edges"] => edges::run(&mut run),
+        _ => {
+            eprintln!("compare: texts SEED COUNT | files SEED COUNT FILE.. | edges");
+            std::process::exit(2);
+        }
+    }
+    println!("compare: {} inputs, {} different", run.inputs, run.different);
+    std::process::exit(i32::from(run.different != 0));
+}
+
+pub struct Run {
+    oracle: Oracle,
+    inputs: usize,
+    different: usize,
+}
+
+impl Run {
+    fn new() -> Run {
+        let host = PathBuf::from(env!("CARGO_MANIFEST_DIR"));
+        Run { oracle: Oracle::start(&host.join("../oracle/build/oracle")), inputs: 0, different: 0 }
+    }
+
+    /// Counts an input, and says the first ten that differ.
+    pub fn count(&mut self, same: bool, what: impl FnOnce() -> String) {
+        self.inputs += 1;
+        if !same {
+            self.different += 1;
+            if self.different <= 10 {
+                println!("compare: {}", what());
+            }
+        }
+    }
+
+    fn text(&mut self, text: &[u8]) {
+        let told = answers::dependencies(&mut self.oracle, text);
+        let mut page = port::enough(text, self.inputs % 3);
+        let number = page.printed(text);
+        let mut plain = port::enough(text, self.inputs % 5);
+        let again = plain.dependencies(text);
+        let same = agrees(&told, &page, number) && plain_agrees(&page, number, &plain, again);
+        self.count(same, || format!("{:?}\n  the Rust {told:?}\n  the port {:?}", String::from_utf8_lossy(text), page.answer));
+    }
+}
+
+/// The same answer without a page.
+fn plain_agrees(page: &port::Scanned, number: u32, plain: &port::Scanned, again: u32) -> bool {
+    let used = plain.answer[5] as usize;
+    number == again
+        && page.answer[..6] == plain.answer[..6]
+        && page.store[..used] == plain.store[..used]
+        && page.import_rows() == plain.import_rows()
+        && page.include_rows() == plain.include_rows()
+        && plain.store[used..].iter().all(|b| *b == 0)
+}
+
+fn agrees(told: &Scan<Dependencies>, port: &port::Scanned, number: u32) -> bool {
+    if number != port.answer[0] || !port.is_clean() {
+        return false;
+    }
+    match told {
+        Scan::Good(d) => {
+            port.answer[..3] == [0, 0, 0]
+                && port.import_rows() == d.imports
+                && port.include_rows() == d.includes
+                && port.page[..port.answer[6] as usize] == d.page
+        }
+        Scan::Refused(r) => refused(r, &port.answer),
+        Scan::Silent(_) => false,
+    }
+}
+
+fn refused(told: &Refusal, answer: &[u32; 7]) -> bool {
+    let number = answer[0] == told.number || (told.number == FIVE_OR_SIX && (answer[0] == 5 || answer[0] == 6));
+    let keyword = told.keyword == UNTOLD || told.keyword == answer[1];
+    let position = told.position == UNTOLD || told.position == answer[2];
+    number && keyword && position && answer[3..] == [0; 4]
+}
