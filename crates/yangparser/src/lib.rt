@@ -44,14 +44,27 @@ pub fn extract_yang_dependencies(
     imports: &mut [u32],
     includes: &mut [u32],
 ) -> Parsed
-    ensures { λ r. ⌜ Extracts (now (s .entry)) (now (store .entry)) (now (imports .entry)) (now (includes .entry)) r (now (store .exit)) (now (imports .exit)) (now (includes .exit)) ⌝ }
+    ensures { λ r. ⌜ Extracts (now (s .entry)) false (now (store .entry)) (now (imports .entry)) (now (includes .entry)) r (now (store .exit)) (now (imports .exit)) (now (includes .exit)) ⌝ }
+{
+    scan_lent(s, false, store, imports, includes)
+}
+
+// The same where something else that was lent may be too short.
+pub fn scan_lent(
+    s: &[u8],
+    short: bool,
+    store: &mut [u8],
+    imports: &mut [u32],
+    includes: &mut [u32],
+) -> Parsed
+    ensures { λ r. ⌜ Extracts (now (s .entry)) short (now (store .entry)) (now (imports .entry)) (now (includes .entry)) r (now (store .exit)) (now (imports .exit)) (now (includes .exit)) ⌝ }
 {
     buffers::clear_bytes(store);
     buffers::clear_words(imports);
     buffers::clear_words(includes);
     let classes = text::classes();
-    let short = too_short(s.len(), store.len(), imports.len(), includes.len());
-    let lent = check_lent(&classes, s, short);
+    let unfit = too_short(short, s.len(), store.len(), imports.len(), includes.len());
+    let lent = check_lent(&classes, s, unfit);
     match lent {
         Lent::Fit => parse_cleared(&classes, s, store, imports, includes),
         Lent::Unfit(r) => Parsed::Refused(r),
@@ -65,9 +78,12 @@ pub enum Lent {
 }
 
 // Whether the store or a table is too short for a text.
-fn too_short(text: usize, store: usize, imports: usize, includes: usize) -> bool
-    ensures { λ r. ⌜ r ≡ tooShort text store imports includes ⌝ }
+fn too_short(short: bool, text: usize, store: usize, imports: usize, includes: usize) -> bool
+    ensures { λ r. ⌜ r ≡ short || tooShort text store imports includes ⌝ }
 {
+    if short {
+        return true;
+    }
     if store < text {
         return true;
     }
