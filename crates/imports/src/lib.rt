@@ -192,13 +192,7 @@ pub enum Inside {
 }
 
 // Reads or skips the statement of a block that stands after a gap, or its closing brace.
-fn parse_inside(
-    body: Body,
-    classes: &[u8; 128],
-    s: &[u8],
-    store: &mut [u8],
-    keyword: u32,
-) -> Inside
+fn parse_inside(body: Body, classes: &[u8; 128], s: &[u8], store: &mut [u8], keyword: u32) -> Inside
     requires { ⌜ (now classes ≡ classTable) × (body .used + (length (now s) - body .at) ≤ length (now store)) ⌝ }
     ensures { λ r. ⌜ (r ≡ insideAt (now (s .entry)) keyword body) × (now (store .exit) ≡ sets (now (store .entry)) (body .used) (insideBytes (now (s .entry)) (body .at) keyword)) ⌝ }
 {
