@@ -1,14 +1,13 @@
 -- The pieces of each definition, in the order of the code, and what the code does with a count and with a value's place.
 -- Assumes nothing.
-use mathlib.Core.Path.{_≡_, refl, sym, ap, _∙_}
+use mathlib.Core.Path.{_≡_, refl, ap}
 use mathlib.Core.Bool.{true, false}
 use mathlib.Core.List.{List, [], _∷_, _++_, flatten}
-use Prim.Native.Nat.{ℕ, _+_, _-_, _/_, _%_, _<_, _≤_, min, suc}
+use Prim.Native.Nat.{ℕ, _+_, _-_, _/_, _%_, _<_, _≤_, suc}
 use native.Mathlib.Omega.{arith}
-use native.Mathlib.Decide.{decLe}
 use native.Mathlib.Numerals.{add-one}
-use lib.ListN.{length, getD, set, take, drop, length-drop, drop-of-length-le}
-use lib.Seq.{sets, take-all, take-length, drop-length, drop-cons}
+use lib.ListN.{length, getD, set, drop, drop-of-length-le}
+use lib.Seq.{sets, drop-cons}
 use borrow.Author.Tests.{lt-ltb, le-ltb}
 use Rattle.rows.specs.Span.{valueIn}
 use Rattle.rows.specs.Rows.{importSize, includeSize, importAt, includeAt, importsIn, includesIn}
@@ -20,28 +19,6 @@ use Rattle.printed.specs.Pieces.{importsHead, includesHead, headEnd, bul
 use Rattle.printed.specs.Printed.{heading, revision, importLine, includeLine, importLines, includeLines, printed}
 use Rattle.printed.specs.Wrote.{Wrote}
 use Rattle.printed.proofs.Going.{Going, begin, begin-two, linesFrom, lines-begin}
-
--- ---- a value's bytes, from the place f, z of them
-
-drop-least : (s : List ℕ) (k : ℕ) → drop (min k (length s)) s ≡ drop k s
-drop-least s k =
-    elim (decLe k (length s)) [
-      | yes h ↦ let e : min k (length s) ≡ k = omega arith in rw e refl
-      | no h ↦ let e : min k (length s) ≡ length s = omega arith in rw e (drop-length s ∙ sym (drop-of-length-le s {i = k} (omega arith)))
-    ]
-
-take-least : (s : List ℕ) (k : ℕ) → take (min k (length s)) s ≡ take k s
-take-least s k =
-    elim (decLe k (length s)) [
-      | yes h ↦ let e : min k (length s) ≡ k = omega arith in rw e refl
-      | no h ↦ let e : min k (length s) ≡ length s = omega arith in rw e (take-length s ∙ sym (take-all k s (omega arith)))
-    ]
-
-pub value-is : (s : List ℕ) (x : Span) {f z : ℕ} → f ≡ min (x .start) (length s) → z ≡ min (x .size) (length s - f) → take (f + z - f) (drop f s) ≡ valueIn s x
-unfolding valueIn
-value-is s x {f} {z} fe ze =
-    let e : f + z - f ≡ min (x .size) (length (drop f s)) = omega (arith, length-drop f s, ze) in
-    ap (λ k. take k (drop f s)) e ∙ take-least (drop f s) (x .size) ∙ ap (λ k. take (x .size) (drop k s)) fe ∙ ap (take (x .size)) (drop-least s (x .start))
 
 -- the bytes of a list from a place on
 pub bytes-past : (s : List ℕ) (i : ℕ) → length s ≤ i → drop i s ≡ []

@@ -17,7 +17,7 @@ use Rattle.rows.specs.declared.YangImport.{YangImport}
 use Rattle.rows.specs.declared.YangInclude.{YangInclude}
 use Rattle.printed.specs.Pieces.{headEnd, importsHead, includesHead, bullet, prefixOpen, prefixClose, revisionSign, newline, digits}
 use Rattle.printed.specs.Printed.{heading, revision, importLine, includeLine, importLines, includeLines, printed}
-use Rattle.printed.specs.Sizes.{total, importValues, includeValues, importSizes, includeSizes}
+use Rattle.rows.specs.Sizes.{total, importValues, includeValues, importSizes, includeSizes}
 
 pub value-size : (store : List ℕ) (x : Span) → length (valueIn store x) ≤ x .size
 unfolding valueIn

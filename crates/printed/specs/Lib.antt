@@ -1,4 +1,3 @@
 pub mod Pieces
 pub mod Printed
-pub mod Sizes
 pub mod Wrote

@@ -4,7 +4,7 @@ use rows::YangImport;
 use rows::YangInclude;
 ghost use mathlib.Core.Path.{_≡_};
 ghost use mathlib.Core.List.{_++_};
-ghost use Prim.Native.Nat.{_+_, _*_, _≤_, _<_, min};
+ghost use Prim.Native.Nat.{_+_, _*_, _≤_, _<_};
 ghost use lib.ListN.{length};
 ghost use lib.Seq.{sets};
 ghost use Rattle.rows.specs.Span.{valueIn};
@@ -28,30 +28,13 @@ fn put(page: &mut [u8], at: usize, bytes: &[u8]) -> usize
     n
 }
 
-// The lesser of two.
-fn least(a: usize, b: usize) -> usize
-    ensures { λ r. ⌜ r ≡ min a b ⌝ }
-{
-    if a <= b { a } else { b }
-}
-
-// The value's bytes, as far as the store has them.
-fn value_in(store: &[u8], x: Span) -> &[u8]
-    ensures { λ r. ⌜ now r ≡ valueIn (now (store .entry)) x ⌝ }
-{
-    let from = least(x.start, store.len());
-    let size = least(x.size, store.len() - from);
-    let to = from + size;
-    &store[from..to]
-}
-
 // A value behind its label.
 fn put_value(page: &mut [u8], at: usize, label: &[u8], store: &[u8], x: Span) -> usize
     requires { ⌜ at + length (now label ++ valueIn (now store) x) ≤ length (now page) ⌝ }
     ensures { λ r. ⌜ Wrote (now (page .entry)) at (now (label .entry) ++ valueIn (now (store .entry)) x) (now (page .exit)) r ⌝ }
 {
     let n = put(page, at, label);
-    put(page, n, value_in(store, x))
+    put(page, n, rows::value_in(store, x))
 }
 
 // A revision, if present, and the line break.

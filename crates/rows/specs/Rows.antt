@@ -7,7 +7,7 @@ use mathlib.Core.Bool.{cond}
 use mathlib.Core.List.{List, [], _∷_, _++_}
 use lib.Dec.{eqb}
 use lib.ListN.{getD}
-use Rattle.rows.specs.Span.{held, missing, markOf, Fits}
+use Rattle.rows.specs.Span.{held, missing, markOf, Fits, Within}
 use Rattle.rows.specs.declared.Span.{Span}
 use Rattle.rows.specs.declared.YangImport.{YangImport}
 use Rattle.rows.specs.declared.YangInclude.{YangInclude}
@@ -53,6 +53,13 @@ PlainImport i = There (i .«module_name») × There (i .prefix) × Plain (i .«r
 
 abbrev pub PlainInclude : YangInclude → Type 0
 PlainInclude i = There (i .«submodule_name») × Plain (i .«revision_date»)
+
+-- its values lie among the first n bytes of the store
+abbrev pub ImportWithin : ℕ → YangImport → Type 0
+ImportWithin n i = Within n (i .«module_name») × Within n (i .prefix) × Within n (i .«revision_date»)
+
+abbrev pub IncludeWithin : ℕ → YangInclude → Type 0
+IncludeWithin n i = Within n (i .«submodule_name») × Within n (i .«revision_date»)
 
 module _ {A : Type 0} where
   unfoldable pub Each : (A → Type 0) → List A → Type 0

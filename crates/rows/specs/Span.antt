@@ -1,9 +1,8 @@
 -- A value that a scan read: where it starts in the value store and how long it is. A missing value has 0, 0; a present one may be empty.
 -- Assumes nothing.
-use Prim.Native.Nat.{ℕ, _<_}
+use Prim.Native.Nat.{ℕ, _+_, _<_, _≤_}
 use mathlib.Core.Bool.{true, false, cond}
-use mathlib.Core.List.{List, [], _∷_}
-use lib.Dec.{eqb}
+use mathlib.Core.List.{List}
 use lib.ListN.{take, drop}
 use Rattle.rows.specs.declared.Span.{Span}
 
@@ -24,3 +23,7 @@ valueIn store x = take (x .size) (drop (x .start) store)
 -- both numbers are words
 abbrev pub Fits : Span → Type 0
 Fits x = (x .start < 4294967296) × (x .size < 4294967296)
+
+-- it ends among the first n bytes of the store
+abbrev pub Within : ℕ → Span → Type 0
+Within n x = x .start + x .size ≤ n

@@ -1,9 +1,9 @@
 // What a dependency scan writes: values as spans of the store, a row of words for each import and include.
 ghost use mathlib.Core.Path.{_≡_};
-ghost use Prim.Native.Nat.{_+_, _*_, _≤_, _<_};
+ghost use Prim.Native.Nat.{min, _+_, _*_, _≤_, _<_};
 ghost use lib.ListN.{length};
 ghost use lib.Seq.{sets};
-ghost use Rattle.rows.specs.Span.{markOf};
+ghost use Rattle.rows.specs.Span.{markOf, valueIn};
 ghost use Rattle.rows.specs.Rows.{importSize, includeSize, mostRows, importWords, includeWords, FitsImport, FitsInclude, spanAt, markedAt, importAt, includeAt};
 
 // Words to a row, and rows at the most.
@@ -127,4 +127,21 @@ pub fn get_include(table: &[u32], row: usize) -> YangInclude
         submodule_name,
         revision_date,
     }
+}
+
+// The lesser of two.
+fn least(a: usize, b: usize) -> usize
+    ensures { λ r. ⌜ r ≡ min a b ⌝ }
+{
+    if a <= b { a } else { b }
+}
+
+// The value's bytes, as far as the store has them.
+pub fn value_in(store: &[u8], x: Span) -> &[u8]
+    ensures { λ r. ⌜ now r ≡ valueIn (now (store .entry)) x ⌝ }
+{
+    let from = least(x.start, store.len());
+    let size = least(x.size, store.len() - from);
+    let to = from + size;
+    &store[from..to]
 }

@@ -1,9 +1,9 @@
--- `printed::value_in`. The store's end bounds both places.
+-- `rows::value_in`. The store's end bounds both places.
 -- Assumes nothing.
-use Rattle.printed.proofs.Laws.{value-is}
+use Rattle.rows.proofs.Values.{value-is}
 use borrow.Author.Needs.{needs}
-use Rattle.printed.proofs.value_in.Statement.{statement}
-use Rattle.printed.proofs.value_in.Tie as tie
+use Rattle.rows.proofs.value_in.Statement.{statement}
+use Rattle.rows.proofs.value_in.Tie as tie
 
 least-requires : tie.Need-least-requires
 least-requires c κs = search needs
