@@ -7,15 +7,6 @@ use yangparser::Parsed;
 // The longest input, and room for one byte more, which tells that there is more.
 const MOST: usize = 32768;
 
-// The first n bytes, where there are as many.
-fn first(s: &[u8], n: usize) -> &[u8] {
-    if s.len() < n {
-        return s;
-    }
-    let start: usize = 0;
-    &s[start..n]
-}
-
 fn say_refused(r: Refusal) {
     io::write_all(STDOUT_FILENO, b"refused ");
     io::print_decimal(STDOUT_FILENO, r.number as u64);
@@ -31,8 +22,13 @@ fn say(s: &[u8]) {
     let mut imports = [0u32; 1792];
     let mut includes = [0u32; 1280];
     let mut page = [0u8; 39712];
-    let printed =
-        page::print_yang_dependencies(s, &mut store, &mut imports, &mut includes, &mut page);
+    let printed = page::print_yang_dependencies(
+        s,
+        &mut store,
+        &mut imports,
+        &mut includes,
+        &mut page,
+    );
     let parsed = printed.parsed;
     match parsed {
         Parsed::Good {
@@ -40,7 +36,7 @@ fn say(s: &[u8]) {
             includes: _,
             used: _,
         } => {
-            io::write_all(STDOUT_FILENO, first(&page, printed.length));
+            io::write_all(STDOUT_FILENO, buffers::first(&page, printed.length));
         }
         Parsed::Refused(r) => {
             say_refused(r);
@@ -55,5 +51,5 @@ fn main() {
         io::write_all(STDOUT_FILENO, b"input too long\n");
         return;
     }
-    say(first(&input, n));
+    say(buffers::first(&input, n));
 }

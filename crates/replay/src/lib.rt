@@ -1,6 +1,7 @@
 // The fields of a file of recorded answers, for the programs that replay them.
 ghost use mathlib.Core.Path.{_≡_};
-ghost use Prim.Native.Nat.{_<_};
+ghost use mathlib.Core.Bool.{cond};
+ghost use Prim.Native.Nat.{_+_, _%_, _<_};
 ghost use Rattle.replay.specs.Fields.{byteAt, lengthAt, missingAt, onBy, behind, fieldAt, wordAt, toldAs};
 
 const MISSING: u32 = 65535;
@@ -93,11 +94,10 @@ pub fn told(recorded: u32, is: u32) -> bool
 
 // One more of the records that differ, unless this one agrees.
 pub fn count_unless(agrees: bool, n: u64) -> u64
-    requires { ⌜ n + 1 < 18446744073709551616 ⌝ }
-    ensures { λ r. ⌜ r ≡ cond agrees n (n + 1) ⌝ }
+    ensures { λ r. ⌜ r ≡ cond agrees n ((n + 1) % 18446744073709551616) ⌝ }
 {
     if agrees {
         return n;
     }
-    n + 1
+    std::num::wrapping_add_u64(n, 1)
 }

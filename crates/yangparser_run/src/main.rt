@@ -5,18 +5,8 @@ use rows::Span;
 use text::Refusal;
 use yangparser::Parsed;
 
-// What the Rust does not tell, and its one error for refusals 5 and 6 after an include's value.
-const UNTOLD: u32 = 4294967295;
-
+// The Rust's one error for refusals 5 and 6 after an include's value.
 const FIVE_OR_SIX: u32 = 56;
-
-// Whether a refusal's word is the recorded one, where the Rust tells it.
-fn told(recorded: u32, is: u32) -> bool {
-    if recorded == UNTOLD {
-        return true;
-    }
-    recorded == is
-}
 
 fn number_told(recorded: u32, is: u32) -> bool {
     if recorded == FIVE_OR_SIX {
@@ -32,23 +22,11 @@ fn refusal_agrees(answer: &[u8], r: Refusal) -> bool {
     if !number_told(replay::word(answer, 0), r.number) {
         return false;
     }
-    if !told(replay::word(answer, 4), r.keyword) {
+    if !replay::told(replay::word(answer, 4), r.keyword) {
         return false;
     }
     let at = (r.at % 4294967296) as u32;
-    told(replay::word(answer, 8), at)
-}
-
-// The part of a slice that starts somewhere, where it has as much.
-fn part(s: &[u8], start: usize, size: usize) -> &[u8] {
-    if s.len() < start {
-        return s;
-    }
-    if s.len() - start < size {
-        return s;
-    }
-    let end = start + size;
-    &s[start..end]
+    replay::told(replay::word(answer, 8), at)
 }
 
 // Whether a value is the recorded one at a place.
@@ -57,7 +35,7 @@ fn value_agrees(store: &[u8], x: Span, data: &[u8], at: usize) -> bool {
         return !x.present;
     }
     if x.present {
-        return check::same(part(store, x.start, x.size), replay::field(data, at));
+        return check::same(rows::value_in(store, x), replay::field(data, at));
     }
     false
 }
@@ -177,8 +155,13 @@ fn record_agrees(data: &[u8], at: usize) -> bool {
     let answer_at = replay::after(data, at);
     let answer = replay::field(data, answer_at);
     let values_at = replay::after(data, answer_at);
-    let printed =
-        page::print_yang_dependencies(s, &mut store, &mut imports, &mut includes, &mut page);
+    let printed = page::print_yang_dependencies(
+        s,
+        &mut store,
+        &mut imports,
+        &mut includes,
+        &mut page,
+    );
     let parsed = printed.parsed;
     match parsed {
         Parsed::Good {
@@ -189,7 +172,7 @@ fn record_agrees(data: &[u8], at: usize) -> bool {
             if replay::word(answer, 0) != 0 {
                 return false;
             }
-            let shown = part(&page, 0, printed.length);
+            let shown = buffers::first(&page, printed.length);
             read_agrees(&store, &imports, m, &includes, n, shown, data, values_at)
         }
         Parsed::Refused(r) => refusal_agrees(answer, r),
@@ -226,13 +209,6 @@ struct Tally {
     different: u64,
 }
 
-fn count_unless(agrees: bool, n: u64) -> u64 {
-    if agrees {
-        return n;
-    }
-    std::num::wrapping_add_u64(n, 1)
-}
-
 // All records of a file. A record takes a byte at least.
 fn replay_all(data: &[u8]) -> Tally {
     let mut at: usize = 0;
@@ -243,7 +219,7 @@ fn replay_all(data: &[u8]) -> Tally {
         if data.len() <= at {
             return Tally { records, different };
         }
-        different = count_unless(record_agrees(data, at), different);
+        different = replay::count_unless(record_agrees(data, at), different);
         records = std::num::wrapping_add_u64(records, 1);
         at = behind_record(data, at);
         turns -= 1;
