@@ -1,5 +1,9 @@
 // What a C or Rust host calls, as include/nuvaleta.h declares it: one function a call, with the promises of the function that it calls.
 use yangparser::Parsed;
+ghost use mathlib.Core.Path.{_≡_};
+ghost use mathlib.Core.List.{[], _∷_, _++_};
+ghost use Prim.Native.Nat.{_<_};
+ghost use Rattle.nuvaleta.specs.Host.{numberOf, answerWords, WordsFit, DependenciesAnswered, PrintedAnswered};
 
 // The imports and includes of a text.
 #[no_mangle]
@@ -9,34 +13,56 @@ pub extern "C" fn nuvaleta_dependencies(
     imports: &mut [u32],
     includes: &mut [u32],
     answer: &mut [u32; 6],
-) -> u32 {
+) -> u32
+    ensures { λ r. ⌜ DependenciesAnswered (now (text .entry)) (now (store .entry)) (now (imports .entry)) (now (includes .entry)) r (now (store .exit)) (now (imports .exit)) (now (includes .exit)) (now (answer .exit)) ⌝ }
+{
     let parsed = yangparser::extract_yang_dependencies(text, store, imports, includes);
-    put_answer(parsed, answer)
+    let words = answer_of(parsed);
+    answer[0] = words[0];
+    answer[1] = words[1];
+    answer[2] = words[2];
+    answer[3] = words[3];
+    answer[4] = words[4];
+    answer[5] = words[5];
+    words[0]
 }
 
-fn put_answer(parsed: Parsed, answer: &mut [u32; 6]) -> u32 {
+// The imports and includes of a text, and their printed form.
+#[no_mangle]
+pub extern "C" fn nuvaleta_printed(
+    text: &[u8],
+    store: &mut [u8],
+    imports: &mut [u32],
+    includes: &mut [u32],
+    page: &mut [u8],
+    answer: &mut [u32; 7],
+) -> u32
+    ensures { λ r. ⌜ PrintedAnswered (now (text .entry)) (now (store .entry)) (now (imports .entry)) (now (includes .entry)) (now (page .entry)) r (now (store .exit)) (now (imports .exit)) (now (includes .exit)) (now (page .exit)) (now (answer .exit)) ⌝ }
+{
+    let printed = page::print_yang_dependencies(text, store, imports, includes, page);
+    let parsed = printed.parsed;
+    let words = answer_of(parsed);
+    answer[0] = words[0];
+    answer[1] = words[1];
+    answer[2] = words[2];
+    answer[3] = words[3];
+    answer[4] = words[4];
+    answer[5] = words[5];
+    answer[6] = printed.length as u32;
+    words[0]
+}
+
+// The six words of an answer.
+fn answer_of(parsed: Parsed) -> [u32; 6]
+    requires { ⌜ WordsFit parsed ⌝ }
+    ensures { λ r. ⌜ r ≡ answerWords parsed ⌝ }
+{
     match parsed {
         Parsed::Good {
             imports,
             includes,
             used,
-        } => {
-            answer[0] = 0;
-            answer[1] = 0;
-            answer[2] = 0;
-            answer[3] = imports as u32;
-            answer[4] = includes as u32;
-            answer[5] = used as u32;
-            0
-        }
-        Parsed::Refused(r) => {
-            answer[0] = r.number;
-            answer[1] = r.keyword;
-            answer[2] = r.at as u32;
-            answer[3] = 0;
-            answer[4] = 0;
-            answer[5] = 0;
-            r.number
-        }
+        } => [0, 0, 0, imports as u32, includes as u32, used as u32],
+        Parsed::Refused(r) => [r.number, r.keyword, r.at as u32, 0, 0, 0],
     }
 }
