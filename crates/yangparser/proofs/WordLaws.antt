@@ -69,8 +69,8 @@ word-none s at pe te n =
 -- m: what import answered, w: the word where it is none
 import-is : (m : Match) (w : Word) (c : Cursor) → ((d : Cursor) → w ≡ Import d → ⊥) → orWord Import m w ≡ Import c → m ≡ After c
 unfolding orWord
-import-is (After d) w c no h = cc
-import-is Not w c no h = absurd (no c h)
+import-is (After d) w c other h = cc
+import-is Not w c other h = absurd (other c h)
 
 not-import : (m l : Match) (c : Cursor) → orWord Include m (orWord Last l Other) ≡ Import c → ⊥
 unfolding orWord
