@@ -36,7 +36,7 @@ abbrev pub Went : List ℕ → Sofar → Dependencies → Next → Type 0
 Went s far a (On n) =
     (far .at + length (a .bytes) < n .at) × (n .at ≤ length s) × (n .used ≡ far .used + length (a .bytes))
     × (n .imports ≡ far .imports + length (a .imports)) × (n .includes ≡ far .includes + length (a .includes))
-Went s far a Done = Unit {0}
+Went s far a Done = a ≡ none
 Went s far a (Stop r) = far .at ≤ length s → r .at ≤ length s
 
 pub record Said (s : List ℕ) (far : Sofar) (x : Step) : Type 0 where
@@ -121,7 +121,7 @@ word-said s far g from in-text (Import c) h =
     let f = word-import-far s g c h in import-here s far (c .at) (omega (arith, f .0)) (f .1)
 word-said s far g from in-text (Include c) h =
     let f = word-include-far s g c h in include-here s far (c .at) (omega (arith, f .0)) (f .1)
-word-said s far g from in-text (Last c) h = said-none s far Done tt
+word-said s far g from in-text (Last c) h = said-none s far Done refl
 word-said s far g from in-text Other h =
     said-none s far (On (movedTo far (tokenEnd (tokenAt s g))))
     (omega (arith, token-far s g in-text), token-within s g (omega arith), omega arith, omega arith, omega arith)
@@ -130,6 +130,10 @@ pub step-said : (s : List ℕ) (far : Sofar) → Said s far (stepAt s far)
 step-said s far =
     let g = gapEnd s (far .at) in
     by-test (leb (length s) g)
-    (λ t. subst (Said s far) (sym (step-past s far refl (leb-true (length s) g t))) (said-none s far Done tt))
+    (λ t. subst (Said s far) (sym (step-past s far refl (leb-true (length s) g t))) (said-none s far Done refl))
     (λ t. let h = leb-false (length s) g t in
     subst (Said s far) (sym (step-word s far refl h refl refl)) (word-said s far g (gap-from s (far .at)) h (wordAt s g) refl))
+
+-- a scan that ends here read nothing more
+pub step-ends : (s : List ℕ) (far : Sofar) → stepAt s far .answer ≡ Done → stepAt s far .adds ≡ none
+step-ends s far h = subst (Went s far (stepAt s far .adds)) h (step-said s far .went)

@@ -1,74 +1,98 @@
+-- `yangparser::parse` meets its contract. The invariant is `Reading`: what was read so far stands in the store and the tables.
+-- Assumes nothing.
+use mathlib.Core.Path.{_∙_}
+use Prim.Native.Nat.{_-_}
+use native.Mathlib.Omega.{arith}
+use lib.ListN.{length}
+use borrow.Author.Needs.{needs}
+use Rattle.yangparser.proofs.LoopLaws.{Reading, read-begun, read-long, read-room, read-nearer, read-more, read-done, read-refused}
 use Rattle.yangparser.proofs.parse.Statement.{statement}
 use Rattle.yangparser.proofs.parse.Tie as tie
-use Rattle.yangparser.proofs.parse.Reads as reads
-use Rattle.yangparser.proofs.parse.Lts as lts
-use Rattle.yangparser.proofs.parse_next.Reads as parse-next-reads
 
 abbrev Inv-loop : tie.InvT-loop
-Inv-loop classes s store₀ imports₀ includes₀ far₀ store imports includes far = ?
+Inv-loop classes s store₀ imports₀ includes₀ far₀ store imports includes far = Reading s store₀ imports₀ includes₀ store imports includes far
 
 abbrev μ-loop : tie.MeasureT-loop
-μ-loop classes s store₀ imports₀ includes₀ far₀ store imports includes far = ?
+μ-loop classes s store₀ imports₀ includes₀ far₀ store imports includes far = length s - far .at
 
--- src/lib.rt:169:5
 loop-holds : tie.Need-loop-holds Inv-loop μ-loop
-loop-holds c = ?
+loop-holds c = read-begun
 
--- src/lib.rt:170:15
 parse-next-requires : tie.Need-parse-next-requires Inv-loop μ-loop
-parse-next-requires c κs = ?
+parse-next-requires c κs =
+    let at-loop = c .before .before .before in
+    let first = at-loop .before .before .before .before .before in
+    let l = read-long (at-loop .loop .inv) in
+    (first .pre .0, read-room (at-loop .loop .inv), omega (arith, l), first .pre .2, omega (arith, l), omega (arith, l))
 
--- src/lib.rt:171:22
 enum-known-next : tie.Need-enum-known-next Inv-loop μ-loop
-enum-known-next c = ?
+enum-known-next c = search needs
 
--- src/lib.rt:169:5
 loop-less : tie.Need-loop-less Inv-loop μ-loop
-loop-less c = ?
+loop-less c =
+    let step = c .before .before .before .before .before .before .before .before .before in
+    let at-loop = step .before .before .before .before in
+    read-nearer (at-loop .loop .inv) (step .parse-next .ensures) (c .before .next .given .0 .0) (c .before .next .given .1)
 
--- src/lib.rt:169:5
 loop-again : tie.Need-loop-again Inv-loop μ-loop
-loop-again c = ?
+loop-again c =
+    let step = c .before .before .before .before .before .before .before .before .before in
+    let at-loop = step .before .before .before .before in
+    read-more (at-loop .loop .inv) (step .parse-next .ensures) (c .before .next .given .0 .0) (c .before .next .given .1)
 
--- src/lib.rt:175:17
 enum-told : tie.Need-enum-told Inv-loop μ-loop
-enum-told c = ?
+enum-told c = search needs
 
--- src/lib.rt:175:17
 same-length : tie.Need-same-length Inv-loop μ-loop
-same-length c = ?
+same-length c =
+    let step = c .before .before .before .before .before .before .before .before in
+    let at-loop = step .before .before .before .before in
+    step .parse-next .kept .1 .1 .1 .0 ∙ read-long (at-loop .loop .inv) .0
 
--- src/lib.rt:175:17
 same-length-2 : tie.Need-same-length-2 Inv-loop μ-loop
-same-length-2 c = ?
+same-length-2 c =
+    let step = c .before .before .before .before .before .before .before .before in
+    let at-loop = step .before .before .before .before in
+    step .parse-next .kept .1 .1 .1 .1 .0 ∙ read-long (at-loop .loop .inv) .1
 
--- src/lib.rt:175:17
 same-length-3 : tie.Need-same-length-3 Inv-loop μ-loop
-same-length-3 c = ?
+same-length-3 c =
+    let step = c .before .before .before .before .before .before .before .before in
+    let at-loop = step .before .before .before .before in
+    step .parse-next .kept .1 .1 .1 .1 .1 .0 ∙ read-long (at-loop .loop .inv) .2
 
--- src/lib.rt:175:17
 returns : tie.Need-returns Inv-loop μ-loop
-returns c = ?
+returns c =
+    let step = c .before .before .before .before .before .before .before .before in
+    let at-loop = step .before .before .before .before in
+    read-done (at-loop .loop .inv) (step .parse-next .ensures) (c .enum-told .given .1)
 
--- src/lib.rt:181:24
 enum-known-r : tie.Need-enum-known-r Inv-loop μ-loop
-enum-known-r c = ?
+enum-known-r c = search needs
 
--- src/lib.rt:182:17
 same-length-4 : tie.Need-same-length-4 Inv-loop μ-loop
-same-length-4 c = ?
+same-length-4 c =
+    let step = c .before .before .before .before .before .before .before .before .before in
+    let at-loop = step .before .before .before .before in
+    step .parse-next .kept .1 .1 .1 .0 ∙ read-long (at-loop .loop .inv) .0
 
--- src/lib.rt:182:17
 same-length-5 : tie.Need-same-length-5 Inv-loop μ-loop
-same-length-5 c = ?
+same-length-5 c =
+    let step = c .before .before .before .before .before .before .before .before .before in
+    let at-loop = step .before .before .before .before in
+    step .parse-next .kept .1 .1 .1 .1 .0 ∙ read-long (at-loop .loop .inv) .1
 
--- src/lib.rt:182:17
 same-length-6 : tie.Need-same-length-6 Inv-loop μ-loop
-same-length-6 c = ?
+same-length-6 c =
+    let step = c .before .before .before .before .before .before .before .before .before in
+    let at-loop = step .before .before .before .before in
+    step .parse-next .kept .1 .1 .1 .1 .1 .0 ∙ read-long (at-loop .loop .inv) .2
 
--- src/lib.rt:182:17
 returns-2 : tie.Need-returns-2 Inv-loop μ-loop
-returns-2 c = ?
+returns-2 c =
+    let step = c .before .before .before .before .before .before .before .before .before in
+    let at-loop = step .before .before .before .before in
+    read-refused (at-loop .loop .inv) (step .parse-next .ensures) (c .before .r .given .0 .0) (c .before .r .given .1)
 
 pub parse-spec : {M : Type 1} → statement M
 parse-spec =
