@@ -50,7 +50,7 @@ module _ (s : List ℕ) (g : Scanning) (f : Stands s g) (x : Step) (said : Said 
       let l = length-append (g .read .bytes) (x .adds .bytes) in
       let to : g .far .used + length (x .adds .bytes) ≡ length (g .read .bytes ++ x .adds .bytes) = omega (arith, l, f .used) in
       let behind : Placed m (length (g .read .bytes ++ x .adds .bytes)) (x .adds)
-          = subst (λ n. Placed m n (x .adds)) to (subst (λ u. Placed u (g .far .used + length (x .adds .bytes)) (x .adds)) (f .used) (said .placed)) in
+      = subst (λ n. Placed m n (x .adds)) to (subst (λ u. Placed u (g .far .used + length (x .adds .bytes)) (x .adds)) (f .used) (said .placed)) in
       record {
         short = omega (arith, l, f .used, f .room, said .fits);
         few-imports = omega (arith, length-append (g .read .imports) (x .adds .imports), f .imports, said .few-imports (omega (arith, f .imports, f .sound .few-imports)));
@@ -139,9 +139,10 @@ from-said s g =
     ends s a r h f =
         let x = stepAt s (a .far) in
         let said = step-said s (a .far) in
-        let d = joined (a .read) (x .adds) in
-        (subst (Sound s) (stop-read d (x .answer) r h) (sound-step s a f x said),
-        stop-within s (a .far) (x .adds) d (x .answer) r (f .inside) (said .went) h)
+        let d = joined (a .read) (x .adds) in (
+          subst (Sound s) (stop-read d (x .answer) r h) (sound-step s a f x said),
+          stop-within s (a .far) (x .adds) d (x .answer) r (f .inside) (said .went) h,
+        )
 
     goes : (s : List ℕ) (a b : Scanning) (r : Scan) → scanTurn s a ≡ on b → (Stands s b → Sound s (readOf r) × Within s r) → Stands s a → Sound s (readOf r) × Within s r
     goes s a b r h k f =

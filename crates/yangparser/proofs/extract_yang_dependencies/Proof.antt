@@ -1,82 +1,72 @@
+-- `yangparser::extract_yang_dependencies` meets its contract.
+-- Assumes nothing.
+use Rattle.yangparser.proofs.EntryLaws.{entry-cleared, entry-scanned, entry-refused}
 use borrow.Author.Needs.{needs}
 use Rattle.yangparser.proofs.extract_yang_dependencies.Statement.{statement}
 use Rattle.yangparser.proofs.extract_yang_dependencies.Tie as tie
-use Rattle.yangparser.proofs.extract_yang_dependencies.Reads as reads
-use Rattle.yangparser.proofs.extract_yang_dependencies.Lts as lts
-use Rattle.buffers.proofs.clear_bytes.Reads as clear-bytes-reads
-use Rattle.buffers.proofs.clear_words.Reads as clear-words-reads
-use Rattle.text.proofs.classes.Reads as classes-reads
-use Rattle.yangparser.proofs.check_lent.Reads as check-lent-reads
-use Rattle.yangparser.proofs.parse_cleared.Reads as parse-cleared-reads
-use Rattle.yangparser.proofs.too_short.Reads as too-short-reads
 
--- src/lib.rt:49:5
 clear-bytes-requires : tie.Need-clear-bytes-requires
 clear-bytes-requires c κs = search needs
 
--- src/lib.rt:50:5
 clear-words-requires : tie.Need-clear-words-requires
 clear-words-requires c κs = search needs
 
--- src/lib.rt:51:5
 clear-words-requires-2 : tie.Need-clear-words-requires-2
 clear-words-requires-2 c κs = search needs
 
--- src/lib.rt:52:19
 classes-requires : tie.Need-classes-requires
 classes-requires c κs = search needs
 
--- src/lib.rt:53:9
 too-short-requires : tie.Need-too-short-requires
 too-short-requires c κs = search needs
 
--- src/lib.rt:54:9
 check-lent-requires : tie.Need-check-lent-requires
 check-lent-requires c κs = search needs
 
--- src/lib.rt:56:36
 enum-told : tie.Need-enum-told
 enum-told c = search needs
 
--- src/lib.rt:56:22
 parse-cleared-requires : tie.Need-parse-cleared-requires
-parse-cleared-requires c κs = ?
+parse-cleared-requires c κs =
+    let told = c .before .before .before .before in
+    let check = told .before .before in
+    let short = check .before .before in
+    let classes = short .before in
+    let includes = classes .before .before .before in
+    let imports = includes .before .before .before .before in
+    let store = imports .before .before .before .before in
+    let a = store .before .before .before .before .before .before .args in
+    entry-cleared (a .s .now) (a .store .now) (a .imports .now) (a .includes .now)
+    (store .clear-bytes .ensures) (imports .clear-words .ensures) (includes .clear-words2 .ensures)
+    (store .clear-bytes .kept .0) (imports .clear-words .kept .0) (includes .clear-words2 .kept .0)
+    (short .too-short .ensures) (check .check-lent .ensures) (told .enum-told .given .1) (classes .classes .ensures)
 
--- src/lib.rt:57:21
 enum-known-lent : tie.Need-enum-known-lent
 enum-known-lent c = search needs
 
--- src/lib.rt:41:1
 same-length : tie.Need-same-length
 same-length c = search needs
 
--- src/lib.rt:41:1
 same-length-2 : tie.Need-same-length-2
 same-length-2 c = search needs
 
--- src/lib.rt:41:1
 same-length-3 : tie.Need-same-length-3
 same-length-3 c = search needs
 
--- src/lib.rt:41:1
 returns : tie.Need-returns
-returns c = ?
+returns c = search entry-scanned
 
--- src/lib.rt:41:1
 same-length-4 : tie.Need-same-length-4
 same-length-4 c = search needs
 
--- src/lib.rt:41:1
 same-length-5 : tie.Need-same-length-5
 same-length-5 c = search needs
 
--- src/lib.rt:41:1
 same-length-6 : tie.Need-same-length-6
 same-length-6 c = search needs
 
--- src/lib.rt:41:1
 returns-2 : tie.Need-returns-2
-returns-2 c = ?
+returns-2 c = search entry-refused
 
 pub extract-yang-dependencies-spec : {M : Type 1} → statement M
 extract-yang-dependencies-spec =
