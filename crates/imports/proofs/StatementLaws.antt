@@ -115,7 +115,7 @@ module _ (s : List ℕ) (at u : ℕ) (d : List ℕ) {a : Argument} {e : List ℕ
     include-open k {r} {f} re fe =
         let l = argument-far s at u 9 c n (sym ae ∙ h) in
         let q : includeAt s at u ≡ blockOf x (valueBytes (valueAt s at)) (blockAt s (g + 1) n 9)
-            = include-named ∙ rw (eq-eqb (getD s g 256) 123 (sym pe ∙ k)) refl in
+        = include-named ∙ rw (eq-eqb (getD s g 256) 123 (sym pe ∙ k)) refl in
         leaves q d u (re, sets-twice d e f u n (valueBytes (valueAt s at)) (blockAt s (g + 1) n 9 .bytes) ee (l .3) fe)
 
     -- t: what the semicolon answered

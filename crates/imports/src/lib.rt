@@ -259,13 +259,7 @@ pub enum Inside {
 }
 
 // Reads or skips the statement of a block that stands after a gap, or its closing brace.
-fn parse_inside(
-    body: Body,
-    classes: &[u8; 128],
-    s: &[u8],
-    store: &mut [u8],
-    keyword: u32,
-) -> Inside
+fn parse_inside(body: Body, classes: &[u8; 128], s: &[u8], store: &mut [u8], keyword: u32) -> Inside
     requires { ⌜ (now classes ≡ classTable) × (body .used + (length (now s) - body .at) ≤ length (now store)) ⌝ }
     ensures { λ r. ⌜ (r ≡ insideAt (now (s .entry)) keyword body .answer) × (now (store .exit) ≡ sets (now (store .entry)) (body .used) (insideAt (now (s .entry)) keyword body .bytes)) ⌝ }
 {
@@ -328,7 +322,15 @@ fn read_revision(
 {
     let used = body.used;
     let prefix = body.prefix;
-    let line = value::read_argument(here, classes, s, store, used, REVISION_DATE, text::SEMICOLON);
+    let line = value::read_argument(
+        here,
+        classes,
+        s,
+        store,
+        used,
+        REVISION_DATE,
+        text::SEMICOLON,
+    );
     let Argument::Read { next, used: n } = line else {
         return Inside::Refused(argument_refusal(line));
     };
