@@ -15,7 +15,6 @@ use Rattle.value.specs.Str.{escaped, escapes, strEnd, strBytes, closedBy, strAt
 use Rattle.value.specs.Value.{isQuote, startsName, addedBy, afterPlus, afterGap, moreAt, addTo, joinTurn, joinedWith, joined, ofString, valueHere, valueAt, valueBytes}
 use Rattle.skip.specs.Statement.{closes, quotedLen, quotedEnd, atSemicolon, atClose, partOf, partAt, ofPart, statementTurn, statementFrom, statementAt, endedAt}
 use Rattle.rows.specs.Rows.{importWords, includeWords}
-use Rattle.imports.specs.Left.{Left}
 use Rattle.imports.specs.Words.{prefixKeyword, importKeyword, includeKeyword, revisionDateKeyword}
 use Rattle.imports.specs.Block.{openEnded, orRevision, orPrefix, lineKind, withPrefix, withRevision, afterKind, insideHere, insideAt, afterInside, blockTurn, blockFrom, blockAt}
 use Rattle.imports.specs.Statement.{noPrefix, ofBody, importOf, withName, afterName, importAt, includeOf, plainOf, blockOf, openOrPlain, afterValue, includeAt}
