@@ -7,20 +7,18 @@ use Prim.Native.Nat.{ℕ, suc, _+_, _-_, _<_, _≤_}
 use native.Mathlib.Omega.{arith}
 use lib.ListN.{length, length-append}
 use lib.Seq.{sets, length-sets}
-use Rattle.text.specs.Turns.{Turn, stop, on}
+use Rattle.text.specs.Turns.{on}
 use Rattle.text.specs.declared.Refusal.{Refusal}
-use Rattle.text.proofs.Turns.{turns-stop, turns-on, turns-rule}
+use Rattle.text.proofs.Turns.{turns-stop, turns-on}
 use Rattle.value.proofs.JoinLaws.{sets-twice}
-use Rattle.imports.specs.Left.{Left, nothing}
-use Rattle.imports.specs.Block.{insideAt, Stored, afterInside, blockTurn, blockFrom, begun, blockAt, blockRefusal}
-use Rattle.imports.specs.declared.Block.{Block}
+use Rattle.imports.specs.Left.{nothing}
+use Rattle.imports.specs.Block.{insideAt, Stored, afterInside, blockTurn, blockFrom, begun, blockAt}
 use Rattle.imports.specs.declared.Block.the-variants.{Whole, Broken}
 use Rattle.imports.specs.declared.Body.{Body}
 use Rattle.imports.specs.declared.Inside.{Inside}
 use Rattle.imports.specs.declared.Inside.the-variants.{On, Closed, Refused}
 use Rattle.imports.proofs.FarLaws.{Forth, Went, inside-went}
 use Rattle.imports.proofs.InsideLaws.{Leaves}
-use Rattle.imports.proofs.Spans.{Sound, sound-begun}
 
 -- ---- the turns
 

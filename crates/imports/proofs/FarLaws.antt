@@ -1,8 +1,7 @@
 -- How far one statement of a block goes: it takes more bytes of the text than it stores, so the block ends and its values fit the store.
 -- Assumes nothing.
 use mathlib.Core.Path.{_≡_, refl, sym, ap, subst, _∙_}
-use mathlib.Core.Bool.{Bool}
-use mathlib.Core.List.{List, []}
+use mathlib.Core.List.{List}
 use Prim.Native.Nat.{ℕ, _+_, _-_, _<_, _≤_}
 use native.Mathlib.Omega.{arith}
 use lib.ListN.{length, getD}
@@ -13,7 +12,6 @@ use Rattle.text.specs.Scan.{gapEnd}
 use Rattle.text.specs.declared.Cursor.{Cursor}
 use Rattle.text.specs.declared.Match.{Match}
 use Rattle.text.specs.declared.Match.the-variants.{After, Not}
-use Rattle.text.specs.declared.Refusal.{Refusal}
 use Rattle.text.proofs.Here.{by-test, here}
 use Rattle.text.proofs.KeywordLaws.{match-far}
 use Rattle.text.proofs.Laws.{gap-from, gap-within, gap-twice}
@@ -27,7 +25,7 @@ use Rattle.skip.specs.Statement.{statementAt, endedAt}
 use Rattle.skip.proofs.StatementLaws.{statement-moves, statement-within}
 use Rattle.imports.specs.Left.{Left}
 use Rattle.imports.specs.Words.{prefixWord, revisionDateWord}
-use Rattle.imports.specs.Block.{orRevision, orPrefix, lineKind, withPrefix, withRevision, moved, afterKind, insideAt}
+use Rattle.imports.specs.Block.{orRevision, orPrefix, lineKind, withPrefix, withRevision, afterKind, insideAt}
 use Rattle.imports.specs.declared.Body.{Body}
 use Rattle.imports.specs.declared.Line.{Line}
 use Rattle.imports.specs.declared.Line.the-variants.{Prefix, Revision, Other}

@@ -2,8 +2,8 @@
 -- the way answered.
 -- Assumes nothing.
 use mathlib.Core.Path.{_≡_, refl, sym, ap, ap₂, _∙_}
-use mathlib.Core.Bool.{Bool, true, false, cond}
-use mathlib.Core.List.{List, []}
+use mathlib.Core.Bool.{Bool, false}
+use mathlib.Core.List.{List}
 use Prim.Native.Nat.{ℕ, _+_, _-_, _<_, _≤_}
 use native.Mathlib.Omega.{arith}
 use lib.ListN.{length, getD}
@@ -22,7 +22,7 @@ use Rattle.value.specs.Argument.{lineAt}
 use Rattle.value.specs.Value.{valueAt, valueBytes}
 use Rattle.value.specs.declared.Argument.{Argument}
 use Rattle.value.specs.declared.Argument.the-variants.{Read, Refused as RefusedLine}
-use Rattle.value.proofs.ArgumentLaws.{line-far}
+use Rattle.value.proofs.ArgumentLaws.{line-far, line-room}
 use Rattle.skip.specs.Statement.{statementAt, endedAt}
 use Rattle.rows.specs.Span.{held, missing}
 use Rattle.rows.specs.declared.Span.{Span}
@@ -32,7 +32,6 @@ use Rattle.imports.specs.Block.{orRevision, orPrefix, lineKind, withPref
 use Rattle.imports.specs.declared.Body.{Body}
 use Rattle.imports.specs.declared.Line.{Line}
 use Rattle.imports.specs.declared.Line.the-variants.{Prefix, Revision, Other}
-use Rattle.imports.specs.declared.Inside.{Inside}
 use Rattle.imports.specs.declared.Inside.the-variants.{On, Closed, Refused}
 
 -- ---- what is answered, and what is left in the store: it was d and is e, from the place u on
@@ -92,23 +91,29 @@ refusal-is h e = e ∙ ap argumentRefusal h
 pub line-grows : (s : List ℕ) (at u k b : ℕ) (c : Cursor) (n : ℕ) → b < 256 → {l : Argument} → l ≡ lineAt s at u k b → l ≡ Read c n → u ≤ n
 line-grows s at u k b c n small e h = omega (arith, line-far s at u k b c n small (sym e ∙ h))
 
-module _ (b : Body) {l a : Argument} (e : l ≡ a) where
-  pub prefix-refused : (r : Refusal) → l ≡ RefusedLine r → {q : Refusal} → q ≡ argumentRefusal l → Refused q ≡ withPrefix b a
+-- room in the store for the rest of the text stays
+pub room-left : (s : List ℕ) (at u k b m : ℕ) (c : Cursor) (n : ℕ) → b < 256 → {l : Argument} → l ≡ lineAt s at u k b → l ≡ Read c n
+    → u + (length s - at) ≤ m → n + (length s - c .at) ≤ m
+room-left s at u k b m c n small e h r = line-room s at u k b m c n small (sym e ∙ h) r
+
+module _ (s : List ℕ) (at : ℕ) (b : Body) {l : Argument} (e : l ≡ lineAt s at (b .used) 5 59) where
+  pub prefix-refused : (r : Refusal) → l ≡ RefusedLine r → {q : Refusal} → q ≡ argumentRefusal l → Refused q ≡ withPrefix b (lineAt s at (b .used) 5 59)
   unfolding withPrefix
   prefix-refused r h p = ap Refused (refusal-is h p) ∙ sym (ap (withPrefix b) (sym e ∙ h))
 
   pub prefix-read : (c : Cursor) (n : ℕ) → l ≡ Read c n → {x : Span} → x ≡ held (b .used) (n - b .used)
-      → On (record { at = c .at; used = n; prefix = x; revision = b .revision }) ≡ withPrefix b a
+      → On (record { at = c .at; used = n; prefix = x; revision = b .revision }) ≡ withPrefix b (lineAt s at (b .used) 5 59)
   unfolding withPrefix
   prefix-read c n h p =
       ap (λ x. On (record { at = c .at; used = n; prefix = x; revision = b .revision })) p ∙ sym (ap (withPrefix b) (sym e ∙ h))
 
-  pub revision-refused : (r : Refusal) → l ≡ RefusedLine r → {q : Refusal} → q ≡ argumentRefusal l → Refused q ≡ withRevision b a
+module _ (s : List ℕ) (at : ℕ) (b : Body) {l : Argument} (e : l ≡ lineAt s at (b .used) 10 59) where
+  pub revision-refused : (r : Refusal) → l ≡ RefusedLine r → {q : Refusal} → q ≡ argumentRefusal l → Refused q ≡ withRevision b (lineAt s at (b .used) 10 59)
   unfolding withRevision
   revision-refused r h p = ap Refused (refusal-is h p) ∙ sym (ap (withRevision b) (sym e ∙ h))
 
   pub revision-read : (c : Cursor) (n : ℕ) → l ≡ Read c n → {x : Span} → x ≡ held (b .used) (n - b .used)
-      → On (record { at = c .at; used = n; prefix = b .prefix; revision = x }) ≡ withRevision b a
+      → On (record { at = c .at; used = n; prefix = b .prefix; revision = x }) ≡ withRevision b (lineAt s at (b .used) 10 59)
   unfolding withRevision
   revision-read c n h p =
       ap (λ x. On (record { at = c .at; used = n; prefix = b .prefix; revision = x })) p ∙ sym (ap (withRevision b) (sym e ∙ h))

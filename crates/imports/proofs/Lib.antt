@@ -1,4 +1,5 @@
 pub mod BlockLaws
+pub mod Examples
 pub mod FarLaws
 pub mod InsideLaws
 pub mod ReachLaws

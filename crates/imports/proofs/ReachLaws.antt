@@ -1,9 +1,8 @@
 -- How far an import or include goes, how much it stores, and where its values lie: what holds of each statement of a block and is kept by
 -- the next holds of the whole.
 -- Assumes nothing.
-use mathlib.Core.Path.{_≡_, refl, sym, ap, subst, _∙_}
-use mathlib.Core.Logic.{_⊎_, inl, inr, ⊎-elim}
-use mathlib.Core.Bool.{Bool, true, false}
+use mathlib.Core.Path.{_≡_, refl, ap, subst, _∙_}
+use mathlib.Core.Logic.{inl}
 use mathlib.Core.List.{List, [], _++_}
 use Prim.Native.Nat.{ℕ, suc, _+_, _-_, _<_, _≤_}
 use native.Mathlib.Omega.{arith}
@@ -12,7 +11,7 @@ use lib.Dec.{eqb}
 use borrow.Author.Tests.{eqb-true}
 use Rattle.text.specs.Due.{dueHere, dueAt}
 use Rattle.text.specs.Scan.{gapEnd}
-use Rattle.text.specs.Turns.{Turn, stop, on}
+use Rattle.text.specs.Turns.{stop}
 use Rattle.text.specs.declared.Cursor.{Cursor}
 use Rattle.text.specs.declared.Due.{Due}
 use Rattle.text.specs.declared.Due.the-variants.{After, Not}
@@ -26,8 +25,7 @@ use Rattle.value.specs.Value.{valueAt, valueBytes}
 use Rattle.value.specs.declared.Argument.{Argument}
 use Rattle.value.specs.declared.Argument.the-variants.{Read, Refused as RefusedValue}
 use Rattle.value.proofs.ArgumentLaws.{argument-far, argument-refused, line-far, line-refusal}
-use Rattle.rows.specs.Span.{held, missing}
-use Rattle.rows.specs.declared.Span.{Span}
+use Rattle.rows.specs.Span.{held}
 use Rattle.rows.specs.declared.YangImport.{YangImport}
 use Rattle.rows.specs.declared.YangInclude.{YangInclude}
 use Rattle.imports.specs.Left.{Left, nothing}

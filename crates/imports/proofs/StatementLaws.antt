@@ -1,9 +1,9 @@
 -- What a proof uses of the definitions of `specs/Statement.antt`. Each law takes what the calls on the way answered.
 -- Assumes nothing.
 use mathlib.Core.Path.{_≡_, refl, sym, ap, _∙_}
-use mathlib.Core.Bool.{Bool, true, false}
+use mathlib.Core.Bool.{true, false}
 use mathlib.Core.List.{List, _++_}
-use Prim.Native.Nat.{ℕ, _+_, _-_, _<_, _≤_}
+use Prim.Native.Nat.{ℕ, _+_, _-_, _≤_}
 use native.Mathlib.Omega.{arith}
 use lib.ListN.{length, getD}
 use lib.Seq.{sets}
@@ -14,16 +14,15 @@ use Rattle.text.specs.declared.Cursor.{Cursor}
 use Rattle.text.specs.declared.Due.{Due}
 use Rattle.text.specs.declared.Due.the-variants.{After, Not}
 use Rattle.text.specs.declared.Refusal.{Refusal}
-use Rattle.text.proofs.Laws.{gap-twice}
+use Rattle.text.proofs.Laws.{gap-from, gap-twice}
 use Rattle.value.specs.Argument.{argumentAt, lineAt}
 use Rattle.value.specs.Value.{valueAt, valueBytes}
 use Rattle.value.specs.declared.Argument.{Argument}
 use Rattle.value.specs.declared.Argument.the-variants.{Read, Refused}
-use Rattle.value.proofs.ArgumentLaws.{argument-far, line-far}
+use Rattle.value.proofs.ArgumentLaws.{argument-far, argument-room, line-far}
 use Rattle.value.proofs.JoinLaws.{sets-twice}
 use Rattle.rows.specs.Span.{held, missing}
 use Rattle.rows.specs.declared.Span.{Span}
-use Rattle.imports.specs.Left.{Left}
 use Rattle.imports.specs.Block.{argumentRefusal, blockRefusal, blockAt}
 use Rattle.imports.specs.Statement.{ofBody, importOf, withName, afterName, importAt, includeOf, plainOf, blockOf, openOrPlain, afterValue, includeAt}
 use Rattle.imports.specs.declared.Block.{Block}
@@ -80,18 +79,23 @@ module _ (s : List ℕ) (at u : ℕ) (d : List ℕ) {a : Argument} {e : List ℕ
 
 -- ---- an include
 
-module _ (x : Span) {b t : Block} (be : b ≡ t) where
-  pub include-broken : (r : Refusal) → b ≡ Broken r → {q : Refusal} → q ≡ blockRefusal b → NoInclude q ≡ includeOf x t
+module _ (s : List ℕ) (at u : ℕ) (x : Span) {b : Block} (be : b ≡ blockAt s at u 9 .answer) where
+  pub include-broken : (r : Refusal) → b ≡ Broken r → {q : Refusal} → q ≡ blockRefusal b → NoInclude q ≡ includeOf x (blockAt s at u 9 .answer)
   unfolding includeOf
   include-broken r k p = ap NoInclude (broken-is k p) ∙ sym (ap (includeOf x) (sym be ∙ k))
 
   pub include-whole : (y : Body) → b ≡ Whole y
-      → Include (record { at = y .at }) (y .used) (record { «submodule_name» = x; «revision_date» = y .revision }) ≡ includeOf x t
+      → Include (record { at = y .at }) (y .used) (record { «submodule_name» = x; «revision_date» = y .revision }) ≡ includeOf x (blockAt s at u 9 .answer)
   unfolding includeOf
   include-whole y k = sym (ap (includeOf x) (sym be ∙ k))
 
 pub argument-grows : (s : List ℕ) (at u k : ℕ) (c : Cursor) (n : ℕ) {a : Argument} → a ≡ argumentAt s at u k → a ≡ Read c n → u ≤ n
 argument-grows s at u k c n ae h = omega (arith, argument-far s at u k c n (sym ae ∙ h))
+
+-- g after the gap: room in the store for the rest of the text stays
+pub inner-room : (s : List ℕ) (at u k m : ℕ) (c : Cursor) (n : ℕ) {a : Argument} → a ≡ argumentAt s at u k → a ≡ Read c n → {g : ℕ} → g ≡ gapEnd s (c .at)
+    → u + (length s - at) ≤ m → n + (length s - (g + 1)) ≤ m
+inner-room s at u k m c n ae h ge r = omega (arith, argument-room s at u k m c n (sym ae ∙ h) r, gap-from s (c .at))
 
 -- a: what reading the name answered; the store was d and is e then
 module _ (s : List ℕ) (at u : ℕ) (d : List ℕ) {a : Argument} {e : List ℕ} (ae : a ≡ argumentAt s at u 9) (ee : e ≡ sets d u (valueBytes (valueAt s at))) where

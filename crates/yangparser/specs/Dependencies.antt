@@ -11,7 +11,7 @@ use Rattle.text.specs.Turns.{Turn, stop, on, turns}
 use Rattle.text.specs.declared.Refusal.{Refusal}
 use Rattle.text.specs.declared.Run.the-variants.{Low}
 use Rattle.skip.specs.Skip.{tokenAt, tokenEnd}
-use Rattle.rows.specs.Rows.{importSize, includeSize, mostRows}
+use Rattle.rows.specs.Rows.{importSize, includeSize, mostRows, importTable, includeTable}
 use Rattle.rows.specs.declared.YangImport.{YangImport}
 use Rattle.rows.specs.declared.YangInclude.{YangInclude}
 use Rattle.imports.specs.Left.{Left}
@@ -61,6 +61,13 @@ pub record Dependencies : Type 0 where
 
 abbrev pub none : Dependencies
 none = record { imports = []; includes = []; bytes = [] }
+
+-- the tables: its rows laid out in words
+unfoldable pub importWordsOf : Dependencies → List ℕ
+importWordsOf d = importTable (d .imports)
+
+unfoldable pub includeWordsOf : Dependencies → List ℕ
+includeWordsOf d = includeTable (d .includes)
 
 unfoldable pub joined : Dependencies → Dependencies → Dependencies
 joined d e = record { imports = d .imports ++ e .imports; includes = d .includes ++ e .includes; bytes = d .bytes ++ e .bytes }

@@ -7,37 +7,41 @@ use lib.ListN.{length}
 use lib.Seq.{sets}
 use Rattle.text.specs.Class.{classTable}
 use Rattle.buffers.specs.Padded.{zeros, padded}
-use Rattle.rows.specs.Rows.{importSize, includeSize, mostRows, importTable, includeTable}
-use Rattle.yangparser.specs.Dependencies.{Step, importHere, includeHere, stepAt, Scan, scanned, tooShort, dependencies, parsedOf, readOf, keptOf}
+use Rattle.rows.specs.Rows.{importSize, includeSize, mostRows}
+use Rattle.yangparser.specs.Dependencies.{Dependencies, importWordsOf, includeWordsOf, Step, importHere, includeHere, Scan, scanned, tooShort, dependencies, parsedOf, readOf, keptOf}
 use Rattle.yangparser.specs.declared.Next.{Next}
 use Rattle.yangparser.specs.declared.Parsed.{Parsed}
 use Rattle.yangparser.specs.declared.Sofar.{Sofar}
 
--- an import read at a place
-pub record AddsImport (s : List ℕ) (far : Sofar) (at : ℕ) (d t : List ℕ) (r : Next) (e f : List ℕ) : Type 0 where
-  pub answer : r ≡ importHere s far at .answer
-  pub stored : e ≡ sets d (far .used) (importHere s far at .adds .bytes)
-  pub written : f ≡ sets t (far .imports * importSize) (importTable (importHere s far at .adds .imports))
+-- a step x with rows of one kind, which words lays out: its bytes from the store's place u on, its row from the word `at` on
+pub record Adds (words : Dependencies → List ℕ) (x : Step) (u at : ℕ) (d t : List ℕ) (r : Next) (e f : List ℕ) : Type 0 where
+  pub answer : r ≡ x .answer
+  pub stored : e ≡ sets d u (x .adds .bytes)
+  pub written : f ≡ sets t at (words (x .adds))
 
--- an include read at a place
-pub record AddsInclude (s : List ℕ) (far : Sofar) (at : ℕ) (d u : List ℕ) (r : Next) (e g : List ℕ) : Type 0 where
-  pub answer : r ≡ includeHere s far at .answer
-  pub stored : e ≡ sets d (far .used) (includeHere s far at .adds .bytes)
-  pub written : g ≡ sets u (far .includes * includeSize) (includeTable (includeHere s far at .adds .includes))
+abbrev pub AddsImport : List ℕ → Sofar → ℕ → List ℕ → List ℕ → Next → List ℕ → List ℕ → Type 0
+AddsImport s far at d t r e f = Adds importWordsOf (importHere s far at) (far .used) (far .imports * importSize) d t r e f
 
--- one statement or token
-pub record Steps (s : List ℕ) (far : Sofar) (d t u : List ℕ) (r : Next) (e f g : List ℕ) : Type 0 where
-  pub answer : r ≡ stepAt s far .answer
-  pub stored : e ≡ sets d (far .used) (stepAt s far .adds .bytes)
-  pub imports : f ≡ sets t (far .imports * importSize) (importTable (stepAt s far .adds .imports))
-  pub includes : g ≡ sets u (far .includes * includeSize) (includeTable (stepAt s far .adds .includes))
+abbrev pub AddsInclude : List ℕ → Sofar → ℕ → List ℕ → List ℕ → Next → List ℕ → List ℕ → Type 0
+AddsInclude s far at d u r e g = Adds includeWordsOf (includeHere s far at) (far .used) (far .includes * includeSize) d u r e g
 
--- the inner scan: it touches only what it uses
-pub record Parses (s : List ℕ) (d t u : List ℕ) (r : Parsed) (e f g : List ℕ) : Type 0 where
+-- one statement or token, of either kind
+pub record Steps (x : Step) (far : Sofar) (d t u : List ℕ) (r : Next) (e f g : List ℕ) : Type 0 where
+  pub answer : r ≡ x .answer
+  pub stored : e ≡ sets d (far .used) (x .adds .bytes)
+  pub imports : f ≡ sets t (far .imports * importSize) (importWordsOf (x .adds))
+  pub includes : g ≡ sets u (far .includes * includeSize) (includeWordsOf (x .adds))
+
+-- what was read stands in the store and the tables from their start on, and nothing else is touched
+pub record Holds (x : Dependencies) (d t u e f g : List ℕ) : Type 0 where
+  pub stored : e ≡ sets d 0 (x .bytes)
+  pub imports : f ≡ sets t 0 (importWordsOf x)
+  pub includes : g ≡ sets u 0 (includeWordsOf x)
+
+-- the inner scan, on a refusal too
+pub record Parses (s d t u : List ℕ) (r : Parsed) (e f g : List ℕ) : Type 0 where
   pub answer : r ≡ parsedOf (scanned s)
-  pub stored : e ≡ sets d 0 (readOf (scanned s) .bytes)
-  pub imports : f ≡ sets t 0 (importTable (readOf (scanned s) .imports))
-  pub includes : g ≡ sets u 0 (includeTable (readOf (scanned s) .includes))
+  pub holds : Holds (readOf (scanned s)) d t u e f g
 
 -- the lent slices are zero and long enough
 pub record Cleared (classes s d t u : List ℕ) : Type 0 where
@@ -54,8 +58,8 @@ pub record Cleared (classes s d t u : List ℕ) : Type 0 where
 pub record Leaves (x : Scan) (d t u : List ℕ) (r : Parsed) (e f g : List ℕ) : Type 0 where
   pub answer : r ≡ parsedOf x
   pub stored : e ≡ padded (length d) (keptOf x .bytes)
-  pub imports : f ≡ padded (length t) (importTable (keptOf x .imports))
-  pub includes : g ≡ padded (length u) (includeTable (keptOf x .includes))
+  pub imports : f ≡ padded (length t) (importWordsOf (keptOf x))
+  pub includes : g ≡ padded (length u) (includeWordsOf (keptOf x))
 
 -- the lengths lent are part of the input
 abbrev pub Extracts : List ℕ → List ℕ → List ℕ → List ℕ → Parsed → List ℕ → List ℕ → List ℕ → Type 0

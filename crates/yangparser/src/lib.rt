@@ -12,7 +12,7 @@ ghost use Rattle.text.specs.Keyword.{matchAt};
 ghost use Rattle.rows.specs.Rows.{importSize, includeSize, mostRows};
 ghost use Rattle.imports.specs.Words.{importWord, includeWord, organizationWord, contactWord, descriptionWord, referenceWord};
 ghost use Rattle.yangparser.specs.Word.{lastAt, wordAt};
-ghost use Rattle.yangparser.specs.Dependencies.{tooShort, lentAt, scanned};
+ghost use Rattle.yangparser.specs.Dependencies.{tooShort, lentAt, stepAt, scanned};
 ghost use Rattle.yangparser.specs.Promises.{AddsImport, AddsInclude, Steps, Parses, Cleared, Leaves, Extracts};
 
 // Refusals of this layer.
@@ -211,7 +211,7 @@ fn parse_next(
     includes: &mut [u32],
 ) -> Next
     requires { ⌜ (now classes ≡ classTable) × (far .used + (length (now s) - far .at) ≤ length (now s)) × (length (now s) ≤ length (now store)) × (length (now s) < 4294967296) × (mostRows * importSize ≤ length (now imports)) × (mostRows * includeSize ≤ length (now includes)) ⌝ }
-    ensures { λ r. ⌜ Steps (now (s .entry)) far (now (store .entry)) (now (imports .entry)) (now (includes .entry)) r (now (store .exit)) (now (imports .exit)) (now (includes .exit)) ⌝ }
+    ensures { λ r. ⌜ Steps (stepAt (now (s .entry)) far) far (now (store .entry)) (now (imports .entry)) (now (includes .entry)) r (now (store .exit)) (now (imports .exit)) (now (includes .exit)) ⌝ }
 {
     let from = Cursor { at: far.at };
     let here = from.skip_whitespace_and_comments(classes, s);

@@ -1,6 +1,5 @@
 -- `imports::line_kind`. Where no identifier begins, neither keyword matches.
 -- Assumes nothing.
-use mathlib.Core.Path.{sym}
 use Rattle.imports.proofs.InsideLaws.{kind-import, kind-include, kind-none}
 use borrow.Author.Needs.{needs}
 use Rattle.imports.proofs.line_kind.Statement.{statement}

@@ -1,10 +1,8 @@
 -- `imports::parse_import`. The name, then the block: each way out is a law.
 -- Assumes nothing.
-use mathlib.Core.Path.{sym, _∙_}
 use native.Mathlib.Omega.{arith}
 use lib.ListN.{length}
-use Rattle.value.proofs.ArgumentLaws.{line-room}
-use Rattle.imports.proofs.InsideLaws.{line-grows}
+use Rattle.imports.proofs.InsideLaws.{line-grows, room-left}
 use Rattle.imports.proofs.StatementLaws.{import-refused, import-broken, import-whole}
 use borrow.Author.Needs.{needs}
 use Rattle.imports.proofs.parse_import.Statement.{statement}
@@ -52,7 +50,7 @@ parse-block-requires c κs =
     let a = at-read .before .before .before .before .args in
     let k = named .name .given in
     let start = at-read .before .before .before .before in
-    let room = line-room (a .s .now) (a .here .at) (a .used) 8 123 (length (a .store .now)) (k .0 .0) (k .0 .1 .0) (omega arith) (sym (at-read .read-argument .ensures .0) ∙ k .1) (start .pre .1) in
+    let room = room-left (a .s .now) (a .here .at) (a .used) 8 123 (length (a .store .now)) (k .0 .0) (k .0 .1 .0) (omega arith) (at-read .read-argument .ensures .0) (k .1) (start .pre .1) in
     (start .pre .0, omega (arith, room, at-read .read-argument .kept .1 .1 .1 .0))
 
 enum-known-block : tie.Need-enum-known-block

@@ -1,12 +1,9 @@
 -- `imports::parse_include`. The name, then a block or a semicolon: each way out is a law.
 -- Assumes nothing.
-use mathlib.Core.Path.{sym, _∙_}
 use native.Mathlib.Omega.{arith}
 use lib.ListN.{length}
 use Rattle.text.proofs.Here.{here}
-use Rattle.text.proofs.Laws.{gap-from}
-use Rattle.value.proofs.ArgumentLaws.{argument-room}
-use Rattle.imports.proofs.StatementLaws.{argument-grows, include-refused, include-open, include-other, include-plain}
+use Rattle.imports.proofs.StatementLaws.{argument-grows, inner-room, include-refused, include-open, include-other, include-plain}
 use borrow.Author.Needs.{needs}
 use Rattle.imports.proofs.parse_include.Statement.{statement}
 use Rattle.imports.proofs.parse_include.Tie as tie
@@ -69,8 +66,8 @@ include-block-requires c κs =
     let k = named .name .given in
     let v = at-read .read-value .ensures in
     let start = at-read .before .before .before .before in
-    let room = argument-room (a .s .now) (a .here .at) (a .used) 9 (length (a .store .now)) (k .0 .0) (k .0 .1 .0) (sym (v .0) ∙ k .1) (start .pre .1) in
-    (start .pre .0, omega (arith, room, gap-from (a .s .now) (k .0 .0 .at), at-read .read-value .kept .1 .1 .1 .0))
+    let room = inner-room (a .s .now) (a .here .at) (a .used) 9 (length (a .store .now)) (k .0 .0) (k .0 .1 .0) (v .0) (k .1) (at-gap .skip-whitespace-and-comments .ensures) (start .pre .1) in
+    (start .pre .0, omega (arith, room, at-read .read-value .kept .1 .1 .1 .0))
 
 same-length-2 : tie.Need-same-length-2
 same-length-2 c = search needs

@@ -1,6 +1,6 @@
 -- `imports::parse_inside`. Each way out is a law of the statement that stands after the gap.
 -- Assumes nothing.
-use mathlib.Core.Path.{_≡_, refl, sym, ap, _∙_}
+use mathlib.Core.Path.{refl, sym, ap, _∙_}
 use native.Mathlib.Omega.{arith}
 use Rattle.text.proofs.Here.{here}
 use Rattle.text.proofs.Laws.{gap-from}

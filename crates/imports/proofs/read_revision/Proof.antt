@@ -28,7 +28,7 @@ returns c =
     let a = at-read .before .before .before .before .before .args in
     let v = at-read .read-argument in
     let k = told .enum-told .given in
-    (revision-refused (a .body) (v .ensures .0) (k .0 .0) (k .1) (c .argument-refusal .ensures), v .ensures .1)
+    (revision-refused (a .s .now) (a .here .at) (a .body) (v .ensures .0) (k .0 .0) (k .1) (c .argument-refusal .ensures), v .ensures .1)
 
 sub-size : tie.Need-sub-size
 sub-size c =
@@ -51,7 +51,7 @@ returns-2 c =
     let a = at-read .before .before .before .before .before .args in
     let v = at-read .read-argument in
     let k = at-line .line .given in
-    (revision-read (a .body) (v .ensures .0) (k .0 .0) (k .0 .1 .0) (k .1) (c .held .ensures), v .ensures .1)
+    (revision-read (a .s .now) (a .here .at) (a .body) (v .ensures .0) (k .0 .0) (k .0 .1 .0) (k .1) (c .held .ensures), v .ensures .1)
 
 pub read-revision-spec : {M : Type 1} → statement M
 read-revision-spec =
