@@ -2,7 +2,7 @@
 -- A good scan answers 0, 0, 0 and its counts. Each call returns the number.
 -- Assumes nothing.
 use Prim.Native.Nat.{ℕ, _<_}
-use mathlib.Core.Bool.{_||_}
+use mathlib.Core.Bool.{false}
 use mathlib.Core.Path.{_≡_}
 use mathlib.Core.List.{List, [], _∷_, _++_}
 use lib.ListN.{length}
@@ -39,8 +39,8 @@ pub record AnsweredPage (x : Scan) (d t u p : List ℕ) (r : ℕ) (e f g q a : L
   pub answer : a ≡ answerWords (parsedOf x) ++ (length (pageOf x) ∷ [])
 
 abbrev pub DependenciesAnswered : List ℕ → List ℕ → List ℕ → List ℕ → ℕ → List ℕ → List ℕ → List ℕ → List ℕ → Type 0
-DependenciesAnswered s d t u r e f g a = Answered (dependencies s (tooShort (length s) (length d) (length t) (length u))) d t u r e f g a
+DependenciesAnswered s d t u r e f g a = Answered (dependencies s (tooShort false (length s) (length d) (length t) (length u))) d t u r e f g a
 
 abbrev pub PrintedAnswered : List ℕ → List ℕ → List ℕ → List ℕ → List ℕ → ℕ → List ℕ → List ℕ → List ℕ → List ℕ → List ℕ → Type 0
 PrintedAnswered s d t u p r e f g q a =
-    AnsweredPage (dependencies s (pageShort (length s) (length p) || tooShort (length s) (length d) (length t) (length u))) d t u p r e f g q a
+    AnsweredPage (dependencies s (tooShort (pageShort (length s) (length p)) (length s) (length d) (length t) (length u))) d t u p r e f g q a

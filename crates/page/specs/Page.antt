@@ -2,7 +2,6 @@
 -- zero.
 -- Assumes nothing.
 use Prim.Native.Nat.{ℕ}
-use mathlib.Core.Bool.{_||_}
 use mathlib.Core.Path.{_≡_}
 use mathlib.Core.List.{List, []}
 use lib.ListN.{length}
@@ -24,4 +23,4 @@ pub record PageLeft (x : Scan) (d t u p : List ℕ) (r : Page) (e f g q : List �
 
 abbrev pub Prints : List ℕ → List ℕ → List ℕ → List ℕ → List ℕ → Page → List ℕ → List ℕ → List ℕ → List ℕ → Type 0
 Prints s d t u p r e f g q =
-    PageLeft (dependencies s (pageShort (length s) (length p) || tooShort (length s) (length d) (length t) (length u))) d t u p r e f g q
+    PageLeft (dependencies s (tooShort (pageShort (length s) (length p)) (length s) (length d) (length t) (length u))) d t u p r e f g q

@@ -70,20 +70,20 @@ module _ {classes s d t u : List ℕ} (c : Cleared classes s d t u) {p : Parsed}
 
 -- ---- the entry; d, t and u: what was lent, e, f and g: the same cleared
 
-module _ (s d t u : List ℕ) {e f g : List ℕ} (ee : e ≡ zeros (length d)) (fe : f ≡ zeros (length t)) (ge : g ≡ zeros (length u))
+module _ (s : List ℕ) (else : Bool) (d t u : List ℕ) {e f g : List ℕ} (ee : e ≡ zeros (length d)) (fe : f ≡ zeros (length t)) (ge : g ≡ zeros (length u))
     (el : length e ≡ length d) (fl : length f ≡ length t) (gl : length g ≡ length u)
-    {short : Bool} (se : short ≡ tooShort (length s) (length e) (length f) (length g)) {lent : Lent} (le : lent ≡ lentAt s short) where
-  short-is : short ≡ tooShort (length s) (length d) (length t) (length u)
+    {short : Bool} (se : short ≡ tooShort else (length s) (length e) (length f) (length g)) {lent : Lent} (le : lent ≡ lentAt s short) where
+  short-is : short ≡ tooShort else (length s) (length d) (length t) (length u)
   short-is = se ∙ rw el (rw fl (rw gl refl))
 
-  scan-is : {x : Lent} → lent ≡ x → dependencies s (tooShort (length s) (length d) (length t) (length u)) ≡ ifFit x (scanned s)
+  scan-is : {x : Lent} → lent ≡ x → dependencies s (tooShort else (length s) (length d) (length t) (length u)) ≡ ifFit x (scanned s)
   unfolding dependencies
   scan-is h = ap (λ b. ifFit (lentAt s b) (scanned s)) (sym short-is) ∙ ap (λ l. ifFit l (scanned s)) (sym le ∙ h)
 
   pub entry-cleared : lent ≡ Fit → {classes : List ℕ} → classes ≡ classTable → Cleared classes s e f g
   entry-cleared h ce =
       let k = fit-said s short (sym le ∙ h) in
-      let l = long-enough (length s) (length e) (length f) (length g) (sym se ∙ k .1) in
+      let l = long-enough else (length s) (length e) (length f) (length g) (sym se ∙ k .1) in
       record {
         table = ce;
         store = ee ∙ ap zeros (sym el);
@@ -95,7 +95,7 @@ module _ (s d t u : List ℕ) {e f g : List ℕ} (ee : e ≡ zeros (length d)) (
         includeRoom = l .2;
       }
 
-  pub entry-scanned : lent ≡ Fit → {r : Parsed} {e′ f′ g′ : List ℕ} → Leaves (scanned s) e f g r e′ f′ g′ → Extracts s d t u r e′ f′ g′
+  pub entry-scanned : lent ≡ Fit → {r : Parsed} {e′ f′ g′ : List ℕ} → Leaves (scanned s) e f g r e′ f′ g′ → Extracts s else d t u r e′ f′ g′
   unfolding ifFit
   entry-scanned h {r} {e′} {f′} {g′} w =
       subst (λ x. Leaves x d t u r e′ f′ g′) (sym (scan-is h))
@@ -106,7 +106,7 @@ module _ (s d t u : List ℕ) {e f g : List ℕ} (ee : e ≡ zeros (length d)) (
         includes = w .includes ∙ ap (λ n. padded n (includeWordsOf (keptOf (scanned s)))) gl;
       })
 
-  pub entry-refused : (r : Refusal) → lent ≡ Unfit r → Extracts s d t u (Refused r) e f g
+  pub entry-refused : (r : Refusal) → lent ≡ Unfit r → Extracts s else d t u (Refused r) e f g
   unfolding ifFit keptOf parsedOf
   entry-refused r h =
       subst (λ x. Leaves x d t u (Refused r) e f g) (sym (scan-is h)) (leaves-zero (bad r none) d t u refl refl ee fe ge)

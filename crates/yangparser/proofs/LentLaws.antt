@@ -18,27 +18,33 @@ use Rattle.yangparser.specs.declared.Lent.the-variants.{Fit, Unfit}
 
 -- ---- lengths
 
-module _ (text store imports includes : ℕ) where
-  pub short-store : store < text → true ≡ tooShort text store imports includes
+module _ (short : Bool) (text store imports includes : ℕ) where
+  pub short-else : short ≡ true → true ≡ tooShort short text store imports includes
   unfolding tooShort
-  short-store h = rw (lt-ltb store text h) refl
+  short-else h = rw h refl
 
-  module _ (enough : text ≤ store) where
-    pub short-imports : imports < 256 * 7 → true ≡ tooShort text store imports includes
+  module _ (long : short ≡ false) where
+    pub short-store : store < text → true ≡ tooShort short text store imports includes
     unfolding tooShort
-    short-imports h = rw (le-ltb store text enough) (rw (lt-ltb imports (256 * 7) h) refl)
+    short-store h = rw long (rw (lt-ltb store text h) refl)
 
-    pub short-includes : 256 * 7 ≤ imports → ltb includes (256 * 5) ≡ tooShort text store imports includes
-    unfolding tooShort
-    short-includes h = rw (le-ltb store text enough) (rw (le-ltb imports (256 * 7) h) refl)
+    module _ (enough : text ≤ store) where
+      pub short-imports : imports < 256 * 7 → true ≡ tooShort short text store imports includes
+      unfolding tooShort
+      short-imports h = rw long (rw (le-ltb store text enough) (rw (lt-ltb imports (256 * 7) h) refl))
+
+      pub short-includes : 256 * 7 ≤ imports → ltb includes (256 * 5) ≡ tooShort short text store imports includes
+      unfolding tooShort
+      short-includes h = rw long (rw (le-ltb store text enough) (rw (le-ltb imports (256 * 7) h) refl))
 
   -- nothing is too short
-  pub long-enough : tooShort text store imports includes ≡ false → (text ≤ store) × (256 * 7 ≤ imports) × (256 * 5 ≤ includes)
+  pub long-enough : tooShort short text store imports includes ≡ false → (text ≤ store) × (256 * 7 ≤ imports) × (256 * 5 ≤ includes)
   unfolding tooShort
   long-enough h =
-      let p = neither (ltb store text || ltb imports (256 * 7)) (ltb includes (256 * 5)) h in
-      let q = neither (ltb store text) (ltb imports (256 * 7)) (p .0) in
-      (ltb-false store text (q .0), ltb-false imports (256 * 7) (q .1), ltb-false includes (256 * 5) (p .1))
+      let p = neither (short || ltb store text || ltb imports (256 * 7)) (ltb includes (256 * 5)) h in
+      let q = neither (short || ltb store text) (ltb imports (256 * 7)) (p .0) in
+      let o = neither short (ltb store text) (q .0) in
+      (ltb-false store text (o .1), ltb-false imports (256 * 7) (q .1), ltb-false includes (256 * 5) (p .1))
     where
       neither : (a b : Bool) → (a || b) ≡ false → (a ≡ false) × (b ≡ false)
       neither true b h = absurd (never h refl)

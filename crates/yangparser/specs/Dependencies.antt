@@ -154,10 +154,10 @@ scanned s = scanFrom s (record { far = start; read = none })
 -- ---- with the checks that come first
 
 -- the lengths lent: store, import table, include table; and the page of the printed form
--- text: the text's length
-unfoldable pub tooShort : ℕ → ℕ → ℕ → ℕ → Bool
-tooShort text store imports includes =
-    ltb store text || ltb imports (mostRows * importSize) || ltb includes (mostRows * includeSize)
+-- text: the text's length; short: whether something else that was lent is too short
+unfoldable pub tooShort : Bool → ℕ → ℕ → ℕ → ℕ → Bool
+tooShort short text store imports includes =
+    short || ltb store text || ltb imports (mostRows * importSize) || ltb includes (mostRows * includeSize)
 
 unfoldable pub pageShort : ℕ → ℕ → Bool
 pageShort text page = ltb page (text + pageMore)

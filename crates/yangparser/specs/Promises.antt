@@ -2,6 +2,7 @@
 -- Assumes nothing.
 use Prim.Native.Nat.{ℕ, _*_, _≤_, _<_}
 use mathlib.Core.Path.{_≡_}
+use mathlib.Core.Bool.{Bool}
 use mathlib.Core.List.{List}
 use lib.ListN.{length}
 use lib.Seq.{sets}
@@ -62,5 +63,5 @@ pub record Leaves (x : Scan) (d t u : List ℕ) (r : Parsed) (e f g : List ℕ) 
   pub includes : g ≡ padded (length u) (includeWordsOf (keptOf x))
 
 -- the lengths lent are part of the input
-abbrev pub Extracts : List ℕ → List ℕ → List ℕ → List ℕ → Parsed → List ℕ → List ℕ → List ℕ → Type 0
-Extracts s d t u r e f g = Leaves (dependencies s (tooShort (length s) (length d) (length t) (length u))) d t u r e f g
+abbrev pub Extracts : List ℕ → Bool → List ℕ → List ℕ → List ℕ → Parsed → List ℕ → List ℕ → List ℕ → Type 0
+Extracts s short d t u r e f g = Leaves (dependencies s (tooShort short (length s) (length d) (length t) (length u))) d t u r e f g

@@ -5,6 +5,7 @@ use text::Cursor;
 use text::Match;
 use text::Refusal;
 ghost use mathlib.Core.Path.{_≡_};
+ghost use mathlib.Core.Bool.{false};
 ghost use Prim.Native.Nat.{_+_, _-_, _*_, _≤_, _<_};
 ghost use lib.ListN.{length};
 ghost use Rattle.text.specs.Class.{classTable};
@@ -79,7 +80,7 @@ pub enum Lent {
 
 // Whether the store or a table is too short for a text.
 fn too_short(short: bool, text: usize, store: usize, imports: usize, includes: usize) -> bool
-    ensures { λ r. ⌜ r ≡ short || tooShort text store imports includes ⌝ }
+    ensures { λ r. ⌜ r ≡ tooShort short text store imports includes ⌝ }
 {
     if short {
         return true;

@@ -1,9 +1,9 @@
--- `yangparser::extract_yang_dependencies` meets its contract.
+-- `yangparser::scan_lent` meets its contract.
 -- Assumes nothing.
 use Rattle.yangparser.proofs.EntryLaws.{entry-cleared, entry-scanned, entry-refused}
 use borrow.Author.Needs.{needs}
-use Rattle.yangparser.proofs.extract_yang_dependencies.Statement.{statement}
-use Rattle.yangparser.proofs.extract_yang_dependencies.Tie as tie
+use Rattle.yangparser.proofs.scan_lent.Statement.{statement}
+use Rattle.yangparser.proofs.scan_lent.Tie as tie
 
 clear-bytes-requires : tie.Need-clear-bytes-requires
 clear-bytes-requires c κs = search needs
@@ -36,7 +36,7 @@ parse-cleared-requires c κs =
     let imports = includes .before .before .before .before in
     let store = imports .before .before .before .before in
     let a = store .before .before .before .before .before .before .args in
-    entry-cleared (a .s .now) (a .store .now) (a .imports .now) (a .includes .now)
+    entry-cleared (a .s .now) (a .short) (a .store .now) (a .imports .now) (a .includes .now)
     (store .clear-bytes .ensures) (imports .clear-words .ensures) (includes .clear-words2 .ensures)
     (store .clear-bytes .kept .0) (imports .clear-words .kept .0) (includes .clear-words2 .kept .0)
     (short .too-short .ensures) (check .check-lent .ensures) (told .enum-told .given .1) (classes .classes .ensures)
@@ -68,8 +68,8 @@ same-length-6 c = search needs
 returns-2 : tie.Need-returns-2
 returns-2 c = search entry-refused
 
-pub extract-yang-dependencies-spec : {M : Type 1} → statement M
-extract-yang-dependencies-spec =
+pub scan-lent-spec : {M : Type 1} → statement M
+scan-lent-spec =
     tie.close
     (tie.spec
     clear-bytes-requires
