@@ -51,7 +51,7 @@ unfolding heading sum
 heading-size word n = omega (arith, flatten-length (word ∷ digits n ∷ headEnd ∷ []), digits-size n)
 
 import-size : (store : List ℕ) (i : YangImport) → length (importLine store i) ≤ 19 + importValues i
-unfolding importLine importValues sum
+unfolding importLine sum
 import-size store i =
     omega (
       arith,
@@ -62,7 +62,7 @@ import-size store i =
     )
 
 include-size : (store : List ℕ) (i : YangInclude) → length (includeLine store i) ≤ 8 + includeValues i
-unfolding includeLine includeValues sum
+unfolding includeLine sum
 include-size store i =
     omega (
       arith,

@@ -10,10 +10,10 @@ module _ {A : Type 0} where
   total f [] = 0
   total f (i ∷ is) = f i + total f is
 
-unfoldable pub importValues : YangImport → ℕ
+abbrev pub importValues : YangImport → ℕ
 importValues i = i .«module_name» .size + i .prefix .size + i .«revision_date» .size
 
-unfoldable pub includeValues : YangInclude → ℕ
+abbrev pub includeValues : YangInclude → ℕ
 includeValues j = j .«submodule_name» .size + j .«revision_date» .size
 
 unfoldable pub importSizes : List YangImport → ℕ

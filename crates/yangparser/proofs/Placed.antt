@@ -8,6 +8,7 @@ use mathlib.Core.List.{List, [], _∷_, _++_}
 use Prim.Native.Nat.{ℕ, _+_, _≤_}
 use native.Mathlib.Omega.{arith}
 use Rattle.rows.specs.Rows.{There, Plain, PlainImport, PlainInclude, Each}
+use Rattle.rows.specs.Sizes.{total, importValues, includeValues}
 use Rattle.rows.specs.Span.{held, missing}
 use Rattle.rows.specs.declared.Span.{Span}
 use Rattle.rows.specs.declared.YangImport.{YangImport}
@@ -18,10 +19,6 @@ use Rattle.yangparser.specs.Dependencies.{Dependencies, none, joined}
 -- ---- lists of any kind
 
 module _ {A : Type 0} where
-  unfoldable pub total : (A → ℕ) → List A → ℕ
-  total f [] = 0
-  total f (i ∷ is) = f i + total f is
-
   pub total-append : (f : A → ℕ) (is js : List A) → total f (is ++ js) ≡ total f is + total f js
   unfolding total
   total-append f [] js = omega arith
@@ -45,13 +42,6 @@ ImportIn u n i = Lies u n (i .«module_name») × Lies u n (i .prefix) × MayLie
 abbrev pub IncludeIn : ℕ → ℕ → YangInclude → Type 0
 IncludeIn u n i = Lies u n (i .«submodule_name») × MayLie u n (i .«revision_date»)
 
--- how long their values are together
-abbrev pub importLength : YangImport → ℕ
-importLength i = i .«module_name» .size + i .prefix .size + i .«revision_date» .size
-
-abbrev pub includeLength : YangInclude → ℕ
-includeLength i = i .«submodule_name» .size + i .«revision_date» .size
-
 pub import-more : {u v n m : ℕ} → v ≤ u → n ≤ m → (i : YangImport) → ImportIn u n i → ImportIn v m i
 import-more h k i l = (lies-more (i .«module_name») h k (l .0), lies-more (i .prefix) h k (l .1), may-more h k (l .2))
 
@@ -61,19 +51,19 @@ include-more h k i l = (lies-more (i .«submodule_name») h k (l .0), may-more h
 pub record Placed (u n : ℕ) (x : Dependencies) : Type 0 where
   pub imports : Each (ImportIn u n) (x .imports)
   pub includes : Each (IncludeIn u n) (x .includes)
-  pub sizes : u + (total importLength (x .imports) + total includeLength (x .includes)) ≤ n
+  pub sizes : u + (total importValues (x .imports) + total includeValues (x .includes)) ≤ n
 
 -- bytes with no rows
 pub placed-bytes : (u n : ℕ) → u ≤ n → (bs : List ℕ) → Placed u n (record { imports = []; includes = []; bytes = bs })
 unfolding Each total
 placed-bytes u n h bs = record { imports = tt; includes = tt; sizes = omega arith }
 
-pub placed-import : (u n : ℕ) (i : YangImport) (bs : List ℕ) → ImportIn u n i → u + importLength i ≤ n
+pub placed-import : (u n : ℕ) (i : YangImport) (bs : List ℕ) → ImportIn u n i → u + importValues i ≤ n
     → Placed u n (record { imports = i ∷ []; includes = []; bytes = bs })
 unfolding Each total
 placed-import u n i bs l h = record { imports = (l, tt); includes = tt; sizes = omega arith }
 
-pub placed-include : (u n : ℕ) (i : YangInclude) (bs : List ℕ) → IncludeIn u n i → u + includeLength i ≤ n
+pub placed-include : (u n : ℕ) (i : YangInclude) (bs : List ℕ) → IncludeIn u n i → u + includeValues i ≤ n
     → Placed u n (record { imports = []; includes = i ∷ []; bytes = bs })
 unfolding Each total
 placed-include u n i bs l h = record { imports = tt; includes = (l, tt); sizes = omega arith }
@@ -93,7 +83,7 @@ placed-joined u m n x y p q =
           (each-of (IncludeIn u m) (IncludeIn u n) (include-more (omega arith) b) (x .includes) (p .includes))
           (each-of (IncludeIn m n) (IncludeIn u n) (include-more a (omega arith)) (y .includes) (q .includes));
       sizes =
-          omega (arith, p .sizes, q .sizes, total-append importLength (x .imports) (y .imports), total-append includeLength (x .includes) (y .includes));
+          omega (arith, p .sizes, q .sizes, total-append importValues (x .imports) (y .imports), total-append includeValues (x .includes) (y .includes));
     }
 
 -- ---- a row tells them whole
