@@ -19,10 +19,12 @@ use Rattle.rows.specs.Rows.{importsIn, includesIn}
 use Rattle.rows.specs.Span.{valueIn}
 use Rattle.rows.specs.declared.Span.{Span}
 use Rattle.rows.proofs.Reading.{imports-back, includes-back, imports-written, includes-written}
-use Rattle.yangparser.specs.Dependencies.{Dependencies, none, importWordsOf, includeWordsOf, Scan, good, bad, scanned, lentAt, ifFit, dependencies, readOf, keptOf}
-use Rattle.yangparser.specs.Promises.{Holds}
+use Rattle.yangparser.specs.Dependencies.{Dependencies, none, importWordsOf, includeWordsOf, Scan, good, bad, scanned, lentAt, ifFit, dependencies, parsedOf, readOf, keptOf}
+use Rattle.yangparser.specs.Promises.{Holds, Leaves}
 use Rattle.yangparser.specs.declared.Lent.{Lent}
 use Rattle.yangparser.specs.declared.Lent.the-variants.{Fit, Unfit}
+use Rattle.yangparser.specs.declared.Parsed.{Parsed}
+use Rattle.yangparser.specs.declared.Parsed.the-variants.{Good, Refused}
 use Rattle.yangparser.proofs.LentLaws.{lent-long, lent-short, lent-high, lent-fit, fit-said}
 use Rattle.yangparser.proofs.ScanLaws.{Sound, sound-none, scan-sound, scan-refusal, sound-imports-plain, sound-includes-plain}
 
@@ -85,6 +87,30 @@ module _ (s : List ℕ) where
   pub entry-refusal : (short : Bool) (r : Refusal) (d : Dependencies) → dependencies s short ≡ bad r d → r .at ≤ length s
   unfolding dependencies
   entry-refusal short r d h = fit-within (lentAt s short) (lent-within short) r d h
+
+-- ---- what an answer tells of the scan
+
+pub parsed-good : (x : Scan) (i j n : ℕ) → parsedOf x ≡ Good i j n
+    → (d : Dependencies) × (x ≡ good d) × (i ≡ length (d .imports)) × (j ≡ length (d .includes)) × (n ≡ length (d .bytes))
+unfolding parsedOf
+parsed-good (good d) i j n h = (d, refl, cc, cc, cc)
+parsed-good (bad r d) i j n h = let z : _≡_ {A = ℕ} 0 1 = cc in absurd (omega arith)
+
+pub parsed-refused : (x : Scan) (r : Refusal) → parsedOf x ≡ Refused r → (d : Dependencies) × (x ≡ bad r d)
+unfolding parsedOf
+parsed-refused (good d) r h = let z : _≡_ {A = ℕ} 0 1 = cc in absurd (omega arith)
+parsed-refused (bad q d) r h = (d, cc)
+
+-- what an entry leaves depends on the scan and the lengths lent, and on nothing that the slices held
+pub leaves-one : (x : Scan) (d t u d′ t′ u′ : List ℕ) → length d ≡ length d′ → length t ≡ length t′ → length u ≡ length u′
+    → {r r′ : Parsed} {e f g e′ f′ g′ : List ℕ} → Leaves x d t u r e f g → Leaves x d′ t′ u′ r′ e′ f′ g′
+    → (r ≡ r′) × (e ≡ e′) × (f ≡ f′) × (g ≡ g′)
+leaves-one x d t u d′ t′ u′ p q w a b = (
+  a .answer ∙ sym (b .answer),
+  a .stored ∙ ap (λ n. padded n (keptOf x .bytes)) p ∙ sym (b .stored),
+  a .imports ∙ ap (λ n. padded n (importWordsOf (keptOf x))) q ∙ sym (b .imports),
+  a .includes ∙ ap (λ n. padded n (includeWordsOf (keptOf x))) w ∙ sym (b .includes),
+)
 
 -- ---- rows read back, from what the inner scan wrote and from what the entry leaves
 
