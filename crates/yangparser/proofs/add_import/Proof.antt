@@ -1,4 +1,4 @@
--- `yangparser::add_import` meets its contract.
+-- `yangparser::add_import`. Full rows refuse before anything is read; else the row is that of the import read, or there is none.
 -- Assumes nothing.
 use native.Mathlib.Omega.{arith}
 use Rattle.yangparser.proofs.AddLaws.{import-full, import-added, import-not, import-words-fit}

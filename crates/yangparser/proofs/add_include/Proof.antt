@@ -1,4 +1,4 @@
--- `yangparser::add_include` meets its contract.
+-- `yangparser::add_include`. Full rows refuse before anything is read; else the row is that of the include read, or there is none.
 -- Assumes nothing.
 use native.Mathlib.Omega.{arith}
 use Rattle.yangparser.proofs.AddLaws.{include-full, include-added, include-not, include-words-fit}

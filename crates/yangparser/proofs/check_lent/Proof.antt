@@ -1,4 +1,4 @@
--- `yangparser::check_lent` meets its contract.
+-- `yangparser::check_lent`. Each test decides where those before it passed.
 -- Assumes nothing.
 use Rattle.yangparser.proofs.LentLaws.{lent-long, lent-short, lent-high, lent-fit}
 use borrow.Author.Needs.{needs}

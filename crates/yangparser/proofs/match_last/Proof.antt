@@ -1,4 +1,4 @@
--- `yangparser::match_last` meets its contract.
+-- `yangparser::match_last`. The four keywords are tried in the order of the definition.
 -- Assumes nothing.
 use mathlib.Core.Path.{sym}
 use borrow.Author.Needs.{needs}

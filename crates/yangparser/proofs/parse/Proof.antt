@@ -1,4 +1,4 @@
--- `yangparser::parse` meets its contract. The invariant is `Reading`: what was read so far stands in the store and the tables.
+-- `yangparser::parse`. The invariant is `Reading`: what was read so far stands in the store and the tables, and the scan from here is the whole scan.
 -- Assumes nothing.
 use mathlib.Core.Path.{_∙_}
 use Prim.Native.Nat.{_-_}

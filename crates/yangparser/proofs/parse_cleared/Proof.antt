@@ -1,4 +1,4 @@
--- `yangparser::parse_cleared` meets its contract.
+-- `yangparser::parse_cleared`. A good scan wrote into zeros what it read; a refused one is cleared again.
 -- Assumes nothing.
 use Rattle.yangparser.proofs.EntryLaws.{leaves-good, leaves-refused}
 use borrow.Author.Needs.{needs}

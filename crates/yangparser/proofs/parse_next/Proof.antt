@@ -1,4 +1,4 @@
--- `yangparser::parse_next` meets its contract.
+-- `yangparser::parse_next`. After the gap the keyword decides what the step is.
 -- Assumes nothing.
 use Rattle.yangparser.proofs.StepLaws.{steps-past, steps-import, steps-include, steps-last, steps-token, import-step-room, include-step-room}
 use borrow.Author.Needs.{needs}

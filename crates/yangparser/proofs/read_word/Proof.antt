@@ -1,4 +1,4 @@
--- `yangparser::read_word` meets its contract.
+-- `yangparser::read_word`. Where no identifier begins no keyword matches.
 -- Assumes nothing.
 use mathlib.Core.Path.{sym}
 use borrow.Author.Needs.{needs}

@@ -1,4 +1,4 @@
--- `yangparser::try_words` meets its contract.
+-- `yangparser::try_words`. The keywords are tried in the order of the definition.
 -- Assumes nothing.
 use mathlib.Core.Path.{sym}
 use borrow.Author.Needs.{needs}
