@@ -17,14 +17,8 @@ pub extern "C" fn nuvaleta_dependencies(
     ensures { λ r. ⌜ DependenciesAnswered (now (text .entry)) (now (store .entry)) (now (imports .entry)) (now (includes .entry)) r (now (store .exit)) (now (imports .exit)) (now (includes .exit)) (now (answer .exit)) ⌝ }
 {
     let parsed = yangparser::extract_yang_dependencies(text, store, imports, includes);
-    let words = answer_of(parsed);
-    answer[0] = words[0];
-    answer[1] = words[1];
-    answer[2] = words[2];
-    answer[3] = words[3];
-    answer[4] = words[4];
-    answer[5] = words[5];
-    words[0]
+    *answer = answer_of(parsed);
+    number_of(parsed)
 }
 
 // The imports and includes of a text, and their printed form.
@@ -41,15 +35,23 @@ pub extern "C" fn nuvaleta_printed(
 {
     let printed = page::print_yang_dependencies(text, store, imports, includes, page);
     let parsed = printed.parsed;
-    let words = answer_of(parsed);
-    answer[0] = words[0];
-    answer[1] = words[1];
-    answer[2] = words[2];
-    answer[3] = words[3];
-    answer[4] = words[4];
-    answer[5] = words[5];
-    answer[6] = printed.length as u32;
-    words[0]
+    let length = printed.length;
+    *answer = page_answer_of(parsed, length);
+    number_of(parsed)
+}
+
+// The number of an answer.
+fn number_of(parsed: Parsed) -> u32
+    ensures { λ r. ⌜ r ≡ numberOf parsed ⌝ }
+{
+    match parsed {
+        Parsed::Good {
+            imports: _,
+            includes: _,
+            used: _,
+        } => 0,
+        Parsed::Refused(r) => r.number,
+    }
 }
 
 // The six words of an answer.
@@ -65,4 +67,13 @@ fn answer_of(parsed: Parsed) -> [u32; 6]
         } => [0, 0, 0, imports as u32, includes as u32, used as u32],
         Parsed::Refused(r) => [r.number, r.keyword, r.at as u32, 0, 0, 0],
     }
+}
+
+// And the page's length.
+fn page_answer_of(parsed: Parsed, length: usize) -> [u32; 7]
+    requires { ⌜ WordsFit parsed × (length < 4294967296) ⌝ }
+    ensures { λ r. ⌜ r ≡ answerWords parsed ++ (length ∷ []) ⌝ }
+{
+    let w = answer_of(parsed);
+    [w[0], w[1], w[2], w[3], w[4], w[5], length as u32]
 }

@@ -2,7 +2,7 @@
 -- the page is longer than the text.
 -- Assumes nothing.
 use mathlib.Core.Path.{_≡_, refl, sym, ap, subst, _∙_}
-use mathlib.Core.Bool.{Bool, true, false, cond}
+use mathlib.Core.Bool.{Bool, true, false}
 use mathlib.Core.List.{List, []}
 use Prim.Native.Nat.{ℕ, _+_, _-_, _*_, _<_, _≤_}
 use native.Mathlib.Omega.{arith}
@@ -14,7 +14,7 @@ use Rattle.text.specs.declared.Refusal.{Refusal}
 use Rattle.text.proofs.Here.{by-test}
 use Rattle.buffers.specs.Padded.{zeros, padded}
 use Rattle.buffers.proofs.Clears.{written-zero, padded-none}
-use Rattle.rows.specs.Rows.{Each, ImportWithin, IncludeWithin, importsIn, includesIn}
+use Rattle.rows.specs.Rows.{ImportWithin, IncludeWithin}
 use Rattle.rows.specs.Sizes.{importSizes, includeSizes}
 use Rattle.rows.specs.declared.YangImport.{YangImport}
 use Rattle.rows.specs.declared.YangInclude.{YangInclude}
@@ -22,15 +22,15 @@ use Rattle.imports.proofs.Spans.{may-end}
 use Rattle.printed.specs.Printed.{printed, printedRows}
 use Rattle.printed.proofs.Padded.{printed-more}
 use Rattle.printed.proofs.Sizes.{printed-size}
-use Rattle.yangparser.specs.Dependencies.{Dependencies, none, importWordsOf, includeWordsOf, Scan, good, bad, scanned, tooShort, pageShort, dependencies, parsedOf, readOf, keptOf}
+use Rattle.yangparser.specs.Dependencies.{Dependencies, none, importWordsOf, includeWordsOf, Scan, good, bad, tooShort, pageShort, dependencies, readOf, keptOf}
 use Rattle.yangparser.specs.Promises.{Leaves, Extracts}
 use Rattle.yangparser.specs.declared.Parsed.{Parsed}
 use Rattle.yangparser.specs.declared.Parsed.the-variants.{Good, Refused}
-use Rattle.yangparser.proofs.KeptLaws.{entry-good, padded-imports, padded-includes}
+use Rattle.yangparser.proofs.KeptLaws.{entry-good, parsed-good, parsed-refused, padded-imports, padded-includes}
 use Rattle.yangparser.proofs.LentLaws.{long-enough}
 use Rattle.yangparser.proofs.Placed.{ImportIn, IncludeIn, each-of}
 use Rattle.yangparser.proofs.ScanLaws.{Sound, scan-sound}
-use Rattle.page.specs.Page.{pageOf, PageLeft, Prints}
+use Rattle.page.specs.Page.{pageOf, Prints}
 
 -- ---- lengths
 
@@ -58,19 +58,6 @@ module _ (text page : ℕ) where
 
 -- ---- a good scan
 
--- what it read, and its counts
-record Was (x : Scan) (m n : ℕ) : Type 0 where
-  read : Dependencies
-  is : x ≡ good read
-  imports : m ≡ length (read .imports)
-  includes : n ≡ length (read .includes)
-
-was : (x : Scan) (m n k : ℕ) → parsedOf x ≡ Good m n k → Was x m n
-unfolding parsedOf
-was (good d) m n k h =
-    record { read = d; is = refl; imports = let e : m ≡ length (d .imports) = cc in e; includes = let e : n ≡ length (d .includes) = cc in e }
-was (bad r d) m n k h = let z : _≡_ {A = ℕ} 0 1 = cc in absurd (omega arith)
-
 -- its values lie among its bytes
 import-within : {n : ℕ} (i : YangImport) → ImportIn 0 n i → ImportWithin n i
 import-within i l = (l .0 .2, l .1 .2, may-end (l .2))
@@ -94,14 +81,18 @@ module _ {s : List ℕ} (x : Dependencies) (k : Sound s x) where
   unfolding importSizes includeSizes
   page-size = omega (arith, printed-size (x .bytes) (x .imports) (x .includes) (k .few-imports) (k .few-includes), k .placed .sizes, k .short)
 
-good-sound : (s : List ℕ) (z : Bool) (x : Dependencies) → dependencies s z ≡ good x → Sound s x
+pub good-sound : (s : List ℕ) (z : Bool) (x : Dependencies) → dependencies s z ≡ good x → Sound s x
 unfolding readOf
 good-sound s z x h = subst (λ y. Sound s (readOf y)) (entry-good s z x h .0) (scan-sound s)
 
-none-printed : (x : Scan) (y : Refusal) → parsedOf x ≡ Refused y → [] ≡ pageOf x
-unfolding parsedOf pageOf
-none-printed (good x) y h = let z : _≡_ {A = ℕ} 0 1 = cc in absurd (omega arith)
-none-printed (bad q x) y h = refl
+-- of any scan
+pub page-fits : (s : List ℕ) (z : Bool) → length (pageOf (dependencies s z)) ≤ 6944 + 1048576
+unfolding pageOf
+page-fits s z = by-scan (dependencies s z) refl
+  where
+    by-scan : (x : Scan) → dependencies s z ≡ x → length (pageOf x) ≤ 6944 + 1048576
+    by-scan (good x) h = omega (arith, page-size x (good-sound s z x h), entry-good s z x h .1)
+    by-scan (bad r x) h = omega arith
 
 same-rows : {a b c e f g : List ℕ} {m n i j : ℕ} → a ≡ e → b ≡ f → m ≡ i → c ≡ g → n ≡ j → printedRows a b m c n ≡ printedRows e f i g j
 same-rows p q o v w = rw p (rw q (rw o (rw v (rw w refl))))
@@ -110,39 +101,47 @@ same-rows p q o v w = rw p (rw q (rw o (rw v (rw w refl))))
 
 module _ (s : List ℕ) (z : Bool) (d t u : List ℕ) {r : Parsed} {e f g : List ℕ} (w : Leaves (dependencies s z) d t u r e f g) where
   refused-page : (y : Refusal) → r ≡ Refused y → [] ≡ pageOf (dependencies s z)
-  refused-page y h = none-printed (dependencies s z) y (sym (w .answer) ∙ h)
+  unfolding pageOf
+  refused-page y h = sym (ap pageOf (parsed-refused (dependencies s z) y (sym (w .answer) ∙ h) .1))
 
   module _ (m n k : ℕ) (h : r ≡ Good m n k) where
-    it : Was (dependencies s z) m n
-    it = was (dependencies s z) m n k (sym (w .answer) ∙ h)
+    was : (x : Dependencies) × (dependencies s z ≡ good x) × (m ≡ length (x .imports)) × (n ≡ length (x .includes)) × (k ≡ length (x .bytes))
+    was = parsed-good (dependencies s z) m n k (sym (w .answer) ∙ h)
 
-    sound : Sound s (it .read)
-    sound = good-sound s z (it .read) (it .is)
+    it : Dependencies
+    it = was .0
 
-    kept : keptOf (dependencies s z) ≡ it .read
-    unfolding keptOf
-    kept = ap keptOf (it .is)
+    sound : Sound s it
+    unfolding it
+    sound = good-sound s z it (was .1)
 
-    good-page : pageOf (dependencies s z) ≡ printed (it .read .bytes) (it .read .imports) (it .read .includes)
-    unfolding pageOf
-    good-page = ap pageOf (it .is)
+    kept : keptOf (dependencies s z) ≡ it
+    unfolding keptOf it
+    kept = ap keptOf (was .1)
+
+    good-page : pageOf (dependencies s z) ≡ printed (it .bytes) (it .imports) (it .includes)
+    unfolding pageOf it
+    good-page = ap pageOf (was .1)
 
     rows-are : printedRows e f m g n ≡ pageOf (dependencies s z)
+    unfolding it
     rows-are =
-        let x = it .read in
+        let x = it in
         let ee : e ≡ padded (length d) (x .bytes) = w .stored ∙ ap (λ y. padded (length d) (y .bytes)) kept in
         let fe : f ≡ padded (length t) (importWordsOf x) = w .imports ∙ ap (λ y. padded (length t) (importWordsOf y)) kept in
         let ge : g ≡ padded (length u) (includeWordsOf x) = w .includes ∙ ap (λ y. padded (length u) (includeWordsOf y)) kept in
-        same-rows ee fe (it .imports) ge (it .includes) ∙ page-is x sound (length d) (length t) (length u) ∙ sym good-page
+        same-rows ee fe (was .2) ge (was .3) ∙ page-is x sound (length d) (length t) (length u) ∙ sym good-page
 
     fits : length (pageOf (dependencies s z)) ≤ 6944 + length s
-    fits = rw good-page (page-size (it .read) sound)
+    fits = rw good-page (page-size it sound)
 
     few : (m ≤ 256) × (n ≤ 256)
-    few = (omega (arith, it .imports, sound .few-imports), omega (arith, it .includes, sound .few-includes))
+    unfolding it
+    few = (omega (arith, was .2, sound .few-imports), omega (arith, was .3, sound .few-includes))
 
     enough : z ≡ false
-    enough = entry-good s z (it .read) (it .is) .2
+    unfolding it
+    enough = entry-good s z it (was .1) .2
 
 -- ---- the function; d, t, u and p: what was lent, q: the page cleared, e, f and g: what the scan left
 
