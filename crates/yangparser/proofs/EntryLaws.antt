@@ -1,26 +1,25 @@
 -- The entry: what a scan writes into zeros is what it read and zeros behind it, and a refusal leaves zeros, whatever was written before it.
 -- Assumes nothing.
 use mathlib.Core.Path.{_≡_, refl, sym, ap, subst, _∙_}
-use mathlib.Core.Bool.{Bool, true, false}
-use mathlib.Core.List.{List, []}
-use Prim.Native.Nat.{ℕ, _+_, _*_, _<_, _≤_}
+use mathlib.Core.Bool.{Bool}
+use mathlib.Core.List.{List}
+use Prim.Native.Nat.{ℕ}
 use native.Mathlib.Omega.{arith}
 use lib.ListN.{length}
-use lib.Seq.{sets}
 use Rattle.text.specs.Class.{classTable}
 use Rattle.text.specs.declared.Refusal.{Refusal}
 use Rattle.buffers.specs.Padded.{zeros, padded}
 use Rattle.buffers.proofs.Clears.{written-zero, padded-none}
 use Rattle.rows.specs.Rows.{importTable, includeTable, table}
 use Rattle.yangparser.specs.Dependencies.{Dependencies, none, importWordsOf, includeWordsOf, Scan, good, bad, scanned, tooShort, lentAt, ifFit, dependencies, parsedOf, readOf, keptOf}
-use Rattle.yangparser.specs.Promises.{Holds, Parses, Cleared, Leaves, Extracts}
+use Rattle.yangparser.specs.Promises.{Parses, Cleared, Leaves, Extracts}
 use Rattle.yangparser.specs.declared.Lent.{Lent}
 use Rattle.yangparser.specs.declared.Lent.the-variants.{Fit, Unfit}
 use Rattle.yangparser.specs.declared.Parsed.{Parsed}
 use Rattle.yangparser.specs.declared.Parsed.the-variants.{Good, Refused}
 use Rattle.yangparser.proofs.LentLaws.{fit-said, long-enough}
 use Rattle.yangparser.proofs.LoopLaws.{import-words-count, include-words-count}
-use Rattle.yangparser.proofs.ScanLaws.{Sound, sound-none, scan-sound}
+use Rattle.yangparser.proofs.ScanLaws.{scan-sound}
 
 -- ---- what is kept
 

@@ -12,7 +12,7 @@ use Rattle.text.specs.Scan.{inIdent, inRun, span, runEnd, pairAt, closing, bloc
 use Rattle.text.specs.Turns.{turns}
 use Rattle.value.specs.Argument.{argumentOf, argumentAt, afterDue, afterArgument, lineAt}
 use Rattle.value.specs.Str.{escaped, escapes, strEnd, strBytes, closedBy, strAt}
-use Rattle.value.specs.Value.{isQuote, startsName, addedBy, afterPlus, afterGap, moreAt, addTo, joinTurn, joinedWith, joined as joinedValue, ofString, nameAt, valueHere, valueAt, valueBytes}
+use Rattle.value.specs.Value.{isQuote, startsName, addedBy, afterPlus, afterGap, moreAt, addTo, joinTurn, joinedWith, joined as joinedValue, ofString, valueHere, valueAt, valueBytes}
 use Rattle.skip.specs.Skip.{closedToken, tokenHere, tokenAt, tokenEnd}
 use Rattle.skip.specs.Statement.{closes, quotedLen, quotedEnd, atSemicolon, atClose, partOf, partAt, ofPart, statementTurn, statementFrom, statementAt, endedAt}
 use Rattle.rows.specs.Rows.{importWords, includeWords, table, importTable, includeTable}

@@ -1,8 +1,8 @@
 -- How far one step of the scan goes and what it adds: it stands within the text, takes more bytes than it stores, adds a row only where there is
 -- room for one, and the row's values lie in the bytes added.
 -- Assumes nothing.
-use mathlib.Core.Path.{_≡_, refl, sym, ap, subst, _∙_}
-use mathlib.Core.List.{List, [], _∷_}
+use mathlib.Core.Path.{_≡_, refl, sym, subst}
+use mathlib.Core.List.{List, []}
 use Prim.Native.Nat.{ℕ, _+_, _-_, _<_, _≤_}
 use native.Mathlib.Omega.{arith}
 use lib.Dec.{leb}
@@ -27,7 +27,7 @@ use Rattle.yangparser.specs.declared.Sofar.{Sofar}
 use Rattle.yangparser.specs.declared.Word.{Word}
 use Rattle.yangparser.specs.declared.Word.the-variants.{Import, Include, Last, Other}
 use Rattle.yangparser.proofs.AddLaws.{full-is, room-is}
-use Rattle.yangparser.proofs.Placed.{ImportIn, IncludeIn, import-more, include-more, Placed, placed-bytes, placed-import, placed-include}
+use Rattle.yangparser.proofs.Placed.{import-more, include-more, Placed, placed-bytes, placed-import, placed-include}
 use Rattle.yangparser.proofs.StepLaws.{step-past, step-word}
 use Rattle.yangparser.proofs.WordLaws.{word-import-far, word-include-far}
 

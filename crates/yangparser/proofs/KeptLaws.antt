@@ -1,14 +1,14 @@
 -- What those who call a scan use: all that it keeps is sound, since it is what the inner scan read or nothing; the rows that it wrote read back as
 -- they were, and a value's bytes are the same in the store as among the bytes read.
 -- Assumes nothing.
-use mathlib.Core.Path.{_≡_, refl, sym, ap, subst, _∙_}
-use mathlib.Core.Bool.{Bool, true, false, cond}
-use mathlib.Core.List.{List, _++_}
-use Prim.Native.Nat.{ℕ, _+_, _-_, _*_, _<_, _≤_}
+use mathlib.Core.Path.{_≡_, refl, sym, ap, _∙_}
+use mathlib.Core.Bool.{Bool, false}
+use mathlib.Core.List.{List}
+use Prim.Native.Nat.{ℕ, _+_, _-_, _*_, _≤_}
 use native.Mathlib.Omega.{arith}
 use lib.Dec.{ltb}
-use lib.ListN.{length, take, drop, length-drop}
-use lib.Seq.{sets, sets-eq, take-append-le, drop-append-le, length-take-le}
+use lib.ListN.{length, drop, length-drop}
+use lib.Seq.{sets, sets-eq, length-take-le}
 use borrow.Author.Tests.{ltb-true, ltb-false}
 use Rattle.text.specs.Scan.{runEnd}
 use Rattle.text.specs.declared.Refusal.{Refusal}
@@ -16,10 +16,11 @@ use Rattle.text.specs.declared.Run.the-variants.{Low}
 use Rattle.text.proofs.Here.{by-test}
 use Rattle.buffers.specs.Padded.{zeros, padded}
 use Rattle.rows.specs.Rows.{importsIn, includesIn}
-use Rattle.rows.specs.Span.{valueIn}
+use Rattle.rows.specs.Span.{valueIn, Within}
 use Rattle.rows.specs.declared.Span.{Span}
+use Rattle.rows.proofs.Values.{value-more}
 use Rattle.rows.proofs.Reading.{imports-back, includes-back, imports-written, includes-written}
-use Rattle.yangparser.specs.Dependencies.{Dependencies, none, importWordsOf, includeWordsOf, Scan, good, bad, scanned, lentAt, ifFit, dependencies, parsedOf, readOf, keptOf}
+use Rattle.yangparser.specs.Dependencies.{Dependencies, importWordsOf, includeWordsOf, Scan, good, bad, scanned, lentAt, ifFit, dependencies, parsedOf, readOf, keptOf}
 use Rattle.yangparser.specs.Promises.{Holds, Leaves}
 use Rattle.yangparser.specs.declared.Lent.{Lent}
 use Rattle.yangparser.specs.declared.Lent.the-variants.{Fit, Unfit}
@@ -138,20 +139,13 @@ module _ {s : List ℕ} (x : Dependencies) (k : Sound s x) where
 
 -- ---- a value's bytes; bs: the bytes read
 
-module _ (bs : List ℕ) (x : Span) (lies : x .start + x .size ≤ length bs) where
-  -- whatever stands behind them
-  value-front : (zs : List ℕ) → valueIn (bs ++ zs) x ≡ valueIn bs x
-  unfolding valueIn
-  value-front zs =
-      ap (take (x .size)) (drop-append-le (x .start) bs zs (omega arith))
-      ∙ take-append-le (x .size) (drop (x .start) bs) zs (omega (arith, length-drop (x .start) bs))
-
+module _ (bs : List ℕ) (x : Span) (lies : Within (length bs) x) where
   pub held-value : (d : List ℕ) {e : List ℕ} → e ≡ sets d 0 bs → length bs ≤ length d → valueIn e x ≡ valueIn bs x
-  held-value d h room = ap (λ l. valueIn l x) (h ∙ sets-eq bs d 0 (omega arith)) ∙ value-front (drop (0 + length bs) d)
+  held-value d h room = ap (λ l. valueIn l x) (h ∙ sets-eq bs d 0 (omega arith)) ∙ value-more bs (drop (0 + length bs) d) x lies
 
   pub padded-value : (n : ℕ) → valueIn (padded n bs) x ≡ valueIn bs x
   unfolding padded
-  padded-value n = value-front (zeros (n - length bs))
+  padded-value n = value-more bs (zeros (n - length bs)) x lies
 
   pub value-count : length (valueIn bs x) ≡ x .size
   unfolding valueIn

@@ -1,9 +1,9 @@
 -- Where the values of what was read lie: each within the bytes from the store's place u up to n, and no two at one place, so that their lengths
 -- together are no more than the bytes. What is read next lies behind, so both hold of the two joined.
 -- Assumes nothing.
-use mathlib.Core.Path.{_≡_, refl, sym, ap, _∙_}
+use mathlib.Core.Path.{_≡_, sym, ap, _∙_}
 use mathlib.Core.Logic.{⊎-elim}
-use mathlib.Core.Bool.{true, false, cond}
+use mathlib.Core.Bool.{cond}
 use mathlib.Core.List.{List, [], _∷_, _++_}
 use Prim.Native.Nat.{ℕ, _+_, _≤_}
 use native.Mathlib.Omega.{arith}
@@ -14,7 +14,7 @@ use Rattle.rows.specs.declared.Span.{Span}
 use Rattle.rows.specs.declared.YangImport.{YangImport}
 use Rattle.rows.specs.declared.YangInclude.{YangInclude}
 use Rattle.imports.proofs.Spans.{Lies, MayLie, lies-more, may-more}
-use Rattle.yangparser.specs.Dependencies.{Dependencies, none, joined}
+use Rattle.yangparser.specs.Dependencies.{Dependencies, joined}
 
 -- ---- lists of any kind
 

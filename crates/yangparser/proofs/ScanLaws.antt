@@ -1,12 +1,12 @@
 -- The scan as a whole: each step comes nearer the text's end, so the turns end; what was read stays sound with each step, so it is when the scan
 -- ends, on a refusal too.
 -- Assumes nothing.
-use mathlib.Core.Path.{_≡_, refl, sym, ap, subst, _∙_}
+use mathlib.Core.Path.{_≡_, refl, ap, subst}
 use mathlib.Core.List.{List, [], _++_}
 use Prim.Native.Nat.{ℕ, suc, _+_, _-_, _<_, _≤_}
 use native.Mathlib.Omega.{arith}
 use lib.ListN.{length, length-append}
-use Rattle.text.specs.Turns.{Turn, stop, on, turns}
+use Rattle.text.specs.Turns.{stop, on}
 use Rattle.text.specs.declared.Refusal.{Refusal}
 use Rattle.text.proofs.Turns.{turns-stop, turns-on, turns-rule}
 use Rattle.rows.specs.Rows.{PlainImport, PlainInclude, Each}

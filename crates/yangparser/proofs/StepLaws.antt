@@ -21,10 +21,10 @@ use Rattle.imports.specs.declared.Imported.the-variants.{Import as ReadImport, 
 use Rattle.imports.specs.declared.Included.{Included}
 use Rattle.imports.specs.declared.Included.the-variants.{Include as ReadInclude, NoInclude}
 use Rattle.yangparser.specs.Dependencies.{Dependencies, none, importWordsOf, includeWordsOf, Step, importStep, includeStep, unlessFull, importHere, includeHere, movedTo, wordStep, stepHere, stepAt}
-use Rattle.yangparser.specs.Promises.{Adds, AddsImport, AddsInclude, Steps}
+use Rattle.yangparser.specs.Promises.{AddsImport, AddsInclude, Steps}
 use Rattle.yangparser.specs.Word.{wordAt}
 use Rattle.yangparser.specs.declared.Next.{Next}
-use Rattle.yangparser.specs.declared.Next.the-variants.{On, Done, Stop}
+use Rattle.yangparser.specs.declared.Next.the-variants.{On, Done}
 use Rattle.yangparser.specs.declared.Sofar.{Sofar}
 use Rattle.yangparser.specs.declared.Word.{Word}
 use Rattle.yangparser.specs.declared.Word.the-variants.{Import, Include, Last, Other}

@@ -1,7 +1,7 @@
 -- Which keyword stands at a place: the keywords' own answers, in the order in which they are tried. One that matched ends behind its first byte and
 -- within the text.
 -- Assumes nothing.
-use mathlib.Core.Path.{_≡_, refl, sym, ap, _∙_}
+use mathlib.Core.Path.{_≡_, refl, sym, _∙_}
 use mathlib.Core.Bool.{Bool, false}
 use mathlib.Core.List.{List}
 use Prim.Native.Nat.{ℕ, _<_, _≤_}

@@ -14,7 +14,6 @@ use Rattle.skip.specs.Skip.{tokenAt, tokenEnd}
 use Rattle.rows.specs.Rows.{importSize, includeSize, mostRows, importTable, includeTable}
 use Rattle.rows.specs.declared.YangImport.{YangImport}
 use Rattle.rows.specs.declared.YangInclude.{YangInclude}
-use Rattle.imports.specs.Left.{Left}
 use Rattle.imports.specs.Statement.{importAt, includeAt}
 use Rattle.imports.specs.Words.{importKeyword, includeKeyword}
 use Rattle.imports.specs.declared.Imported.{Imported}
