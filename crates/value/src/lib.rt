@@ -279,18 +279,8 @@ pub enum Close {
     Open,
 }
 
-// Where the string closes whose bytes start at a place, in quotes q. Each kind of quotes gets a loop of its own, since only in double quotes does a backslash
-// escape.
+// Where the string closes whose bytes start at a place, in quotes q.
 pub fn close_of(s: &[u8], at: usize, q: u8) -> Close
-    ensures { λ r. ⌜ r ≡ strEnd q false (drop at (now (s .entry))) at ⌝ }
-{
-    if q == b'"' {
-        return close_in(s, at, b'"');
-    }
-    close_in(s, at, q)
-}
-
-fn close_in(s: &[u8], at: usize, q: u8) -> Close
     ensures { λ r. ⌜ r ≡ strEnd q false (drop at (now (s .entry))) at ⌝ }
 {
     let mut i = at;
