@@ -1,9 +1,13 @@
 // The fields of a file of recorded answers, for the programs that replay them.
 ghost use mathlib.Core.Path.{_≡_};
-ghost use Prim.Native.Nat.{_<_};
-ghost use Rattle.replay.specs.Fields.{byteAt, lengthAt, missingAt, onBy, behind, fieldAt, wordAt};
+ghost use mathlib.Core.Bool.{cond};
+ghost use Prim.Native.Nat.{_+_, _%_, _<_};
+ghost use Rattle.replay.specs.Fields.{byteAt, lengthAt, missingAt, onBy, behind, fieldAt, wordAt, toldAs};
 
 const MISSING: u32 = 65535;
+
+// What the Rust does not tell.
+pub const UNTOLD: u32 = 4294967295;
 
 // The byte at a place, 0 behind the end.
 fn byte(d: &[u8], at: usize) -> u32
@@ -76,4 +80,24 @@ pub fn word(f: &[u8], at: usize) -> u32
     let low = byte(f, at) + byte(f, at + 1) * 256;
     let high = byte(f, at + 2) + byte(f, at + 3) * 256;
     low + high * 65536
+}
+
+// Whether a word is the recorded one, where the Rust tells it.
+pub fn told(recorded: u32, is: u32) -> bool
+    ensures { λ r. ⌜ r ≡ toldAs recorded is ⌝ }
+{
+    if recorded == UNTOLD {
+        return true;
+    }
+    recorded == is
+}
+
+// One more of the records that differ, unless this one agrees.
+pub fn count_unless(agrees: bool, n: u64) -> u64
+    ensures { λ r. ⌜ r ≡ cond agrees n ((n + 1) % 18446744073709551616) ⌝ }
+{
+    if agrees {
+        return n;
+    }
+    std::num::wrapping_add_u64(n, 1)
 }

@@ -2,6 +2,7 @@ pub mod ClassLaws
 pub mod DueLaws
 pub mod Examples
 pub mod Here
+pub mod HighLaws
 pub mod KeywordLaws
 pub mod Laws
 pub mod Table

@@ -8,6 +8,8 @@ ghost use lib.ListN.{drop};
 ghost use Rattle.text.specs.Bytes.{look, theEnd};
 ghost use Rattle.text.specs.Class.{classOf, classTable};
 ghost use Rattle.text.specs.Scan.{inIdent, inRun, runEnd, blockEnd, pairAt, commentEnd, gapEnd};
+ghost use Rattle.text.specs.High.{larger, largest};
+ghost use Rattle.text.specs.declared.Run.the-variants.{Low};
 ghost use Rattle.text.specs.Keyword.{startsIdent, endsKeyword, wordly, begins, matchAt};
 ghost use Rattle.text.specs.Due.{dueAt, refusalOf};
 
@@ -39,6 +41,9 @@ pub const OPEN_BRACE: u16 = b'{' as u16;
 pub const CLOSE_BRACE: u16 = b'}' as u16;
 
 pub const END: u16 = 256;
+
+// From here on a byte is none of the scans'.
+const HIGH: u16 = 128;
 
 // The classes of bytes.
 pub const OTHER: u8 = 0;
@@ -309,12 +314,13 @@ impl Cursor {
     }
 }
 
-// The kinds of runs: white bytes, the rest of a line, an identifier's bytes, a name's bytes.
+// The kinds of runs: white bytes, the rest of a line, an identifier's bytes, a name's bytes, bytes below 128.
 pub enum Run {
     White,
     Line,
     Ident,
     Name,
+    Low,
 }
 
 // The place after the run that stands at a place.
@@ -349,6 +355,7 @@ fn in_run(classes: &[u8; 128], k: Run, b: u16) -> bool
             }
             b == COLON
         }
+        Run::Low => b < HIGH,
     }
 }
 
@@ -472,4 +479,33 @@ fn pair_at(s: &[u8], at: usize, b: u16, c: u16) -> bool
         }
     }
     false
+}
+
+fn larger(a: u8, b: u8) -> u8
+    ensures { λ r. ⌜ r ≡ larger a b ⌝ }
+{
+    if a < b { b } else { a }
+}
+
+fn largest(s: &[u8]) -> u8
+    ensures { λ r. ⌜ r ≡ largest 0 (now (s .entry)) ⌝ }
+{
+    let mut most: u8 = 0;
+    let mut i: usize = 0;
+    while i < s.len() {
+        most = larger(most, s[i]);
+        i += 1;
+    }
+    most
+}
+
+// The first place of a byte of 128 or more, or the end. The largest byte is found with no early exit, many bytes at a time.
+pub fn first_high(classes: &[u8; 128], s: &[u8]) -> usize
+    requires { ⌜ now classes ≡ classTable ⌝ }
+    ensures { λ r. ⌜ r ≡ runEnd Low (now (s .entry)) 0 ⌝ }
+{
+    if largest(s) < 128 {
+        return s.len();
+    }
+    run_end(classes, Run::Low, s, 0)
 }

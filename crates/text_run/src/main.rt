@@ -12,30 +12,10 @@ const NAMESPACE: u32 = 4;
 
 const PREFIX: u32 = 5;
 
-// What the Rust does not tell.
-const UNTOLD: u32 = 4294967295;
-
 // How many records there are, and how many of them are answered otherwise.
 struct Tally {
     records: u64,
     different: u64,
-}
-
-// Whether a refusal's word is the recorded one, where the Rust tells it.
-fn told(recorded: u32, is: u32) -> bool {
-    if recorded == UNTOLD {
-        return true;
-    }
-    recorded == is
-}
-
-// The first n bytes, where there are as many.
-fn first(s: &[u8], n: usize) -> &[u8] {
-    if s.len() < n {
-        return s;
-    }
-    let start: usize = 0;
-    &s[start..n]
 }
 
 // Whether what was read is what was recorded: answer has number, keyword and position, kept the value's bytes.
@@ -46,17 +26,17 @@ fn agrees(read: Argument, store: &[u8], answer: &[u8], kept: &[u8]) -> bool {
             if number != 0 {
                 return false;
             }
-            check::same(first(store, used), kept)
+            check::same(buffers::first(store, used), kept)
         }
         Argument::Refused(r) => {
             if number != r.number {
                 return false;
             }
-            if !told(replay::word(answer, 4), r.keyword) {
+            if !replay::told(replay::word(answer, 4), r.keyword) {
                 return false;
             }
             let at = (r.at % 4294967296) as u32;
-            told(replay::word(answer, 8), at)
+            replay::told(replay::word(answer, 8), at)
         }
     }
 }
@@ -173,14 +153,6 @@ fn behind_record(data: &[u8], at: usize) -> usize {
     last
 }
 
-// One more of the records that differ, unless this one agrees.
-fn count_unless(agrees: bool, n: u64) -> u64 {
-    if agrees {
-        return n;
-    }
-    std::num::wrapping_add_u64(n, 1)
-}
-
 // All records of a file. A record takes a byte at least.
 fn replay_all(data: &[u8], values: bool) -> Tally {
     let mut at: usize = 0;
@@ -191,7 +163,7 @@ fn replay_all(data: &[u8], values: bool) -> Tally {
         if data.len() <= at {
             return Tally { records, different };
         }
-        different = count_unless(record_agrees(data, at, values), different);
+        different = replay::count_unless(record_agrees(data, at, values), different);
         records = std::num::wrapping_add_u64(records, 1);
         at = behind_record(data, at);
         turns -= 1;
@@ -245,7 +217,7 @@ fn value_is(s: &[u8], kept: &[u8], at: usize) -> bool {
     if passed.at != at {
         return false;
     }
-    check::same(first(&store, used), kept)
+    check::same(buffers::first(&store, used), kept)
 }
 
 // What document 01 calls easy to get wrong, as far as this layer goes.

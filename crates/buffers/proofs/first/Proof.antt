@@ -1,0 +1,31 @@
+-- `buffers::first`. Where the slice is shorter, its first n bytes are all.
+-- Assumes nothing.
+use mathlib.Core.Path.{_≡_, sym, ap}
+use Prim.Native.Nat.{_-_}
+use native.Mathlib.Omega.{arith}
+use lib.ListN.{take}
+use lib.Seq.{take-all}
+use borrow.Author.Needs.{needs}
+use Rattle.buffers.proofs.first.Statement.{statement}
+use Rattle.buffers.proofs.first.Tie as tie
+
+returns : tie.Need-returns
+returns c = sym (take-all (c .before .args .n) (c .before .args .s .now) (omega arith))
+
+sub-result : tie.Need-sub-result
+sub-result c = search needs
+
+part-result-start : tie.Need-part-result-start
+part-result-start c = search needs
+
+part-result-end : tie.Need-part-result-end
+part-result-end c = search needs
+
+returns-2 : tie.Need-returns-2
+returns-2 c =
+    let start = c .before .before .args in
+    let n : start .n - 0 ≡ start .n = omega arith in
+    ap (λ k. take k (start .s .now)) n
+
+pub first-spec : {M : Type 1} → statement M
+first-spec = tie.close (tie.spec returns sub-result part-result-start part-result-end returns-2)

@@ -1,0 +1,24 @@
+-- `imports::argument_refusal`. Each arm of the `match` is its clause of the definition.
+-- Assumes nothing.
+use mathlib.Core.Path.{sym, ap}
+use Rattle.imports.specs.Block.{argumentRefusal}
+use borrow.Author.Needs.{needs}
+use Rattle.imports.proofs.argument_refusal.Statement.{statement}
+use Rattle.imports.proofs.argument_refusal.Tie as tie
+
+enum-told : tie.Need-enum-told
+enum-told c = search needs
+
+enum-known-a : tie.Need-enum-known-a
+enum-known-a c = search needs
+
+returns : tie.Need-returns
+unfolding argumentRefusal
+returns c = sym (ap argumentRefusal (c .enum-told .given .1))
+
+returns-2 : tie.Need-returns-2
+unfolding argumentRefusal
+returns-2 c = sym (ap argumentRefusal (c .before .a .given .1))
+
+pub argument-refusal-spec : {M : Type 1} → statement M
+argument-refusal-spec = tie.close (tie.spec enum-told enum-known-a returns returns-2)

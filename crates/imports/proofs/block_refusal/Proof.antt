@@ -1,0 +1,24 @@
+-- `imports::block_refusal`. Each arm of the `match` is its clause of the definition.
+-- Assumes nothing.
+use mathlib.Core.Path.{sym, ap}
+use Rattle.imports.specs.Block.{blockRefusal}
+use borrow.Author.Needs.{needs}
+use Rattle.imports.proofs.block_refusal.Statement.{statement}
+use Rattle.imports.proofs.block_refusal.Tie as tie
+
+enum-told : tie.Need-enum-told
+enum-told c = search needs
+
+enum-known-b : tie.Need-enum-known-b
+enum-known-b c = search needs
+
+returns : tie.Need-returns
+unfolding blockRefusal
+returns c = sym (ap blockRefusal (c .enum-told .given .1))
+
+returns-2 : tie.Need-returns-2
+unfolding blockRefusal
+returns-2 c = sym (ap blockRefusal (c .before .b .given .1))
+
+pub block-refusal-spec : {M : Type 1} → statement M
+block-refusal-spec = tie.close (tie.spec enum-told enum-known-b returns returns-2)

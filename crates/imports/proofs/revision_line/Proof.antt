@@ -1,0 +1,29 @@
+-- `imports::revision_line`. Each arm of the `match` is its clause of the definition.
+-- Assumes nothing.
+use Rattle.imports.proofs.InsideLaws.{revision-after, revision-not}
+use borrow.Author.Needs.{needs}
+use Rattle.imports.proofs.revision_line.Statement.{statement}
+use Rattle.imports.proofs.revision_line.Tie as tie
+
+match-revision-date-requires : tie.Need-match-revision-date-requires
+match-revision-date-requires c κs = search needs
+
+enum-known-c : tie.Need-enum-known-c
+enum-known-c c = search needs
+
+enum-told : tie.Need-enum-told
+enum-told c = search needs
+
+returns : tie.Need-returns
+returns c =
+    let a = c .before .before .before .before .before .args in
+    revision-after (a .s .now) (a .here .at) (c .before .before .before .match-revision-date .ensures) (c .before .c .given .0 .0) (c .before .c .given .1)
+
+returns-2 : tie.Need-returns-2
+returns-2 c =
+    let a = c .before .before .before .before .args in
+    revision-not (a .s .now) (a .here .at) (c .before .before .match-revision-date .ensures) (c .enum-told .given .1)
+
+pub revision-line-spec : {M : Type 1} → statement M
+revision-line-spec =
+    tie.close (tie.spec match-revision-date-requires enum-known-c enum-told returns returns-2)

@@ -1,0 +1,4 @@
+pub mod Block
+pub mod Left
+pub mod Statement
+pub mod Words

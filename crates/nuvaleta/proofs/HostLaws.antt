@@ -1,0 +1,105 @@
+-- An answer in words: counts are at most 256 or the text's length, a place lies within the text, and a text that is too long is refused at 0, so each fits its
+-- word.
+-- Assumes nothing.
+use mathlib.Core.Path.{_≡_, refl, sym, ap, subst, _∙_}
+use mathlib.Core.Bool.{Bool}
+use mathlib.Core.List.{List, [], _∷_, _++_}
+use Prim.Native.Nat.{ℕ, _+_, _<_, _≤_}
+use native.Mathlib.Omega.{arith}
+use lib.Dec.{ltb}
+use lib.ListN.{length, getD}
+use borrow.Author.Tests.{ltb-true, ltb-false}
+use Rattle.text.specs.declared.Refusal.{Refusal}
+use Rattle.text.proofs.Here.{by-test}
+use Rattle.page.specs.declared.Page.{Page}
+use Rattle.page.specs.Page.{PageLeft}
+use Rattle.page.proofs.PageLaws.{good-sound, page-fits}
+use Rattle.yangparser.specs.Dependencies.{Dependencies, none, Scan, good, bad, scanned, ifFit, dependencies, parsedOf}
+use Rattle.yangparser.specs.Promises.{Leaves}
+use Rattle.yangparser.specs.declared.Parsed.{Parsed}
+use Rattle.yangparser.specs.declared.Parsed.the-variants.{Good, Refused}
+use Rattle.yangparser.proofs.KeptLaws.{entry-good, entry-refusal}
+use Rattle.yangparser.proofs.LentLaws.{lent-long}
+use Rattle.nuvaleta.specs.Host.{numberOf, answerWords, WordsFit, Answered, AnsweredPage}
+
+-- ---- a word for each count and place
+
+too-long : (s : List ℕ) (z : Bool) → 1048576 < length s → dependencies s z ≡ bad (record { number = 1; keyword = 0; at = 0 }) none
+unfolding dependencies ifFit
+too-long s z h = ap (λ x. ifFit x (scanned s)) (sym (lent-long s z h))
+
+refused-small : (s : List ℕ) (z : Bool) (r : Refusal) (d : Dependencies) → dependencies s z ≡ bad r d → r .at ≤ 1048576
+refused-small s z r d h =
+    by-test (ltb 1048576 (length s))
+    (λ t. let e : bad (record { number = 1; keyword = 0; at = 0 }) none ≡ bad r d = sym (too-long s z (ltb-true 1048576 (length s) t)) ∙ h in
+    let k : 0 ≡ r .at = cc in omega (arith, k))
+    (λ f. omega (arith, ltb-false 1048576 (length s) f, entry-refusal s z r d h))
+
+fits : (s : List ℕ) (z : Bool) (x : Scan) → dependencies s z ≡ x → WordsFit (parsedOf x)
+unfolding parsedOf WordsFit
+fits s z (good d) h =
+    let k = good-sound s z d h in
+    let l = entry-good s z d h in
+    (omega (arith, k .few-imports), omega (arith, k .few-includes), omega (arith, k .short, l .1))
+fits s z (bad r d) h = omega (arith, refused-small s z r d h)
+
+module _ (s : List ℕ) (z : Bool) (d t u : List ℕ) {r : Parsed} {e f g : List ℕ} (w : Leaves (dependencies s z) d t u r e f g) where
+  pub words-fit : WordsFit r
+  words-fit = subst WordsFit (sym (w .answer)) (fits s z (dependencies s z) refl)
+
+  again : Leaves (dependencies s z) d t u (parsedOf (dependencies s z)) e f g
+  again = record { answer = refl; stored = w .stored; imports = w .imports; includes = w .includes }
+
+  pub answered : {n : ℕ} {a : List ℕ} → a ≡ answerWords r → n ≡ numberOf r → Answered (dependencies s z) d t u n e f g a
+  answered ae ne = record { scan = again; number = ne ∙ ap numberOf (w .answer); answer = ae ∙ ap answerWords (w .answer) }
+
+module _ (s : List ℕ) (z : Bool) (d t u p : List ℕ) (r : Page) {e f g q : List ℕ} (w : PageLeft (dependencies s z) d t u p r e f g q) where
+  pub page-words-fit : WordsFit (r .parsed) × (r .length < 4294967296)
+  page-words-fit = (words-fit s z d t u (w .scan), omega (arith, w .length-is, page-fits s z))
+
+  pub page-answered : {n : ℕ} {a : List ℕ} → a ≡ answerWords (r .parsed) ++ (r .length ∷ []) → n ≡ numberOf (r .parsed)
+      → AnsweredPage (dependencies s z) d t u p n e f g q a
+  page-answered ae ne = record {
+    scan = again s z d t u (w .scan);
+    page = w .page;
+    number = ne ∙ ap numberOf (w .scan .answer);
+    answer = ae ∙ ap (λ x. answerWords x ++ (r .length ∷ [])) (w .scan .answer) ∙ ap (λ n. answerWords (parsedOf (dependencies s z)) ++ (n ∷ [])) (w .length-is);
+  }
+
+-- ---- the words of each answer
+
+module _ {r : Parsed} (m n k : ℕ) (h : r ≡ Good m n k) where
+  pub good-fits : WordsFit r → (m < 4294967296) × (n < 4294967296) × (k < 4294967296)
+  unfolding WordsFit
+  good-fits w = subst WordsFit h w
+
+  pub good-words : 0 ∷ 0 ∷ 0 ∷ m ∷ n ∷ k ∷ [] ≡ answerWords r
+  unfolding answerWords
+  good-words = sym (ap answerWords h)
+
+  pub good-number : 0 ≡ numberOf r
+  unfolding numberOf
+  good-number = sym (ap numberOf h)
+
+module _ {r : Parsed} (y : Refusal) (h : r ≡ Refused y) where
+  pub refused-fits : WordsFit r → y .at < 4294967296
+  unfolding WordsFit
+  refused-fits w = subst WordsFit h w
+
+  pub refused-words : y .number ∷ y .keyword ∷ y .at ∷ 0 ∷ 0 ∷ 0 ∷ [] ≡ answerWords r
+  unfolding answerWords
+  refused-words = sym (ap answerWords h)
+
+  pub refused-number : y .number ≡ numberOf r
+  unfolding numberOf
+  refused-number = sym (ap numberOf h)
+
+-- six words and one more
+pub seven : (r : Parsed) (n : ℕ) {w : List ℕ} → w ≡ answerWords r
+    → getD w 0 0 ∷ getD w 1 0 ∷ getD w 2 0 ∷ getD w 3 0 ∷ getD w 4 0 ∷ getD w 5 0 ∷ n ∷ [] ≡ answerWords r ++ (n ∷ [])
+unfolding answerWords
+seven r n e = rw e (by-answer r)
+  where
+    by-answer : (r : Parsed) → getD (answerWords r) 0 0 ∷ getD (answerWords r) 1 0 ∷ getD (answerWords r) 2 0 ∷ getD (answerWords r) 3 0 ∷ getD (answerWords r) 4 0 ∷ getD (answerWords r) 5 0 ∷ n ∷ [] ≡ answerWords r ++ (n ∷ [])
+    by-answer (Good i j k) = refl
+    by-answer (Refused y) = refl

@@ -1,0 +1,44 @@
+-- `nuvaleta::answer_of`. Each answer is one clause of the definition, and its numbers are words.
+-- Assumes nothing.
+use native.Mathlib.Omega.{arith}
+use borrow.Author.Needs.{needs}
+use Rattle.nuvaleta.proofs.HostLaws.{good-fits, good-words, refused-fits, refused-words}
+use Rattle.nuvaleta.proofs.answer_of.Tie as tie
+use Rattle.nuvaleta.proofs.answer_of.Statement.{statement}
+
+enum-known-parsed : tie.Need-enum-known-parsed
+enum-known-parsed c = search needs
+
+cast-t7 : tie.Need-cast-t7
+cast-t7 c = omega (arith, good-fits _ _ _ (c .before .parsed .given .1) (c .before .before .before .pre))
+
+cast-t8 : tie.Need-cast-t8
+cast-t8 c = omega (arith, good-fits _ _ _ (c .before .parsed .given .1) (c .before .before .before .pre))
+
+cast-t9 : tie.Need-cast-t9
+cast-t9 c = omega (arith, good-fits _ _ _ (c .before .parsed .given .1) (c .before .before .before .pre))
+
+enum-known-parsed-2 : tie.Need-enum-known-parsed-2
+enum-known-parsed-2 c = search needs
+
+cast-t10 : tie.Need-cast-t10
+cast-t10 c = omega (arith, refused-fits _ (c .before .before .parsed2 .given .1) (c .before .before .before .before .pre))
+
+returns : tie.Need-returns
+returns c = search good-words
+
+returns-2 : tie.Need-returns-2
+returns-2 c = search refused-words
+
+pub answer-of-spec : {M : Type 1} → statement M
+answer-of-spec =
+    tie.close
+    (tie.spec
+    enum-known-parsed
+    cast-t7
+    cast-t8
+    cast-t9
+    enum-known-parsed-2
+    cast-t10
+    returns
+    returns-2)

@@ -1,0 +1,21 @@
+-- `nuvaleta::number_of`. Each answer is one clause of the definition.
+-- Assumes nothing.
+use borrow.Author.Needs.{needs}
+use Rattle.nuvaleta.proofs.HostLaws.{good-number, refused-number}
+use Rattle.nuvaleta.proofs.number_of.Tie as tie
+use Rattle.nuvaleta.proofs.number_of.Statement.{statement}
+
+enum-told : tie.Need-enum-told
+enum-told c = search needs
+
+enum-known-parsed : tie.Need-enum-known-parsed
+enum-known-parsed c = search needs
+
+returns : tie.Need-returns
+returns c = search good-number
+
+returns-2 : tie.Need-returns-2
+returns-2 c = search refused-number
+
+pub number-of-spec : {M : Type 1} → statement M
+number-of-spec = tie.close (tie.spec enum-told enum-known-parsed returns returns-2)

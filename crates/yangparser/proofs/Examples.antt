@@ -1,0 +1,62 @@
+-- Worked examples of the dependency scan, one list and one claim: the definitions compute what is read of each text, or the refusal.
+-- Assumes nothing.
+use mathlib.Core.Bool.{Bool, true, false, _&&_}
+use mathlib.Core.List.{List, [], _∷_, _++_}
+use Prim.Native.Nat.{ℕ}
+use lib.Dec.{T}
+use lib.ListN.{length}
+use Rattle.text.specs.Class.{classOf}
+use Rattle.text.specs.Due.{dueNumber, dueHere, dueAt}
+use Rattle.text.specs.Keyword.{startsIdent, endsKeyword, same, part, keywordAt, matchAt}
+use Rattle.text.specs.Scan.{inIdent, inRun, span, runEnd, pairAt, closing, blockEnd, commentEnd, afterWhite, gapTurn, gapEnd}
+use Rattle.text.specs.Turns.{turns}
+use Rattle.value.specs.Argument.{argumentOf, argumentAt, afterDue, afterArgument, lineAt}
+use Rattle.value.specs.Str.{escaped, escapes, strEnd, strBytes, closedBy, strAt}
+use Rattle.value.specs.Value.{isQuote, startsName, addedBy, afterPlus, afterGap, moreAt, addTo, joinTurn, joinedWith, joined as joinedValue, ofString, valueHere, valueAt, valueBytes}
+use Rattle.skip.specs.Skip.{closedToken, tokenHere, tokenAt, tokenEnd}
+use Rattle.skip.specs.Statement.{closes, quotedLen, quotedEnd, atSemicolon, atClose, partOf, partAt, ofPart, statementTurn, statementFrom, statementAt, endedAt}
+use Rattle.rows.specs.Rows.{importWords, includeWords, table, importTable, includeTable}
+use Rattle.imports.specs.Block.{orRevision, orPrefix, lineKind, withPrefix, withRevision, afterKind, insideHere, insideAt, afterInside, blockTurn, blockFrom, blockAt}
+use Rattle.imports.specs.Statement.{ofBody, importOf, withName, afterName, importAt, includeOf, plainOf, blockOf, openOrPlain, afterValue, includeAt}
+use Rattle.yangparser.specs.Dependencies.{importWordsOf, includeWordsOf, joined, importStep, includeStep, unlessFull, importHere, includeHere, movedTo, wordStep, stepHere, stepAt, Scan, good, bad, afterStep, scanTurn, scanFrom, scanned, lentAt, ifFit, dependencies}
+use Rattle.yangparser.specs.Word.{orMatch, lastAt, orWord, wordAt}
+
+-- a text, whether too little was lent, and what comes of it
+data Example : Type 0 where
+  example : List ℕ → Bool → List ℕ → Example
+
+-- 0, the counts, the rows and the bytes stored; or number, keyword and position
+outcome : Scan → List ℕ
+outcome (good d) = 0 ∷ length (d .imports) ∷ length (d .includes) ∷ (importWordsOf d ++ includeWordsOf d ++ d .bytes)
+outcome (bad r d) = r .number ∷ r .keyword ∷ r .at ∷ []
+
+holds : Example → Bool
+holds (example s short xs) = same (outcome (dependencies s short)) xs
+
+all : List Example → Bool
+all [] = true
+all (x ∷ xs) = holds x && all xs
+
+-- the texts: import a b | import "a | import a{x | include a} | "\\" include a; | 1include a; | a:include b; | include/**/a; | contact x; include a; | include a; reference x; import b | import a{prefix "";} | import a{prefix p;prefix q;} | import "a"+{prefix p;revision-date r;} include b{revision-date s;} | byte 200, too little lent | a blank and byte 200
+examples : List Example
+examples =
+    example (105 ∷ 109 ∷ 112 ∷ 111 ∷ 114 ∷ 116 ∷ 32 ∷ 97 ∷ 32 ∷ 98 ∷ []) false (5 ∷ 8 ∷ 9 ∷ [])
+    ∷ example (105 ∷ 109 ∷ 112 ∷ 111 ∷ 114 ∷ 116 ∷ 32 ∷ 34 ∷ 97 ∷ []) false (4 ∷ 8 ∷ 9 ∷ [])
+    ∷ example (105 ∷ 109 ∷ 112 ∷ 111 ∷ 114 ∷ 116 ∷ 32 ∷ 97 ∷ 123 ∷ 120 ∷ []) false (8 ∷ 8 ∷ 10 ∷ [])
+    ∷ example (105 ∷ 110 ∷ 99 ∷ 108 ∷ 117 ∷ 100 ∷ 101 ∷ 32 ∷ 97 ∷ 125 ∷ []) false (5 ∷ 9 ∷ 9 ∷ [])
+    ∷ example (34 ∷ 92 ∷ 92 ∷ 34 ∷ 32 ∷ 105 ∷ 110 ∷ 99 ∷ 108 ∷ 117 ∷ 100 ∷ 101 ∷ 32 ∷ 97 ∷ 59 ∷ []) false (0 ∷ 0 ∷ 1 ∷ 0 ∷ 1 ∷ 0 ∷ 0 ∷ 0 ∷ 97 ∷ [])
+    ∷ example (49 ∷ 105 ∷ 110 ∷ 99 ∷ 108 ∷ 117 ∷ 100 ∷ 101 ∷ 32 ∷ 97 ∷ 59 ∷ []) false (0 ∷ 0 ∷ 1 ∷ 0 ∷ 1 ∷ 0 ∷ 0 ∷ 0 ∷ 97 ∷ [])
+    ∷ example (97 ∷ 58 ∷ 105 ∷ 110 ∷ 99 ∷ 108 ∷ 117 ∷ 100 ∷ 101 ∷ 32 ∷ 98 ∷ 59 ∷ []) false (0 ∷ 0 ∷ 0 ∷ [])
+    ∷ example (105 ∷ 110 ∷ 99 ∷ 108 ∷ 117 ∷ 100 ∷ 101 ∷ 47 ∷ 42 ∷ 42 ∷ 47 ∷ 97 ∷ 59 ∷ []) false (0 ∷ 0 ∷ 0 ∷ [])
+    ∷ example (99 ∷ 111 ∷ 110 ∷ 116 ∷ 97 ∷ 99 ∷ 116 ∷ 32 ∷ 120 ∷ 59 ∷ 32 ∷ 105 ∷ 110 ∷ 99 ∷ 108 ∷ 117 ∷ 100 ∷ 101 ∷ 32 ∷ 97 ∷ 59 ∷ []) false (0 ∷ 0 ∷ 0 ∷ [])
+    ∷ example (105 ∷ 110 ∷ 99 ∷ 108 ∷ 117 ∷ 100 ∷ 101 ∷ 32 ∷ 97 ∷ 59 ∷ 32 ∷ 114 ∷ 101 ∷ 102 ∷ 101 ∷ 114 ∷ 101 ∷ 110 ∷ 99 ∷ 101 ∷ 32 ∷ 120 ∷ 59 ∷ 32 ∷ 105 ∷ 109 ∷ 112 ∷ 111 ∷ 114 ∷ 116 ∷ 32 ∷ 98 ∷ []) false (0 ∷ 0 ∷ 1 ∷ 0 ∷ 1 ∷ 0 ∷ 0 ∷ 0 ∷ 97 ∷ [])
+    ∷ example (105 ∷ 109 ∷ 112 ∷ 111 ∷ 114 ∷ 116 ∷ 32 ∷ 97 ∷ 123 ∷ 112 ∷ 114 ∷ 101 ∷ 102 ∷ 105 ∷ 120 ∷ 32 ∷ 34 ∷ 34 ∷ 59 ∷ 125 ∷ []) false (0 ∷ 1 ∷ 0 ∷ 0 ∷ 1 ∷ 1 ∷ 0 ∷ 0 ∷ 0 ∷ 0 ∷ 97 ∷ [])
+    ∷ example (105 ∷ 109 ∷ 112 ∷ 111 ∷ 114 ∷ 116 ∷ 32 ∷ 97 ∷ 123 ∷ 112 ∷ 114 ∷ 101 ∷ 102 ∷ 105 ∷ 120 ∷ 32 ∷ 112 ∷ 59 ∷ 112 ∷ 114 ∷ 101 ∷ 102 ∷ 105 ∷ 120 ∷ 32 ∷ 113 ∷ 59 ∷ 125 ∷ []) false (0 ∷ 1 ∷ 0 ∷ 0 ∷ 1 ∷ 2 ∷ 1 ∷ 0 ∷ 0 ∷ 0 ∷ 97 ∷ 112 ∷ 113 ∷ [])
+    ∷ example (105 ∷ 109 ∷ 112 ∷ 111 ∷ 114 ∷ 116 ∷ 32 ∷ 34 ∷ 97 ∷ 34 ∷ 43 ∷ 123 ∷ 112 ∷ 114 ∷ 101 ∷ 102 ∷ 105 ∷ 120 ∷ 32 ∷ 112 ∷ 59 ∷ 114 ∷ 101 ∷ 118 ∷ 105 ∷ 115 ∷ 105 ∷ 111 ∷ 110 ∷ 45 ∷ 100 ∷ 97 ∷ 116 ∷ 101 ∷ 32 ∷ 114 ∷ 59 ∷ 125 ∷ 32 ∷ 105 ∷ 110 ∷ 99 ∷ 108 ∷ 117 ∷ 100 ∷ 101 ∷ 32 ∷ 98 ∷ 123 ∷ 114 ∷ 101 ∷ 118 ∷ 105 ∷ 115 ∷ 105 ∷ 111 ∷ 110 ∷ 45 ∷ 100 ∷ 97 ∷ 116 ∷ 101 ∷ 32 ∷ 115 ∷ 59 ∷ 125 ∷ []) false (0 ∷ 1 ∷ 1 ∷ 0 ∷ 1 ∷ 1 ∷ 1 ∷ 1 ∷ 2 ∷ 1 ∷ 3 ∷ 1 ∷ 1 ∷ 4 ∷ 1 ∷ 97 ∷ 112 ∷ 114 ∷ 98 ∷ 115 ∷ [])
+    ∷ example (200 ∷ []) true (2 ∷ 0 ∷ 0 ∷ [])
+    ∷ example (32 ∷ 200 ∷ []) false (3 ∷ 0 ∷ 1 ∷ [])
+    ∷ []
+
+right : T (all examples)
+unfolding examples all holds outcome importWordsOf includeWordsOf joined importStep includeStep unlessFull importHere includeHere movedTo wordStep stepHere stepAt afterStep scanTurn scanFrom scanned lentAt ifFit dependencies orMatch lastAt orWord wordAt importWords includeWords table importTable includeTable orRevision orPrefix lineKind withPrefix withRevision afterKind insideHere insideAt afterInside blockTurn blockFrom blockAt ofBody importOf withName afterName importAt includeOf plainOf blockOf openOrPlain afterValue includeAt argumentOf argumentAt afterDue afterArgument lineAt escaped escapes strEnd strBytes closedBy strAt isQuote startsName addedBy afterPlus afterGap moreAt addTo joinTurn joinedWith joinedValue ofString valueHere valueAt valueBytes closedToken tokenHere tokenAt tokenEnd closes quotedLen quotedEnd atSemicolon atClose partOf partAt ofPart statementTurn statementFrom statementAt endedAt dueNumber dueHere dueAt startsIdent endsKeyword same part keywordAt matchAt gapEnd gapTurn afterWhite commentEnd blockEnd closing pairAt runEnd span inRun inIdent classOf turns
+right = tt

@@ -1,0 +1,139 @@
+-- How far one step of the scan goes and what it adds: it stands within the text, takes more bytes than it stores, adds a row only where there is
+-- room for one, and the row's values lie in the bytes added.
+-- Assumes nothing.
+use mathlib.Core.Path.{_≡_, refl, sym, subst}
+use mathlib.Core.List.{List, []}
+use Prim.Native.Nat.{ℕ, _+_, _-_, _<_, _≤_}
+use native.Mathlib.Omega.{arith}
+use lib.Dec.{leb}
+use lib.ListN.{length}
+use borrow.Author.Tests.{leb-true, leb-false}
+use Rattle.text.specs.Scan.{gapEnd}
+use Rattle.text.proofs.Here.{by-test}
+use Rattle.text.proofs.Laws.{gap-from}
+use Rattle.skip.specs.Skip.{tokenAt, tokenEnd}
+use Rattle.skip.proofs.SkipLaws.{token-far, token-within}
+use Rattle.imports.specs.Statement.{importAt, includeAt}
+use Rattle.imports.specs.declared.Imported.{Imported}
+use Rattle.imports.specs.declared.Imported.the-variants.{Import as ReadImport, NoImport}
+use Rattle.imports.specs.declared.Included.{Included}
+use Rattle.imports.specs.declared.Included.the-variants.{Include as ReadInclude, NoInclude}
+use Rattle.imports.proofs.ReachLaws.{ImportSaid, import-said, IncludeSaid, include-said}
+use Rattle.yangparser.specs.Dependencies.{Dependencies, none, Step, importStep, includeStep, unlessFull, importHere, includeHere, movedTo, wordStep, stepAt}
+use Rattle.yangparser.specs.Word.{wordAt}
+use Rattle.yangparser.specs.declared.Next.{Next}
+use Rattle.yangparser.specs.declared.Next.the-variants.{On, Done, Stop}
+use Rattle.yangparser.specs.declared.Sofar.{Sofar}
+use Rattle.yangparser.specs.declared.Word.{Word}
+use Rattle.yangparser.specs.declared.Word.the-variants.{Import, Include, Last, Other}
+use Rattle.yangparser.proofs.AddLaws.{full-is, room-is}
+use Rattle.yangparser.proofs.Placed.{import-more, include-more, Placed, placed-bytes, placed-import, placed-include}
+use Rattle.yangparser.proofs.StepLaws.{step-past, step-word}
+use Rattle.yangparser.proofs.WordLaws.{word-import-far, word-include-far}
+
+-- from far, with a added
+abbrev pub Went : List ℕ → Sofar → Dependencies → Next → Type 0
+Went s far a (On n) =
+    (far .at + length (a .bytes) < n .at) × (n .at ≤ length s) × (n .used ≡ far .used + length (a .bytes))
+    × (n .imports ≡ far .imports + length (a .imports)) × (n .includes ≡ far .includes + length (a .includes))
+Went s far a Done = a ≡ none
+Went s far a (Stop r) = far .at ≤ length s → r .at ≤ length s
+
+pub record Said (s : List ℕ) (far : Sofar) (x : Step) : Type 0 where
+  pub went : Went s far (x .adds) (x .answer)
+  pub fits : length (x .adds .bytes) ≤ length s - far .at
+  pub placed : Placed (far .used) (far .used + length (x .adds .bytes)) (x .adds)
+  pub few-imports : far .imports ≤ 256 → far .imports + length (x .adds .imports) ≤ 256
+  pub few-includes : far .includes ≤ 256 → far .includes + length (x .adds .includes) ≤ 256
+
+-- nothing is added
+said-none : (s : List ℕ) (far : Sofar) (r : Next) → Went s far none r → Said s far (record { answer = r; adds = none })
+said-none s far r w = record {
+  went = w;
+  fits = omega arith;
+  placed = placed-bytes (far .used) (far .used + 0) (omega arith) [];
+  few-imports = λ h. omega arith;
+  few-includes = λ h. omega arith;
+}
+
+-- bytes of a refused statement
+said-bytes : (s : List ℕ) (far : Sofar) (r : Next) (bs : List ℕ) → Went s far (record { imports = []; includes = []; bytes = bs }) r → length bs ≤ length s - far .at
+    → Said s far (record { answer = r; adds = record { imports = []; includes = []; bytes = bs } })
+said-bytes s far r bs w h = record {
+  went = w;
+  fits = h;
+  placed = placed-bytes (far .used) (far .used + length bs) (omega arith) bs;
+  few-imports = λ h. omega arith;
+  few-includes = λ h. omega arith;
+}
+
+-- at: behind the keyword
+module _ (s : List ℕ) (far : Sofar) (at : ℕ) (behind : far .at < at) (in-text : at ≤ length s) where
+  said-unless : (rows k : ℕ) (x : Step) → (rows < 256 → Said s far x) → Said s far (unlessFull rows k at x)
+  said-unless rows k x said =
+      by-test (leb 256 rows)
+      (λ t. subst (Said s far) (sym (full-is rows k at x (leb-true 256 rows t)))
+      (said-none s far (Stop (record { number = 10; keyword = k; at = at })) (λ h. in-text)))
+      (λ t. let h = leb-false 256 rows t in subst (Said s far) (sym (room-is rows k at x h)) (said h))
+
+  import-went : (bs : List ℕ) (x : Imported) → ImportSaid s at (far .used) bs x → far .imports < 256 → Said s far (importStep far bs x)
+  unfolding importStep
+  import-went bs (ReadImport c n i) d h = record {
+    went = (omega (arith, d .0), d .1, d .2, refl, omega arith);
+    fits = omega (arith, d .0, d .1);
+    placed =
+        placed-import (far .used) (far .used + length bs) i bs
+        (import-more (omega arith) (omega (arith, d .2)) i (d .3, d .4, d .5)) (omega (arith, d .2, d .6));
+    few-imports = λ k. omega arith;
+    few-includes = λ k. omega arith;
+  }
+  import-went bs (NoImport r) d h = said-bytes s far (Stop r) bs (λ k. d .1 in-text) (omega (arith, d .0))
+
+  include-went : (bs : List ℕ) (x : Included) → IncludeSaid s at (far .used) bs x → far .includes < 256 → Said s far (includeStep far bs x)
+  unfolding includeStep
+  include-went bs (ReadInclude c n i) d h = record {
+    went = (omega (arith, d .0), d .1, d .2, omega arith, refl);
+    fits = omega (arith, d .0, d .1);
+    placed =
+        placed-include (far .used) (far .used + length bs) i bs
+        (include-more (omega arith) (omega (arith, d .2)) i (d .3, d .4)) (omega (arith, d .2, d .5));
+    few-imports = λ k. omega arith;
+    few-includes = λ k. omega arith;
+  }
+  include-went bs (NoInclude r) d h = said-bytes s far (Stop r) bs (λ k. d .1 in-text) (omega (arith, d .0))
+
+  import-here : Said s far (importHere s far at)
+  unfolding importHere
+  import-here =
+      let x = importAt s at (far .used) in
+      said-unless (far .imports) 8 (importStep far (x .bytes) (x .answer)) (import-went (x .bytes) (x .answer) (import-said s at (far .used)))
+
+  include-here : Said s far (includeHere s far at)
+  unfolding includeHere
+  include-here =
+      let x = includeAt s at (far .used) in
+      said-unless (far .includes) 9 (includeStep far (x .bytes) (x .answer)) (include-went (x .bytes) (x .answer) (include-said s at (far .used)))
+
+-- at the place g after the gap
+word-said : (s : List ℕ) (far : Sofar) (g : ℕ) → far .at ≤ g → g < length s → (w : Word) → wordAt s g ≡ w → Said s far (wordStep s far g w)
+unfolding wordStep movedTo
+word-said s far g from in-text (Import c) h =
+    let f = word-import-far s g c h in import-here s far (c .at) (omega (arith, f .0)) (f .1)
+word-said s far g from in-text (Include c) h =
+    let f = word-include-far s g c h in include-here s far (c .at) (omega (arith, f .0)) (f .1)
+word-said s far g from in-text (Last c) h = said-none s far Done refl
+word-said s far g from in-text Other h =
+    said-none s far (On (movedTo far (tokenEnd (tokenAt s g))))
+    (omega (arith, token-far s g in-text), token-within s g (omega arith), omega arith, omega arith, omega arith)
+
+pub step-said : (s : List ℕ) (far : Sofar) → Said s far (stepAt s far)
+step-said s far =
+    let g = gapEnd s (far .at) in
+    by-test (leb (length s) g)
+    (λ t. subst (Said s far) (sym (step-past s far refl (leb-true (length s) g t))) (said-none s far Done refl))
+    (λ t. let h = leb-false (length s) g t in
+    subst (Said s far) (sym (step-word s far refl h refl refl)) (word-said s far g (gap-from s (far .at)) h (wordAt s g) refl))
+
+-- a scan that ends here read nothing more
+pub step-ends : (s : List ℕ) (far : Sofar) → stepAt s far .answer ≡ Done → stepAt s far .adds ≡ none
+step-ends s far h = subst (Went s far (stepAt s far .adds)) h (step-said s far .went)

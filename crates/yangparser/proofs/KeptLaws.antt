@@ -1,0 +1,152 @@
+-- What those who call a scan use: all that it keeps is sound, since it is what the inner scan read or nothing; the rows that it wrote read back as
+-- they were, and a value's bytes are the same in the store as among the bytes read.
+-- Assumes nothing.
+use mathlib.Core.Path.{_≡_, refl, sym, ap, _∙_}
+use mathlib.Core.Bool.{Bool, false}
+use mathlib.Core.List.{List}
+use Prim.Native.Nat.{ℕ, _+_, _-_, _*_, _≤_}
+use native.Mathlib.Omega.{arith}
+use lib.Dec.{ltb}
+use lib.ListN.{length, drop, length-drop}
+use lib.Seq.{sets, sets-eq, length-take-le}
+use borrow.Author.Tests.{ltb-true, ltb-false}
+use Rattle.text.specs.Scan.{runEnd}
+use Rattle.text.specs.declared.Refusal.{Refusal}
+use Rattle.text.specs.declared.Run.the-variants.{Low}
+use Rattle.text.proofs.Here.{by-test}
+use Rattle.buffers.specs.Padded.{zeros, padded}
+use Rattle.rows.specs.Rows.{importsIn, includesIn}
+use Rattle.rows.specs.Span.{valueIn, Within}
+use Rattle.rows.specs.declared.Span.{Span}
+use Rattle.rows.proofs.Values.{value-more}
+use Rattle.rows.proofs.Reading.{imports-back, includes-back, imports-written, includes-written}
+use Rattle.yangparser.specs.Dependencies.{Dependencies, importWordsOf, includeWordsOf, Scan, good, bad, scanned, lentAt, ifFit, dependencies, parsedOf, readOf, keptOf}
+use Rattle.yangparser.specs.Promises.{Holds, Leaves}
+use Rattle.yangparser.specs.declared.Lent.{Lent}
+use Rattle.yangparser.specs.declared.Lent.the-variants.{Fit, Unfit}
+use Rattle.yangparser.specs.declared.Parsed.{Parsed}
+use Rattle.yangparser.specs.declared.Parsed.the-variants.{Good, Refused}
+use Rattle.yangparser.proofs.LentLaws.{lent-long, lent-short, lent-high, lent-fit, fit-said}
+use Rattle.yangparser.proofs.ScanLaws.{Sound, sound-none, scan-sound, scan-refusal, sound-imports-plain, sound-includes-plain}
+
+-- ---- the entry
+
+module _ (s : List ℕ) where
+  kept-sound : (x : Scan) → Sound s (readOf x) → Sound s (keptOf x)
+  unfolding readOf keptOf
+  kept-sound (good d) h = h
+  kept-sound (bad r d) h = sound-none s
+
+  fit-sound : (x : Lent) → Sound s (keptOf (ifFit x (scanned s)))
+  unfolding ifFit keptOf
+  fit-sound Fit = kept-sound (scanned s) (scan-sound s)
+  fit-sound (Unfit r) = sound-none s
+
+  pub entry-sound : (short : Bool) → Sound s (keptOf (dependencies s short))
+  unfolding dependencies
+  entry-sound short = fit-sound (lentAt s short)
+
+  fit-good : (x : Lent) (d : Dependencies) → ifFit x (scanned s) ≡ good d → (x ≡ Fit) × (scanned s ≡ good d)
+  unfolding ifFit
+  fit-good Fit d h = (refl, h)
+  fit-good (Unfit r) d h = let z : _≡_ {A = ℕ} 0 1 = cc in absurd (omega arith)
+
+  -- a good scan is the inner one's, of a text that is not too long, with enough lent
+  pub entry-good : (short : Bool) (d : Dependencies) → dependencies s short ≡ good d → (scanned s ≡ good d) × (length s ≤ 1048576) × (short ≡ false)
+  unfolding dependencies
+  entry-good short d h =
+      let k = fit-good (lentAt s short) d h in
+      let l = fit-said s short (k .0) in
+      (k .1, l .0, l .1)
+
+  unfit-at : (x : Lent) (r q : Refusal) → x ≡ Unfit r → x ≡ Unfit q → r .at ≡ q .at
+  unfit-at x r q e f = cc
+
+  fit-not : (x : Lent) (q : Refusal) → x ≡ Fit → x ≡ Unfit q → ⊥
+  fit-not x q e f = let z : _≡_ {A = ℕ} 0 1 = cc in omega arith
+
+  -- a refusal's place is within the text
+  lent-within : (short : Bool) (q : Refusal) → lentAt s short ≡ Unfit q → q .at ≤ length s
+  lent-within short q h =
+      let x = lentAt s short in
+      let at = runEnd Low s 0 in
+      by-test (ltb 1048576 (length s))
+      (λ t. omega (arith, unfit-at x (record { number = 1; keyword = 0; at = 0 }) q (sym (lent-long s short (ltb-true 1048576 (length s) t))) h))
+      (λ t. let fits = ltb-false 1048576 (length s) t in
+      by-test short
+      (λ b. omega (arith, unfit-at x (record { number = 2; keyword = 0; at = 0 }) q (sym (lent-short s short fits b)) h))
+      (λ b. by-test (ltb at (length s))
+      (λ v. let l = ltb-true at (length s) v in
+      omega (arith, unfit-at x (record { number = 3; keyword = 0; at = at }) q (sym (lent-high s short fits b refl l)) h))
+      (λ v. absurd (fit-not x q (sym (lent-fit s short fits b refl (ltb-false at (length s) v))) h))))
+
+  fit-within : (x : Lent) → ((q : Refusal) → x ≡ Unfit q → q .at ≤ length s) → (r : Refusal) (d : Dependencies) → ifFit x (scanned s) ≡ bad r d → r .at ≤ length s
+  unfolding ifFit
+  fit-within Fit w r d h = scan-refusal s r d h
+  fit-within (Unfit q) w r d h = let k : q .at ≡ r .at = cc in omega (arith, w q refl)
+
+  pub entry-refusal : (short : Bool) (r : Refusal) (d : Dependencies) → dependencies s short ≡ bad r d → r .at ≤ length s
+  unfolding dependencies
+  entry-refusal short r d h = fit-within (lentAt s short) (lent-within short) r d h
+
+-- ---- what an answer tells of the scan
+
+pub parsed-good : (x : Scan) (i j n : ℕ) → parsedOf x ≡ Good i j n
+    → (d : Dependencies) × (x ≡ good d) × (i ≡ length (d .imports)) × (j ≡ length (d .includes)) × (n ≡ length (d .bytes))
+unfolding parsedOf
+parsed-good (good d) i j n h = (d, refl, cc, cc, cc)
+parsed-good (bad r d) i j n h = let z : _≡_ {A = ℕ} 0 1 = cc in absurd (omega arith)
+
+pub parsed-refused : (x : Scan) (r : Refusal) → parsedOf x ≡ Refused r → (d : Dependencies) × (x ≡ bad r d)
+unfolding parsedOf
+parsed-refused (good d) r h = let z : _≡_ {A = ℕ} 0 1 = cc in absurd (omega arith)
+parsed-refused (bad q d) r h = (d, cc)
+
+-- what an entry leaves depends on the scan and the lengths lent, and on nothing that the slices held
+pub leaves-one : (x : Scan) (d t u d′ t′ u′ : List ℕ) → length d ≡ length d′ → length t ≡ length t′ → length u ≡ length u′
+    → {r r′ : Parsed} {e f g e′ f′ g′ : List ℕ} → Leaves x d t u r e f g → Leaves x d′ t′ u′ r′ e′ f′ g′
+    → (r ≡ r′) × (e ≡ e′) × (f ≡ f′) × (g ≡ g′)
+leaves-one x d t u d′ t′ u′ p q w a b = (
+  a .answer ∙ sym (b .answer),
+  a .stored ∙ ap (λ n. padded n (keptOf x .bytes)) p ∙ sym (b .stored),
+  a .imports ∙ ap (λ n. padded n (importWordsOf (keptOf x))) q ∙ sym (b .imports),
+  a .includes ∙ ap (λ n. padded n (includeWordsOf (keptOf x))) w ∙ sym (b .includes),
+)
+
+-- ---- rows read back, from what the inner scan wrote and from what the entry leaves
+
+module _ {s : List ℕ} (x : Dependencies) (k : Sound s x) where
+  module _ {d t u e f g : List ℕ} (h : Holds x d t u e f g) where
+    pub held-imports : 256 * 7 ≤ length t → importsIn f (length (x .imports)) ≡ x .imports
+    unfolding importWordsOf
+    held-imports room =
+        ap (λ l. importsIn l (length (x .imports))) (h .imports)
+        ∙ imports-written (x .imports) t (sound-imports-plain k) (omega (arith, k .few-imports))
+
+    pub held-includes : 256 * 5 ≤ length u → includesIn g (length (x .includes)) ≡ x .includes
+    unfolding includeWordsOf
+    held-includes room =
+        ap (λ l. includesIn l (length (x .includes))) (h .includes)
+        ∙ includes-written (x .includes) u (sound-includes-plain k) (omega (arith, k .few-includes))
+
+  pub padded-imports : (n : ℕ) → importsIn (padded n (importWordsOf x)) (length (x .imports)) ≡ x .imports
+  unfolding importWordsOf padded
+  padded-imports n = imports-back (x .imports) _ (sound-imports-plain k)
+
+  pub padded-includes : (n : ℕ) → includesIn (padded n (includeWordsOf x)) (length (x .includes)) ≡ x .includes
+  unfolding includeWordsOf padded
+  padded-includes n = includes-back (x .includes) _ (sound-includes-plain k)
+
+-- ---- a value's bytes; bs: the bytes read
+
+module _ (bs : List ℕ) (x : Span) (lies : Within (length bs) x) where
+  pub held-value : (d : List ℕ) {e : List ℕ} → e ≡ sets d 0 bs → length bs ≤ length d → valueIn e x ≡ valueIn bs x
+  held-value d h room = ap (λ l. valueIn l x) (h ∙ sets-eq bs d 0 (omega arith)) ∙ value-more bs (drop (0 + length bs) d) x lies
+
+  pub padded-value : (n : ℕ) → valueIn (padded n bs) x ≡ valueIn bs x
+  unfolding padded
+  padded-value n = value-more bs (zeros (n - length bs)) x lies
+
+  pub value-count : length (valueIn bs x) ≡ x .size
+  unfolding valueIn
+  value-count = length-take-le (x .size) (drop (x .start) bs) (omega (arith, length-drop (x .start) bs))

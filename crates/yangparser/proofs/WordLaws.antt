@@ -1,0 +1,98 @@
+-- Which keyword stands at a place: the keywords' own answers, in the order in which they are tried. One that matched ends behind its first byte and
+-- within the text.
+-- Assumes nothing.
+use mathlib.Core.Path.{_≡_, refl, sym, _∙_}
+use mathlib.Core.Bool.{Bool, false}
+use mathlib.Core.List.{List}
+use Prim.Native.Nat.{ℕ, _<_, _≤_}
+use native.Mathlib.Omega.{arith}
+use lib.ListN.{length, getD}
+use Rattle.text.specs.Keyword.{startsIdent, matchAt}
+use Rattle.text.specs.declared.Cursor.{Cursor}
+use Rattle.text.specs.declared.Match.{Match}
+use Rattle.text.specs.declared.Match.the-variants.{After, Not}
+use Rattle.text.proofs.KeywordLaws.{match-none, match-far}
+use Rattle.imports.specs.Words.{importWord, includeWord, organizationWord, contactWord, descriptionWord, referenceWord}
+use Rattle.yangparser.specs.Word.{orMatch, lastAt, orWord, wordAt}
+use Rattle.yangparser.specs.declared.Word.{Word}
+use Rattle.yangparser.specs.declared.Word.the-variants.{Import, Include, Last, Other}
+
+-- o, c, d, r: what the four keywords' functions answered
+module _ (s : List ℕ) (at : ℕ) {o : Match} (oe : o ≡ matchAt s at organizationWord) where
+  pub last-organization : (x : Cursor) → o ≡ After x → lastAt s at ≡ o
+  unfolding lastAt orMatch
+  last-organization x h = rw (sym oe ∙ h) (sym h)
+
+  module _ (on : o ≡ Not) {c : Match} (ce : c ≡ matchAt s at contactWord) where
+    pub last-contact : (x : Cursor) → c ≡ After x → lastAt s at ≡ c
+    unfolding lastAt orMatch
+    last-contact x h = rw (sym oe ∙ on, sym ce ∙ h) (sym h)
+
+    module _ (cn : c ≡ Not) {d : Match} (de : d ≡ matchAt s at descriptionWord) where
+      pub last-description : (x : Cursor) → d ≡ After x → lastAt s at ≡ d
+      unfolding lastAt orMatch
+      last-description x h = rw (sym oe ∙ on, sym ce ∙ cn, sym de ∙ h) (sym h)
+
+      pub last-reference : d ≡ Not → {r : Match} → r ≡ matchAt s at referenceWord → lastAt s at ≡ r
+      unfolding lastAt orMatch
+      last-reference dn re = rw (sym oe ∙ on, sym ce ∙ cn, sym de ∙ dn) (sym re)
+
+-- i, n, l: what the functions answered for import, include and the four
+module _ (s : List ℕ) (at : ℕ) {i : Match} (ie : i ≡ matchAt s at importWord) where
+  pub word-import : (c : Cursor) → i ≡ After c → wordAt s at ≡ Import c
+  unfolding wordAt orWord
+  word-import c h = rw (sym ie ∙ h) refl
+
+  module _ (no : i ≡ Not) {n : Match} (ne : n ≡ matchAt s at includeWord) where
+    pub word-include : (c : Cursor) → n ≡ After c → wordAt s at ≡ Include c
+    unfolding wordAt orWord
+    word-include c h = rw (sym ie ∙ no, sym ne ∙ h) refl
+
+    module _ (nn : n ≡ Not) {l : Match} (le : l ≡ lastAt s at) where
+      pub word-last : (c : Cursor) → l ≡ After c → wordAt s at ≡ Last c
+      unfolding wordAt orWord
+      word-last c h = rw (sym ie ∙ no, sym ne ∙ nn, sym le ∙ h) refl
+
+      pub word-other : l ≡ Not → wordAt s at ≡ Other
+      unfolding wordAt orWord
+      word-other h = rw (sym ie ∙ no, sym ne ∙ nn, sym le ∙ h) refl
+
+-- p stands here, and no identifier begins so
+pub word-none : (s : List ℕ) (at : ℕ) {p : ℕ} {t : Bool} → p ≡ getD s at 256 → t ≡ startsIdent p → t ≡ false → wordAt s at ≡ Other
+unfolding wordAt orWord lastAt orMatch
+word-none s at pe te n =
+    let no : (word : List ℕ) → matchAt s at word ≡ Not = λ word. match-none s at word pe te n in
+    rw (no importWord, no includeWord, no organizationWord, no contactWord, no descriptionWord, no referenceWord) refl
+
+-- ---- where it ends
+
+-- m: what import answered, w: the word where it is none
+import-is : (m : Match) (w : Word) (c : Cursor) → ((d : Cursor) → w ≡ Import d → ⊥) → orWord Import m w ≡ Import c → m ≡ After c
+unfolding orWord
+import-is (After d) w c other h = cc
+import-is Not w c other h = absurd (other c h)
+
+not-import : (m l : Match) (c : Cursor) → orWord Include m (orWord Last l Other) ≡ Import c → ⊥
+unfolding orWord
+not-import (After d) l c h = let z : _≡_ {A = ℕ} 0 1 = cc in omega arith
+not-import Not (After d) c h = let z : _≡_ {A = ℕ} 0 1 = cc in omega arith
+not-import Not Not c h = let z : _≡_ {A = ℕ} 0 1 = cc in omega arith
+
+include-is : (i m l : Match) (c : Cursor) → orWord Import i (orWord Include m (orWord Last l Other)) ≡ Include c → m ≡ After c
+unfolding orWord
+include-is (After d) m l c h = let z : _≡_ {A = ℕ} 0 1 = cc in absurd (omega arith)
+include-is Not (After d) l c h = cc
+include-is Not Not (After d) c h = let z : _≡_ {A = ℕ} 0 1 = cc in absurd (omega arith)
+include-is Not Not Not c h = let z : _≡_ {A = ℕ} 0 1 = cc in absurd (omega arith)
+
+pub word-import-far : (s : List ℕ) (at : ℕ) (c : Cursor) → wordAt s at ≡ Import c → (at < c .at) × (c .at ≤ length s)
+unfolding wordAt
+word-import-far s at c h =
+    match-far s at importWord c
+    (import-is (matchAt s at importWord) (orWord Include (matchAt s at includeWord) (orWord Last (lastAt s at) Other)) c
+    (not-import (matchAt s at includeWord) (lastAt s at)) h)
+
+pub word-include-far : (s : List ℕ) (at : ℕ) (c : Cursor) → wordAt s at ≡ Include c → (at < c .at) × (c .at ≤ length s)
+unfolding wordAt
+word-include-far s at c h =
+    match-far s at includeWord c (include-is (matchAt s at importWord) (matchAt s at includeWord) (lastAt s at) c h)

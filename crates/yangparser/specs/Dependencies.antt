@@ -1,0 +1,192 @@
+-- Dependencies: the imports and includes of a text. 1: text over 1,048,576 bytes. 2: store, table or page too short. 3: a byte is 128 or more (keyword 0,
+-- first such place). 10: a 257th import or include, at the cursor after its keyword. 4 to 10 come in reading order.
+-- Assumes nothing.
+use Prim.Native.Nat.{ℕ, suc, _+_, _*_}
+use mathlib.Core.Bool.{Bool, cond, _||_}
+use mathlib.Core.List.{List, [], _∷_, _++_}
+use lib.Dec.{leb, ltb}
+use lib.ListN.{length}
+use Rattle.text.specs.Scan.{gapEnd, runEnd}
+use Rattle.text.specs.Turns.{Turn, stop, on, turns}
+use Rattle.text.specs.declared.Refusal.{Refusal}
+use Rattle.text.specs.declared.Run.the-variants.{Low}
+use Rattle.skip.specs.Skip.{tokenAt, tokenEnd}
+use Rattle.rows.specs.Rows.{importSize, includeSize, mostRows, importTable, includeTable}
+use Rattle.rows.specs.declared.YangImport.{YangImport}
+use Rattle.rows.specs.declared.YangInclude.{YangInclude}
+use Rattle.imports.specs.Statement.{importAt, includeAt}
+use Rattle.imports.specs.Words.{importKeyword, includeKeyword}
+use Rattle.imports.specs.declared.Imported.{Imported}
+use Rattle.imports.specs.declared.Imported.the-variants.{Import as ReadImport, NoImport}
+use Rattle.imports.specs.declared.Included.{Included}
+use Rattle.imports.specs.declared.Included.the-variants.{Include as ReadInclude, NoInclude}
+use Rattle.yangparser.specs.Word.{wordAt}
+use Rattle.yangparser.specs.declared.Lent.{Lent}
+use Rattle.yangparser.specs.declared.Lent.the-variants.{Fit, Unfit}
+use Rattle.yangparser.specs.declared.Next.{Next}
+use Rattle.yangparser.specs.declared.Next.the-variants.{On, Done, Stop}
+use Rattle.yangparser.specs.declared.Parsed.{Parsed}
+use Rattle.yangparser.specs.declared.Parsed.the-variants.{Good, Refused}
+use Rattle.yangparser.specs.declared.Sofar.{Sofar}
+use Rattle.yangparser.specs.declared.Word.{Word}
+use Rattle.yangparser.specs.declared.Word.the-variants.{Import, Include, Last, Other}
+
+-- the numbers of this layer
+abbrev pub textTooLong : ℕ
+textTooLong = 1
+
+abbrev pub lentTooShort : ℕ
+lentTooShort = 2
+
+abbrev pub highByteMet : ℕ
+highByteMet = 3
+
+abbrev pub tooMany : ℕ
+tooMany = 10
+
+abbrev pub mostText : ℕ
+mostText = 1048576
+
+-- by so much the page is longer than the text
+abbrev pub pageMore : ℕ
+pageMore = 6944
+
+-- ---- what a scan reads: imports and includes in order, and the bytes stored
+
+pub record Dependencies : Type 0 where
+  pub imports : List YangImport
+  pub includes : List YangInclude
+  pub bytes : List ℕ
+
+abbrev pub none : Dependencies
+none = record { imports = []; includes = []; bytes = [] }
+
+-- the tables: its rows laid out in words
+unfoldable pub importWordsOf : Dependencies → List ℕ
+importWordsOf d = importTable (d .imports)
+
+unfoldable pub includeWordsOf : Dependencies → List ℕ
+includeWordsOf d = includeTable (d .includes)
+
+unfoldable pub joined : Dependencies → Dependencies → Dependencies
+joined d e = record { imports = d .imports ++ e .imports; includes = d .includes ++ e .includes; bytes = d .bytes ++ e .bytes }
+
+-- ---- one statement read or one token skipped; far: the place, the bytes and rows before it
+
+-- the answer, and what it adds: at most one row, and the bytes of a refused statement too
+pub record Step : Type 0 where
+  pub answer : Next
+  pub adds : Dependencies
+
+abbrev pub adding : Next → Dependencies → Step
+adding r d = record { answer = r; adds = d }
+
+unfoldable pub importStep : Sofar → List ℕ → Imported → Step
+importStep far bs (ReadImport c n i) =
+    adding (On (record { at = c .at; used = n; imports = far .imports + 1; includes = far .includes }))
+    (record { imports = i ∷ []; includes = []; bytes = bs })
+importStep far bs (NoImport r) = adding (Stop r) (record { imports = []; includes = []; bytes = bs })
+
+unfoldable pub includeStep : Sofar → List ℕ → Included → Step
+includeStep far bs (ReadInclude c n i) =
+    adding (On (record { at = c .at; used = n; imports = far .imports; includes = far .includes + 1 }))
+    (record { imports = []; includes = i ∷ []; bytes = bs })
+includeStep far bs (NoInclude r) = adding (Stop r) (record { imports = []; includes = []; bytes = bs })
+
+-- 10 where the rows are full, behind the keyword k; else what stands there
+unfoldable pub unlessFull : ℕ → ℕ → ℕ → Step → Step
+unlessFull rows k at step = cond (leb mostRows rows) (adding (Stop (record { number = tooMany; keyword = k; at = at })) none) step
+
+unfoldable pub importHere : List ℕ → Sofar → ℕ → Step
+importHere s far at =
+    unlessFull (far .imports) importKeyword at (importStep far (importAt s at (far .used) .bytes) (importAt s at (far .used) .answer))
+
+unfoldable pub includeHere : List ℕ → Sofar → ℕ → Step
+includeHere s far at =
+    unlessFull (far .includes) includeKeyword at (includeStep far (includeAt s at (far .used) .bytes) (includeAt s at (far .used) .answer))
+
+unfoldable pub movedTo : Sofar → ℕ → Sofar
+movedTo far at = record { at = at; used = far .used; imports = far .imports; includes = far .includes }
+
+unfoldable pub wordStep : List ℕ → Sofar → ℕ → Word → Step
+wordStep s far at (Import c) = importHere s far (c .at)
+wordStep s far at (Include c) = includeHere s far (c .at)
+wordStep s far at (Last c) = adding Done none
+wordStep s far at Other = adding (On (movedTo far (tokenEnd (tokenAt s at)))) none
+
+-- at the place after the gap
+unfoldable pub stepHere : List ℕ → Sofar → ℕ → Step
+stepHere s far at = cond (leb (length s) at) (adding Done none) (wordStep s far at (wordAt s at))
+
+unfoldable pub stepAt : List ℕ → Sofar → Step
+stepAt s far = stepHere s far (gapEnd s (far .at))
+
+-- ---- all of them
+
+-- where the scan stands, and what it read so far
+pub record Scanning : Type 0 where
+  pub far : Sofar
+  pub read : Dependencies
+
+-- all that was read; or the refusal, and what was stored and written before it
+pub data Scan : Type 0 where
+  good : Dependencies → Scan
+  bad : Refusal → Dependencies → Scan
+
+unfoldable pub afterStep : Dependencies → Next → Turn Scanning Scan
+afterStep d (On far) = on (record { far = far; read = d })
+afterStep d Done = stop (good d)
+afterStep d (Stop r) = stop (bad r d)
+
+unfoldable pub scanTurn : List ℕ → Scanning → Turn Scanning Scan
+scanTurn s g = afterStep (joined (g .read) (stepAt s (g .far) .adds)) (stepAt s (g .far) .answer)
+
+unfoldable pub scanFrom : List ℕ → Scanning → Scan
+scanFrom s g = turns (scanTurn s) (good none) (suc (length s)) g
+
+abbrev pub start : Sofar
+start = record { at = 0; used = 0; imports = 0; includes = 0 }
+
+unfoldable pub scanned : List ℕ → Scan
+scanned s = scanFrom s (record { far = start; read = none })
+
+-- ---- with the checks that come first
+
+-- the lengths lent: store, import table, include table; and the page of the printed form
+-- text: the text's length; short: whether something else that was lent is too short
+unfoldable pub tooShort : Bool → ℕ → ℕ → ℕ → ℕ → Bool
+tooShort short text store imports includes =
+    short || ltb store text || ltb imports (mostRows * importSize) || ltb includes (mostRows * includeSize)
+
+unfoldable pub pageShort : ℕ → ℕ → Bool
+pageShort text page = ltb page (text + pageMore)
+
+-- short: whether something lent is too short
+unfoldable pub lentAt : List ℕ → Bool → Lent
+lentAt s short =
+    cond (ltb mostText (length s)) (Unfit (record { number = textTooLong; keyword = 0; at = 0 }))
+    (cond short (Unfit (record { number = lentTooShort; keyword = 0; at = 0 }))
+    (cond (ltb (runEnd Low s 0) (length s)) (Unfit (record { number = highByteMet; keyword = 0; at = runEnd Low s 0 })) Fit))
+
+unfoldable pub ifFit : Lent → Scan → Scan
+ifFit Fit x = x
+ifFit (Unfit r) x = bad r none
+
+unfoldable pub dependencies : List ℕ → Bool → Scan
+dependencies s short = ifFit (lentAt s short) (scanned s)
+
+-- ---- what is answered, written and kept
+
+unfoldable pub parsedOf : Scan → Parsed
+parsedOf (good d) = Good (length (d .imports)) (length (d .includes)) (length (d .bytes))
+parsedOf (bad r d) = Refused r
+
+-- what the inner scan leaves, on a refusal too
+unfoldable pub readOf : Scan → Dependencies
+readOf (good d) = d
+readOf (bad r d) = d
+
+-- what the entry leaves: every refusal leaves counts, store and tables zero
+unfoldable pub keptOf : Scan → Dependencies
+keptOf (good d) = d
+keptOf (bad r d) = none

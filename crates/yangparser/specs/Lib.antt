@@ -1,0 +1,3 @@
+pub mod Dependencies
+pub mod Promises
+pub mod Word

@@ -1,0 +1,67 @@
+-- What the functions answer and leave. d, t and u: the store, the import table and the include table at entry; e, f and g: at exit.
+-- Assumes nothing.
+use Prim.Native.Nat.{ℕ, _*_, _≤_, _<_}
+use mathlib.Core.Path.{_≡_}
+use mathlib.Core.Bool.{Bool}
+use mathlib.Core.List.{List}
+use lib.ListN.{length}
+use lib.Seq.{sets}
+use Rattle.text.specs.Class.{classTable}
+use Rattle.buffers.specs.Padded.{zeros, padded}
+use Rattle.rows.specs.Rows.{importSize, includeSize, mostRows}
+use Rattle.yangparser.specs.Dependencies.{Dependencies, importWordsOf, includeWordsOf, Step, importHere, includeHere, Scan, scanned, tooShort, dependencies, parsedOf, readOf, keptOf}
+use Rattle.yangparser.specs.declared.Next.{Next}
+use Rattle.yangparser.specs.declared.Parsed.{Parsed}
+use Rattle.yangparser.specs.declared.Sofar.{Sofar}
+
+-- a step x with rows of one kind, which words lays out: its bytes from the store's place u on, its row from the word `at` on
+pub record Adds (words : Dependencies → List ℕ) (x : Step) (u at : ℕ) (d t : List ℕ) (r : Next) (e f : List ℕ) : Type 0 where
+  pub answer : r ≡ x .answer
+  pub stored : e ≡ sets d u (x .adds .bytes)
+  pub written : f ≡ sets t at (words (x .adds))
+
+abbrev pub AddsImport : List ℕ → Sofar → ℕ → List ℕ → List ℕ → Next → List ℕ → List ℕ → Type 0
+AddsImport s far at d t r e f = Adds importWordsOf (importHere s far at) (far .used) (far .imports * importSize) d t r e f
+
+abbrev pub AddsInclude : List ℕ → Sofar → ℕ → List ℕ → List ℕ → Next → List ℕ → List ℕ → Type 0
+AddsInclude s far at d u r e g = Adds includeWordsOf (includeHere s far at) (far .used) (far .includes * includeSize) d u r e g
+
+-- one statement or token, of either kind
+pub record Steps (x : Step) (far : Sofar) (d t u : List ℕ) (r : Next) (e f g : List ℕ) : Type 0 where
+  pub answer : r ≡ x .answer
+  pub stored : e ≡ sets d (far .used) (x .adds .bytes)
+  pub imports : f ≡ sets t (far .imports * importSize) (importWordsOf (x .adds))
+  pub includes : g ≡ sets u (far .includes * includeSize) (includeWordsOf (x .adds))
+
+-- what was read stands in the store and the tables from their start on, and nothing else is touched
+pub record Holds (x : Dependencies) (d t u e f g : List ℕ) : Type 0 where
+  pub stored : e ≡ sets d 0 (x .bytes)
+  pub imports : f ≡ sets t 0 (importWordsOf x)
+  pub includes : g ≡ sets u 0 (includeWordsOf x)
+
+-- the inner scan, on a refusal too
+pub record Parses (s d t u : List ℕ) (r : Parsed) (e f g : List ℕ) : Type 0 where
+  pub answer : r ≡ parsedOf (scanned s)
+  pub holds : Holds (readOf (scanned s)) d t u e f g
+
+-- the lent slices are zero and long enough
+pub record Cleared (classes s d t u : List ℕ) : Type 0 where
+  pub table : classes ≡ classTable
+  pub store : d ≡ zeros (length d)
+  pub imports : t ≡ zeros (length t)
+  pub includes : u ≡ zeros (length u)
+  pub room : length s ≤ length d
+  pub words : length s < 4294967296
+  pub importRoom : mostRows * importSize ≤ length t
+  pub includeRoom : mostRows * includeSize ≤ length u
+
+-- what an entry leaves of a scan x: all beyond what is used is zero, and on a refusal all
+pub record Leaves (x : Scan) (d t u : List ℕ) (r : Parsed) (e f g : List ℕ) : Type 0 where
+  pub answer : r ≡ parsedOf x
+  pub stored : e ≡ padded (length d) (keptOf x .bytes)
+  pub imports : f ≡ padded (length t) (importWordsOf (keptOf x))
+  pub includes : g ≡ padded (length u) (includeWordsOf (keptOf x))
+
+-- the lengths lent are part of the input
+abbrev pub Extracts : List ℕ → Bool → List ℕ → List ℕ → List ℕ → Parsed → List ℕ → List ℕ → List ℕ → Type 0
+Extracts s short d t u r e f g = Leaves (dependencies s (tooShort short (length s) (length d) (length t) (length u))) d t u r e f g

@@ -1,0 +1,417 @@
+// The dependency scan: import and include statements, their values in the store that the caller lends, their rows in its tables.
+use imports::Imported;
+use imports::Included;
+use text::Cursor;
+use text::Match;
+use text::Refusal;
+ghost use mathlib.Core.Path.{_≡_};
+ghost use mathlib.Core.Bool.{false};
+ghost use Prim.Native.Nat.{_+_, _-_, _*_, _≤_, _<_};
+ghost use lib.ListN.{length};
+ghost use Rattle.text.specs.Class.{classTable};
+ghost use Rattle.text.specs.Keyword.{matchAt};
+ghost use Rattle.rows.specs.Rows.{importSize, includeSize, mostRows};
+ghost use Rattle.imports.specs.Words.{importWord, includeWord, organizationWord, contactWord, descriptionWord, referenceWord};
+ghost use Rattle.yangparser.specs.Word.{lastAt, wordAt};
+ghost use Rattle.yangparser.specs.Dependencies.{tooShort, lentAt, stepAt, scanned};
+ghost use Rattle.yangparser.specs.Promises.{AddsImport, AddsInclude, Steps, Parses, Cleared, Leaves, Extracts};
+
+// Refusals of this layer.
+pub const TEXT_TOO_LONG: u32 = 1;
+
+pub const LENT_TOO_SHORT: u32 = 2;
+
+pub const HIGH_BYTE: u32 = 3;
+
+pub const TOO_MANY: u32 = 10;
+
+// The longest text.
+pub const MOST_TEXT: usize = 1048576;
+
+// What the scan read: how many rows of each, and how many bytes are stored; or its refusal.
+pub enum Parsed {
+    Good {
+        imports: usize,
+        includes: usize,
+        used: usize,
+    },
+    Refused(Refusal),
+}
+
+// Extract import and include statements from a text. What was lent is zero but for what is used, and all of it on a refusal.
+pub fn extract_yang_dependencies(
+    s: &[u8],
+    store: &mut [u8],
+    imports: &mut [u32],
+    includes: &mut [u32],
+) -> Parsed
+    ensures { λ r. ⌜ Extracts (now (s .entry)) false (now (store .entry)) (now (imports .entry)) (now (includes .entry)) r (now (store .exit)) (now (imports .exit)) (now (includes .exit)) ⌝ }
+{
+    scan_lent(s, false, store, imports, includes)
+}
+
+// The same where something else that was lent may be too short.
+pub fn scan_lent(
+    s: &[u8],
+    short: bool,
+    store: &mut [u8],
+    imports: &mut [u32],
+    includes: &mut [u32],
+) -> Parsed
+    ensures { λ r. ⌜ Extracts (now (s .entry)) short (now (store .entry)) (now (imports .entry)) (now (includes .entry)) r (now (store .exit)) (now (imports .exit)) (now (includes .exit)) ⌝ }
+{
+    buffers::clear_bytes(store);
+    buffers::clear_words(imports);
+    buffers::clear_words(includes);
+    let classes = text::classes();
+    let unfit = too_short(short, s.len(), store.len(), imports.len(), includes.len());
+    let lent = check_lent(&classes, s, unfit);
+    match lent {
+        Lent::Fit => parse_cleared(&classes, s, store, imports, includes),
+        Lent::Unfit(r) => Parsed::Refused(r),
+    }
+}
+
+// Whether a text can be scanned with what was lent, or a refusal.
+pub enum Lent {
+    Fit,
+    Unfit(Refusal),
+}
+
+// Whether the store or a table is too short for a text.
+fn too_short(short: bool, text: usize, store: usize, imports: usize, includes: usize) -> bool
+    ensures { λ r. ⌜ r ≡ tooShort short text store imports includes ⌝ }
+{
+    if short {
+        return true;
+    }
+    if store < text {
+        return true;
+    }
+    if imports < rows::MOST_ROWS * rows::IMPORT_SIZE {
+        return true;
+    }
+    includes < rows::MOST_ROWS * rows::INCLUDE_SIZE
+}
+
+// 1, then 2, then 3.
+fn check_lent(classes: &[u8; 128], s: &[u8], short: bool) -> Lent
+    requires { ⌜ now classes ≡ classTable ⌝ }
+    ensures { λ r. ⌜ r ≡ lentAt (now (s .entry)) short ⌝ }
+{
+    if MOST_TEXT < s.len() {
+        return Lent::Unfit(Refusal {
+            number: TEXT_TOO_LONG,
+            keyword: 0,
+            at: 0,
+        });
+    }
+    if short {
+        return Lent::Unfit(Refusal {
+            number: LENT_TOO_SHORT,
+            keyword: 0,
+            at: 0,
+        });
+    }
+    let at = text::first_high(classes, s);
+    if at < s.len() {
+        return Lent::Unfit(Refusal {
+            number: HIGH_BYTE,
+            keyword: 0,
+            at,
+        });
+    }
+    Lent::Fit
+}
+
+// The scan over zeros. A refusal clears what it wrote.
+fn parse_cleared(
+    classes: &[u8; 128],
+    s: &[u8],
+    store: &mut [u8],
+    imports: &mut [u32],
+    includes: &mut [u32],
+) -> Parsed
+    requires { ⌜ Cleared (now classes) (now s) (now store) (now imports) (now includes) ⌝ }
+    ensures { λ r. ⌜ Leaves (scanned (now (s .entry))) (now (store .entry)) (now (imports .entry)) (now (includes .entry)) r (now (store .exit)) (now (imports .exit)) (now (includes .exit)) ⌝ }
+{
+    let parsed = parse(classes, s, store, imports, includes);
+    match parsed {
+        Parsed::Good {
+            imports: _,
+            includes: _,
+            used: _,
+        } => parsed,
+        Parsed::Refused(_) => {
+            buffers::clear_bytes(store);
+            buffers::clear_words(imports);
+            buffers::clear_words(includes);
+            parsed
+        }
+    }
+}
+
+// Where the scan stands, the store's next place, and the rows so far.
+pub struct Sofar {
+    pub at: usize,
+    pub used: usize,
+    pub imports: usize,
+    pub includes: usize,
+}
+
+// After a statement or a token; or nothing more is read; or a refusal.
+pub enum Next {
+    On(Sofar),
+    Done,
+    Stop(Refusal),
+}
+
+// Reads all imports and includes. It writes only what it uses: the store from its start on, and the rows.
+pub fn parse(
+    classes: &[u8; 128],
+    s: &[u8],
+    store: &mut [u8],
+    imports: &mut [u32],
+    includes: &mut [u32],
+) -> Parsed
+    requires { ⌜ (now classes ≡ classTable) × (length (now s) ≤ length (now store)) × (length (now s) < 4294967296) × (mostRows * importSize ≤ length (now imports)) × (mostRows * includeSize ≤ length (now includes)) ⌝ }
+    ensures { λ r. ⌜ Parses (now (s .entry)) (now (store .entry)) (now (imports .entry)) (now (includes .entry)) r (now (store .exit)) (now (imports .exit)) (now (includes .exit)) ⌝ }
+{
+    let mut far = Sofar {
+        at: 0,
+        used: 0,
+        imports: 0,
+        includes: 0,
+    };
+    loop {
+        match parse_next(far, classes, s, store, imports, includes) {
+            Next::On(next) => {
+                far = next;
+            }
+            Next::Done => {
+                return Parsed::Good {
+                    imports: far.imports,
+                    includes: far.includes,
+                    used: far.used,
+                };
+            }
+            Next::Stop(r) => {
+                return Parsed::Refused(r);
+            }
+        }
+    }
+}
+
+// Reads the statement, or skips the token, that stands after a gap.
+fn parse_next(
+    far: Sofar,
+    classes: &[u8; 128],
+    s: &[u8],
+    store: &mut [u8],
+    imports: &mut [u32],
+    includes: &mut [u32],
+) -> Next
+    requires { ⌜ (now classes ≡ classTable) × (far .used + (length (now s) - far .at) ≤ length (now s)) × (length (now s) ≤ length (now store)) × (length (now s) < 4294967296) × (mostRows * importSize ≤ length (now imports)) × (mostRows * includeSize ≤ length (now includes)) ⌝ }
+    ensures { λ r. ⌜ Steps (stepAt (now (s .entry)) far) far (now (store .entry)) (now (imports .entry)) (now (includes .entry)) r (now (store .exit)) (now (imports .exit)) (now (includes .exit)) ⌝ }
+{
+    let from = Cursor { at: far.at };
+    let here = from.skip_whitespace_and_comments(classes, s);
+    let at = here.at;
+    if s.len() <= at {
+        return Next::Done;
+    }
+    let word = read_word(here, classes, s);
+    match word {
+        Word::Import(c) => add_import(far, c, classes, s, store, imports),
+        Word::Include(c) => add_include(far, c, classes, s, store, includes),
+        Word::Last(_) => Next::Done,
+        Word::Other => {
+            let token = skip::skip_one_token(here, classes, s);
+            let end = skip::token_end(token);
+            Next::On(Sofar {
+                at: end.at,
+                used: far.used,
+                imports: far.imports,
+                includes: far.includes,
+            })
+        }
+    }
+}
+
+// The keyword that stands at a place: import, include, one of the four after which nothing is imported or included, or none of these.
+pub enum Word {
+    Import(Cursor),
+    Include(Cursor),
+    Last(Cursor),
+    Other,
+}
+
+// No keyword is tried where no identifier begins.
+fn read_word(here: Cursor, classes: &[u8; 128], s: &[u8]) -> Word
+    requires { ⌜ now classes ≡ classTable ⌝ }
+    ensures { λ r. ⌜ r ≡ wordAt (now (s .entry)) (here .at) ⌝ }
+{
+    let at = here.at;
+    let b = text::peek_char(s, at);
+    if text::starts_ident(classes, b) {
+        return try_words(here, classes, s);
+    }
+    Word::Other
+}
+
+fn try_words(here: Cursor, classes: &[u8; 128], s: &[u8]) -> Word
+    requires { ⌜ now classes ≡ classTable ⌝ }
+    ensures { λ r. ⌜ r ≡ wordAt (now (s .entry)) (here .at) ⌝ }
+{
+    let import = match_import(here, classes, s);
+    if let Match::After(c) = import {
+        return Word::Import(c);
+    }
+    let include = match_include(here, classes, s);
+    if let Match::After(c) = include {
+        return Word::Include(c);
+    }
+    let last = match_last(here, classes, s);
+    if let Match::After(c) = last {
+        return Word::Last(c);
+    }
+    Word::Other
+}
+
+// Past one of the four keywords that end the scan.
+fn match_last(here: Cursor, classes: &[u8; 128], s: &[u8]) -> Match
+    requires { ⌜ now classes ≡ classTable ⌝ }
+    ensures { λ r. ⌜ r ≡ lastAt (now (s .entry)) (here .at) ⌝ }
+{
+    let organization = match_organization(here, classes, s);
+    if let Match::After(_) = organization {
+        return organization;
+    }
+    let contact = match_contact(here, classes, s);
+    if let Match::After(_) = contact {
+        return contact;
+    }
+    let description = match_description(here, classes, s);
+    if let Match::After(_) = description {
+        return description;
+    }
+    match_reference(here, classes, s)
+}
+
+// Reads an import and writes its row; the 257th is refused behind its keyword.
+fn add_import(
+    far: Sofar,
+    here: Cursor,
+    classes: &[u8; 128],
+    s: &[u8],
+    store: &mut [u8],
+    imports: &mut [u32],
+) -> Next
+    requires { ⌜ (now classes ≡ classTable) × (far .used + (length (now s) - here .at) ≤ length (now s)) × (length (now s) ≤ length (now store)) × (length (now s) < 4294967296) × (mostRows * importSize ≤ length (now imports)) ⌝ }
+    ensures { λ r. ⌜ AddsImport (now (s .entry)) far (here .at) (now (store .entry)) (now (imports .entry)) r (now (store .exit)) (now (imports .exit)) ⌝ }
+{
+    let rows = far.imports;
+    if rows::MOST_ROWS <= rows {
+        return Next::Stop(Refusal {
+            number: TOO_MANY,
+            keyword: imports::IMPORT,
+            at: here.at,
+        });
+    }
+    let read = imports::parse_import(here, classes, s, store, far.used);
+    match read {
+        Imported::Import { next, used, import } => {
+            rows::put_import(imports, rows, import);
+            let more = rows + 1;
+            Next::On(Sofar {
+                at: next.at,
+                used,
+                imports: more,
+                includes: far.includes,
+            })
+        }
+        Imported::NoImport(r) => Next::Stop(r),
+    }
+}
+
+// Reads an include and writes its row; the 257th is refused behind its keyword.
+fn add_include(
+    far: Sofar,
+    here: Cursor,
+    classes: &[u8; 128],
+    s: &[u8],
+    store: &mut [u8],
+    includes: &mut [u32],
+) -> Next
+    requires { ⌜ (now classes ≡ classTable) × (far .used + (length (now s) - here .at) ≤ length (now s)) × (length (now s) ≤ length (now store)) × (length (now s) < 4294967296) × (mostRows * includeSize ≤ length (now includes)) ⌝ }
+    ensures { λ r. ⌜ AddsInclude (now (s .entry)) far (here .at) (now (store .entry)) (now (includes .entry)) r (now (store .exit)) (now (includes .exit)) ⌝ }
+{
+    let rows = far.includes;
+    if rows::MOST_ROWS <= rows {
+        return Next::Stop(Refusal {
+            number: TOO_MANY,
+            keyword: imports::INCLUDE,
+            at: here.at,
+        });
+    }
+    let read = imports::parse_include(here, classes, s, store, far.used);
+    match read {
+        Included::Include {
+            next,
+            used,
+            include,
+        } => {
+            rows::put_include(includes, rows, include);
+            let more = rows + 1;
+            Next::On(Sofar {
+                at: next.at,
+                used,
+                imports: far.imports,
+                includes: more,
+            })
+        }
+        Included::NoInclude(r) => Next::Stop(r),
+    }
+}
+
+fn match_import(here: Cursor, classes: &[u8; 128], s: &[u8]) -> Match
+    requires { ⌜ now classes ≡ classTable ⌝ }
+    ensures { λ r. ⌜ r ≡ matchAt (now (s .entry)) (here .at) importWord ⌝ }
+{
+    here.match_keyword(classes, s, b"import")
+}
+
+fn match_include(here: Cursor, classes: &[u8; 128], s: &[u8]) -> Match
+    requires { ⌜ now classes ≡ classTable ⌝ }
+    ensures { λ r. ⌜ r ≡ matchAt (now (s .entry)) (here .at) includeWord ⌝ }
+{
+    here.match_keyword(classes, s, b"include")
+}
+
+fn match_organization(here: Cursor, classes: &[u8; 128], s: &[u8]) -> Match
+    requires { ⌜ now classes ≡ classTable ⌝ }
+    ensures { λ r. ⌜ r ≡ matchAt (now (s .entry)) (here .at) organizationWord ⌝ }
+{
+    here.match_keyword(classes, s, b"organization")
+}
+
+fn match_contact(here: Cursor, classes: &[u8; 128], s: &[u8]) -> Match
+    requires { ⌜ now classes ≡ classTable ⌝ }
+    ensures { λ r. ⌜ r ≡ matchAt (now (s .entry)) (here .at) contactWord ⌝ }
+{
+    here.match_keyword(classes, s, b"contact")
+}
+
+fn match_description(here: Cursor, classes: &[u8; 128], s: &[u8]) -> Match
+    requires { ⌜ now classes ≡ classTable ⌝ }
+    ensures { λ r. ⌜ r ≡ matchAt (now (s .entry)) (here .at) descriptionWord ⌝ }
+{
+    here.match_keyword(classes, s, b"description")
+}
+
+fn match_reference(here: Cursor, classes: &[u8; 128], s: &[u8]) -> Match
+    requires { ⌜ now classes ≡ classTable ⌝ }
+    ensures { λ r. ⌜ r ≡ matchAt (now (s .entry)) (here .at) referenceWord ⌝ }
+{
+    here.match_keyword(classes, s, b"reference")
+}
