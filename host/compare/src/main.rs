@@ -80,13 +80,15 @@ impl Run {
 
 /// The same answer without a page.
 fn plain_agrees(page: &port::Scanned, number: u32, plain: &port::Scanned, again: u32) -> bool {
-    let used = plain.answer[5] as usize;
+    let [imports, includes, used] = [3, 4, 5].map(|i| plain.answer[i] as usize);
     number == again
         && page.answer[..6] == plain.answer[..6]
         && page.store[..used] == plain.store[..used]
         && page.import_rows() == plain.import_rows()
         && page.include_rows() == plain.include_rows()
         && plain.store[used..].iter().all(|b| *b == 0)
+        && plain.imports[7 * imports..].iter().all(|w| *w == 0)
+        && plain.includes[5 * includes..].iter().all(|w| *w == 0)
 }
 
 fn agrees(told: &Scan<Dependencies>, port: &port::Scanned, number: u32) -> bool {
