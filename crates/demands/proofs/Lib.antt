@@ -8,7 +8,6 @@ pub mod RfcGaps
 pub mod RfcInstance
 pub mod RfcSame
 pub mod RfcStrings
-pub mod RfcTests
 pub mod RfcTrim
 pub mod RfcTrimming
 pub mod Starred

@@ -9,7 +9,7 @@ use lib.Dec.{eqb}
 use borrow.Author.Tests.{not-true}
 use Rattle.demands.specs.Rfc.{areAt, breakAt, blankToBreak, unless, trimEnds, trimStarts, trimmed}
 use Rattle.demands.specs.RfcDomain.{oneLine}
-use Rattle.demands.proofs.RfcTests.{both}
+use Rattle.text.proofs.Here.{both}
 
 module _ (b : ℕ) (xs : List ℕ) (h : oneLine (b ∷ xs) ≡ true) where
   line-head : eqb b 10 ≡ false

@@ -2,7 +2,7 @@
 -- A quoted string is closed by the quote that opens it; one that never closes is none.
 -- Assumes nothing.
 use Prim.Native.Nat.{ℕ, _+_}
-use mathlib.Core.Bool.{Bool, true, false, cond, _&&_}
+use mathlib.Core.Bool.{Bool, true, false, cond, _&&_, _||_}
 use mathlib.Core.List.{List, [], _∷_}
 use lib.ListN.{length, drop}
 use lib.Dec.{eqb}
@@ -15,6 +15,11 @@ use Rattle.value.specs.declared.Quoted.the-variants.{Closed, Unclosed}
 -- n stands for byte 10, t for 9, any other for itself
 unfoldable pub escaped : ℕ → ℕ
 escaped b = cond (eqb b smallN) newline (cond (eqb b smallT) tab b)
+
+-- whether the byte b is one of xs
+unfoldable pub among : ℕ → List ℕ → Bool
+among b [] = false
+among b (x ∷ xs) = eqb x b || among b xs
 
 -- whether the byte b escapes the next, in quotes q
 unfoldable pub escapes : ℕ → ℕ → Bool

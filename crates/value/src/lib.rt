@@ -6,12 +6,12 @@ use text::Run;
 ghost use mathlib.Core.Path.{_≡_};
 ghost use mathlib.Core.Bool.{false};
 ghost use Prim.Native.Nat.{_+_, _-_, _≤_, _<_};
-ghost use lib.ListN.{length, drop};
+ghost use lib.ListN.{length, drop, take};
 ghost use lib.Seq.{sets};
 ghost use Rattle.text.specs.Bytes.{theEnd};
 ghost use Rattle.text.specs.Class.{classTable};
 ghost use Rattle.text.specs.Keyword.{part};
-ghost use Rattle.value.specs.Str.{escaped, escapes, strEnd, strBytes, strAt, answerOf, bytesOf};
+ghost use Rattle.value.specs.Str.{among, escaped, escapes, strEnd, strBytes, strAt, answerOf, bytesOf};
 ghost use Rattle.value.specs.Value.{isQuote, startsName, nameAt, moreAt, moreAnswer, moreBytes, joined, joinAnswer, valueAt, valueAnswer, valueBytes, valueEnd};
 ghost use Rattle.value.specs.Argument.{argumentAt, lineAt};
 
@@ -279,22 +279,57 @@ pub enum Close {
     Open,
 }
 
+// Whether the byte b is among the eight at a place. Each is looked at, so that the compiler can look at all of them at once.
+fn among(s: &[u8], at: usize, b: u8) -> bool
+    requires { ⌜ at + 8 ≤ length (now s) ⌝ }
+    ensures { λ r. ⌜ r ≡ among b (take 8 (drop at (now (s .entry)))) ⌝ }
+{
+    let first = s[at] == b;
+    let second = s[at + 1] == b;
+    let third = s[at + 2] == b;
+    let fourth = s[at + 3] == b;
+    let fifth = s[at + 4] == b;
+    let sixth = s[at + 5] == b;
+    let seventh = s[at + 6] == b;
+    let eighth = s[at + 7] == b;
+    first | (second | (third | (fourth | (fifth | (sixth | (seventh | eighth))))))
+}
+
+// Passes eight bytes at a time that neither close a string in quotes q nor escape.
+fn plain_end(s: &[u8], at: usize, q: u8) -> usize
+    ensures { λ r. ⌜ (at ≤ r) × (strEnd q false (drop r (now (s .entry))) r ≡ strEnd q false (drop at (now (s .entry))) at) ⌝ }
+{
+    if s.len() < 8 {
+        return at;
+    }
+    let last = s.len() - 8;
+    let mut i = at;
+    while i <= last {
+        if among(s, i, q) {
+            return i;
+        }
+        if among(s, i, b'\\') {
+            return i;
+        }
+        i += 8;
+    }
+    i
+}
+
 // Where the string closes whose bytes start at a place, in quotes q.
 pub fn close_of(s: &[u8], at: usize, q: u8) -> Close
     ensures { λ r. ⌜ r ≡ strEnd q false (drop at (now (s .entry))) at ⌝ }
 {
-    let mut i = at;
-    let mut esc = false;
+    let mut i = plain_end(s, at, q);
     while i < s.len() {
         let b = s[i];
-        if esc {
-            esc = false;
-            i += 1;
-        } else if b == q {
+        if b == q {
             let end = i + 1;
             return Close::At(end);
+        }
+        if escapes(q, b) {
+            i = plain_end(s, i + 2, q);
         } else {
-            esc = escapes(q, b);
             i += 1;
         }
     }

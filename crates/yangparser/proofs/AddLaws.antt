@@ -2,6 +2,7 @@
 -- store's places lie within the text's length.
 -- Assumes nothing.
 use mathlib.Core.Path.{_≡_, refl, sym, ap, subst, _∙_}
+use mathlib.Core.Bool.{cond}
 use mathlib.Core.List.{List, []}
 use Prim.Native.Nat.{ℕ, _+_, _-_, _*_, _<_, _≤_}
 use native.Mathlib.Omega.{arith}
@@ -33,11 +34,11 @@ use Rattle.yangparser.specs.declared.Sofar.{Sofar}
 pub full-is : (rows k at : ℕ) (x : Step) → 256 ≤ rows
     → unlessFull rows k at x ≡ record { answer = Stop (record { number = 10; keyword = k; at = at }); adds = none }
 unfolding unlessFull
-full-is rows k at x h = rw (le-leb 256 rows h) refl
+full-is rows k at x h = ap (λ t. cond t (record { answer = Stop (record { number = 10; keyword = k; at = at }); adds = none }) x) (le-leb 256 rows h)
 
 pub room-is : (rows k at : ℕ) (x : Step) → rows < 256 → unlessFull rows k at x ≡ x
 unfolding unlessFull
-room-is rows k at x h = rw (lt-leb 256 rows h) refl
+room-is rows k at x h = ap (λ t. cond t (record { answer = Stop (record { number = 10; keyword = k; at = at }); adds = none }) x) (lt-leb 256 rows h)
 
 module _ (words : Dependencies → List ℕ) (rows k at : ℕ) (x : Step) (u w : ℕ) {d t : List ℕ} where
   adds-full : words none ≡ [] → 256 ≤ rows → Adds words (unlessFull rows k at x) u w d t (Stop (record { number = 10; keyword = k; at = at })) d t

@@ -1,5 +1,5 @@
--- What those who call a scan use: all that it keeps is sound, since it is what the inner scan read or nothing; the rows that it wrote read back as
--- they were, and a value's bytes are the same in the store as among the bytes read.
+-- What those who call a scan use: the rows that it wrote read back as they were, and a value's bytes are the same in the store as among the
+-- bytes read.
 -- Assumes nothing.
 use mathlib.Core.Path.{_≡_, refl, sym, ap, _∙_}
 use mathlib.Core.Bool.{Bool, false}
@@ -7,45 +7,30 @@ use mathlib.Core.List.{List}
 use Prim.Native.Nat.{ℕ, _+_, _-_, _*_, _≤_}
 use native.Mathlib.Omega.{arith}
 use lib.Dec.{ltb}
-use lib.ListN.{length, drop, length-drop}
-use lib.Seq.{sets, sets-eq, length-take-le}
+use lib.ListN.{length, drop}
+use lib.Seq.{sets, sets-eq}
 use borrow.Author.Tests.{ltb-true, ltb-false}
 use Rattle.text.specs.Scan.{runEnd}
 use Rattle.text.specs.declared.Refusal.{Refusal}
 use Rattle.text.specs.declared.Run.the-variants.{Low}
 use Rattle.text.proofs.Here.{by-test}
-use Rattle.buffers.specs.Padded.{zeros, padded}
+use Rattle.buffers.specs.Padded.{padded}
 use Rattle.rows.specs.Rows.{importsIn, includesIn}
 use Rattle.rows.specs.Span.{valueIn, Within}
 use Rattle.rows.specs.declared.Span.{Span}
 use Rattle.rows.proofs.Values.{value-more}
 use Rattle.rows.proofs.Reading.{imports-back, includes-back, imports-written, includes-written}
-use Rattle.yangparser.specs.Dependencies.{Dependencies, importWordsOf, includeWordsOf, Scan, good, bad, scanned, lentAt, ifFit, dependencies, parsedOf, readOf, keptOf}
-use Rattle.yangparser.specs.Promises.{Holds, Leaves}
+use Rattle.yangparser.specs.Dependencies.{Dependencies, importWordsOf, includeWordsOf, Scan, good, bad, scanned, lentAt, ifFit, dependencies, parsedOf}
+use Rattle.yangparser.specs.Promises.{Holds}
 use Rattle.yangparser.specs.declared.Lent.{Lent}
 use Rattle.yangparser.specs.declared.Lent.the-variants.{Fit, Unfit}
-use Rattle.yangparser.specs.declared.Parsed.{Parsed}
 use Rattle.yangparser.specs.declared.Parsed.the-variants.{Good, Refused}
 use Rattle.yangparser.proofs.LentLaws.{lent-long, lent-short, lent-high, lent-fit, fit-said}
-use Rattle.yangparser.proofs.ScanLaws.{Sound, sound-none, scan-sound, scan-refusal, sound-imports-plain, sound-includes-plain}
+use Rattle.yangparser.proofs.ScanLaws.{Sound, scan-refusal, sound-imports-plain, sound-includes-plain}
 
 -- ---- the entry
 
 module _ (s : List ℕ) where
-  kept-sound : (x : Scan) → Sound s (readOf x) → Sound s (keptOf x)
-  unfolding readOf keptOf
-  kept-sound (good d) h = h
-  kept-sound (bad r d) h = sound-none s
-
-  fit-sound : (x : Lent) → Sound s (keptOf (ifFit x (scanned s)))
-  unfolding ifFit keptOf
-  fit-sound Fit = kept-sound (scanned s) (scan-sound s)
-  fit-sound (Unfit r) = sound-none s
-
-  pub entry-sound : (short : Bool) → Sound s (keptOf (dependencies s short))
-  unfolding dependencies
-  entry-sound short = fit-sound (lentAt s short)
-
   fit-good : (x : Lent) (d : Dependencies) → ifFit x (scanned s) ≡ good d → (x ≡ Fit) × (scanned s ≡ good d)
   unfolding ifFit
   fit-good Fit d h = (refl, h)
@@ -102,17 +87,6 @@ unfolding parsedOf
 parsed-refused (good d) r h = let z : _≡_ {A = ℕ} 0 1 = cc in absurd (omega arith)
 parsed-refused (bad q d) r h = (d, cc)
 
--- what an entry leaves depends on the scan and the lengths lent, and on nothing that the slices held
-pub leaves-one : (x : Scan) (d t u d′ t′ u′ : List ℕ) → length d ≡ length d′ → length t ≡ length t′ → length u ≡ length u′
-    → {r r′ : Parsed} {e f g e′ f′ g′ : List ℕ} → Leaves x d t u r e f g → Leaves x d′ t′ u′ r′ e′ f′ g′
-    → (r ≡ r′) × (e ≡ e′) × (f ≡ f′) × (g ≡ g′)
-leaves-one x d t u d′ t′ u′ p q w a b = (
-  a .answer ∙ sym (b .answer),
-  a .stored ∙ ap (λ n. padded n (keptOf x .bytes)) p ∙ sym (b .stored),
-  a .imports ∙ ap (λ n. padded n (importWordsOf (keptOf x))) q ∙ sym (b .imports),
-  a .includes ∙ ap (λ n. padded n (includeWordsOf (keptOf x))) w ∙ sym (b .includes),
-)
-
 -- ---- rows read back, from what the inner scan wrote and from what the entry leaves
 
 module _ {s : List ℕ} (x : Dependencies) (k : Sound s x) where
@@ -142,11 +116,3 @@ module _ {s : List ℕ} (x : Dependencies) (k : Sound s x) where
 module _ (bs : List ℕ) (x : Span) (lies : Within (length bs) x) where
   pub held-value : (d : List ℕ) {e : List ℕ} → e ≡ sets d 0 bs → length bs ≤ length d → valueIn e x ≡ valueIn bs x
   held-value d h room = ap (λ l. valueIn l x) (h ∙ sets-eq bs d 0 (omega arith)) ∙ value-more bs (drop (0 + length bs) d) x lies
-
-  pub padded-value : (n : ℕ) → valueIn (padded n bs) x ≡ valueIn bs x
-  unfolding padded
-  padded-value n = value-more bs (zeros (n - length bs)) x lies
-
-  pub value-count : length (valueIn bs x) ≡ x .size
-  unfolding valueIn
-  value-count = length-take-le (x .size) (drop (x .start) bs) (omega (arith, length-drop (x .start) bs))
