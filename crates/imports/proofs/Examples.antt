@@ -9,13 +9,13 @@ use Rattle.text.specs.Due.{noValue, otherByte, endOfText, dueNumber, dueHere, d
 use Rattle.text.specs.Keyword.{startsIdent, endsKeyword, same, part, keywordAt, matchAt}
 use Rattle.text.specs.Scan.{inIdent, inRun, span, runEnd, pairAt, closing, blockEnd, commentEnd, afterWhite, gapTurn, gapEnd}
 use Rattle.text.specs.Turns.{turns}
+use Rattle.text.specs.Words.{prefixKeyword, importKeyword, includeKeyword, revisionDateKeyword}
 use Rattle.text.specs.declared.Refusal.{Refusal}
 use Rattle.value.specs.Argument.{argumentOf, argumentAt, afterDue, afterArgument, lineAt}
 use Rattle.value.specs.Str.{escaped, escapes, strEnd, strBytes, closedBy, strAt}
 use Rattle.value.specs.Value.{isQuote, startsName, addedBy, afterPlus, afterGap, moreAt, addTo, joinTurn, joinedWith, joined, ofString, valueHere, valueAt, valueBytes}
 use Rattle.skip.specs.Statement.{closes, quotedLen, quotedEnd, atSemicolon, atClose, partOf, partAt, ofPart, statementTurn, statementFrom, statementAt, endedAt}
 use Rattle.rows.specs.Rows.{importWords, includeWords}
-use Rattle.imports.specs.Words.{prefixKeyword, importKeyword, includeKeyword, revisionDateKeyword}
 use Rattle.imports.specs.Block.{openEnded, orRevision, orPrefix, lineKind, withPrefix, withRevision, afterKind, insideHere, insideAt, afterInside, blockTurn, blockFrom, blockAt}
 use Rattle.imports.specs.Statement.{noPrefix, ofBody, importOf, withName, afterName, importAt, includeOf, plainOf, blockOf, openOrPlain, afterValue, includeAt}
 use Rattle.imports.specs.declared.Imported.{Imported}

@@ -9,6 +9,7 @@ use lib.Dec.{eqb}
 use borrow.Author.Tests.{eqb-true, eqb-false}
 use Rattle.text.specs.Keyword.{matchAt}
 use Rattle.text.specs.Scan.{gapEnd}
+use Rattle.text.specs.Words.{prefixWord, revisionDateWord}
 use Rattle.text.specs.declared.Cursor.{Cursor}
 use Rattle.text.specs.declared.Match.{Match}
 use Rattle.text.specs.declared.Match.the-variants.{After, Not}
@@ -24,7 +25,6 @@ use Rattle.value.proofs.JoinLaws.{value-size}
 use Rattle.skip.specs.Statement.{statementAt, endedAt}
 use Rattle.skip.proofs.StatementLaws.{statement-moves, statement-within}
 use Rattle.imports.specs.Left.{Left}
-use Rattle.imports.specs.Words.{prefixWord, revisionDateWord}
 use Rattle.imports.specs.Block.{orRevision, orPrefix, lineKind, withPrefix, withRevision, afterKind, insideAt}
 use Rattle.imports.specs.declared.Body.{Body}
 use Rattle.imports.specs.declared.Line.{Line}

@@ -12,6 +12,7 @@ use lib.Dec.{eqb}
 use borrow.Author.Tests.{eq-eqb, ne-eqb}
 use Rattle.text.specs.Keyword.{startsIdent, matchAt}
 use Rattle.text.specs.Scan.{gapEnd}
+use Rattle.text.specs.Words.{prefixWord, revisionDateWord}
 use Rattle.text.specs.declared.Cursor.{Cursor}
 use Rattle.text.specs.declared.Match.{Match}
 use Rattle.text.specs.declared.Match.the-variants.{After, Not}
@@ -27,7 +28,6 @@ use Rattle.skip.specs.Statement.{statementAt, endedAt}
 use Rattle.rows.specs.Span.{held, missing}
 use Rattle.rows.specs.declared.Span.{Span}
 use Rattle.imports.specs.Left.{Left, nothing}
-use Rattle.imports.specs.Words.{prefixWord, revisionDateWord}
 use Rattle.imports.specs.Block.{orRevision, orPrefix, lineKind, withPrefix, withRevision, begun, moved, afterKind, insideHere, insideAt, argumentRefusal}
 use Rattle.imports.specs.declared.Body.{Body}
 use Rattle.imports.specs.declared.Line.{Line}

@@ -13,6 +13,7 @@ use Rattle.text.specs.Turns.{Turn, stop, on, turns}
 use Rattle.text.specs.declared.Match.{Match}
 use Rattle.text.specs.declared.Match.the-variants.{After, Not}
 use Rattle.text.specs.Due.{noRefusal}
+use Rattle.text.specs.Words.{prefixWord, revisionDateWord, prefixKeyword, importKeyword, revisionDateKeyword}
 use Rattle.text.specs.declared.Refusal.{Refusal}
 use Rattle.value.specs.Value.{valueAt, valueBytes}
 use Rattle.value.specs.Argument.{lineAt}
@@ -21,7 +22,6 @@ use Rattle.value.specs.declared.Argument.the-variants.{Read, Refused as Refused
 use Rattle.skip.specs.Statement.{statementAt, endedAt}
 use Rattle.imports.specs.Left.{Left, nothing}
 use Rattle.rows.specs.Span.{held, missing}
-use Rattle.imports.specs.Words.{prefixWord, revisionDateWord, prefixKeyword, importKeyword, revisionDateKeyword}
 use Rattle.imports.specs.declared.Block.{Block}
 use Rattle.imports.specs.declared.Block.the-variants.{Whole, Broken}
 use Rattle.imports.specs.declared.Body.{Body}

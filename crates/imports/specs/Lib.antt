@@ -1,4 +1,3 @@
 pub mod Block
 pub mod Left
 pub mod Statement
-pub mod Words

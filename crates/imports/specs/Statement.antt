@@ -8,6 +8,7 @@ use lib.Dec.{eqb}
 use Rattle.text.specs.Bytes.{openBrace, semicolon, look}
 use Rattle.text.specs.Due.{dueHere}
 use Rattle.text.specs.Scan.{gapEnd}
+use Rattle.text.specs.Words.{importKeyword, includeKeyword}
 use Rattle.text.specs.declared.Due.{Due}
 use Rattle.text.specs.declared.Due.the-variants.{After, Not}
 use Rattle.value.specs.Value.{valueAt, valueBytes}
@@ -17,7 +18,6 @@ use Rattle.value.specs.declared.Argument.the-variants.{Read as ReadValue, Refus
 use Rattle.imports.specs.Block.{blockAt}
 use Rattle.imports.specs.Left.{Left}
 use Rattle.rows.specs.Span.{held, missing}
-use Rattle.imports.specs.Words.{importKeyword, includeKeyword}
 use Rattle.imports.specs.declared.Block.{Block}
 use Rattle.imports.specs.declared.Block.the-variants.{Whole, Broken}
 use Rattle.imports.specs.declared.Body.{Body}

@@ -14,21 +14,12 @@ ghost use lib.Seq.{sets};
 ghost use Rattle.text.specs.Bytes.{semicolon};
 ghost use Rattle.text.specs.Class.{classTable};
 ghost use Rattle.text.specs.Keyword.{matchAt};
+ghost use Rattle.text.specs.Words.{prefixWord, revisionDateWord, prefixKeyword, includeKeyword, revisionDateKeyword};
 ghost use Rattle.rows.specs.Span.{held, missing};
 ghost use Rattle.value.specs.Argument.{lineAt};
 ghost use Rattle.value.specs.Value.{valueAt, valueBytes};
-ghost use Rattle.imports.specs.Words.{prefixWord, revisionDateWord, prefixKeyword, includeKeyword, revisionDateKeyword};
 ghost use Rattle.imports.specs.Block.{orRevision, orPrefix, lineKind, argumentRefusal, withPrefix, withRevision, begun, moved, insideAt, blockRefusal, blockAt};
 ghost use Rattle.imports.specs.Statement.{ofBody, importAt, includeOf, includeAt};
-
-// Document 01's numbers of the keywords.
-pub const PREFIX: u32 = 5;
-
-pub const IMPORT: u32 = 8;
-
-pub const INCLUDE: u32 = 9;
-
-pub const REVISION_DATE: u32 = 10;
 
 // Refusals: an import closed without prefix, and the end inside a block.
 pub const NO_PREFIX: u32 = 7;
@@ -56,13 +47,21 @@ pub fn parse_import(
     requires { ⌜ (now classes ≡ classTable) × (used + (length (now s) - here .at) ≤ length (now store)) ⌝ }
     ensures { λ r. ⌜ (r ≡ importAt (now (s .entry)) (here .at) used .answer) × (now (store .exit) ≡ sets (now (store .entry)) used (importAt (now (s .entry)) (here .at) used .bytes)) ⌝ }
 {
-    let name = value::read_argument(here, classes, s, store, used, IMPORT, text::OPEN_BRACE);
+    let name = value::read_argument(
+        here,
+        classes,
+        s,
+        store,
+        used,
+        text::IMPORT,
+        text::OPEN_BRACE,
+    );
     let Argument::Read { next, used: n } = name else {
         return Imported::NoImport(argument_refusal(name));
     };
     let size = n - used;
     let module_name = held(used, size);
-    let block = parse_block(next, classes, s, store, n, IMPORT);
+    let block = parse_block(next, classes, s, store, n, text::IMPORT);
     let Block::Whole(body) = block else {
         return Imported::NoImport(block_refusal(block));
     };
@@ -88,7 +87,7 @@ fn import_of(name: Span, body: Body) -> Imported
     }
     Imported::NoImport(Refusal {
         number: NO_PREFIX,
-        keyword: IMPORT,
+        keyword: text::IMPORT,
         at: body.at,
     })
 }
@@ -114,7 +113,7 @@ pub fn parse_include(
     requires { ⌜ (now classes ≡ classTable) × (used + (length (now s) - here .at) ≤ length (now store)) ⌝ }
     ensures { λ r. ⌜ (r ≡ includeAt (now (s .entry)) (here .at) used .answer) × (now (store .exit) ≡ sets (now (store .entry)) used (includeAt (now (s .entry)) (here .at) used .bytes)) ⌝ }
 {
-    let name = value::read_value(here, classes, s, store, used, INCLUDE);
+    let name = value::read_value(here, classes, s, store, used, text::INCLUDE);
     let Argument::Read { next, used: n } = name else {
         return Included::NoInclude(argument_refusal(name));
     };
@@ -126,7 +125,7 @@ pub fn parse_include(
         let inner = at + 1;
         return include_block(submodule_name, Cursor { at: inner }, classes, s, store, n);
     }
-    let due = end.expect_char(classes, s, text::SEMICOLON, INCLUDE);
+    let due = end.expect_char(classes, s, text::SEMICOLON, text::INCLUDE);
     let Due::After(after) = due else {
         return Included::NoInclude(text::refusal_of(due));
     };
@@ -152,7 +151,7 @@ fn include_block(
     requires { ⌜ (now classes ≡ classTable) × (used + (length (now s) - here .at) ≤ length (now store)) ⌝ }
     ensures { λ r. ⌜ (r ≡ includeOf name (blockAt (now (s .entry)) (here .at) used includeKeyword .answer)) × (now (store .exit) ≡ sets (now (store .entry)) used (blockAt (now (s .entry)) (here .at) used includeKeyword .bytes)) ⌝ }
 {
-    let block = parse_block(here, classes, s, store, used, INCLUDE);
+    let block = parse_block(here, classes, s, store, used, text::INCLUDE);
     let Block::Whole(body) = block else {
         return Included::NoInclude(block_refusal(block));
     };
@@ -295,7 +294,7 @@ fn read_prefix(body: Body, here: Cursor, classes: &[u8; 128], s: &[u8], store: &
 {
     let used = body.used;
     let revision = body.revision;
-    let line = value::read_argument(here, classes, s, store, used, PREFIX, text::SEMICOLON);
+    let line = value::read_argument(here, classes, s, store, used, text::PREFIX, text::SEMICOLON);
     let Argument::Read { next, used: n } = line else {
         return Inside::Refused(argument_refusal(line));
     };
@@ -328,7 +327,7 @@ fn read_revision(
         s,
         store,
         used,
-        REVISION_DATE,
+        text::REVISION_DATE,
         text::SEMICOLON,
     );
     let Argument::Read { next, used: n } = line else {
@@ -372,7 +371,7 @@ fn line_kind(here: Cursor, classes: &[u8; 128], s: &[u8], keyword: u32) -> Line
 {
     let at = here.at;
     if text::starts_ident(classes, text::peek_char(s, at)) {
-        if keyword == IMPORT {
+        if keyword == text::IMPORT {
             return import_line(here, classes, s);
         }
         return revision_line(here, classes, s);
@@ -385,7 +384,7 @@ fn import_line(here: Cursor, classes: &[u8; 128], s: &[u8]) -> Line
     requires { ⌜ now classes ≡ classTable ⌝ }
     ensures { λ r. ⌜ r ≡ orPrefix (now (s .entry)) (here .at) (matchAt (now (s .entry)) (here .at) prefixWord) ⌝ }
 {
-    match match_prefix(here, classes, s) {
+    match text::match_prefix(here, classes, s) {
         Match::After(c) => Line::Prefix(c),
         Match::Not => revision_line(here, classes, s),
     }
@@ -400,14 +399,6 @@ fn revision_line(here: Cursor, classes: &[u8; 128], s: &[u8]) -> Line
         Match::After(c) => Line::Revision(c),
         Match::Not => Line::Other,
     }
-}
-
-// Past the keyword prefix.
-fn match_prefix(here: Cursor, classes: &[u8; 128], s: &[u8]) -> Match
-    requires { ⌜ now classes ≡ classTable ⌝ }
-    ensures { λ r. ⌜ r ≡ matchAt (now (s .entry)) (here .at) prefixWord ⌝ }
-{
-    here.match_keyword(classes, s, b"prefix")
 }
 
 // Past the keyword revision-date.

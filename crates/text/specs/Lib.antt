@@ -5,3 +5,4 @@ pub mod High
 pub mod Keyword
 pub mod Scan
 pub mod Turns
+pub mod Words

@@ -11,6 +11,7 @@ ghost use Rattle.text.specs.Scan.{inIdent, inRun, runEnd, blockEnd, pair
 ghost use Rattle.text.specs.High.{larger, largest};
 ghost use Rattle.text.specs.declared.Run.the-variants.{Low};
 ghost use Rattle.text.specs.Keyword.{startsIdent, endsKeyword, wordly, begins, matchAt};
+ghost use Rattle.text.specs.Words.{prefixWord};
 ghost use Rattle.text.specs.Due.{dueAt, refusalOf};
 
 // What stands at a place: a byte, or the end.
@@ -236,6 +237,15 @@ pub const OTHER_BYTE: u32 = 5;
 
 pub const END_OF_TEXT: u32 = 6;
 
+// Document 01's numbers of the keywords.
+pub const PREFIX: u32 = 5;
+
+pub const IMPORT: u32 = 8;
+
+pub const INCLUDE: u32 = 9;
+
+pub const REVISION_DATE: u32 = 10;
+
 // Past the byte that was due, or the refusal.
 pub enum Due {
     After(Cursor),
@@ -312,6 +322,14 @@ impl Cursor {
             at,
         })
     }
+}
+
+// Past the keyword prefix.
+pub fn match_prefix(here: Cursor, classes: &[u8; 128], s: &[u8]) -> Match
+    requires { ⌜ now classes ≡ classTable ⌝ }
+    ensures { λ r. ⌜ r ≡ matchAt (now (s .entry)) (here .at) prefixWord ⌝ }
+{
+    here.match_keyword(classes, s, b"prefix")
 }
 
 // The kinds of runs: white bytes, the rest of a line, an identifier's bytes, a name's bytes, bytes below 128.

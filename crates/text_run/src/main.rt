@@ -7,10 +7,8 @@ use value::Value;
 ghost use mathlib.Core.Path.{_≡_};
 ghost use Rattle.text.specs.Class.{classTable};
 
-// Document 01's numbers of the two keywords that the recorded texts are made around.
+// Document 01's number of the keyword namespace. The recorded texts are made around it and prefix.
 const NAMESPACE: u32 = 4;
-
-const PREFIX: u32 = 5;
 
 // How many records there are, and how many of them are answered otherwise.
 struct Tally {
@@ -67,7 +65,7 @@ fn next_token(from: Cursor, classes: &[u8; 128], s: &[u8]) -> Found
     if s.len() <= at {
         return Found::Nothing;
     }
-    let prefix = here.match_keyword(classes, s, b"prefix");
+    let prefix = text::match_prefix(here, classes, s);
     match prefix {
         Match::After(c) => Found::At(c),
         Match::Not => {
@@ -123,7 +121,7 @@ fn skip_agrees(s: &[u8], answer: &[u8], kept: &[u8], missing: bool) -> bool {
     let from = tokens_from(&classes, s);
     let found = find_prefix(from, &classes, s);
     match found {
-        Found::At(c) => value_agrees(c, PREFIX, s, answer, kept),
+        Found::At(c) => value_agrees(c, text::PREFIX, s, answer, kept),
         Found::On(_) => false,
         Found::Nothing => missing,
     }

@@ -8,11 +8,11 @@ use Prim.Native.Nat.{ℕ, _<_, _≤_}
 use native.Mathlib.Omega.{arith}
 use lib.ListN.{length, getD}
 use Rattle.text.specs.Keyword.{startsIdent, matchAt}
+use Rattle.text.specs.Words.{importWord, includeWord, organizationWord, contactWord, descriptionWord, referenceWord}
 use Rattle.text.specs.declared.Cursor.{Cursor}
 use Rattle.text.specs.declared.Match.{Match}
 use Rattle.text.specs.declared.Match.the-variants.{After, Not}
 use Rattle.text.proofs.KeywordLaws.{match-none, match-far}
-use Rattle.imports.specs.Words.{importWord, includeWord, organizationWord, contactWord, descriptionWord, referenceWord}
 use Rattle.yangparser.specs.Word.{orMatch, lastAt, orWord, wordAt}
 use Rattle.yangparser.specs.declared.Word.{Word}
 use Rattle.yangparser.specs.declared.Word.the-variants.{Import, Include, Last, Other}

@@ -8,6 +8,7 @@ use lib.Dec.{leb, ltb}
 use lib.ListN.{length}
 use Rattle.text.specs.Scan.{gapEnd, runEnd}
 use Rattle.text.specs.Turns.{Turn, stop, on, turns}
+use Rattle.text.specs.Words.{importKeyword, includeKeyword}
 use Rattle.text.specs.declared.Refusal.{Refusal}
 use Rattle.text.specs.declared.Run.the-variants.{Low}
 use Rattle.skip.specs.Skip.{tokenAt, tokenEnd}
@@ -15,7 +16,6 @@ use Rattle.rows.specs.Rows.{importSize, includeSize, mostRows, importTable, inc
 use Rattle.rows.specs.declared.YangImport.{YangImport}
 use Rattle.rows.specs.declared.YangInclude.{YangInclude}
 use Rattle.imports.specs.Statement.{importAt, includeAt}
-use Rattle.imports.specs.Words.{importKeyword, includeKeyword}
 use Rattle.imports.specs.declared.Imported.{Imported}
 use Rattle.imports.specs.declared.Imported.the-variants.{Import as ReadImport, NoImport}
 use Rattle.imports.specs.declared.Included.{Included}

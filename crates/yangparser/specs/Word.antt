@@ -3,10 +3,10 @@
 use Prim.Native.Nat.{ℕ}
 use mathlib.Core.List.{List}
 use Rattle.text.specs.Keyword.{matchAt}
+use Rattle.text.specs.Words.{importWord, includeWord, organizationWord, contactWord, descriptionWord, referenceWord}
 use Rattle.text.specs.declared.Cursor.{Cursor}
 use Rattle.text.specs.declared.Match.{Match}
 use Rattle.text.specs.declared.Match.the-variants.{After, Not}
-use Rattle.imports.specs.Words.{importWord, includeWord, organizationWord, contactWord, descriptionWord, referenceWord}
 use Rattle.yangparser.specs.declared.Word.{Word}
 use Rattle.yangparser.specs.declared.Word.the-variants.{Import, Include, Last, Other}
 

@@ -10,8 +10,8 @@ ghost use Prim.Native.Nat.{_+_, _-_, _*_, _≤_, _<_};
 ghost use lib.ListN.{length};
 ghost use Rattle.text.specs.Class.{classTable};
 ghost use Rattle.text.specs.Keyword.{matchAt};
+ghost use Rattle.text.specs.Words.{importWord, includeWord, organizationWord, contactWord, descriptionWord, referenceWord};
 ghost use Rattle.rows.specs.Rows.{importSize, includeSize, mostRows};
-ghost use Rattle.imports.specs.Words.{importWord, includeWord, organizationWord, contactWord, descriptionWord, referenceWord};
 ghost use Rattle.yangparser.specs.Word.{lastAt, wordAt};
 ghost use Rattle.yangparser.specs.Dependencies.{tooShort, lentAt, stepAt, scanned};
 ghost use Rattle.yangparser.specs.Promises.{AddsImport, AddsInclude, Steps, Parses, Cleared, Leaves, Extracts};
@@ -314,7 +314,7 @@ fn add_import(
     if rows::MOST_ROWS <= rows {
         return Next::Stop(Refusal {
             number: TOO_MANY,
-            keyword: imports::IMPORT,
+            keyword: text::IMPORT,
             at: here.at,
         });
     }
@@ -350,7 +350,7 @@ fn add_include(
     if rows::MOST_ROWS <= rows {
         return Next::Stop(Refusal {
             number: TOO_MANY,
-            keyword: imports::INCLUDE,
+            keyword: text::INCLUDE,
             at: here.at,
         });
     }

@@ -1,4 +1,4 @@
--- The keywords of the dependency scan, and document 01's numbers for those that a refusal names.
+-- The scans' keywords, and document 01's numbers for those that a refusal names.
 -- Assumes nothing.
 use Prim.Native.Nat.{ℕ}
 use mathlib.Core.List.{List, [], _∷_}
