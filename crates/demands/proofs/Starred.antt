@@ -7,7 +7,7 @@ use lib.Dec.{T}
 use lib.ListN.{length}
 use Rattle.text.specs.Class.{classOf}
 use Rattle.text.specs.Due.{dueNumber, dueHere, dueAt}
-use Rattle.text.specs.Keyword.{startsIdent, endsKeyword, same, part, keywordAt, matchAt}
+use Rattle.text.specs.Keyword.{startsIdent, endsKeyword, same, part, keywordAt, matchAt, orMatch}
 use Rattle.text.specs.Scan.{inIdent, inRun, span, runEnd, pairAt, closing, blockEnd, commentEnd, afterWhite, gapTurn, gapEnd}
 use Rattle.text.specs.Turns.{turns}
 use Rattle.value.specs.Argument.{argumentOf, argumentAt, afterDue, afterArgument, lineAt}
@@ -18,7 +18,7 @@ use Rattle.skip.specs.Statement.{closes, quotedLen, quotedEnd, atSemicolon, atC
 use Rattle.imports.specs.Block.{orRevision, orPrefix, lineKind, withPrefix, withRevision, afterKind, insideHere, insideAt, afterInside, blockTurn, blockFrom, blockAt}
 use Rattle.imports.specs.Statement.{ofBody, importOf, withName, afterName, importAt, includeOf, plainOf, blockOf, openOrPlain, afterValue, includeAt}
 use Rattle.yangparser.specs.Dependencies.{joined, importStep, includeStep, unlessFull, importHere, includeHere, movedTo, wordStep, stepHere, stepAt, Scan, good, bad, afterStep, scanTurn, scanFrom, scanned, lentAt, ifFit, dependencies}
-use Rattle.yangparser.specs.Word.{orMatch, lastAt, orWord, wordAt}
+use Rattle.yangparser.specs.Word.{lastAt, orWord, wordAt}
 
 -- a text, and number, keyword, position, import rows and include rows
 data Example : Type 0 where

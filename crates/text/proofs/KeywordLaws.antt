@@ -15,7 +15,7 @@ use lib.Dec.{eqb, T}
 use borrow.Author.Tests.{eq-eqb, ne-eqb, eqb-true, le-leb, lt-leb}
 use Rattle.text.specs.Class.{classOf, classTable}
 use Rattle.text.specs.Scan.{inIdent, inRun, span, runEnd}
-use Rattle.text.specs.Keyword.{endsKeyword, startsIdent, same, part, keywordAt, matchAt, firstByte, nextByte, wordRest, wordly, begins}
+use Rattle.text.specs.Keyword.{endsKeyword, startsIdent, same, part, keywordAt, matchAt, orMatch, firstByte, nextByte, wordRest, wordly, begins}
 use Rattle.text.specs.declared.Cursor.{Cursor}
 use Rattle.text.specs.declared.Match.{Match}
 use Rattle.text.specs.declared.Match.the-variants.{After, Not}
@@ -349,11 +349,21 @@ keyword-word s at word h =
     let k = both (startsIdent (getD s at 256) && same (part s at (runEnd Ident s at)) word) (endsKeyword (getD s (runEnd Ident s at) 256)) h in
     same-eq _ _ (both (startsIdent (getD s at 256)) (same (part s at (runEnd Ident s at)) word) (k .0) .1)
 
+-- one that matched ends behind its first byte and within the text
+abbrev pub Far : List ℕ → ℕ → Match → Type 0
+Far s at m = (c : Cursor) → m ≡ After c → (at < c .at) × (c .at ≤ length s)
+
 -- a keyword takes a byte at least and stands within the text
-pub match-far : (s : List ℕ) (at : ℕ) (word : List ℕ) (c : Cursor) → matchAt s at word ≡ After c → (at < c .at) × (c .at ≤ length s)
+pub match-far : (s : List ℕ) (at : ℕ) (word : List ℕ) → Far s at (matchAt s at word)
 match-far s at word c h =
     let g = match-given s at word c h in
     omega (arith, g .1, ident-far s at (keyword-starts s at word (g .0)))
+
+-- and so does the first of two that matched
+pub or-match-far : (s : List ℕ) (at : ℕ) (m n : Match) → Far s at m → Far s at n → Far s at (orMatch m n)
+unfolding orMatch
+or-match-far s at (After d) n p q c h = p c h
+or-match-far s at Not n p q c h = q c h
 
 -- it takes just its own bytes
 pub match-end : (s : List ℕ) (at : ℕ) (word : List ℕ) (c : Cursor) → matchAt s at word ≡ After c → c .at ≡ at + length word

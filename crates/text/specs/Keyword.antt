@@ -39,6 +39,11 @@ keywordAt s at word =
 unfoldable pub matchAt : List ℕ → ℕ → List ℕ → Match
 matchAt s at word = cond (keywordAt s at word) (After (record { at = runEnd Ident s at })) Not
 
+-- the first of two that matched
+unfoldable pub orMatch : Match → Match → Match
+orMatch (After c) n = After c
+orMatch Not n = n
+
 -- ---- what the code tests
 
 -- a word that is itself an identifier

@@ -10,7 +10,7 @@ ghost use Rattle.text.specs.Class.{classOf, classTable};
 ghost use Rattle.text.specs.Scan.{inIdent, inRun, runEnd, blockEnd, pairAt, commentEnd, gapEnd};
 ghost use Rattle.text.specs.High.{larger, largest};
 ghost use Rattle.text.specs.declared.Run.the-variants.{Low};
-ghost use Rattle.text.specs.Keyword.{startsIdent, endsKeyword, wordly, begins, matchAt};
+ghost use Rattle.text.specs.Keyword.{startsIdent, endsKeyword, wordly, begins, matchAt, orMatch};
 ghost use Rattle.text.specs.Words.{prefixWord};
 ghost use Rattle.text.specs.Due.{dueAt, refusalOf};
 
@@ -330,6 +330,16 @@ pub fn match_prefix(here: Cursor, classes: &[u8; 128], s: &[u8]) -> Match
     ensures { λ r. ⌜ r ≡ matchAt (now (s .entry)) (here .at) prefixWord ⌝ }
 {
     here.match_keyword(classes, s, b"prefix")
+}
+
+// The first of two that matched.
+pub fn or_match(m: Match, n: Match) -> Match
+    ensures { λ r. ⌜ r ≡ orMatch m n ⌝ }
+{
+    match m {
+        Match::After(_) => m,
+        Match::Not => n,
+    }
 }
 
 // The kinds of runs: white bytes, the rest of a line, an identifier's bytes, a name's bytes, bytes below 128.

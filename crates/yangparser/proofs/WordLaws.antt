@@ -1,41 +1,27 @@
 -- Which keyword stands at a place: the keywords' own answers, in the order in which they are tried. One that matched ends behind its first byte and
 -- within the text.
 -- Assumes nothing.
-use mathlib.Core.Path.{_≡_, refl, sym, _∙_}
+use mathlib.Core.Path.{_≡_, refl, sym, ap₂, _∙_}
 use mathlib.Core.Bool.{Bool, false}
 use mathlib.Core.List.{List}
 use Prim.Native.Nat.{ℕ, _<_, _≤_}
 use native.Mathlib.Omega.{arith}
 use lib.ListN.{length, getD}
-use Rattle.text.specs.Keyword.{startsIdent, matchAt}
+use Rattle.text.specs.Keyword.{startsIdent, matchAt, orMatch}
 use Rattle.text.specs.Words.{importWord, includeWord, organizationWord, contactWord, descriptionWord, referenceWord}
 use Rattle.text.specs.declared.Cursor.{Cursor}
 use Rattle.text.specs.declared.Match.{Match}
 use Rattle.text.specs.declared.Match.the-variants.{After, Not}
 use Rattle.text.proofs.KeywordLaws.{match-none, match-far}
-use Rattle.yangparser.specs.Word.{orMatch, lastAt, orWord, wordAt}
+use Rattle.yangparser.specs.Word.{lastAt, orWord, wordAt}
 use Rattle.yangparser.specs.declared.Word.{Word}
 use Rattle.yangparser.specs.declared.Word.the-variants.{Import, Include, Last, Other}
 
--- o, c, d, r: what the four keywords' functions answered
-module _ (s : List ℕ) (at : ℕ) {o : Match} (oe : o ≡ matchAt s at organizationWord) where
-  pub last-organization : (x : Cursor) → o ≡ After x → lastAt s at ≡ o
-  unfolding lastAt orMatch
-  last-organization x h = rw (sym oe ∙ h) (sym h)
-
-  module _ (on : o ≡ Not) {c : Match} (ce : c ≡ matchAt s at contactWord) where
-    pub last-contact : (x : Cursor) → c ≡ After x → lastAt s at ≡ c
-    unfolding lastAt orMatch
-    last-contact x h = rw (sym oe ∙ on, sym ce ∙ h) (sym h)
-
-    module _ (cn : c ≡ Not) {d : Match} (de : d ≡ matchAt s at descriptionWord) where
-      pub last-description : (x : Cursor) → d ≡ After x → lastAt s at ≡ d
-      unfolding lastAt orMatch
-      last-description x h = rw (sym oe ∙ on, sym ce ∙ cn, sym de ∙ h) (sym h)
-
-      pub last-reference : d ≡ Not → {r : Match} → r ≡ matchAt s at referenceWord → lastAt s at ≡ r
-      unfolding lastAt orMatch
-      last-reference dn re = rw (sym oe ∙ on, sym ce ∙ cn, sym de ∙ dn) (sym re)
+-- o, c, d, r: what the four keywords' functions answered; x, y, z: how they are joined
+pub last-is : (s : List ℕ) (at : ℕ) {o c d r x y z : Match} → o ≡ matchAt s at organizationWord → c ≡ matchAt s at contactWord → d ≡ matchAt s at descriptionWord
+    → r ≡ matchAt s at referenceWord → x ≡ orMatch d r → y ≡ orMatch c x → z ≡ orMatch o y → z ≡ lastAt s at
+unfolding lastAt
+last-is s at oe ce de re xe ye ze = ze ∙ ap₂ orMatch oe (ye ∙ ap₂ orMatch ce (xe ∙ ap₂ orMatch de re))
 
 -- i, n, l: what the functions answered for import, include and the four
 module _ (s : List ℕ) (at : ℕ) {i : Match} (ie : i ≡ matchAt s at importWord) where

@@ -2,17 +2,13 @@
 -- Assumes nothing.
 use Prim.Native.Nat.{ℕ}
 use mathlib.Core.List.{List}
-use Rattle.text.specs.Keyword.{matchAt}
+use Rattle.text.specs.Keyword.{matchAt, orMatch}
 use Rattle.text.specs.Words.{importWord, includeWord, organizationWord, contactWord, descriptionWord, referenceWord}
 use Rattle.text.specs.declared.Cursor.{Cursor}
 use Rattle.text.specs.declared.Match.{Match}
 use Rattle.text.specs.declared.Match.the-variants.{After, Not}
 use Rattle.yangparser.specs.declared.Word.{Word}
 use Rattle.yangparser.specs.declared.Word.the-variants.{Import, Include, Last, Other}
-
-unfoldable pub orMatch : Match → Match → Match
-orMatch (After c) n = After c
-orMatch Not n = n
 
 -- one of the four that end the scan
 unfoldable pub lastAt : List ℕ → ℕ → Match

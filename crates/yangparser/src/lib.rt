@@ -284,18 +284,13 @@ fn match_last(here: Cursor, classes: &[u8; 128], s: &[u8]) -> Match
     ensures { λ r. ⌜ r ≡ lastAt (now (s .entry)) (here .at) ⌝ }
 {
     let organization = match_organization(here, classes, s);
-    if let Match::After(_) = organization {
-        return organization;
-    }
     let contact = match_contact(here, classes, s);
-    if let Match::After(_) = contact {
-        return contact;
-    }
     let description = match_description(here, classes, s);
-    if let Match::After(_) = description {
-        return description;
-    }
-    match_reference(here, classes, s)
+    let reference = match_reference(here, classes, s);
+    text::or_match(
+        organization,
+        text::or_match(contact, text::or_match(description, reference)),
+    )
 }
 
 // Reads an import and writes its row; the 257th is refused behind its keyword.
