@@ -15,9 +15,10 @@ use Rattle.value.specs.Str.{escaped, escapes, strEnd, strBytes, closedBy, strAt
 use Rattle.value.specs.Value.{isQuote, startsName, addedBy, afterPlus, afterGap, moreAt, addTo, joinTurn, joinedWith, joined as joinedValue, ofString, valueHere, valueAt, valueBytes}
 use Rattle.skip.specs.Skip.{closedToken, tokenHere, tokenAt, tokenEnd}
 use Rattle.skip.specs.Statement.{closes, quotedLen, quotedEnd, atSemicolon, atClose, partOf, partAt, ofPart, statementTurn, statementFrom, statementAt, endedAt}
+use Rattle.buffers.specs.Lent.{lentAt}
 use Rattle.imports.specs.Block.{orRevision, orPrefix, lineKind, withPrefix, withRevision, afterKind, insideHere, insideAt, afterInside, blockTurn, blockFrom, blockAt}
 use Rattle.imports.specs.Statement.{ofBody, importOf, withName, afterName, importAt, includeOf, plainOf, blockOf, openOrPlain, afterValue, includeAt}
-use Rattle.yangparser.specs.Dependencies.{joined, importStep, includeStep, unlessFull, importHere, includeHere, movedTo, wordStep, stepHere, stepAt, Scan, good, bad, afterStep, scanTurn, scanFrom, scanned, lentAt, ifFit, dependencies}
+use Rattle.yangparser.specs.Dependencies.{joined, importStep, includeStep, unlessFull, importHere, includeHere, movedTo, wordStep, stepHere, stepAt, Scan, good, bad, afterStep, scanTurn, scanFrom, scanned, ifFit, dependencies}
 use Rattle.yangparser.specs.Word.{lastAt, orWord, wordAt}
 
 -- a text, and number, keyword, position, import rows and include rows

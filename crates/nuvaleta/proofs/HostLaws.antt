@@ -11,6 +11,7 @@ use lib.ListN.{length, getD}
 use borrow.Author.Tests.{ltb-true, ltb-false}
 use Rattle.text.specs.declared.Refusal.{Refusal}
 use Rattle.text.proofs.Here.{by-test}
+use Rattle.buffers.proofs.LentLaws.{lent-long}
 use Rattle.page.specs.declared.Page.{Page}
 use Rattle.page.specs.Page.{PageLeft}
 use Rattle.page.proofs.PageLaws.{good-sound, page-fits}
@@ -19,7 +20,6 @@ use Rattle.yangparser.specs.Promises.{Leaves}
 use Rattle.yangparser.specs.declared.Parsed.{Parsed}
 use Rattle.yangparser.specs.declared.Parsed.the-variants.{Good, Refused}
 use Rattle.yangparser.proofs.KeptLaws.{entry-good, entry-refusal}
-use Rattle.yangparser.proofs.LentLaws.{lent-long}
 use Rattle.nuvaleta.specs.Host.{numberOf, answerWords, WordsFit, Answered, AnsweredPage}
 
 -- ---- a word for each count and place

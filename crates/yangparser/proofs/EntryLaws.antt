@@ -8,16 +8,18 @@ use native.Mathlib.Omega.{arith}
 use lib.ListN.{length}
 use Rattle.text.specs.Class.{classTable}
 use Rattle.text.specs.declared.Refusal.{Refusal}
+use Rattle.buffers.specs.Lent.{lentAt}
 use Rattle.buffers.specs.Padded.{zeros, padded}
+use Rattle.buffers.specs.declared.Lent.{Lent}
+use Rattle.buffers.specs.declared.Lent.the-variants.{Fit, Unfit}
 use Rattle.buffers.proofs.Clears.{written-zero, padded-none}
+use Rattle.buffers.proofs.LentLaws.{fit-said}
 use Rattle.rows.specs.Rows.{importTable, includeTable, table}
-use Rattle.yangparser.specs.Dependencies.{Dependencies, none, importWordsOf, includeWordsOf, Scan, good, bad, scanned, tooShort, lentAt, ifFit, dependencies, parsedOf, readOf, keptOf}
+use Rattle.yangparser.specs.Dependencies.{Dependencies, none, importWordsOf, includeWordsOf, Scan, good, bad, scanned, tooShort, ifFit, dependencies, parsedOf, readOf, keptOf}
 use Rattle.yangparser.specs.Promises.{Parses, Cleared, Leaves, Extracts}
-use Rattle.yangparser.specs.declared.Lent.{Lent}
-use Rattle.yangparser.specs.declared.Lent.the-variants.{Fit, Unfit}
 use Rattle.yangparser.specs.declared.Parsed.{Parsed}
 use Rattle.yangparser.specs.declared.Parsed.the-variants.{Good, Refused}
-use Rattle.yangparser.proofs.LentLaws.{fit-said, long-enough}
+use Rattle.yangparser.proofs.ShortLaws.{long-enough}
 use Rattle.yangparser.proofs.LoopLaws.{import-words-count, include-words-count}
 use Rattle.yangparser.proofs.ScanLaws.{scan-sound}
 

@@ -1,31 +1,27 @@
 -- What those who call a scan use: the rows that it wrote read back as they were, and a value's bytes are the same in the store as among the
 -- bytes read.
 -- Assumes nothing.
-use mathlib.Core.Path.{_≡_, refl, sym, ap, _∙_}
+use mathlib.Core.Path.{_≡_, refl, ap, _∙_}
 use mathlib.Core.Bool.{Bool, false}
 use mathlib.Core.List.{List}
 use Prim.Native.Nat.{ℕ, _+_, _-_, _*_, _≤_}
 use native.Mathlib.Omega.{arith}
-use lib.Dec.{ltb}
 use lib.ListN.{length, drop}
 use lib.Seq.{sets, sets-eq}
-use borrow.Author.Tests.{ltb-true, ltb-false}
-use Rattle.text.specs.Scan.{runEnd}
 use Rattle.text.specs.declared.Refusal.{Refusal}
-use Rattle.text.specs.declared.Run.the-variants.{Low}
-use Rattle.text.proofs.Here.{by-test}
+use Rattle.buffers.specs.Lent.{lentAt}
 use Rattle.buffers.specs.Padded.{padded}
+use Rattle.buffers.specs.declared.Lent.{Lent}
+use Rattle.buffers.specs.declared.Lent.the-variants.{Fit, Unfit}
+use Rattle.buffers.proofs.LentLaws.{fit-said, lent-within}
 use Rattle.rows.specs.Rows.{importsIn, includesIn}
 use Rattle.rows.specs.Span.{valueIn, Within}
 use Rattle.rows.specs.declared.Span.{Span}
 use Rattle.rows.proofs.Values.{value-more}
 use Rattle.rows.proofs.Reading.{imports-back, includes-back, imports-written, includes-written}
-use Rattle.yangparser.specs.Dependencies.{Dependencies, importWordsOf, includeWordsOf, Scan, good, bad, scanned, lentAt, ifFit, dependencies, parsedOf}
+use Rattle.yangparser.specs.Dependencies.{Dependencies, importWordsOf, includeWordsOf, Scan, good, bad, scanned, ifFit, dependencies, parsedOf}
 use Rattle.yangparser.specs.Promises.{Holds}
-use Rattle.yangparser.specs.declared.Lent.{Lent}
-use Rattle.yangparser.specs.declared.Lent.the-variants.{Fit, Unfit}
 use Rattle.yangparser.specs.declared.Parsed.the-variants.{Good, Refused}
-use Rattle.yangparser.proofs.LentLaws.{lent-long, lent-short, lent-high, lent-fit, fit-said}
 use Rattle.yangparser.proofs.ScanLaws.{Sound, scan-refusal, sound-imports-plain, sound-includes-plain}
 
 -- ---- the entry
@@ -44,27 +40,6 @@ module _ (s : List ℕ) where
       let l = fit-said s short (k .0) in
       (k .1, l .0, l .1)
 
-  unfit-at : (x : Lent) (r q : Refusal) → x ≡ Unfit r → x ≡ Unfit q → r .at ≡ q .at
-  unfit-at x r q e f = cc
-
-  fit-not : (x : Lent) (q : Refusal) → x ≡ Fit → x ≡ Unfit q → ⊥
-  fit-not x q e f = let z : _≡_ {A = ℕ} 0 1 = cc in omega arith
-
-  -- a refusal's place is within the text
-  lent-within : (short : Bool) (q : Refusal) → lentAt s short ≡ Unfit q → q .at ≤ length s
-  lent-within short q h =
-      let x = lentAt s short in
-      let at = runEnd Low s 0 in
-      by-test (ltb 1048576 (length s))
-      (λ t. omega (arith, unfit-at x (record { number = 1; keyword = 0; at = 0 }) q (sym (lent-long s short (ltb-true 1048576 (length s) t))) h))
-      (λ t. let fits = ltb-false 1048576 (length s) t in
-      by-test short
-      (λ b. omega (arith, unfit-at x (record { number = 2; keyword = 0; at = 0 }) q (sym (lent-short s short fits b)) h))
-      (λ b. by-test (ltb at (length s))
-      (λ v. let l = ltb-true at (length s) v in
-      omega (arith, unfit-at x (record { number = 3; keyword = 0; at = at }) q (sym (lent-high s short fits b refl l)) h))
-      (λ v. absurd (fit-not x q (sym (lent-fit s short fits b refl (ltb-false at (length s) v))) h))))
-
   fit-within : (x : Lent) → ((q : Refusal) → x ≡ Unfit q → q .at ≤ length s) → (r : Refusal) (d : Dependencies) → ifFit x (scanned s) ≡ bad r d → r .at ≤ length s
   unfolding ifFit
   fit-within Fit w r d h = scan-refusal s r d h
@@ -72,7 +47,7 @@ module _ (s : List ℕ) where
 
   pub entry-refusal : (short : Bool) (r : Refusal) (d : Dependencies) → dependencies s short ≡ bad r d → r .at ≤ length s
   unfolding dependencies
-  entry-refusal short r d h = fit-within (lentAt s short) (lent-within short) r d h
+  entry-refusal short r d h = fit-within (lentAt s short) (lent-within s short) r d h
 
 -- ---- what an answer tells of the scan
 

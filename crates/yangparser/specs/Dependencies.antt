@@ -1,17 +1,18 @@
--- Dependencies: the imports and includes of a text. 1: text over 1,048,576 bytes. 2: store, table or page too short. 3: a byte is 128 or more (keyword 0,
--- first such place). 10: a 257th import or include, at the cursor after its keyword. 4 to 10 come in reading order.
+-- Dependencies: the imports and includes of a text. 10: a 257th import or include, at the cursor after its keyword. 4 to 10 come in reading order.
 -- Assumes nothing.
 use Prim.Native.Nat.{ℕ, suc, _+_, _*_}
 use mathlib.Core.Bool.{Bool, cond, _||_}
 use mathlib.Core.List.{List, [], _∷_, _++_}
 use lib.Dec.{leb, ltb}
 use lib.ListN.{length}
-use Rattle.text.specs.Scan.{gapEnd, runEnd}
+use Rattle.text.specs.Scan.{gapEnd}
 use Rattle.text.specs.Turns.{Turn, stop, on, turns}
 use Rattle.text.specs.Words.{importKeyword, includeKeyword}
 use Rattle.text.specs.declared.Refusal.{Refusal}
-use Rattle.text.specs.declared.Run.the-variants.{Low}
 use Rattle.skip.specs.Skip.{tokenAt, tokenEnd}
+use Rattle.buffers.specs.Lent.{lentAt}
+use Rattle.buffers.specs.declared.Lent.{Lent}
+use Rattle.buffers.specs.declared.Lent.the-variants.{Fit, Unfit}
 use Rattle.rows.specs.Rows.{importSize, includeSize, mostRows, importTable, includeTable}
 use Rattle.rows.specs.declared.YangImport.{YangImport}
 use Rattle.rows.specs.declared.YangInclude.{YangInclude}
@@ -21,8 +22,6 @@ use Rattle.imports.specs.declared.Imported.the-variants.{Import as ReadImport, 
 use Rattle.imports.specs.declared.Included.{Included}
 use Rattle.imports.specs.declared.Included.the-variants.{Include as ReadInclude, NoInclude}
 use Rattle.yangparser.specs.Word.{wordAt}
-use Rattle.yangparser.specs.declared.Lent.{Lent}
-use Rattle.yangparser.specs.declared.Lent.the-variants.{Fit, Unfit}
 use Rattle.yangparser.specs.declared.Next.{Next}
 use Rattle.yangparser.specs.declared.Next.the-variants.{On, Done, Stop}
 use Rattle.yangparser.specs.declared.Parsed.{Parsed}
@@ -31,21 +30,9 @@ use Rattle.yangparser.specs.declared.Sofar.{Sofar}
 use Rattle.yangparser.specs.declared.Word.{Word}
 use Rattle.yangparser.specs.declared.Word.the-variants.{Import, Include, Last, Other}
 
--- the numbers of this layer
-abbrev pub textTooLong : ℕ
-textTooLong = 1
-
-abbrev pub lentTooShort : ℕ
-lentTooShort = 2
-
-abbrev pub highByteMet : ℕ
-highByteMet = 3
-
+-- the number of this layer
 abbrev pub tooMany : ℕ
 tooMany = 10
-
-abbrev pub mostText : ℕ
-mostText = 1048576
 
 -- by so much the page is longer than the text
 abbrev pub pageMore : ℕ
@@ -161,17 +148,11 @@ tooShort short text store imports includes =
 unfoldable pub pageShort : ℕ → ℕ → Bool
 pageShort text page = ltb page (text + pageMore)
 
--- short: whether something lent is too short
-unfoldable pub lentAt : List ℕ → Bool → Lent
-lentAt s short =
-    cond (ltb mostText (length s)) (Unfit (record { number = textTooLong; keyword = 0; at = 0 }))
-    (cond short (Unfit (record { number = lentTooShort; keyword = 0; at = 0 }))
-    (cond (ltb (runEnd Low s 0) (length s)) (Unfit (record { number = highByteMet; keyword = 0; at = runEnd Low s 0 })) Fit))
-
 unfoldable pub ifFit : Lent → Scan → Scan
 ifFit Fit x = x
 ifFit (Unfit r) x = bad r none
 
+-- short: whether something lent is too short
 unfoldable pub dependencies : List ℕ → Bool → Scan
 dependencies s short = ifFit (lentAt s short) (scanned s)
 

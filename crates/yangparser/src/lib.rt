@@ -1,4 +1,5 @@
 // The dependency scan: import and include statements, their values in the store that the caller lends, their rows in its tables.
+use buffers::Lent;
 use imports::Imported;
 use imports::Included;
 use text::Cursor;
@@ -13,20 +14,11 @@ ghost use Rattle.text.specs.Keyword.{matchAt};
 ghost use Rattle.text.specs.Words.{importWord, includeWord, organizationWord, contactWord, descriptionWord, referenceWord};
 ghost use Rattle.rows.specs.Rows.{importSize, includeSize, mostRows};
 ghost use Rattle.yangparser.specs.Word.{lastAt, wordAt};
-ghost use Rattle.yangparser.specs.Dependencies.{tooShort, lentAt, stepAt, scanned};
+ghost use Rattle.yangparser.specs.Dependencies.{tooShort, stepAt, scanned};
 ghost use Rattle.yangparser.specs.Promises.{AddsImport, AddsInclude, Steps, Parses, Cleared, Leaves, Extracts};
 
-// Refusals of this layer.
-pub const TEXT_TOO_LONG: u32 = 1;
-
-pub const LENT_TOO_SHORT: u32 = 2;
-
-pub const HIGH_BYTE: u32 = 3;
-
+// The refusal of this layer.
 pub const TOO_MANY: u32 = 10;
-
-// The longest text.
-pub const MOST_TEXT: usize = 1048576;
 
 // What the scan read: how many rows of each, and how many bytes are stored; or its refusal.
 pub enum Parsed {
@@ -65,17 +57,11 @@ pub fn scan_lent(
     buffers::clear_words(includes);
     let classes = text::classes();
     let unfit = too_short(short, s.len(), store.len(), imports.len(), includes.len());
-    let lent = check_lent(&classes, s, unfit);
+    let lent = buffers::check_lent(&classes, s, unfit);
     match lent {
         Lent::Fit => parse_cleared(&classes, s, store, imports, includes),
         Lent::Unfit(r) => Parsed::Refused(r),
     }
-}
-
-// Whether a text can be scanned with what was lent, or a refusal.
-pub enum Lent {
-    Fit,
-    Unfit(Refusal),
 }
 
 // Whether the store or a table is too short for a text.
@@ -92,36 +78,6 @@ fn too_short(short: bool, text: usize, store: usize, imports: usize, includes: u
         return true;
     }
     includes < rows::MOST_ROWS * rows::INCLUDE_SIZE
-}
-
-// 1, then 2, then 3.
-fn check_lent(classes: &[u8; 128], s: &[u8], short: bool) -> Lent
-    requires { ⌜ now classes ≡ classTable ⌝ }
-    ensures { λ r. ⌜ r ≡ lentAt (now (s .entry)) short ⌝ }
-{
-    if MOST_TEXT < s.len() {
-        return Lent::Unfit(Refusal {
-            number: TEXT_TOO_LONG,
-            keyword: 0,
-            at: 0,
-        });
-    }
-    if short {
-        return Lent::Unfit(Refusal {
-            number: LENT_TOO_SHORT,
-            keyword: 0,
-            at: 0,
-        });
-    }
-    let at = text::first_high(classes, s);
-    if at < s.len() {
-        return Lent::Unfit(Refusal {
-            number: HIGH_BYTE,
-            keyword: 0,
-            at,
-        });
-    }
-    Lent::Fit
 }
 
 // The scan over zeros. A refusal clears what it wrote.

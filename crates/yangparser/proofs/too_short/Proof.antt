@@ -1,7 +1,7 @@
 -- `yangparser::too_short`. Each length is compared where those before are long enough.
 -- Assumes nothing.
 use borrow.Author.Needs.{needs}
-use Rattle.yangparser.proofs.LentLaws.{short-else, short-store, short-imports, short-includes}
+use Rattle.yangparser.proofs.ShortLaws.{short-else, short-store, short-imports, short-includes}
 use Rattle.yangparser.proofs.too_short.Tie as tie
 use Rattle.yangparser.proofs.too_short.Statement.{statement}
 

@@ -1,9 +1,9 @@
--- `yangparser::check_lent`. Each test decides where those before it passed.
+-- `buffers::check_lent`. Each test decides where those before it passed.
 -- Assumes nothing.
-use Rattle.yangparser.proofs.LentLaws.{lent-long, lent-short, lent-high, lent-fit}
+use Rattle.buffers.proofs.LentLaws.{lent-long, lent-short, lent-high, lent-fit}
 use borrow.Author.Needs.{needs}
-use Rattle.yangparser.proofs.check_lent.Statement.{statement}
-use Rattle.yangparser.proofs.check_lent.Tie as tie
+use Rattle.buffers.proofs.check_lent.Statement.{statement}
+use Rattle.buffers.proofs.check_lent.Tie as tie
 
 returns : tie.Need-returns
 returns c = search lent-long

@@ -1,9 +1,9 @@
 -- The checks of what is lent: each test that comes before leaves the next one to decide.
 -- Assumes nothing.
 use mathlib.Core.Path.{_≡_, refl, sym}
-use mathlib.Core.Bool.{Bool, true, false, _||_}
+use mathlib.Core.Bool.{Bool, true, false}
 use mathlib.Core.List.{List}
-use Prim.Native.Nat.{ℕ, _*_, _<_, _≤_}
+use Prim.Native.Nat.{ℕ, _<_, _≤_}
 use native.Mathlib.Omega.{arith}
 use lib.Dec.{ltb}
 use lib.ListN.{length}
@@ -11,46 +11,10 @@ use borrow.Author.Tests.{lt-ltb, le-ltb, ltb-true, ltb-false}
 use Rattle.text.specs.Scan.{runEnd}
 use Rattle.text.specs.declared.Refusal.{Refusal}
 use Rattle.text.specs.declared.Run.the-variants.{Low}
-use Rattle.text.proofs.Here.{by-test, never}
-use Rattle.yangparser.specs.Dependencies.{tooShort, lentAt}
-use Rattle.yangparser.specs.declared.Lent.{Lent}
-use Rattle.yangparser.specs.declared.Lent.the-variants.{Fit, Unfit}
-
--- ---- lengths
-
-module _ (short : Bool) (text store imports includes : ℕ) where
-  pub short-else : short ≡ true → true ≡ tooShort short text store imports includes
-  unfolding tooShort
-  short-else h = rw h refl
-
-  module _ (long : short ≡ false) where
-    pub short-store : store < text → true ≡ tooShort short text store imports includes
-    unfolding tooShort
-    short-store h = rw long (rw (lt-ltb store text h) refl)
-
-    module _ (enough : text ≤ store) where
-      pub short-imports : imports < 256 * 7 → true ≡ tooShort short text store imports includes
-      unfolding tooShort
-      short-imports h = rw long (rw (le-ltb store text enough) (rw (lt-ltb imports (256 * 7) h) refl))
-
-      pub short-includes : 256 * 7 ≤ imports → ltb includes (256 * 5) ≡ tooShort short text store imports includes
-      unfolding tooShort
-      short-includes h = rw long (rw (le-ltb store text enough) (rw (le-ltb imports (256 * 7) h) refl))
-
-  -- nothing is too short
-  pub long-enough : tooShort short text store imports includes ≡ false → (text ≤ store) × (256 * 7 ≤ imports) × (256 * 5 ≤ includes)
-  unfolding tooShort
-  long-enough h =
-      let p = neither (short || ltb store text || ltb imports (256 * 7)) (ltb includes (256 * 5)) h in
-      let q = neither (short || ltb store text) (ltb imports (256 * 7)) (p .0) in
-      let o = neither short (ltb store text) (q .0) in
-      (ltb-false store text (o .1), ltb-false imports (256 * 7) (q .1), ltb-false includes (256 * 5) (p .1))
-    where
-      neither : (a b : Bool) → (a || b) ≡ false → (a ≡ false) × (b ≡ false)
-      neither true b h = absurd (never h refl)
-      neither false b h = (refl, h)
-
--- ---- 1, 2 and 3
+use Rattle.text.proofs.Here.{by-test}
+use Rattle.buffers.specs.Lent.{lentAt}
+use Rattle.buffers.specs.declared.Lent.{Lent}
+use Rattle.buffers.specs.declared.Lent.the-variants.{Fit, Unfit}
 
 module _ (s : List ℕ) (short : Bool) where
   pub lent-long : 1048576 < length s → Unfit (record { number = 1; keyword = 0; at = 0 }) ≡ lentAt s short
@@ -82,3 +46,21 @@ fit-said s short h =
     (λ t. absurd (unfit-not (sym (lent-long s short (ltb-true 1048576 (length s) t))) h))
     (λ t. let f = ltb-false 1048576 (length s) t in
     by-test short (λ b. absurd (unfit-not (sym (lent-short s short f b)) h)) (λ b. (f, b)))
+
+-- a refusal's place is within the text
+unfit-at : (x : Lent) (r q : Refusal) → x ≡ Unfit r → x ≡ Unfit q → r .at ≡ q .at
+unfit-at x r q e f = cc
+
+pub lent-within : (s : List ℕ) (short : Bool) (q : Refusal) → lentAt s short ≡ Unfit q → q .at ≤ length s
+lent-within s short q h =
+    let x = lentAt s short in
+    let at = runEnd Low s 0 in
+    by-test (ltb 1048576 (length s))
+    (λ t. omega (arith, unfit-at x (record { number = 1; keyword = 0; at = 0 }) q (sym (lent-long s short (ltb-true 1048576 (length s) t))) h))
+    (λ t. let fits = ltb-false 1048576 (length s) t in
+    by-test short
+    (λ b. omega (arith, unfit-at x (record { number = 2; keyword = 0; at = 0 }) q (sym (lent-short s short fits b)) h))
+    (λ b. by-test (ltb at (length s))
+    (λ v. let l = ltb-true at (length s) v in
+    omega (arith, unfit-at x (record { number = 3; keyword = 0; at = at }) q (sym (lent-high s short fits b refl l)) h))
+    (λ v. absurd (unfit-not h (sym (lent-fit s short fits b refl (ltb-false at (length s) v)))))))
