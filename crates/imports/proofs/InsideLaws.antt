@@ -19,16 +19,16 @@ use Rattle.text.specs.declared.Match.the-variants.{After, Not}
 use Rattle.text.specs.declared.Refusal.{Refusal}
 use Rattle.text.proofs.Here.{by-test}
 use Rattle.text.proofs.KeywordLaws.{match-none}
-use Rattle.value.specs.Argument.{lineAt}
+use Rattle.value.specs.Argument.{lineAt, argumentRefusal}
 use Rattle.value.specs.Value.{valueAt, valueBytes}
 use Rattle.value.specs.declared.Argument.{Argument}
 use Rattle.value.specs.declared.Argument.the-variants.{Read, Refused as RefusedLine}
-use Rattle.value.proofs.ArgumentLaws.{line-far, line-room}
+use Rattle.value.proofs.ArgumentLaws.{refusal-is, line-far, line-room}
 use Rattle.skip.specs.Statement.{statementAt, endedAt}
 use Rattle.rows.specs.Span.{held, missing}
 use Rattle.rows.specs.declared.Span.{Span}
 use Rattle.imports.specs.Left.{Left, nothing}
-use Rattle.imports.specs.Block.{orRevision, orPrefix, lineKind, withPrefix, withRevision, begun, moved, afterKind, insideHere, insideAt, argumentRefusal}
+use Rattle.imports.specs.Block.{orRevision, orPrefix, lineKind, withPrefix, withRevision, begun, moved, afterKind, insideHere, insideAt}
 use Rattle.imports.specs.declared.Body.{Body}
 use Rattle.imports.specs.declared.Line.{Line}
 use Rattle.imports.specs.declared.Line.the-variants.{Prefix, Revision, Other}
@@ -83,10 +83,6 @@ module _ (s : List ℕ) (at k : ℕ) where
       (by-test (eqb k 8) (λ t. rw t refl) (λ t. rw t refl))
 
 -- ---- a value read
-
-pub refusal-is : {a : Argument} {r q : Refusal} → a ≡ RefusedLine r → q ≡ argumentRefusal a → q ≡ r
-unfolding argumentRefusal
-refusal-is h e = e ∙ ap argumentRefusal h
 
 pub line-grows : (s : List ℕ) (at u k b : ℕ) (c : Cursor) (n : ℕ) → b < 256 → {l : Argument} → l ≡ lineAt s at u k b → l ≡ Read c n → u ≤ n
 line-grows s at u k b c n small e h = omega (arith, line-far s at u k b c n small (sym e ∙ h))

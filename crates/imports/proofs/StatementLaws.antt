@@ -15,15 +15,15 @@ use Rattle.text.specs.declared.Due.{Due}
 use Rattle.text.specs.declared.Due.the-variants.{After, Not}
 use Rattle.text.specs.declared.Refusal.{Refusal}
 use Rattle.text.proofs.Laws.{gap-from, gap-twice}
-use Rattle.value.specs.Argument.{argumentAt, lineAt}
+use Rattle.value.specs.Argument.{argumentAt, lineAt, argumentRefusal}
 use Rattle.value.specs.Value.{valueAt, valueBytes}
 use Rattle.value.specs.declared.Argument.{Argument}
 use Rattle.value.specs.declared.Argument.the-variants.{Read, Refused}
-use Rattle.value.proofs.ArgumentLaws.{argument-far, argument-room, line-far}
+use Rattle.value.proofs.ArgumentLaws.{refusal-is, argument-far, argument-room, line-far}
 use Rattle.value.proofs.JoinLaws.{sets-twice}
 use Rattle.rows.specs.Span.{held, missing}
 use Rattle.rows.specs.declared.Span.{Span}
-use Rattle.imports.specs.Block.{argumentRefusal, blockRefusal, blockAt}
+use Rattle.imports.specs.Block.{blockRefusal, blockAt}
 use Rattle.imports.specs.Statement.{ofBody, importOf, withName, afterName, importAt, includeOf, plainOf, blockOf, openOrPlain, afterValue, includeAt}
 use Rattle.imports.specs.declared.Block.{Block}
 use Rattle.imports.specs.declared.Block.the-variants.{Whole, Broken}
@@ -32,7 +32,7 @@ use Rattle.imports.specs.declared.Imported.{Imported}
 use Rattle.imports.specs.declared.Imported.the-variants.{Import, NoImport}
 use Rattle.imports.specs.declared.Included.{Included}
 use Rattle.imports.specs.declared.Included.the-variants.{Include, NoInclude}
-use Rattle.imports.proofs.InsideLaws.{Leaves, leaves, refusal-is}
+use Rattle.imports.proofs.InsideLaws.{Leaves, leaves}
 
 pub broken-is : {b : Block} {r q : Refusal} → b ≡ Broken r → q ≡ blockRefusal b → q ≡ r
 unfolding blockRefusal

@@ -103,12 +103,7 @@ begun at u = record { at = at; used = u; prefix = missing; revision = missing }
 unfoldable pub blockAt : List ℕ → ℕ → ℕ → ℕ → Left Block
 blockAt s at u k = blockFrom s k (record { body = begun at u; bytes = [] })
 
--- ---- the refusal of an answer; 0, 0, 0 where there is none
-
-unfoldable pub argumentRefusal : Argument → Refusal
-argumentRefusal (Read c n) = record { number = noRefusal; keyword = 0; at = 0 }
-argumentRefusal (RefusedLine r) = r
-
+-- its refusal; 0, 0, 0 where there is none
 unfoldable pub blockRefusal : Block → Refusal
 blockRefusal (Whole b) = record { number = noRefusal; keyword = 0; at = 0 }
 blockRefusal (Broken r) = r

@@ -18,7 +18,7 @@ ghost use Rattle.text.specs.Words.{prefixWord, revisionDateWord, prefixKeyword,
 ghost use Rattle.rows.specs.Span.{held, missing};
 ghost use Rattle.value.specs.Argument.{lineAt};
 ghost use Rattle.value.specs.Value.{valueAt, valueBytes};
-ghost use Rattle.imports.specs.Block.{orRevision, orPrefix, lineKind, argumentRefusal, withPrefix, withRevision, begun, moved, insideAt, blockRefusal, blockAt};
+ghost use Rattle.imports.specs.Block.{orRevision, orPrefix, lineKind, withPrefix, withRevision, begun, moved, insideAt, blockRefusal, blockAt};
 ghost use Rattle.imports.specs.Statement.{ofBody, importAt, includeOf, includeAt};
 
 // Refusals: an import closed without prefix, and the end inside a block.
@@ -57,7 +57,7 @@ pub fn parse_import(
         text::OPEN_BRACE,
     );
     let Argument::Read { next, used: n } = name else {
-        return Imported::NoImport(argument_refusal(name));
+        return Imported::NoImport(value::argument_refusal(name));
     };
     let size = n - used;
     let module_name = held(used, size);
@@ -115,7 +115,7 @@ pub fn parse_include(
 {
     let name = value::read_value(here, classes, s, store, used, text::INCLUDE);
     let Argument::Read { next, used: n } = name else {
-        return Included::NoInclude(argument_refusal(name));
+        return Included::NoInclude(value::argument_refusal(name));
     };
     let size = n - used;
     let submodule_name = held(used, size);
@@ -296,7 +296,7 @@ fn read_prefix(body: Body, here: Cursor, classes: &[u8; 128], s: &[u8], store: &
     let revision = body.revision;
     let line = value::read_argument(here, classes, s, store, used, text::PREFIX, text::SEMICOLON);
     let Argument::Read { next, used: n } = line else {
-        return Inside::Refused(argument_refusal(line));
+        return Inside::Refused(value::argument_refusal(line));
     };
     let size = n - used;
     let prefix = held(used, size);
@@ -331,7 +331,7 @@ fn read_revision(
         text::SEMICOLON,
     );
     let Argument::Read { next, used: n } = line else {
-        return Inside::Refused(argument_refusal(line));
+        return Inside::Refused(value::argument_refusal(line));
     };
     let size = n - used;
     let revision = held(used, size);
@@ -341,20 +341,6 @@ fn read_revision(
         prefix,
         revision,
     })
-}
-
-// The refusal of a keyword's value; 0, 0, 0 where there is none.
-fn argument_refusal(a: Argument) -> Refusal
-    ensures { λ r. ⌜ r ≡ argumentRefusal a ⌝ }
-{
-    match a {
-        Argument::Read { next: _, used: _ } => Refusal {
-            number: text::NO_REFUSAL,
-            keyword: 0,
-            at: 0,
-        },
-        Argument::Refused(r) => r,
-    }
 }
 
 // What stands in a block: the prefix of an import, a revision-date, or any other statement.

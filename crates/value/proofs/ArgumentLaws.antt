@@ -13,7 +13,7 @@ use Rattle.text.specs.declared.Due.the-variants.{After, Not}
 use Rattle.text.specs.declared.Refusal.{Refusal}
 use Rattle.text.proofs.DueLaws.{due-far, due-refused, due-refused-within}
 use Rattle.value.specs.Value.{Val, value, none, valueAt, valueAnswer, valueBytes, valueEnd}
-use Rattle.value.specs.Argument.{argumentOf, argumentAt, afterDue, afterArgument, lineAt}
+use Rattle.value.specs.Argument.{argumentOf, argumentAt, afterDue, afterArgument, lineAt, argumentRefusal}
 use Rattle.value.specs.declared.Argument.{Argument}
 use Rattle.value.specs.declared.Argument.the-variants.{Read, Refused}
 use Rattle.value.specs.declared.Value.{Value}
@@ -153,3 +153,9 @@ pub line-refusal : (s : List ℕ) (at u k b : ℕ) (r : Refusal) → at ≤ leng
     → (r .keyword ≡ k) × (at ≤ r .at) × (r .at ≤ length s)
 unfolding lineAt
 line-refusal s at u k b r l h = refusal-of s at u k b (argumentAt s at u k) r l refl h
+
+-- ---- the refusal
+
+pub refusal-is : {a : Argument} {r q : Refusal} → a ≡ Refused r → q ≡ argumentRefusal a → q ≡ r
+unfolding argumentRefusal
+refusal-is h e = e ∙ ap argumentRefusal h

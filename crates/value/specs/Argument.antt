@@ -4,9 +4,10 @@
 use Prim.Native.Nat.{ℕ, _+_}
 use mathlib.Core.List.{List}
 use lib.ListN.{length}
-use Rattle.text.specs.Due.{noValue, dueAt}
+use Rattle.text.specs.Due.{noRefusal, noValue, dueAt}
 use Rattle.text.specs.declared.Due.{Due}
 use Rattle.text.specs.declared.Due.the-variants.{After, Not}
+use Rattle.text.specs.declared.Refusal.{Refusal}
 use Rattle.value.specs.Value.{Val, value, none, valueAt}
 use Rattle.value.specs.declared.Argument.{Argument}
 use Rattle.value.specs.declared.Argument.the-variants.{Read, Refused}
@@ -32,3 +33,8 @@ afterArgument s k b (Refused r) = Refused r
 -- the value and the byte
 unfoldable pub lineAt : List ℕ → ℕ → ℕ → ℕ → ℕ → Argument
 lineAt s at u k b = afterArgument s k b (argumentAt s at u k)
+
+-- the refusal; 0, 0, 0 where there is none
+unfoldable pub argumentRefusal : Argument → Refusal
+argumentRefusal (Read c n) = record { number = noRefusal; keyword = 0; at = 0 }
+argumentRefusal (Refused r) = r

@@ -13,7 +13,7 @@ ghost use Rattle.text.specs.Class.{classTable};
 ghost use Rattle.text.specs.Keyword.{part};
 ghost use Rattle.value.specs.Str.{among, escaped, escapes, strEnd, strBytes, strAt, answerOf, bytesOf};
 ghost use Rattle.value.specs.Value.{isQuote, startsName, nameAt, moreAt, moreAnswer, moreBytes, joined, joinAnswer, valueAt, valueAnswer, valueBytes, valueEnd};
-ghost use Rattle.value.specs.Argument.{argumentAt, lineAt};
+ghost use Rattle.value.specs.Argument.{argumentRefusal, argumentAt, lineAt};
 
 // A value: the cursor after it and the store's next place; or none stands here, and the cursor there.
 pub enum Value {
@@ -35,6 +35,20 @@ pub fn value_end(v: Value) -> Cursor
 pub enum Argument {
     Read { next: Cursor, used: usize },
     Refused(Refusal),
+}
+
+// The refusal of a keyword's value; 0, 0, 0 where there is none.
+pub fn argument_refusal(a: Argument) -> Refusal
+    ensures { λ r. ⌜ r ≡ argumentRefusal a ⌝ }
+{
+    match a {
+        Argument::Read { next: _, used: _ } => Refusal {
+            number: text::NO_REFUSAL,
+            keyword: 0,
+            at: 0,
+        },
+        Argument::Refused(r) => r,
+    }
 }
 
 // Reads the value that is due after a keyword. Where there is none, nothing is stored and the refusal is 4.

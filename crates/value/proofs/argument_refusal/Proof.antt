@@ -1,10 +1,10 @@
--- `imports::argument_refusal`. Each arm of the `match` is its clause of the definition.
+-- `value::argument_refusal`. Each arm of the `match` is its clause of the definition.
 -- Assumes nothing.
 use mathlib.Core.Path.{sym, ap}
-use Rattle.imports.specs.Block.{argumentRefusal}
+use Rattle.value.specs.Argument.{argumentRefusal}
 use borrow.Author.Needs.{needs}
-use Rattle.imports.proofs.argument_refusal.Statement.{statement}
-use Rattle.imports.proofs.argument_refusal.Tie as tie
+use Rattle.value.proofs.argument_refusal.Statement.{statement}
+use Rattle.value.proofs.argument_refusal.Tie as tie
 
 enum-told : tie.Need-enum-told
 enum-told c = search needs
