@@ -1,0 +1,4 @@
+pub mod ComesLaws
+pub mod Examples
+pub mod LessLaws
+pub mod NewestLaws
