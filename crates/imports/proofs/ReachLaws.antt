@@ -15,7 +15,6 @@ use Rattle.text.specs.Turns.{stop}
 use Rattle.text.specs.declared.Cursor.{Cursor}
 use Rattle.text.specs.declared.Due.{Due}
 use Rattle.text.specs.declared.Due.the-variants.{After, Not}
-use Rattle.text.specs.declared.Refusal.{Refusal}
 use Rattle.text.proofs.DueLaws.{due-far, due-refused-within}
 use Rattle.text.proofs.Here.{by-test, here}
 use Rattle.text.proofs.Laws.{gap-from}
@@ -153,10 +152,6 @@ module _ (s : List ℕ) (at u : ℕ) where
   told h = subst (ImportSaid s at u (importAt s at u .bytes)) h (import-said s at u)
 
   module _ (c : Cursor) (n : ℕ) (i : YangImport) (h : importAt s at u .answer ≡ Import c n i) where
-    -- behind its start, within the text, and more bytes taken than stored
-    pub import-far : (at + length (importAt s at u .bytes) < c .at) × (c .at ≤ length s) × (n ≡ u + length (importAt s at u .bytes))
-    import-far = let d = told h in (d .0, d .1, d .2)
-
     -- room in the store for the rest of the text stays
     pub import-room : (l : ℕ) → u + (length s - at) ≤ l → n + (length s - c .at) ≤ l
     import-room l r = let d = told h in omega (arith, d .0, d .1, d .2)
@@ -164,22 +159,6 @@ module _ (s : List ℕ) (at u : ℕ) where
     -- where its values lie
     pub import-lies : Lies u n (i .«module_name») × Lies u n (i .prefix) × MayLie u n (i .«revision_date»)
     import-lies = let d = told h in (d .3, d .4, d .5)
-
-    -- no two at one place
-    pub import-sizes : u + (i .«module_name» .size + (i .prefix .size + i .«revision_date» .size)) ≤ n
-    import-sizes = told h .6
-
-  -- a refusal's place is within the text, where the scan stands within it
-  pub import-refusal : (r : Refusal) → importAt s at u .answer ≡ NoImport r → at ≤ length s → r .at ≤ length s
-  import-refusal r h = told h .1
-
--- what is stored fits the rest of the text, on a refusal too
-pub import-fits : (s : List ℕ) (at u : ℕ) → length (importAt s at u .bytes) ≤ length s - at
-import-fits s at u = fits (importAt s at u .bytes) (importAt s at u .answer) (import-said s at u)
-  where
-    fits : (bs : List ℕ) (r : Imported) → ImportSaid s at u bs r → length bs ≤ length s - at
-    fits bs (Import c n i) d = omega (arith, d .0, d .1)
-    fits bs (NoImport r) d = d .0
 
 -- ---- an include
 
@@ -240,24 +219,8 @@ module _ (s : List ℕ) (at u : ℕ) where
   given h = subst (IncludeSaid s at u (includeAt s at u .bytes)) h (include-said s at u)
 
   module _ (c : Cursor) (n : ℕ) (i : YangInclude) (h : includeAt s at u .answer ≡ Include c n i) where
-    pub include-far : (at + length (includeAt s at u .bytes) < c .at) × (c .at ≤ length s) × (n ≡ u + length (includeAt s at u .bytes))
-    include-far = let d = given h in (d .0, d .1, d .2)
-
     pub include-room : (l : ℕ) → u + (length s - at) ≤ l → n + (length s - c .at) ≤ l
     include-room l r = let d = given h in omega (arith, d .0, d .1, d .2)
 
     pub include-lies : Lies u n (i .«submodule_name») × MayLie u n (i .«revision_date»)
     include-lies = let d = given h in (d .3, d .4)
-
-    pub include-sizes : u + (i .«submodule_name» .size + i .«revision_date» .size) ≤ n
-    include-sizes = given h .5
-
-  pub include-refusal : (r : Refusal) → includeAt s at u .answer ≡ NoInclude r → at ≤ length s → r .at ≤ length s
-  include-refusal r h = given h .1
-
-pub include-fits : (s : List ℕ) (at u : ℕ) → length (includeAt s at u .bytes) ≤ length s - at
-include-fits s at u = fits (includeAt s at u .bytes) (includeAt s at u .answer) (include-said s at u)
-  where
-    fits : (bs : List ℕ) (r : Included) → IncludeSaid s at u bs r → length bs ≤ length s - at
-    fits bs (Include c n i) d = omega (arith, d .0, d .1)
-    fits bs (NoInclude r) d = d .0

@@ -15,7 +15,6 @@ ghost use Rattle.text.specs.Bytes.{semicolon};
 ghost use Rattle.text.specs.Class.{classTable};
 ghost use Rattle.text.specs.Keyword.{matchAt};
 ghost use Rattle.text.specs.Words.{prefixWord, revisionDateWord, prefixKeyword, includeKeyword, revisionDateKeyword};
-ghost use Rattle.rows.specs.Span.{held, missing};
 ghost use Rattle.value.specs.Argument.{lineAt};
 ghost use Rattle.value.specs.Value.{valueAt, valueBytes};
 ghost use Rattle.imports.specs.Block.{orRevision, orPrefix, lineKind, withPrefix, withRevision, begun, moved, insideAt, blockRefusal, blockAt};
@@ -60,7 +59,7 @@ pub fn parse_import(
         return Imported::NoImport(value::argument_refusal(name));
     };
     let size = n - used;
-    let module_name = held(used, size);
+    let module_name = rows::held(used, size);
     let block = parse_block(next, classes, s, store, n, text::IMPORT);
     let Block::Whole(body) = block else {
         return Imported::NoImport(block_refusal(block));
@@ -118,7 +117,7 @@ pub fn parse_include(
         return Included::NoInclude(value::argument_refusal(name));
     };
     let size = n - used;
-    let submodule_name = held(used, size);
+    let submodule_name = rows::held(used, size);
     let end = next.skip_whitespace_and_comments(classes, s);
     let at = end.at;
     if text::peek_char(s, at) == text::OPEN_BRACE {
@@ -134,7 +133,7 @@ pub fn parse_include(
         used: n,
         include: YangInclude {
             submodule_name,
-            revision_date: missing(),
+            revision_date: rows::missing(),
         },
     }
 }
@@ -178,8 +177,8 @@ pub struct Body {
 fn begun(here: Cursor, used: usize) -> Body
     ensures { λ r. ⌜ r ≡ begun (here .at) used ⌝ }
 {
-    let prefix = missing();
-    let revision = missing();
+    let prefix = rows::missing();
+    let revision = rows::missing();
     Body {
         at: here.at,
         used,
@@ -299,7 +298,7 @@ fn read_prefix(body: Body, here: Cursor, classes: &[u8; 128], s: &[u8], store: &
         return Inside::Refused(value::argument_refusal(line));
     };
     let size = n - used;
-    let prefix = held(used, size);
+    let prefix = rows::held(used, size);
     Inside::On(Body {
         at: next.at,
         used: n,
@@ -334,7 +333,7 @@ fn read_revision(
         return Inside::Refused(value::argument_refusal(line));
     };
     let size = n - used;
-    let revision = held(used, size);
+    let revision = rows::held(used, size);
     Inside::On(Body {
         at: next.at,
         used: n,
@@ -393,26 +392,4 @@ fn match_revision_date(here: Cursor, classes: &[u8; 128], s: &[u8]) -> Match
     ensures { λ r. ⌜ r ≡ matchAt (now (s .entry)) (here .at) revisionDateWord ⌝ }
 {
     here.match_keyword(classes, s, b"revision-date")
-}
-
-// A value in the store.
-fn held(start: usize, size: usize) -> Span
-    ensures { λ r. ⌜ r ≡ held start size ⌝ }
-{
-    Span {
-        present: true,
-        start,
-        size,
-    }
-}
-
-// A missing value.
-fn missing() -> Span
-    ensures { λ r. ⌜ r ≡ missing ⌝ }
-{
-    Span {
-        present: false,
-        start: 0,
-        size: 0,
-    }
 }

@@ -28,7 +28,8 @@ use Rattle.yangparser.specs.declared.Parsed.{Parsed}
 use Rattle.yangparser.specs.declared.Parsed.the-variants.{Good, Refused}
 use Rattle.yangparser.proofs.KeptLaws.{entry-good, parsed-good, parsed-refused, padded-imports, padded-includes}
 use Rattle.yangparser.proofs.ShortLaws.{long-enough}
-use Rattle.yangparser.proofs.Placed.{ImportIn, IncludeIn, each-of}
+use Rattle.rows.proofs.Laws.{each-of}
+use Rattle.yangparser.proofs.Placed.{ImportIn, IncludeIn}
 use Rattle.yangparser.proofs.ScanLaws.{Sound, scan-sound}
 use Rattle.page.specs.Page.{pageOf, Prints}
 

@@ -74,6 +74,11 @@ module _ {A : Type 0} (P : A → Type 0) where
   each-snoc [] i h p = (p, tt)
   each-snoc (j ∷ is) i h p = (h .0, each-snoc is i (h .1) p)
 
+pub each-of : {A : Type 0} (P Q : A → Type 0) → ((i : A) → P i → Q i) → (is : List A) → Each P is → Each Q is
+unfolding Each
+each-of P Q f [] h = tt
+each-of P Q f (i ∷ is) h = (f i (h .0), each-of P Q f is (h .1))
+
 -- ---- imports and includes
 
 pub import-words : (i : YangImport) → length (importWords i) ≡ importSize

@@ -2,11 +2,11 @@
 -- Assumes nothing.
 use mathlib.Core.Path.{_≡_, refl, sym, ap, _∙_}
 use mathlib.Core.List.{List, _++_}
-use Prim.Native.Nat.{ℕ, _+_, _-_, min}
+use Prim.Native.Nat.{ℕ, _+_, _-_, _≤_, min}
 use native.Mathlib.Omega.{arith}
 use native.Mathlib.Decide.{decLe}
 use lib.ListN.{length, take, drop, length-drop, drop-of-length-le}
-use lib.Seq.{take-all, take-length, drop-length, take-append-le, drop-append-le}
+use lib.Seq.{sets, sets-eq, take-all, take-length, drop-length, take-append-le, drop-append-le}
 use Rattle.rows.specs.Span.{valueIn, Within}
 use Rattle.rows.specs.declared.Span.{Span}
 
@@ -38,3 +38,7 @@ unfolding valueIn
 value-more bytes zs x h =
     let from : drop (x .start) (bytes ++ zs) ≡ drop (x .start) bytes ++ zs = drop-append-le (x .start) bytes zs (omega (arith, h)) in
     ap (take (x .size)) from ∙ take-append-le (x .size) (drop (x .start) bytes) zs (omega (arith, h, length-drop (x .start) bytes))
+
+-- and in a store that begins with them
+pub value-stored : (bytes d : List ℕ) {e : List ℕ} (x : Span) → Within (length bytes) x → e ≡ sets d 0 bytes → length bytes ≤ length d → valueIn e x ≡ valueIn bytes x
+value-stored bytes d x lies h room = ap (λ l. valueIn l x) (h ∙ sets-eq bytes d 0 (omega arith)) ∙ value-more bytes (drop (0 + length bytes) d) x lies

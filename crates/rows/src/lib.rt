@@ -3,7 +3,7 @@ ghost use mathlib.Core.Path.{_≡_};
 ghost use Prim.Native.Nat.{min, _+_, _*_, _≤_, _<_};
 ghost use lib.ListN.{length};
 ghost use lib.Seq.{sets};
-ghost use Rattle.rows.specs.Span.{markOf, valueIn};
+ghost use Rattle.rows.specs.Span.{held, missing, markOf, valueIn};
 ghost use Rattle.rows.specs.Rows.{importSize, includeSize, mostRows, importWords, includeWords, FitsImport, FitsInclude, spanAt, markedAt, importAt, includeAt};
 
 // Words to a row, and rows at the most.
@@ -31,8 +31,30 @@ pub struct YangInclude {
     pub revision_date: Span,
 }
 
+// A value of this many bytes.
+pub fn held(start: usize, size: usize) -> Span
+    ensures { λ r. ⌜ r ≡ held start size ⌝ }
+{
+    Span {
+        present: true,
+        start,
+        size,
+    }
+}
+
+// No value.
+pub fn missing() -> Span
+    ensures { λ r. ⌜ r ≡ missing ⌝ }
+{
+    Span {
+        present: false,
+        start: 0,
+        size: 0,
+    }
+}
+
 // 1 for a value that is present.
-fn mark(x: Span) -> u32
+pub fn mark(x: Span) -> u32
     ensures { λ r. ⌜ r ≡ markOf x ⌝ }
 {
     if x.present { 1 } else { 0 }

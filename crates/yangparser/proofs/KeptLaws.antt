@@ -1,13 +1,11 @@
--- What those who call a scan use: the rows that it wrote read back as they were, and a value's bytes are the same in the store as among the
--- bytes read.
+-- What those who call a scan use: its answer tells what was read, and the rows that it wrote read back as they were.
 -- Assumes nothing.
 use mathlib.Core.Path.{_≡_, refl, ap, _∙_}
 use mathlib.Core.Bool.{Bool, false}
 use mathlib.Core.List.{List}
-use Prim.Native.Nat.{ℕ, _+_, _-_, _*_, _≤_}
+use Prim.Native.Nat.{ℕ, _-_, _*_, _≤_}
 use native.Mathlib.Omega.{arith}
-use lib.ListN.{length, drop}
-use lib.Seq.{sets, sets-eq}
+use lib.ListN.{length}
 use Rattle.text.specs.declared.Refusal.{Refusal}
 use Rattle.buffers.specs.Lent.{lentAt}
 use Rattle.buffers.specs.Padded.{padded}
@@ -15,9 +13,6 @@ use Rattle.buffers.specs.declared.Lent.{Lent}
 use Rattle.buffers.specs.declared.Lent.the-variants.{Fit, Unfit}
 use Rattle.buffers.proofs.LentLaws.{fit-said, lent-within}
 use Rattle.rows.specs.Rows.{importsIn, includesIn}
-use Rattle.rows.specs.Span.{valueIn, Within}
-use Rattle.rows.specs.declared.Span.{Span}
-use Rattle.rows.proofs.Values.{value-more}
 use Rattle.rows.proofs.Reading.{imports-back, includes-back, imports-written, includes-written}
 use Rattle.yangparser.specs.Dependencies.{Dependencies, importWordsOf, includeWordsOf, Scan, good, bad, scanned, ifFit, dependencies, parsedOf}
 use Rattle.yangparser.specs.Promises.{Holds}
@@ -85,9 +80,3 @@ module _ {s : List ℕ} (x : Dependencies) (k : Sound s x) where
   pub padded-includes : (n : ℕ) → includesIn (padded n (includeWordsOf x)) (length (x .includes)) ≡ x .includes
   unfolding includeWordsOf padded
   padded-includes n = includes-back (x .includes) _ (sound-includes-plain k)
-
--- ---- a value's bytes; bs: the bytes read
-
-module _ (bs : List ℕ) (x : Span) (lies : Within (length bs) x) where
-  pub held-value : (d : List ℕ) {e : List ℕ} → e ≡ sets d 0 bs → length bs ≤ length d → valueIn e x ≡ valueIn bs x
-  held-value d h room = ap (λ l. valueIn l x) (h ∙ sets-eq bs d 0 (omega arith)) ∙ value-more bs (drop (0 + length bs) d) x lies

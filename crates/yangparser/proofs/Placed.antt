@@ -7,6 +7,7 @@ use mathlib.Core.Bool.{cond}
 use mathlib.Core.List.{List, [], _∷_, _++_}
 use Prim.Native.Nat.{ℕ, _+_, _≤_}
 use native.Mathlib.Omega.{arith}
+use Rattle.rows.proofs.Laws.{each-of}
 use Rattle.rows.specs.Rows.{There, Plain, PlainImport, PlainInclude, Each}
 use Rattle.rows.specs.Sizes.{total, importValues, includeValues}
 use Rattle.rows.specs.Span.{held, missing}
@@ -28,11 +29,6 @@ module _ {A : Type 0} where
   unfolding Each
   each-append P [] js h k = k
   each-append P (i ∷ is) js h k = (h .0, each-append P is js (h .1) k)
-
-  pub each-of : (P Q : A → Type 0) → ((i : A) → P i → Q i) → (is : List A) → Each P is → Each Q is
-  unfolding Each
-  each-of P Q f [] h = tt
-  each-of P Q f (i ∷ is) h = (f i (h .0), each-of P Q f is (h .1))
 
 -- ---- imports and includes
 

@@ -9,13 +9,14 @@ use lib.ListN.{length, length-append}
 use Rattle.text.specs.Turns.{stop, on}
 use Rattle.text.specs.declared.Refusal.{Refusal}
 use Rattle.text.proofs.Turns.{turns-stop, turns-on, turns-rule}
+use Rattle.rows.proofs.Laws.{each-of}
 use Rattle.rows.specs.Rows.{PlainImport, PlainInclude, Each}
 use Rattle.yangparser.specs.Dependencies.{Dependencies, none, joined, Step, stepAt, Scanning, Scan, good, bad, afterStep, scanTurn, scanFrom, start, scanned, readOf}
 use Rattle.yangparser.specs.declared.Next.{Next}
 use Rattle.yangparser.specs.declared.Next.the-variants.{On, Done, Stop}
 use Rattle.yangparser.specs.declared.Sofar.{Sofar}
 use Rattle.yangparser.proofs.FarLaws.{Went, Said, step-said}
-use Rattle.yangparser.proofs.Placed.{ImportIn, IncludeIn, Placed, placed-bytes, placed-joined, each-of, import-plain, include-plain}
+use Rattle.yangparser.proofs.Placed.{ImportIn, IncludeIn, Placed, placed-bytes, placed-joined, import-plain, include-plain}
 
 -- ---- what is read of a text
 
