@@ -238,7 +238,19 @@ pub const OTHER_BYTE: u32 = 5;
 pub const END_OF_TEXT: u32 = 6;
 
 // Document 01's numbers of the keywords.
+pub const MODULE: u32 = 1;
+
+pub const SUBMODULE: u32 = 2;
+
+pub const BELONGS_TO: u32 = 3;
+
+pub const NAMESPACE: u32 = 4;
+
 pub const PREFIX: u32 = 5;
+
+pub const YANG_VERSION: u32 = 6;
+
+pub const REVISION: u32 = 7;
 
 pub const IMPORT: u32 = 8;
 
