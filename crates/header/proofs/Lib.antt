@@ -1,0 +1,5 @@
+pub mod ReadLaws
+pub mod RefusalLaws
+pub mod SaidLaws
+pub mod StatementLaws
+pub mod TagLaws

@@ -1,0 +1,23 @@
+-- `header::last_tag`. Each arm of the `match` is its clause of the definition.
+-- Assumes nothing.
+use Rattle.header.specs.Tag.{lastTag}
+use borrow.Author.Needs.{needs}
+use Rattle.header.proofs.ReadLaws.{last-after}
+use Rattle.header.proofs.last_tag.Statement.{statement}
+use Rattle.header.proofs.last_tag.Tie as tie
+
+enum-known-m : tie.Need-enum-known-m
+enum-known-m c = search needs
+
+enum-told : tie.Need-enum-told
+enum-told c = search needs
+
+returns : tie.Need-returns
+returns c = search last-after
+
+returns-2 : tie.Need-returns-2
+unfolding lastTag
+returns-2 c = search needs
+
+pub last-tag-spec : {M : Type 1} → statement M
+last-tag-spec = tie.close (tie.spec enum-known-m enum-told returns returns-2)

@@ -1,0 +1,24 @@
+-- `header::or_tag`. Each arm of the `match` is its clause of the definition.
+-- Assumes nothing.
+use borrow.Author.Needs.{needs}
+use Rattle.header.proofs.ReadLaws.{tag-after, tag-not}
+use Rattle.header.proofs.or_tag.Statement.{statement}
+use Rattle.header.proofs.or_tag.Tie as tie
+
+match-keyword-requires : tie.Need-match-keyword-requires
+match-keyword-requires c κs = search needs
+
+enum-known-m : tie.Need-enum-known-m
+enum-known-m c = search needs
+
+enum-told : tie.Need-enum-told
+enum-told c = search needs
+
+returns : tie.Need-returns
+returns c = search tag-after
+
+returns-2 : tie.Need-returns-2
+returns-2 c = search tag-not
+
+pub or-tag-spec : {M : Type 1} → statement M
+or-tag-spec = tie.close (tie.spec match-keyword-requires enum-known-m enum-told returns returns-2)
