@@ -33,12 +33,9 @@ module _ (store : List ℕ) (n r : Revision) (ne : valueIn store (n .span) ≡ n
   newer-comes = rw (ne, re) (chosen (n .span .present) (less (n .value) (r .value)) n r)
 
 module _ (store : List ℕ) (n : Revision) (x : Span) {bs : List ℕ} (ne : valueIn store (n .span) ≡ n .value) (xe : valueIn store x ≡ bs) where
-  either : (t : Bool) → (cond t (record { span = x; value = bs }) n .span ≡ cond t x (n .span)) × (cond t (record { span = x; value = bs }) n .value ≡ cond t bs (n .value))
-  either true = (refl, refl)
-  either false = (refl, refl)
+  either : (t : Bool) → cond t (record { span = x; value = bs }) n .span ≡ cond t x (n .span)
+  either true = refl
+  either false = refl
 
   pub newest-comes : newer n (record { span = x; value = bs }) .span ≡ cond (comesNewer store (n .span) x) x (n .span)
-  newest-comes = ap (λ m. m .span) (newer-comes store n (record { span = x; value = bs }) ne xe) ∙ either (comesNewer store (n .span) x) .0
-
-  pub newest-comes-value : newer n (record { span = x; value = bs }) .value ≡ cond (comesNewer store (n .span) x) bs (n .value)
-  newest-comes-value = ap (λ m. m .value) (newer-comes store n (record { span = x; value = bs }) ne xe) ∙ either (comesNewer store (n .span) x) .1
+  newest-comes = ap (λ m. m .span) (newer-comes store n (record { span = x; value = bs }) ne xe) ∙ either (comesNewer store (n .span) x)

@@ -1,0 +1,3 @@
+pub mod Metadata
+pub mod Promises
+pub mod Values
