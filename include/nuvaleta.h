@@ -72,6 +72,24 @@ uint32_t nuvaleta_dependencies(const uint8_t *text, size_t text_len, uint8_t *st
 uint32_t nuvaleta_printed(const uint8_t *text, size_t text_len, uint8_t *store, size_t store_len, uint32_t *imports, size_t imports_len,
                           uint32_t *includes, size_t includes_len, uint8_t *page, size_t page_len, uint32_t *answer);
 
+/* A metadata record: present (1 or 0), start and length of each of these values. A missing value has 0, 0; a present one may be empty. */
+#define NUVALETA_RECORD_WORDS 18u
+
+enum nuvaleta_value {
+    NUVALETA_VALUE_NAME = 0,
+    NUVALETA_VALUE_NAMESPACE = 1,
+    NUVALETA_VALUE_PREFIX = 2,         /* the first one read */
+    NUVALETA_VALUE_FIRST_REVISION = 3,
+    NUVALETA_VALUE_PARENT = 4,         /* the module that a submodule belongs to */
+    NUVALETA_VALUE_NEWEST_REVISION = 5 /* the greatest in byte order; of equals the first */
+};
+
+/* The metadata of a text. Values are put into the store one behind the other, and all behind them is zero, whatever length was lent; the store must be
+ * at least as long as the text. record[NUVALETA_RECORD_WORDS]: value v stands at record[3 * v].
+ *
+ * answer[4]: number, keyword, position, stored bytes. */
+uint32_t nuvaleta_metadata(const uint8_t *text, size_t text_len, uint8_t *store, size_t store_len, uint32_t *record, uint32_t *answer);
+
 #ifdef __cplusplus
 }
 #endif

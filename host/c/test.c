@@ -1,4 +1,4 @@
-/* A C host: the dependencies of a text and their printed form, through include/nuvaleta.h alone. */
+/* A C host: the dependencies of a text, their printed form and its metadata, through include/nuvaleta.h alone. */
 #include <stdio.h>
 #include <string.h>
 
@@ -13,6 +13,26 @@ static uint32_t imports[NUVALETA_IMPORT_WORDS], includes[NUVALETA_INCLUDE_WORDS]
 static int wrong(const char *what) {
     fprintf(stderr, "c: %s\n", what);
     return 1;
+}
+
+/* Name, parent, prefix, two revisions of which the second is newer; then a text without a name. */
+static int metadata(void) {
+    static const char module[] = "submodule s{belongs-to m{prefix p;} import a{prefix b;} revision 2020;revision 2021{}}";
+    static const uint32_t expected[NUVALETA_RECORD_WORDS] = {1, 0, 1, 0, 0, 0, 1, 2, 1, 1, 3, 4, 1, 1, 1, 1, 7, 4};
+    static uint8_t values[sizeof module];
+    uint32_t record[NUVALETA_RECORD_WORDS], answer[4];
+
+    if (nuvaleta_metadata((const uint8_t *)module, sizeof module - 1, values, sizeof values, record, answer) != 0)
+        return wrong("metadata refused");
+    if (answer[0] != 0 || answer[1] != 0 || answer[2] != 0 || answer[3] != 11 || memcmp(values, "smb20202021", 12) != 0)
+        return wrong("another metadata answer");
+    if (memcmp(record, expected, sizeof expected) != 0)
+        return wrong("another metadata record");
+    if (nuvaleta_metadata((const uint8_t *)"container x", 11, values, sizeof values, record, answer) != NUVALETA_NO_NAME || answer[1] != 0 || answer[2] != 9)
+        return wrong("a text without a name taken");
+    if (values[0] != 0 || record[3 * NUVALETA_VALUE_NAME] != 0 || answer[3] != 0)
+        return wrong("a refusal of metadata left something");
+    return 0;
 }
 
 int main(void) {
@@ -43,6 +63,8 @@ int main(void) {
                               answer) != NUVALETA_OTHER_BYTE ||
         answer[1] != NUVALETA_IMPORT || answer[2] != 9)
         return wrong("another refusal");
+    if (metadata() != 0)
+        return 1;
     printf("c: a C program is answered as the header says\n");
     return 0;
 }

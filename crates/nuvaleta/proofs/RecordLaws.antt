@@ -1,0 +1,119 @@
+-- A metadata record in words: each value lies within the bytes stored, which are no more than the text's, so its numbers fit their words.
+-- Assumes nothing.
+use mathlib.Core.Path.{_≡_, refl, sym, ap, subst, _∙_}
+use mathlib.Core.Bool.{Bool}
+use mathlib.Core.List.{List, [], _∷_}
+use Prim.Native.Nat.{ℕ, zero, suc, _<_, _≤_}
+use native.Mathlib.Omega.{arith}
+use lib.Dec.{ltb}
+use lib.ListN.{length, getD}
+use borrow.Author.Tests.{ltb-true, ltb-false}
+use Rattle.text.specs.declared.Refusal.{Refusal}
+use Rattle.text.proofs.Here.{by-test}
+use Rattle.buffers.specs.Lent.{lentAt}
+use Rattle.buffers.specs.declared.Lent.{Lent}
+use Rattle.buffers.specs.declared.Lent.the-variants.{Fit, Unfit}
+use Rattle.buffers.proofs.LentLaws.{lent-long, lent-within, fit-said}
+use Rattle.rows.specs.Rows.{Each}
+use Rattle.rows.specs.Span.{missing, markOf, Fits, Within}
+use Rattle.rows.specs.declared.Span.{Span}
+use Rattle.rows.proofs.Laws.{each-of}
+use Rattle.metadata.specs.Metadata.{valuesOf, Scan, good, bad, scanned, ifFit, metadata, refusedWith, answerOf}
+use Rattle.metadata.specs.Promises.{Leaves}
+use Rattle.metadata.specs.declared.YangModuleMetadata.{YangModuleMetadata}
+use Rattle.metadata.proofs.ScanLaws.{scan-good, scan-bad}
+use Rattle.metadata.proofs.ValuesLaws.{values-six}
+use Rattle.nuvaleta.specs.Record.{recordWords, Described}
+
+-- ---- six values in 18 words
+
+pub fits-at : (vs : List Span) (i : ℕ) → Each Fits vs → Fits (getD vs i missing)
+unfolding Each
+fits-at [] i h = (omega arith, omega arith)
+fits-at (x ∷ vs) zero h = h .0
+fits-at (x ∷ vs) (suc i) h = fits-at vs i (h .1)
+
+pub start-fits : (vs : List Span) (i : ℕ) → Each Fits vs → getD vs i missing .start < 4294967296
+start-fits vs i h = fits-at vs i h .0
+
+pub size-fits : (vs : List Span) (i : ℕ) → Each Fits vs → getD vs i missing .size < 4294967296
+size-fits vs i h = fits-at vs i h .1
+
+six : (vs : List Span) → length vs ≡ 6
+    → vs ≡ getD vs 0 missing ∷ getD vs 1 missing ∷ getD vs 2 missing ∷ getD vs 3 missing ∷ getD vs 4 missing ∷ getD vs 5 missing ∷ []
+six [] h = absurd (omega (arith, h))
+six (a ∷ []) h = absurd (omega (arith, h))
+six (a ∷ b ∷ []) h = absurd (omega (arith, h))
+six (a ∷ b ∷ c ∷ []) h = absurd (omega (arith, h))
+six (a ∷ b ∷ c ∷ d ∷ []) h = absurd (omega (arith, h))
+six (a ∷ b ∷ c ∷ d ∷ e ∷ []) h = absurd (omega (arith, h))
+six (a ∷ b ∷ c ∷ d ∷ e ∷ f ∷ []) h = refl
+six (a ∷ b ∷ c ∷ d ∷ e ∷ f ∷ g ∷ vs) h = absurd (omega (arith, h))
+
+pub record-is : (vs : List Span) → length vs ≡ 6 → {a b c d e f : ℕ} → a ≡ markOf (getD vs 0 missing) → b ≡ markOf (getD vs 1 missing) → c ≡ markOf (getD vs 2 missing)
+    → d ≡ markOf (getD vs 3 missing) → e ≡ markOf (getD vs 4 missing) → f ≡ markOf (getD vs 5 missing)
+    → a ∷ getD vs 0 missing .start ∷ getD vs 0 missing .size ∷ b ∷ getD vs 1 missing .start ∷ getD vs 1 missing .size
+    ∷ c ∷ getD vs 2 missing .start ∷ getD vs 2 missing .size ∷ d ∷ getD vs 3 missing .start ∷ getD vs 3 missing .size
+    ∷ e ∷ getD vs 4 missing .start ∷ getD vs 4 missing .size ∷ f ∷ getD vs 5 missing .start ∷ getD vs 5 missing .size ∷ []
+    ≡ recordWords vs
+unfolding recordWords
+record-is vs h ae be ce de ee fe = rw (ae, be, ce, de, ee, fe) (sym (ap recordWords (six vs h)))
+
+-- ---- what an answer tells
+
+-- the record of a scan has six values that fit, its place and its count fit
+pub record Small (m : YangModuleMetadata) : Type 0 where
+  pub six-values : length (m .values) ≡ 6
+  pub fit : Each Fits (m .values)
+  pub place : m .answer .at < 4294967296
+  pub count : m .used < 4294967296
+
+within-fits : (n : ℕ) → n ≤ 1048576 → (x : Span) → Within n x → Fits x
+within-fits n h x w = (omega (arith, w), omega (arith, w))
+
+refused-small : (r : Refusal) → r .at ≤ 1048576 → Small (refusedWith r)
+unfolding refusedWith Each
+refused-small r h = record {
+  six-values = refl;
+  fit = (w, (w, (w, (w, (w, (w, tt))))));
+  place = omega (arith, h);
+  count = omega arith;
+}
+  where
+    w : Fits missing
+    w = (omega arith, omega arith)
+
+scan-small : (s : List ℕ) → length s ≤ 1048576 → (x : Scan) → scanned s ≡ x → Small (answerOf x)
+unfolding answerOf
+scan-small s l (good m) h =
+    let k = scan-good s m h in
+    record {
+      six-values = values-six m;
+      fit = each-of (Within (length (m .bytes))) Fits (within-fits (length (m .bytes)) (omega (arith, k .1))) (valuesOf m) (k .0);
+      place = omega arith;
+      count = omega (arith, k .1);
+    }
+scan-small s l (bad r bs) h = refused-small r (omega (arith, scan-bad s r bs h .0))
+
+lent-small : (s : List ℕ) (short : Bool) (x : Lent) → lentAt s short ≡ x → Small (answerOf (ifFit x (scanned s)))
+unfolding ifFit answerOf
+lent-small s short Fit h = scan-small s (fit-said s short h .0) (scanned s) refl
+lent-small s short (Unfit r) h =
+    by-test (ltb 1048576 (length s))
+    (λ t. let e : Unfit (record { number = 1; keyword = 0; at = 0 }) ≡ Unfit r = lent-long s short (ltb-true 1048576 (length s) t) ∙ h in
+    let k : 0 ≡ r .at = cc in refused-small r (omega (arith, k)))
+    (λ t. refused-small r (omega (arith, ltb-false 1048576 (length s) t, lent-within s short r h)))
+
+module _ (s : List ℕ) (short : Bool) (d : List ℕ) {m : YangModuleMetadata} {e : List ℕ} (w : Leaves (metadata s short) d m e) where
+  pub small : Small m
+  unfolding metadata
+  small = subst Small (sym (w .answer)) (lent-small s short (lentAt s short) refl)
+
+  pub described : {n : ℕ} {v a : List ℕ} → v ≡ recordWords (m .values) → a ≡ m .answer .number ∷ m .answer .keyword ∷ m .answer .at ∷ m .used ∷ [] → n ≡ m .answer .number
+      → Described (metadata s short) d n e v a
+  described ve ae ne = record {
+    stored = w .stored;
+    words = ve ∙ ap (λ x. recordWords (x .values)) (w .answer);
+    number = ne ∙ ap (λ x. x .answer .number) (w .answer);
+    answer = ae ∙ ap (λ x. x .answer .number ∷ x .answer .keyword ∷ x .answer .at ∷ x .used ∷ []) (w .answer);
+  }
