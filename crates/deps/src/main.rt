@@ -1,21 +1,7 @@
 // Reads one text from standard input and writes its imports and includes, or why they are refused.
 use libc::STDIN_FILENO;
 use libc::STDOUT_FILENO;
-use text::Refusal;
 use yangparser::Parsed;
-
-// The longest input, and room for one byte more, which tells that there is more.
-const MOST: usize = 32768;
-
-fn say_refused(r: Refusal) {
-    io::write_all(STDOUT_FILENO, b"refused ");
-    io::print_decimal(STDOUT_FILENO, r.number as u64);
-    io::write_all(STDOUT_FILENO, b" keyword ");
-    io::print_decimal(STDOUT_FILENO, r.keyword as u64);
-    io::write_all(STDOUT_FILENO, b" at ");
-    io::print_decimal(STDOUT_FILENO, r.at as u64);
-    io::write_all(STDOUT_FILENO, b"\n");
-}
 
 fn say(s: &[u8]) {
     let mut store = [0u8; 32768];
@@ -39,7 +25,7 @@ fn say(s: &[u8]) {
             io::write_all(STDOUT_FILENO, buffers::first(&page, printed.length));
         }
         Parsed::Refused(r) => {
-            say_refused(r);
+            say::refused(r);
         }
     }
 }
@@ -47,8 +33,9 @@ fn say(s: &[u8]) {
 fn main() {
     let mut input = [0u8; 32769];
     let n = io::read_full(STDIN_FILENO, &mut input);
-    if MOST < n {
-        io::write_all(STDOUT_FILENO, b"input too long\n");
+    // There is room for one byte more, which tells that the input is longer.
+    if say::MOST < n {
+        say::too_long();
         return;
     }
     say(buffers::first(&input, n));

@@ -1,0 +1,40 @@
+// Reads one text from standard input and writes its metadata, a line for each value that is present, or why it is refused.
+use libc::STDIN_FILENO;
+use libc::STDOUT_FILENO;
+use rows::Span;
+
+fn say_value(label: &[u8], store: &[u8], x: Span) {
+    if x.present {
+        io::write_all(STDOUT_FILENO, label);
+        io::write_all(STDOUT_FILENO, rows::value_in(store, x));
+        io::write_all(STDOUT_FILENO, b"\n");
+    }
+}
+
+fn say(s: &[u8]) {
+    let mut store = [0u8; 32768];
+    let read = metadata::extract_yang_metadata(s, &mut store);
+    let answer = read.answer;
+    if answer.number != text::NO_REFUSAL {
+        say::refused(answer);
+        return;
+    }
+    let values = read.values;
+    say_value(b"name: ", &store, values[metadata::NAME_VALUE]);
+    say_value(b"belongs to: ", &store, values[metadata::PARENT_VALUE]);
+    say_value(b"namespace: ", &store, values[metadata::NAMESPACE_VALUE]);
+    say_value(b"prefix: ", &store, values[metadata::PREFIX_VALUE]);
+    say_value(b"first revision: ", &store, values[metadata::FIRST_VALUE]);
+    say_value(b"newest revision: ", &store, values[metadata::NEWEST_VALUE]);
+}
+
+fn main() {
+    let mut input = [0u8; 32769];
+    let n = io::read_full(STDIN_FILENO, &mut input);
+    // There is room for one byte more, which tells that the input is longer.
+    if say::MOST < n {
+        say::too_long();
+        return;
+    }
+    say(buffers::first(&input, n));
+}
