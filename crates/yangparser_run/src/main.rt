@@ -1,4 +1,4 @@
-// Replays recorded answers of the Rust for whole texts: dependencies and their printed form.
+// Replays recorded answers of the Rust for whole texts: dependencies and their printed form, and metadata.
 use libc::STDOUT_FILENO;
 use page::Page;
 use rows::Span;
@@ -203,6 +203,71 @@ fn behind_record(data: &[u8], at: usize) -> usize {
     behind_fields(data, values_at, imports * 3 + includes * 2 + 1)
 }
 
+// The first five values of a metadata record; the Rust has no newest revision.
+fn values_agree(store: &[u8], values: [Span; 6], data: &[u8], at: usize) -> bool {
+    let mut next = at;
+    let mut i: usize = 0;
+    while i < metadata::NEWEST_VALUE {
+        let x = values[i];
+        if !value_agrees(store, x, data, next) {
+            return false;
+        }
+        next = replay::after(data, next);
+        i += 1;
+    }
+    true
+}
+
+// A record: text, answer and, where the answer's number is 0, the values.
+fn metadata_agrees(data: &[u8], at: usize) -> bool {
+    let mut store = [0u8; 65536];
+    let s = replay::field(data, at);
+    let answer_at = replay::after(data, at);
+    let answer = replay::field(data, answer_at);
+    let values_at = replay::after(data, answer_at);
+    let read = metadata::extract_yang_metadata(s, &mut store);
+    let r = read.answer;
+    if r.number != text::NO_REFUSAL {
+        return refusal_agrees(answer, r);
+    }
+    if replay::word(answer, 0) != 0 {
+        return false;
+    }
+    let values = read.values;
+    values_agree(&store, values, data, values_at)
+}
+
+// A good record has five values.
+fn behind_metadata(data: &[u8], at: usize) -> usize {
+    let answer_at = replay::after(data, at);
+    let answer = replay::field(data, answer_at);
+    let values_at = replay::after(data, answer_at);
+    if replay::word(answer, 0) != 0 {
+        return values_at;
+    }
+    behind_fields(data, values_at, 5)
+}
+
+// What the records of a file tell of.
+enum Kind {
+    Dependencies,
+    Metadata,
+}
+
+fn agrees(kind: Kind, data: &[u8], at: usize) -> bool {
+    match kind {
+        Kind::Dependencies => record_agrees(data, at),
+        Kind::Metadata => metadata_agrees(data, at),
+    }
+}
+
+fn behind(kind: Kind, data: &[u8], at: usize) -> usize {
+    match kind {
+        Kind::Dependencies => behind_record(data, at),
+        Kind::Metadata => behind_metadata(data, at),
+    }
+}
+
 // How many records there are, and how many of them are answered otherwise.
 struct Tally {
     records: u64,
@@ -210,7 +275,7 @@ struct Tally {
 }
 
 // All records of a file. A record takes a byte at least.
-fn replay_all(data: &[u8]) -> Tally {
+fn replay_all(kind: Kind, data: &[u8]) -> Tally {
     let mut at: usize = 0;
     let mut records: u64 = 0;
     let mut different: u64 = 0;
@@ -219,20 +284,20 @@ fn replay_all(data: &[u8]) -> Tally {
         if data.len() <= at {
             return Tally { records, different };
         }
-        different = replay::count_unless(record_agrees(data, at), different);
+        different = replay::count_unless(agrees(kind, data, at), different);
         records = std::num::wrapping_add_u64(records, 1);
-        at = behind_record(data, at);
+        at = behind(kind, data, at);
         turns -= 1;
     }
     Tally { records, different }
 }
 
-fn replay_file(name: &[u8]) {
+fn replay_file(kind: Kind, name: &[u8]) {
     let mut space = [0u8; 524288];
     let fd = os::open_read(name);
     let n = io::read_full(fd, &mut space);
     libc::close(fd);
-    let t = replay_all(&space[..n]);
+    let t = replay_all(kind, &space[..n]);
     io::write_all(STDOUT_FILENO, name);
     io::write_all(STDOUT_FILENO, b": ");
     io::print_decimal(STDOUT_FILENO, t.records);
@@ -242,5 +307,6 @@ fn replay_file(name: &[u8]) {
 }
 
 fn main() {
-    replay_file(b"dependencies.vec");
+    replay_file(Kind::Dependencies, b"dependencies.vec");
+    replay_file(Kind::Metadata, b"metadata.vec");
 }

@@ -5,10 +5,10 @@ use Rattle.yangparser_run.proofs.replay_all.Statement.{statement}
 use Rattle.yangparser_run.proofs.replay_all.Tie as tie
 
 abbrev Inv-loop : tie.InvT-loop
-Inv-loop «data» at₀ records₀ different₀ turns₀ at records different turns = Unit {0}
+Inv-loop kind «data» at₀ records₀ different₀ turns₀ at records different turns = Unit {0}
 
 abbrev μ-loop : tie.MeasureT-loop
-μ-loop «data» at₀ records₀ different₀ turns₀ at records different turns = turns
+μ-loop kind «data» at₀ records₀ different₀ turns₀ at records different turns = turns
 
 loop-holds : tie.Need-loop-holds Inv-loop μ-loop
 loop-holds c = search needs
@@ -16,8 +16,8 @@ loop-holds c = search needs
 returns : tie.Need-returns Inv-loop μ-loop
 returns c = search needs
 
-record-agrees-requires : tie.Need-record-agrees-requires Inv-loop μ-loop
-record-agrees-requires c κs = search needs
+agrees-requires : tie.Need-agrees-requires Inv-loop μ-loop
+agrees-requires c κs = search needs
 
 count-unless-requires : tie.Need-count-unless-requires Inv-loop μ-loop
 count-unless-requires c κs = search needs
@@ -25,8 +25,8 @@ count-unless-requires c κs = search needs
 wrapping-add-u64-requires : tie.Need-wrapping-add-u64-requires Inv-loop μ-loop
 wrapping-add-u64-requires c κs = search needs
 
-behind-record-requires : tie.Need-behind-record-requires Inv-loop μ-loop
-behind-record-requires c κs = search needs
+behind-requires : tie.Need-behind-requires Inv-loop μ-loop
+behind-requires c κs = search needs
 
 sub-turns : tie.Need-sub-turns Inv-loop μ-loop
 sub-turns c = search needs
@@ -48,10 +48,10 @@ replay-all-spec =
     μ-loop
     loop-holds
     returns
-    record-agrees-requires
+    agrees-requires
     count-unless-requires
     wrapping-add-u64-requires
-    behind-record-requires
+    behind-requires
     sub-turns
     loop-less
     loop-again
