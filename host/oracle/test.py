@@ -42,6 +42,8 @@ CASES = [
     (("meta", word("module import {}")), ok(word("import"), None, None, None, None)),
     (("deps", word('import "a"+"b')), "err " + word("Expected '{', found EOF")),
     (("deps", word("import a b")), "err " + word("Expected '{', found 'b' at position: 9")),
+    (("read", word("module m{prefix p;yang-version 1;prefix q;revision 1{}revision 2;list")), ok("1", word("m"), "5", word("p"), "7", word("1"), "7", word("2"))),
+    (("read", word("module {")), "err " + word("refused")),
     (("meta", word("submodule s{belongs-to m{prefix p;} import a{prefix b;}}")), ok(word("s"), None, word("b"), None, word("m"))),
     (("deps", word(INPUT)), ok(1, 1, word("base"), word("b"), word("2024-05-01"), word("m-types"), None)),
     (("print", word(INPUT)), ok(word(PAGE))),

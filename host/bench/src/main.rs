@@ -1,7 +1,7 @@
 //! The port beside the original Rust, on the same inputs in one run: bench FILE.. (real modules).
 //!
 //! The Rust makes its strings and lists anew in each call; the port is lent buffers that were made once and clears them in each call, all of what
-//! it is lent: a store as long as the text, both tables, and for the printed form the page.
+//! it is lent: a store as long as the text and, for dependencies, both tables.
 
 use std::hint::black_box;
 use std::time::Instant;
@@ -28,49 +28,88 @@ fn repeated(piece: &str) -> String {
     piece.repeat(1_048_576 / piece.len())
 }
 
+/// So much of a text that is repeated, up to the last of these bytes.
+fn repeated_to(piece: &str, last: char) -> String {
+    let text = repeated(piece);
+    text[..1_048_576 - 1_024].trim_end_matches(|c| c != last).to_string()
+}
+
 fn main() {
     let files: Vec<String> = std::env::args().skip(1).collect();
     let read = |f: &String| String::from_utf8(std::fs::read(f).expect("a file")).ok().filter(|t| t.is_ascii());
     let real: Vec<String> = files.iter().filter_map(read).collect();
-    println!("| input | bytes | Rust, us | port, us | Rust / port |");
-    println!("|---|---|---|---|---|");
-    if !real.is_empty() {
-        row(&format!("{} real modules, dependencies", real.len()), &real, 200);
-    }
-    let made = [
-        ("1 MiB of words", "container "),
-        ("1 MiB of one-letter words", "a "),
-        ("1 MiB of comments", "/* a comment */ // and a line\n"),
-        ("1 MiB of white space", "        \n"),
-        ("1 MiB of quoted strings", "\"some text\" 'more of it' "),
-        ("1 MiB of one-byte tokens", "{;}="),
-        ("1 MiB of skipped statements", "x { y \"z\"; } "),
+    let statements = repeated_to("x { y \"z\"; } ", '}');
+    let both = [
+        ("1 MiB of one-letter words", repeated("a ")),
+        ("1 MiB of comments", repeated("/* a comment */ // and a line\n")),
+        ("1 MiB of white space", repeated("        \n")),
+        ("1 MiB of quoted strings", repeated("\"some text\" 'more of it' ")),
+        ("1 MiB of one-byte tokens", repeated("{;}=")),
     ];
-    for (name, piece) in made {
-        let text = if name.ends_with("statements") {
-            format!("import a {{ {} prefix b; }}", repeated(piece).split_at(1_048_576 - 1_024).0.trim_end_matches(|c| c != '}'))
-        } else {
-            repeated(piece)
-        };
-        row(name, &[text], 10);
+    head("dependencies");
+    if !real.is_empty() {
+        dependencies(&format!("{} real modules", real.len()), &real, 200);
     }
+    dependencies("1 MiB of words", &[repeated("container ")], 10);
+    for (name, text) in &both {
+        dependencies(name, std::slice::from_ref(text), 10);
+    }
+    dependencies("1 MiB of skipped statements", &[format!("import a {{ {statements} prefix b; }}")], 10);
     let full = format!("{}{}", "import a{prefix b;revision-date 1;}".repeat(256), "include c{revision-date 2;}".repeat(256));
-    row("256 imports and 256 includes", &[full], 500);
+    dependencies("256 imports and 256 includes", &[full], 500);
+    head("metadata");
+    if !real.is_empty() {
+        metadata(&format!("{} real modules", real.len()), &real, 200);
+    }
+    // a container ends this scan
+    metadata("1 MiB of words", &[repeated("statement ")], 10);
+    for (name, text) in &both {
+        metadata(name, std::slice::from_ref(text), 10);
+    }
+    metadata("1 MiB of skipped statements", &[format!("revision 1 {{ {statements} }}")], 10);
+    metadata("1 MiB of revisions", &[repeated("revision 2024-05-01;")], 10);
 }
 
-fn row(name: &str, texts: &[String], runs: usize) {
+fn head(scan: &str) {
+    println!("| {scan} | bytes | Rust, us | port, us | Rust / port |");
+    println!("|---|---|---|---|---|");
+}
+
+fn row(name: &str, texts: &[String], rust: f64, port: f64) {
     let bytes: usize = texts.iter().map(|t| t.len()).sum();
+    println!("| {name} | {bytes} | {:.1} | {:.1} | {:.1} |", rust / 1e3, port / 1e3, rust / port);
+}
+
+fn longest(texts: &[String]) -> usize {
+    texts.iter().map(|t| t.len()).max().unwrap_or(0)
+}
+
+fn dependencies(name: &str, texts: &[String], runs: usize) {
     let rust = best(runs, || {
         for t in texts {
             black_box(yangparser::extract_yang_dependencies(black_box(t)).ok());
         }
     });
-    let longest = texts.iter().map(|t| t.len()).max().unwrap_or(0);
-    let mut lent = port::lent(longest, port::IMPORT_WORDS, port::INCLUDE_WORDS, 0);
+    let mut lent = port::lent(longest(texts), port::IMPORT_WORDS, port::INCLUDE_WORDS, 0);
     let port = best(runs, || {
         for t in texts {
             black_box(lent.dependencies_within(black_box(t.as_bytes()), t.len()));
         }
     });
-    println!("| {name} | {bytes} | {:.1} | {:.1} | {:.1} |", rust / 1e3, port / 1e3, rust / port);
+    row(name, texts, rust, port);
+}
+
+fn metadata(name: &str, texts: &[String], runs: usize) {
+    let rust = best(runs, || {
+        for t in texts {
+            black_box(yangparser::extract_yang_metadata(black_box(t)).ok());
+        }
+    });
+    let mut lent = port::lent_store(longest(texts));
+    let port = best(runs, || {
+        for t in texts {
+            black_box(lent.metadata_within(black_box(t.as_bytes()), t.len()));
+        }
+    });
+    row(name, texts, rust, port);
 }

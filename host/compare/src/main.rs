@@ -1,4 +1,4 @@
-//! The port and the original Rust on the same inputs.
+//! The port and the original Rust on the same inputs: each text is scanned for dependencies and for metadata, which count as one input each.
 //!
 //! compare texts SEED COUNT: COUNT generated texts, and every short string over the generator's alphabet.
 //! compare files SEED COUNT FILE..: real modules, and COUNT damaged copies of each.
@@ -11,6 +11,7 @@ use vectors::rng::Rng;
 use vectors::texts;
 
 mod edges;
+mod metadata;
 mod port;
 
 fn main() {
@@ -34,7 +35,10 @@ fn main() {
                 }
             }
         }
-        ["edges"] => edges::run(&mut run),
+        ["edges"] => {
+            edges::run(&mut run);
+            metadata::edges(&mut run);
+        }
         _ => {
             eprintln!("compare: texts SEED COUNT | files SEED COUNT FILE.. | edges");
             std::process::exit(2);
@@ -75,6 +79,7 @@ impl Run {
         let again = plain.dependencies(text);
         let same = agrees(&told, &page, number) && plain_agrees(&page, number, &plain, again);
         self.count(same, || format!("{:?}\n  the Rust {told:?}\n  the port {:?}", String::from_utf8_lossy(text), page.answer));
+        metadata::text(self, text);
     }
 }
 
@@ -107,9 +112,10 @@ fn agrees(told: &Scan<Dependencies>, port: &port::Scanned, number: u32) -> bool 
     }
 }
 
-fn refused(told: &Refusal, answer: &[u32; 7]) -> bool {
+/// Number, keyword and position as far as the Rust tells them, and no counts behind them.
+fn refused(told: &Refusal, answer: &[u32]) -> bool {
     let number = answer[0] == told.number || (told.number == FIVE_OR_SIX && (answer[0] == 5 || answer[0] == 6));
     let keyword = told.keyword == UNTOLD || told.keyword == answer[1];
     let position = told.position == UNTOLD || told.position == answer[2];
-    number && keyword && position && answer[3..] == [0; 4]
+    number && keyword && position && answer[3..].iter().all(|w| *w == 0)
 }

@@ -24,6 +24,35 @@ unsafe extern "C" {
         text: *const u8, text_len: usize, store: *mut u8, store_len: usize, imports: *mut u32, imports_len: usize, includes: *mut u32,
         includes_len: usize, page: *mut u8, page_len: usize, answer: *mut u32,
     ) -> u32;
+    fn nuvaleta_metadata(text: *const u8, text_len: usize, store: *mut u8, store_len: usize, record: *mut u32, answer: *mut u32) -> u32;
+}
+
+#[derive(Debug, PartialEq)]
+pub struct Described {
+    /// Number, keyword, position, stored bytes.
+    pub answer: [u32; 4],
+    pub store: Vec<u8>,
+    /// Present, start, length of name, namespace, prefix, first revision, parent and newest revision.
+    pub record: [u32; 18],
+}
+
+/// A store of the length given, filled with something that is not zero.
+pub fn lent_store(store: usize) -> Described {
+    Described { answer: [0xa5a5_a5a5; 4], store: vec![0xa5; store], record: [0xa5a5_a5a5; 18] }
+}
+
+impl Described {
+    pub fn metadata(&mut self, text: &[u8]) -> u32 {
+        self.metadata_within(text, self.store.len())
+    }
+
+    /// The same with only the first bytes of the store lent.
+    pub fn metadata_within(&mut self, text: &[u8], store: usize) -> u32 {
+        assert!(store <= self.store.len());
+        unsafe {
+            nuvaleta_metadata(text.as_ptr(), text.len(), self.store.as_mut_ptr(), store, self.record.as_mut_ptr(), self.answer.as_mut_ptr())
+        }
+    }
 }
 
 /// Buffers of the lengths given, filled with something that is not zero.

@@ -12,6 +12,8 @@ use std::os::unix::process::ExitStatusExt;
 use std::process::{Child, ChildStdin, ChildStdout, Command, Stdio};
 
 mod house;
+#[allow(dead_code)]
+mod read;
 #[allow(dead_code, unused_imports)]
 mod yanglib;
 #[allow(dead_code)]
@@ -151,6 +153,7 @@ fn answer(words: &[&str]) -> String {
             yangparser::extract_yang_dependencies(t).map(|d| format!("ok {}", value(&d.to_string())))
         }),
         ("meta", [text]) => scanned(text, |t| yangparser::extract_yang_metadata(t).map(|m| metadata(&m))),
+        ("read", [text]) => scanned(text, |t| read::values(t).map(|v| read_values(&v)).ok_or("refused".to_string())),
         ("module", [image, name]) => found(image, name, |i, n| {
             i.library.find_module(n).map(|m| i.places[&m.name().as_ptr()].to_string())
         }),
@@ -193,6 +196,14 @@ fn metadata(m: &yangparser::YangModuleMetadata) -> String {
         maybe(&m.revision),
         maybe(&m.is_submodule_of)
     )
+}
+
+fn read_values(values: &[(u32, String)]) -> String {
+    let mut out = "ok".to_string();
+    for (keyword, text) in values {
+        out += &format!(" {keyword} {}", value(text));
+    }
+    out
 }
 
 fn found(image: &[u8], name: &[u8], find: impl Fn(&Image, &str) -> Option<String>) -> String {

@@ -99,6 +99,14 @@ pub fn metadata(oracle: &mut Oracle, text: &[u8]) -> Scan<Vec<Value>> {
     scan(oracle.ask("meta", &[text]), |words| words.iter().map(|w| value(w)).collect())
 }
 
+/// Keyword and value of all that the metadata scan of a good text reads, in order.
+pub fn metadata_read(oracle: &mut Oracle, text: &[u8]) -> Vec<(u32, Vec<u8>)> {
+    let line = oracle.ask("read", &[text]);
+    let words: Vec<&str> = line.split(' ').collect();
+    assert_eq!(words[0], "ok", "{line}");
+    words[1..].chunks(2).map(|c| (c[0].parse().expect("a keyword"), value(c[1]).expect("a value"))).collect()
+}
+
 /// Module, submodule, import-only module of a name, and the last one's revisions.
 pub fn finds(oracle: &mut Oracle, image: &[u8], name: &[u8]) -> [u32; 4] {
     let mut out = [UNTOLD; 4];
