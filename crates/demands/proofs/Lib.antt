@@ -1,3 +1,4 @@
+pub mod NewestRight
 pub mod RfcCounts
 pub mod RfcCovers
 pub mod RfcDifferences

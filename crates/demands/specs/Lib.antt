@@ -1,3 +1,4 @@
+pub mod Newest
 pub mod Rfc
 pub mod RfcDomain
 pub mod RfcQuoted

@@ -1,0 +1,34 @@
+-- The newest revision of every good metadata scan is the right one: each revision is stored as it was read, and the laws of newest hold for any such list.
+-- Assumes nothing.
+use mathlib.Core.Path.{_≡_, refl, ap, _∙_}
+use mathlib.Core.List.{List, [], _∷_}
+use Prim.Native.Nat.{ℕ}
+use Rattle.rows.specs.Rows.{Each}
+use Rattle.rows.specs.Span.{valueIn}
+use Rattle.rows.proofs.Laws.{each-of}
+use Rattle.newest.specs.Newest.{Revision, Read, newest, First}
+use Rattle.newest.proofs.NewestLaws.{newest-none, newest-present, newest-greatest, newest-first, newest-valued}
+use Rattle.metadata.specs.Metadata.{Metadata, good, scanned}
+use Rattle.metadata.proofs.ScanLaws.{Kept, scan-placed}
+use Rattle.demands.specs.Newest.{NewestIsRight}
+
+some-present : (rs : List Revision) → Each Read rs → (rs ≡ [] → ⊥) → Read (newest rs)
+some-present [] h n = absurd (n refl)
+some-present (r ∷ rs) h n = newest-present r rs h
+
+some-first : (rs : List Revision) → Each Read rs → (rs ≡ [] → ⊥) → First rs (newest rs)
+some-first [] h n = absurd (n refl)
+some-first (r ∷ rs) h n = newest-first r rs h
+
+pub newest-is-right : (s : List ℕ) (m : Metadata) → scanned s ≡ good m → NewestIsRight m
+newest-is-right s m h =
+    let rs = m .revisions in
+    let kept = scan-placed s m h .revisions in
+    let read : Each Read rs = each-of (Kept (m .bytes)) Read (λ r k. k .0) rs kept in
+    record {
+      none = λ e. ap (λ z. newest z .span) e ∙ ap (λ z. z .span) newest-none;
+      some = some-present rs read;
+      greatest = newest-greatest rs read;
+      first = some-first rs read;
+      stored = newest-valued (m .bytes) rs (each-of (Kept (m .bytes)) (λ r. valueIn (m .bytes) (r .span) ≡ r .value) (λ r k. k .2) rs kept);
+    }
