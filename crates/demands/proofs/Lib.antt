@@ -1,4 +1,5 @@
 pub mod NewestRight
+pub mod Outcomes
 pub mod RfcCounts
 pub mod RfcCovers
 pub mod RfcDifferences

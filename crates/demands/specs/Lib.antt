@@ -3,3 +3,4 @@ pub mod Rfc
 pub mod RfcDomain
 pub mod RfcQuoted
 pub mod RfcEquality
+pub mod OneOutcome

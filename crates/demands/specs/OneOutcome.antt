@@ -1,0 +1,39 @@
+-- Every public function promises what it returns and every word it leaves, on refusals too; any two outcomes allowed by it are equal. What the lent buffers
+-- held enters no promise, only their lengths do: equal lengths, equal outcomes.
+-- Assumes nothing.
+use Prim.Native.Nat.{ℕ}
+use mathlib.Core.Path.{_≡_}
+use mathlib.Core.Bool.{Bool}
+use mathlib.Core.List.{List}
+use lib.ListN.{length}
+use Rattle.yangparser.specs.Promises as Dependencies
+use Rattle.yangparser.specs.declared.Parsed.{Parsed}
+use Rattle.page.specs.Page.{Prints}
+use Rattle.page.specs.declared.Page.{Page}
+use Rattle.metadata.specs.Promises as Metadata
+use Rattle.metadata.specs.declared.YangModuleMetadata.{YangModuleMetadata}
+use Rattle.nuvaleta.specs.Host.{DependenciesAnswered, PrintedAnswered}
+use Rattle.nuvaleta.specs.Record.{MetadataAnswered}
+
+-- d, t, u, p: store, tables and page at entry; e, f, g, q: at exit; the second outcome has an accent
+pub record OneOutcome : Type 0 where
+  -- scan_lent, and with false extract_yang_dependencies
+  pub dependencies : (s : List ℕ) (short : Bool) (d t u d′ t′ u′ : List ℕ) → length d ≡ length d′ → length t ≡ length t′ → length u ≡ length u′
+      → {r r′ : Parsed} {e f g e′ f′ g′ : List ℕ} → Dependencies.Extracts s short d t u r e f g → Dependencies.Extracts s short d′ t′ u′ r′ e′ f′ g′
+      → (r ≡ r′) × (e ≡ e′) × (f ≡ f′) × (g ≡ g′)
+  -- print_yang_dependencies
+  pub printed : (s d t u p d′ t′ u′ p′ : List ℕ) → length d ≡ length d′ → length t ≡ length t′ → length u ≡ length u′ → length p ≡ length p′
+      → {r r′ : Page} {e f g q e′ f′ g′ q′ : List ℕ} → Prints s d t u p r e f g q → Prints s d′ t′ u′ p′ r′ e′ f′ g′ q′
+      → (r .parsed ≡ r′ .parsed) × (r .length ≡ r′ .length) × (e ≡ e′) × (f ≡ f′) × (g ≡ g′) × (q ≡ q′)
+  -- extract_yang_metadata
+  pub metadata : (s d d′ : List ℕ) → length d ≡ length d′
+      → {r r′ : YangModuleMetadata} {e e′ : List ℕ} → Metadata.Extracts s d r e → Metadata.Extracts s d′ r′ e′ → (r ≡ r′) × (e ≡ e′)
+  -- nuvaleta_dependencies, nuvaleta_printed, nuvaleta_metadata; n: the number returned, a: the answer, w: the record
+  pub host-dependencies : (s d t u d′ t′ u′ : List ℕ) → length d ≡ length d′ → length t ≡ length t′ → length u ≡ length u′
+      → {n n′ : ℕ} {e f g a e′ f′ g′ a′ : List ℕ} → DependenciesAnswered s d t u n e f g a → DependenciesAnswered s d′ t′ u′ n′ e′ f′ g′ a′
+      → (n ≡ n′) × (e ≡ e′) × (f ≡ f′) × (g ≡ g′) × (a ≡ a′)
+  pub host-printed : (s d t u p d′ t′ u′ p′ : List ℕ) → length d ≡ length d′ → length t ≡ length t′ → length u ≡ length u′ → length p ≡ length p′
+      → {n n′ : ℕ} {e f g q a e′ f′ g′ q′ a′ : List ℕ} → PrintedAnswered s d t u p n e f g q a → PrintedAnswered s d′ t′ u′ p′ n′ e′ f′ g′ q′ a′
+      → (n ≡ n′) × (e ≡ e′) × (f ≡ f′) × (g ≡ g′) × (q ≡ q′) × (a ≡ a′)
+  pub host-metadata : (s d d′ : List ℕ) → length d ≡ length d′
+      → {n n′ : ℕ} {e w a e′ w′ a′ : List ℕ} → MetadataAnswered s d n e w a → MetadataAnswered s d′ n′ e′ w′ a′ → (n ≡ n′) × (e ≡ e′) × (w ≡ w′) × (a ≡ a′)
