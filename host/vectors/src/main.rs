@@ -139,9 +139,10 @@ fn all(oracle: &mut Oracle) -> Vec<File> {
     let mut dependencies = File::new("yangparser_run/data/dependencies.vec");
     let mut metadata = File::new("yangparser_run/data/metadata.vec");
     let mut r = Rng::new(1);
+    let examples = texts::EXAMPLES.iter().map(|t| t.to_string());
     let short = (0..3).flat_map(texts::short);
     let generated = (0..2_000).map(|_| texts::any(&mut r));
-    for text in short.chain(generated) {
+    for text in examples.chain(short).chain(generated) {
         let text = text.as_bytes();
         dependencies.add(records::dependencies(text, &answers::dependencies(oracle, text)));
         metadata.add(records::metadata(text, &answers::metadata(oracle, text)));

@@ -211,6 +211,44 @@ fn words(length: u32) -> impl Iterator<Item = String> {
     })
 }
 
+/// Document 01's examples of texts, and the telling inputs of docs/DECISIONS.md.
+pub const EXAMPLES: [&str; 34] = [
+    "",
+    "import a{}",
+    "module import {}",
+    "import \"a\"+\"b",
+    "submodule s{belongs-to m{prefix p;} import a{prefix b;}}",
+    "module m {\n  import base { prefix b; revision-date 2024-05-01; }\n  include m-types;\n}\n",
+    "import \"a",
+    "import a b",
+    "import //c",
+    "import a{} x",
+    "container x",
+    "x  ",
+    "import a{x",
+    "import a{",
+    "import a{prefix",
+    "import a{prefix p",
+    "include a}",
+    "include a",
+    "yang-version \"1",
+    "yang-version {",
+    "namespace \"a\" + b;",
+    "import \"a\"+{prefix p;}",
+    "import a+\"b\"{",
+    "module z{belongs-to \"m\"+\"x",
+    "import a{prefix \"\";}",
+    "import a{prefix p;prefix q;}",
+    "prefix \"\";prefix q;",
+    "module m{prefix \"\";prefix q;",
+    "\"\\\\\" include a;",
+    "import a{x \\\";prefix p;}",
+    "1include a;",
+    "a:include b;",
+    "include/**/a;",
+    "import a{prefix/**/p;}",
+];
+
 /// Each of these behind each beginning.
 pub fn short(length: u32) -> impl Iterator<Item = String> {
     FRONTS.iter().flat_map(move |front| words(length).map(move |w| format!("{front}{w}")))
