@@ -3,6 +3,9 @@ use libc::STDIN_FILENO;
 use libc::STDOUT_FILENO;
 use yangparser::Parsed;
 
+// The longest input, and room for one byte more, which tells that there is more.
+const MOST: usize = 32768;
+
 fn say(s: &[u8]) {
     let mut store = [0u8; 32768];
     let mut imports = [0u32; 1792];
@@ -33,8 +36,7 @@ fn say(s: &[u8]) {
 fn main() {
     let mut input = [0u8; 32769];
     let n = io::read_full(STDIN_FILENO, &mut input);
-    // There is room for one byte more, which tells that the input is longer.
-    if say::MOST < n {
+    if MOST < n {
         say::too_long();
         return;
     }

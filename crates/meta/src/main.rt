@@ -3,6 +3,9 @@ use libc::STDIN_FILENO;
 use libc::STDOUT_FILENO;
 use rows::Span;
 
+// The longest input, and room for one byte more, which tells that there is more.
+const MOST: usize = 131072;
+
 fn say_value(label: &[u8], store: &[u8], x: Span) {
     if x.present {
         io::write_all(STDOUT_FILENO, label);
@@ -12,7 +15,7 @@ fn say_value(label: &[u8], store: &[u8], x: Span) {
 }
 
 fn say(s: &[u8]) {
-    let mut store = [0u8; 32768];
+    let mut store = [0u8; 131072];
     let read = metadata::extract_yang_metadata(s, &mut store);
     let answer = read.answer;
     if answer.number != text::NO_REFUSAL {
@@ -29,10 +32,9 @@ fn say(s: &[u8]) {
 }
 
 fn main() {
-    let mut input = [0u8; 32769];
+    let mut input = [0u8; 131073];
     let n = io::read_full(STDIN_FILENO, &mut input);
-    // There is room for one byte more, which tells that the input is longer.
-    if say::MOST < n {
+    if MOST < n {
         say::too_long();
         return;
     }

@@ -2,9 +2,6 @@
 use libc::STDOUT_FILENO;
 use text::Refusal;
 
-// The longest input of a program.
-pub const MOST: usize = 32768;
-
 // Why a text is refused.
 pub fn refused(r: Refusal) {
     io::write_all(STDOUT_FILENO, b"refused ");
