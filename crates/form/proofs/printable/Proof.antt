@@ -1,0 +1,58 @@
+-- `form::printable` meets its contract. Each way out is one law of Names, which `search` fits to what is known there. Assumes nothing.
+use borrow.Author.Needs.{needs}
+use native.Mathlib.Omega.{arith}
+use mathlib.Core.Path.{refl}
+use Prim.Native.Nat.{_+_, _≤_}
+use lib.ListN.{length}
+use Rattle.form.proofs.Names.{Same, low, high, next, end}
+use Rattle.form.proofs.printable.Statement.{statement}
+use Rattle.form.proofs.printable.Tie as tie
+
+abbrev Inv-loop : tie.InvT-loop
+Inv-loop s from count at₀ left₀ at left = Same s count from left at × (at + left ≤ length s)
+
+abbrev μ-loop : tie.MeasureT-loop
+μ-loop s from count at₀ left₀ at left = left
+
+loop-holds : tie.Need-loop-holds Inv-loop μ-loop
+loop-holds c = (refl, search needs)
+
+shared-slice-read-b : tie.Need-shared-slice-read-b Inv-loop μ-loop
+shared-slice-read-b c = search needs
+
+returns : tie.Need-returns Inv-loop μ-loop
+returns c = search low
+
+returns-2 : tie.Need-returns-2 Inv-loop μ-loop
+returns-2 c = search high
+
+add-at : tie.Need-add-at Inv-loop μ-loop
+add-at c = search needs
+
+sub-left : tie.Need-sub-left Inv-loop μ-loop
+sub-left c = search needs
+
+loop-less : tie.Need-loop-less Inv-loop μ-loop
+loop-less c = search needs
+
+loop-again : tie.Need-loop-again Inv-loop μ-loop
+loop-again c = (search next, omega arith)
+
+returns-3 : tie.Need-returns-3 Inv-loop μ-loop
+returns-3 c = search end
+
+pub printable-spec : {M : Type 1} → statement M
+printable-spec =
+    tie.close
+    (tie.spec
+    Inv-loop
+    μ-loop
+    loop-holds
+    shared-slice-read-b
+    returns
+    returns-2
+    add-at
+    sub-left
+    loop-less
+    loop-again
+    returns-3)
