@@ -25,6 +25,10 @@ topBit = 128
 abbrev pub mostGroup : ℕ
 mostGroup = 127
 
+-- what a 1 in the third group is worth
+abbrev pub third : ℕ
+third = 16384
+
 -- the most bytes and the greatest value of a number
 abbrev pub mostGroups : ℕ
 mostGroups = 3
