@@ -77,3 +77,88 @@ module _ (pre rest : List ℕ) where
       let v : lowest n - 128 + 128 * (lowest (n / 128) - 128) + 16384 * (n / 16384) ≡ n = omega arith in
       rw (write-three n h) (back-three (lowest n) (lowest (n / 128)) (n / 16384) (omega arith) (omega arith) (omega (arith, h)) (omega (arith, m))
       ∙ ap (λ x. good x (length pre + 3)) v)))
+
+-- ---- what was read is what is written
+
+-- a byte with its top bit set is the lowest group of what it begins; the rest is what stands behind it
+module _ (a m : ℕ) {n : ℕ} (g : 128 ≤ a) (x : a < 256) (v : a - 128 + 128 * m ≡ n) where
+  begins-low : a ≡ lowest n
+  begins-low = omega (arith, v, x, g)
+
+  begins-rest : m ≡ n / 128
+  begins-rest = omega (arith, v, x, g)
+
+module _ (s : List ℕ) where
+  front : (k : ℕ) → k < length s → drop k s ≡ getD s k 0 ∷ drop (k + 1) s
+  front k h = rw add-one (drop-cons s k 0 h)
+
+  bytes-two : (at : ℕ) → at + 1 < length s → drop at s ≡ getD s at 0 ∷ getD s (at + 1) 0 ∷ drop (at + 1 + 1) s
+  bytes-two at h = front at (omega (arith, h)) ∙ ap (λ l. getD s at 0 ∷ l) (front (at + 1) h)
+
+  bytes-three : (at : ℕ) → at + 1 + 1 < length s → drop at s ≡ getD s at 0 ∷ getD s (at + 1) 0 ∷ getD s (at + 1 + 1) 0 ∷ drop (at + 1 + 1 + 1) s
+  bytes-three at h = bytes-two at (omega (arith, h)) ∙ ap (λ l. getD s at 0 ∷ getD s (at + 1) 0 ∷ l) (front (at + 1 + 1) h)
+
+  module _ (bytes : AllBytes s) (at : ℕ) {n e : ℕ} (h : numberAt s at ≡ good n e) where
+    -- no number is read where none stands
+    wrong : {X : Type 0} → bad at ≡ numberAt s at → X
+    wrong w = let q : _≡_ {A = Ans ℕ} (bad at) (good n e) = w ∙ h in let z : _≡_ {A = ℕ} 0 1 = cc in absurd (omega arith)
+
+    agreed : (v p : ℕ) → good v p ≡ numberAt s at → (v ≡ n) × (p ≡ e)
+    agreed v p w = let q : _≡_ {A = Ans ℕ} (good v p) (good n e) = w ∙ h in (cc, cc)
+
+    is-one : at < length s → getD s at 0 < 128 → take (e - at) (drop at s) ≡ writeNumber n
+    is-one i g =
+        let q = agreed (getD s at 0) (at + 1) (one s at i g) in
+        let d : e - at ≡ 1 = omega (arith, q .1) in
+        rw d (ap (take 1) (front at i) ∙ sym (write-one (getD s at 0) g) ∙ ap writeNumber (q .0))
+
+    is-two : 128 ≤ getD s at 0 → at + 1 < length s → (getD s (at + 1) 0 ≡ 0 → ⊥) → getD s (at + 1) 0 < 128 → take (e - at) (drop at s) ≡ writeNumber n
+    is-two g i z l =
+        let a = getD s at 0 in
+        let b = getD s (at + 1) 0 in
+        let q = agreed (a - 128 + 128 * b) (at + 1 + 1) (two s at (omega (arith, i)) g i z l) in
+        let d : e - at ≡ 2 = omega (arith, q .1) in
+        let v = q .0 in
+        let x = bytes at in
+        let low : 128 ≤ n = by-test (eqb b 0) (λ t. absurd (z (eqb-true b 0 t))) (λ u. omega (arith, v, eqb-false b 0 u)) in
+        rw d (ap (take 2) (bytes-two at i) ∙ ap₂ (λ y w. y ∷ w ∷ []) (begins-low a b g x v) (begins-rest a b g x v) ∙ sym (write-two n low (omega (arith, v, x, g, l))))
+
+    is-three : 128 ≤ getD s at 0 → 128 ≤ getD s (at + 1) 0 → at + 1 + 1 < length s → (getD s (at + 1 + 1) 0 ≡ 0 → ⊥) → getD s (at + 1 + 1) 0 < 128
+        → take (e - at) (drop at s) ≡ writeNumber n
+    is-three g k i z l =
+        let a = getD s at 0 in
+        let b = getD s (at + 1) 0 in
+        let c = getD s (at + 1 + 1) 0 in
+        let q = agreed (a - 128 + 128 * (b - 128) + 16384 * c) (at + 1 + 1 + 1) (three s at (omega (arith, i)) g (omega (arith, i)) k i z l) in
+        let d : e - at ≡ 3 = omega (arith, q .1) in
+        let m = b - 128 + 128 * c in
+        let v : a - 128 + 128 * m ≡ n = omega (arith, q .0) in
+        let r = begins-rest a m g (bytes at) v in
+        let c₃ : c ≡ n / 16384 = omega (arith, begins-rest b c k (bytes (at + 1)) r) in
+        let low : 16384 ≤ n = by-test (eqb c 0) (λ t. absurd (z (eqb-true c 0 t))) (λ u. omega (arith, v, eqb-false c 0 u)) in
+        rw d (ap (take 3) (bytes-three at i) ∙ ap₂ (λ w l. w ∷ l) (begins-low a m g (bytes at) v) (ap₂ (λ w l. w ∷ l ∷ []) (begins-low b c k (bytes (at + 1)) r) c₃) ∙ sym (write-three n low))
+
+    pub number-written : take (e - at) (drop at s) ≡ writeNumber n
+    number-written =
+        by-test (ltb at (length s))
+        (λ t₁. let i = ltb-true at (length s) t₁ in
+        by-test (ltb (getD s at 0) 128)
+        (λ t. is-one i (ltb-true (getD s at 0) 128 t))
+        (λ u₁. let g = ltb-false (getD s at 0) 128 u₁ in
+        by-test (ltb (at + 1) (length s))
+        (λ t₂. let j = ltb-true (at + 1) (length s) t₂ in
+        by-test (eqb (getD s (at + 1) 0) 0)
+        (λ t. wrong (padded s at i g j (eqb-true (getD s (at + 1) 0) 0 t)))
+        (λ u. by-test (ltb (getD s (at + 1) 0) 128)
+        (λ t. is-two g j (eqb-false (getD s (at + 1) 0) 0 u) (ltb-true (getD s (at + 1) 0) 128 t))
+        (λ u₂. let k = ltb-false (getD s (at + 1) 0) 128 u₂ in
+        by-test (ltb (at + 1 + 1) (length s))
+        (λ t₃. let m = ltb-true (at + 1 + 1) (length s) t₃ in
+        by-test (eqb (getD s (at + 1 + 1) 0) 0)
+        (λ t. wrong (padded3 s at i g j k m (eqb-true (getD s (at + 1 + 1) 0) 0 t)))
+        (λ u. by-test (ltb (getD s (at + 1 + 1) 0) 128)
+        (λ t. is-three g k m (eqb-false (getD s (at + 1 + 1) 0) 0 u) (ltb-true (getD s (at + 1 + 1) 0) 128 t))
+        (λ u₃. wrong (four s at i g j k m (ltb-false (getD s (at + 1 + 1) 0) 128 u₃)))))
+        (λ u. wrong (cut3 s at i g j k (ltb-false (at + 1 + 1) (length s) u))))))
+        (λ u. wrong (cut s at i g (ltb-false (at + 1) (length s) u)))))
+        (λ u. wrong (none s at (ltb-false at (length s) u)))
