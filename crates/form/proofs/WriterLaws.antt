@@ -2,17 +2,18 @@
 -- Assumes nothing.
 use mathlib.Core.Path.{_≡_, refl, sym, ap, ap₂, _∙_}
 use mathlib.Core.List.{List, [], _∷_, _++_, append-assoc}
-use mathlib.Core.Bool.{Bool, true, false}
+use mathlib.Core.Bool.{Bool, true, false, cond}
 use Prim.Native.Nat.{ℕ, zero, suc, _+_, _-_, _*_, _/_, _%_, _≤_, _<_}
 use native.Mathlib.Omega.{arith}
 use native.Mathlib.Numerals.{add-one}
-use lib.ListN.{length, getD, take, drop, length-append}
-use lib.Seq.{drop-cons, getD-append-seam, getD-append-add}
+use lib.ListN.{length, getD, take, drop, length-append, length-drop, List·getD-append}
+use lib.Seq.{drop-cons, drop-drop, getD-append-seam, getD-append-add, getD-take, getD-drop, take-add, take-append-seam, drop-append-seam, length-take-le}
 use lib.Dec.{ltb, eqb}
 use borrow.Author.Tests.{lt-ltb, le-ltb, ltb-true, ltb-false, eqb-true, eqb-false}
-use Rattle.text.proofs.Here.{by-test}
-use Rattle.form.specs.Form.{Ans, good, bad, mostNumber, numberAt}
-use Rattle.form.specs.Writer.{lowest, writeNumber, AllBytes}
+use Rattle.text.proofs.Here.{by-test, never}
+use Rattle.form.specs.Form.{Ans, good, bad, bind, leastByte, mostByte, mostNumber, numberAt, printableAt, Word, wordAt, nameBody, nameAt}
+use Rattle.form.specs.Writer.{lowest, writeNumber, writeName, Namely, AllBytes}
+use Rattle.form.proofs.Bounds.{number-end}
 use Rattle.form.proofs.Numbers.{none, one, cut, padded, two, cut3, padded3, three, four}
 
 -- ---- the three lengths of a number
@@ -162,3 +163,137 @@ module _ (s : List ℕ) where
         (λ u. wrong (cut3 s at i g j k (ltb-false (at + 1 + 1) (length s) u))))))
         (λ u. wrong (cut s at i g (ltb-false (at + 1) (length s) u)))))
         (λ u. wrong (none s at (ltb-false at (length s) u)))
+
+-- ---- the bytes of a name
+
+-- one that a name may have
+abbrev Fine : ℕ → Type 0
+Fine b = (leastByte ≤ b) × (b ≤ mostByte)
+
+module _ (s : List ℕ) where
+  all-fine : (n at : ℕ) → ((k : ℕ) → at ≤ k → k < at + n → Fine (getD s k 0)) → printableAt n s at ≡ true
+  unfolding printableAt
+  all-fine zero at h = refl
+  all-fine (suc n) at h =
+      let q = h at (omega arith) (omega arith) in
+      rw (le-ltb (getD s at 0) 33 (q .0))
+      (rw (le-ltb 126 (getD s at 0) (q .1)) (all-fine n (at + 1) (λ k i l. h k (omega (arith, i)) (omega (arith, l)))))
+
+  first-fine : (n at : ℕ) → printableAt (suc n) s at ≡ true → Fine (getD s at 0) × (printableAt n s (at + 1) ≡ true)
+  unfolding printableAt
+  first-fine n at e = go (ltb (getD s at 0) 33) (ltb 126 (getD s at 0)) refl refl e
+    where
+      go : (t₁ t₂ : Bool) → ltb (getD s at 0) 33 ≡ t₁ → ltb 126 (getD s at 0) ≡ t₂ → cond t₁ false (cond t₂ false (printableAt n s (at + 1))) ≡ true
+          → Fine (getD s at 0) × (printableAt n s (at + 1) ≡ true)
+      go true t₂ p q e = absurd (never refl e)
+      go false true p q e = absurd (never refl e)
+      go false false p q e = ((ltb-false (getD s at 0) 33 p, ltb-false 126 (getD s at 0) q), e)
+
+  each-fine : (n at : ℕ) → printableAt n s at ≡ true → (k : ℕ) → at ≤ k → k < at + n → Fine (getD s k 0)
+  each-fine zero at e k i l = absurd (omega (arith, i, l))
+  each-fine (suc n) at e k i l =
+      let q = first-fine n at e in
+      by-test (ltb at k)
+      (λ t. each-fine n (at + 1) (q .1) k (omega (arith, ltb-true at k t)) (omega (arith, l)))
+      (λ u. let p : k ≡ at = omega (arith, i, ltb-false at k u) in rw p (q .0))
+
+-- ---- a name read back
+
+module _ (head bs rest : List ℕ) (h : Namely bs) where
+  -- behind its length, wherever that stands
+  body-back : (start : ℕ) → nameBody (head ++ (bs ++ rest)) start (length bs) (length head)
+      ≡ good (record { place = length head; size = length bs; text = bs }) (length head + length bs)
+  unfolding nameBody
+  body-back start =
+      let s = head ++ (bs ++ rest) in
+      let l = length-append head (bs ++ rest) in
+      let m = length-append bs rest in
+      let fine : printableAt (length bs) s (length head) ≡ true = all-fine s (length bs) (length head) (λ k i j.
+          let d : k ≡ length head + (k - length head) = omega (arith, i) in
+          let r : k - length head < length bs = omega (arith, i, j) in
+          let g : getD s k 0 ≡ getD bs (k - length head) 0 =
+              ap (λ x. getD s x 0) d ∙ getD-append-add head (bs ++ rest) (k - length head) 0 ∙ List·getD-append bs rest 0 (k - length head) r in
+          rw g (h .printable (k - length head) r)) in
+      let text : take (length bs) (drop (length head) s) ≡ bs = ap (take (length bs)) (drop-append-seam head (bs ++ rest)) ∙ take-append-seam bs rest in
+      rw (le-ltb (length bs) 1 (h .some))
+      (rw (le-ltb 128 (length bs) (h .few))
+      (rw (le-ltb (length s - length head) (length bs) (omega (arith, l, m)))
+      (rw fine (ap (λ t. good (record { place = length head; size = length bs; text = t }) (length head + length bs)) text))))
+
+pub name-back : (pre bs rest : List ℕ) → Namely bs → let first = length pre + length (writeNumber (length bs)) in
+    nameAt (pre ++ (writeName bs ++ rest)) (length pre) ≡ good (record { place = first; size = length bs; text = bs }) (first + length bs)
+unfolding nameAt writeName
+name-back pre bs rest h =
+    let w = writeNumber (length bs) in
+    let e₁ : writeName bs ++ rest ≡ w ++ (bs ++ rest) = append-assoc w bs rest in
+    let e₂ : pre ++ w ++ (bs ++ rest) ≡ pre ++ (w ++ (bs ++ rest)) = append-assoc pre w (bs ++ rest) in
+    let f = length-append pre w in
+    let k = h .few in
+    let n = number-back pre (bs ++ rest) (length bs) (omega (arith, k)) in
+    let b = body-back (pre ++ w) bs rest h (length pre) in
+    ap (λ l. bind (numberAt (pre ++ l) (length pre)) (nameBody (pre ++ l) (length pre))) e₁
+    ∙ ap (λ a. bind a (nameBody (pre ++ (w ++ (bs ++ rest))) (length pre))) n
+    ∙ ap₂ (λ l p. nameBody l (length pre) (length bs) p) (sym e₂) (sym f)
+    ∙ b ∙ ap (λ p. good (record { place = p; size = length bs; text = bs }) (p + length bs)) f
+
+-- ---- a name that was read
+
+record Opened (s : List ℕ) (at : ℕ) (w : Word) (n : ℕ) : Type 0 where
+  len : ℕ
+  first : ℕ
+  number : numberAt s at ≡ good len first
+  some : 1 ≤ len
+  few : len ≤ 128
+  room : len ≤ length s - first
+  fine : printableAt len s first ≡ true
+  word : wordAt s first len ≡ w
+  behind : first + len ≡ n
+
+opened : (s : List ℕ) (at : ℕ) {w : Word} {n : ℕ} → nameAt s at ≡ good w n → Opened s at w n
+unfolding nameAt nameBody
+opened s at {w} {n} e = go (numberAt s at) refl e
+  where
+    body : (len first : ℕ) (t₁ t₂ t₃ t₄ : Bool) → numberAt s at ≡ good len first → ltb len 1 ≡ t₁ → ltb 128 len ≡ t₂ → ltb (length s - first) len ≡ t₃ → printableAt len s first ≡ t₄
+        → cond t₁ (bad at) (cond t₂ (bad at) (cond t₃ (bad at) (cond t₄ (good (wordAt s first len) (first + len)) (bad at)))) ≡ good w n → Opened s at w n
+    body len first true t₂ t₃ t₄ h p q k f e = let z : _≡_ {A = ℕ} 0 1 = cc in absurd (omega arith)
+    body len first false true t₃ t₄ h p q k f e = let z : _≡_ {A = ℕ} 0 1 = cc in absurd (omega arith)
+    body len first false false true t₄ h p q k f e = let z : _≡_ {A = ℕ} 0 1 = cc in absurd (omega arith)
+    body len first false false false false h p q k f e = let z : _≡_ {A = ℕ} 0 1 = cc in absurd (omega arith)
+    body len first false false false true h p q k f e =
+        record { len = len; first = first; number = h; some = ltb-false len 1 p; few = ltb-false 128 len q; room = ltb-false (length s - first) len k; fine = f; word = cc; behind = cc }
+
+    go : (a : Ans ℕ) → numberAt s at ≡ a → bind a (nameBody s at) ≡ good w n → Opened s at w n
+    go (good len first) h e = body len first (ltb len 1) (ltb 128 len) (ltb (length s - first) len) (printableAt len s first) h refl refl refl refl e
+    go (bad p) h e = let z : _≡_ {A = ℕ} 0 1 = cc in absurd (omega arith)
+
+module _ (s : List ℕ) (at : ℕ) {w : Word} {n : ℕ} (h : nameAt s at ≡ good w n) where
+  text-size : (o : Opened s at w n) → length (take (o .len) (drop (o .first) s)) ≡ o .len
+  text-size o = let r = o .room in length-take-le (o .len) (drop (o .first) s) (rw length-drop r)
+
+  pub name-namely : Namely (w .text)
+  name-namely =
+      let o = opened s at h in
+      let l = text-size o in
+      let t : take (o .len) (drop (o .first) s) ≡ w .text = ap (λ (w : Word). w .text) (o .word) in
+      let m : length (w .text) ≡ o .len = ap length (sym t) ∙ l in
+      record { some = rw m (o .some); few = rw m (o .few); printable = λ k i.
+          let j : k < o .len = rw (← m) i in
+          let g : getD (w .text) k 0 ≡ getD s (o .first + k) 0 =
+              ap (λ l. getD l k 0) (sym t) ∙ getD-take (o .len) (drop (o .first) s) k 0 j ∙ getD-drop (o .first) s k 0 in
+          rw g (each-fine s (o .len) (o .first) (o .fine) (o .first + k) (omega arith) (omega (arith, j))) }
+
+  pub name-written : AllBytes s → take (n - at) (drop at s) ≡ writeName (w .text)
+  unfolding writeName
+  name-written bytes =
+      let o = opened s at h in
+      let l = text-size o in
+      let e = number-end s at (o .number) in
+      let t : take (o .len) (drop (o .first) s) ≡ w .text = ap (λ (w : Word). w .text) (o .word) in
+      let m : o .len ≡ length (w .text) = sym l ∙ ap length t in
+      let b = o .behind in
+      let d : n - at ≡ o .first - at + o .len = omega (arith, b, e) in
+      let f : at + (o .first - at) ≡ o .first = omega (arith, e) in
+      ap (λ x. take x (drop at s)) d
+      ∙ take-add (o .first - at) (o .len) (drop at s)
+      ∙ ap₂ _++_ (number-written s bytes at (o .number) ∙ ap writeNumber m)
+      (ap (take (o .len)) (drop-drop (o .first - at) at s ∙ ap (λ x. drop x s) f) ∙ t)
