@@ -48,6 +48,35 @@ pub number-end : (s : List ℕ) (at : ℕ) {r n : ℕ} → numberAt s at ≡ goo
 unfolding numberAt
 number-end s at e = groups-end 3 s at at 1 0 e
 
+-- a name that was read, by its parts
+pub record Opened (s : List ℕ) (at : ℕ) (w : Word) (n : ℕ) : Type 0 where
+  pub len : ℕ
+  pub first : ℕ
+  pub number : numberAt s at ≡ good len first
+  pub some : 1 ≤ len
+  pub few : len ≤ 128
+  pub room : len ≤ length s - first
+  pub fine : printableAt len s first ≡ true
+  pub word : wordAt s first len ≡ w
+  pub behind : first + len ≡ n
+
+pub opened : (s : List ℕ) (at : ℕ) {w : Word} {n : ℕ} → nameAt s at ≡ good w n → Opened s at w n
+unfolding nameAt nameBody
+opened s at {w} {n} e = go (numberAt s at) refl e
+  where
+    body : (len first : ℕ) (t₁ t₂ t₃ t₄ : Bool) → numberAt s at ≡ good len first → ltb len 1 ≡ t₁ → ltb 128 len ≡ t₂ → ltb (length s - first) len ≡ t₃ → printableAt len s first ≡ t₄
+        → cond t₁ (bad at) (cond t₂ (bad at) (cond t₃ (bad at) (cond t₄ (good (wordAt s first len) (first + len)) (bad at)))) ≡ good w n → Opened s at w n
+    body len first true t₂ t₃ t₄ h p q k f e = let z : _≡_ {A = ℕ} 0 1 = cc in absurd (omega arith)
+    body len first false true t₃ t₄ h p q k f e = let z : _≡_ {A = ℕ} 0 1 = cc in absurd (omega arith)
+    body len first false false true t₄ h p q k f e = let z : _≡_ {A = ℕ} 0 1 = cc in absurd (omega arith)
+    body len first false false false false h p q k f e = let z : _≡_ {A = ℕ} 0 1 = cc in absurd (omega arith)
+    body len first false false false true h p q k f e =
+        record { len = len; first = first; number = h; some = ltb-false len 1 p; few = ltb-false 128 len q; room = ltb-false (length s - first) len k; fine = f; word = cc; behind = cc }
+
+    go : (a : Ans ℕ) → numberAt s at ≡ a → bind a (nameBody s at) ≡ good w n → Opened s at w n
+    go (good len first) h e = body len first (ltb len 1) (ltb 128 len) (ltb (length s - first) len) (printableAt len s first) h refl refl refl refl e
+    go (bad p) h e = let z : _≡_ {A = ℕ} 0 1 = cc in absurd (omega arith)
+
 -- what holds of a name that was read: it is from 1 to 128 bytes long, lies within the bytes, and what follows starts right behind it
 pub record Within (s : List ℕ) (at : ℕ) (w : Word) (n : ℕ) : Type 0 where
   pub later : at < w .place
@@ -57,34 +86,22 @@ pub record Within (s : List ℕ) (at : ℕ) (w : Word) (n : ℕ) : Type 0 where
   pub inside : n ≤ length s
   pub sized : length (w .text) ≡ w .size
 
-body-end : (s : List ℕ) (at len first : ℕ) {w : Word} {n : ℕ} → at < first → first ≤ length s → nameBody s at len first ≡ good w n → Within s at w n
-unfolding nameBody
-body-end s at len first {w} {n} a h e = go (ltb len 1) (ltb 128 len) (ltb (length s - first) len) (printableAt len s first) refl refl refl e
-  where
-    fits : (w : Word) (n : ℕ) → 1 ≤ len → len ≤ 128 → len ≤ length s - first → _≡_ {A = Ans Word} (good (wordAt s first len) (first + len)) (good w n) → Within s at w n
-    fits w n p q k e =
-        let e₁ : wordAt s first len ≡ w = cc in
-        let e₂ : first + len ≡ n = cc in
-        let e₃ : first ≡ w .place = ap (λ (w : Word). w .place) e₁ in
-        let l : length (take len (drop first s)) ≡ len = length-take-le len (drop first s) (rw length-drop k) in
-        let e₄ : len ≡ w .size = ap (λ (w : Word). w .size) e₁ in
-        record { later = omega arith; some = omega arith; few = omega arith; behind = omega arith; inside = omega arith; sized = sym (ap (λ (w : Word). length (w .text)) e₁) ∙ l ∙ e₄ }
-
-    go : (t₁ t₂ t₃ t₄ : Bool) → ltb len 1 ≡ t₁ → ltb 128 len ≡ t₂ → ltb (length s - first) len ≡ t₃
-        → cond t₁ (bad at) (cond t₂ (bad at) (cond t₃ (bad at) (cond t₄ (good (wordAt s first len) (first + len)) (bad at)))) ≡ good w n → Within s at w n
-    go true t₂ t₃ t₄ p q k e = let z : _≡_ {A = ℕ} 0 1 = cc in absurd (omega arith)
-    go false true t₃ t₄ p q k e = let z : _≡_ {A = ℕ} 0 1 = cc in absurd (omega arith)
-    go false false true t₄ p q k e = let z : _≡_ {A = ℕ} 0 1 = cc in absurd (omega arith)
-    go false false false false p q k e = let z : _≡_ {A = ℕ} 0 1 = cc in absurd (omega arith)
-    go false false false true p q k e = fits w n (ltb-false len 1 p) (ltb-false 128 len q) (ltb-false (length s - first) len k) e
-
 pub name-end : (s : List ℕ) (at : ℕ) {w : Word} {n : ℕ} → nameAt s at ≡ good w n → Within s at w n
-unfolding nameAt
-name-end s at {w} {n} e = go (numberAt s at) refl e
-  where
-    go : (a : Ans ℕ) → numberAt s at ≡ a → bind a (nameBody s at) ≡ good w n → Within s at w n
-    go (good len first) h e = body-end s at len first (number-end s at h .0) (number-end s at h .1) e
-    go (bad p) h e = let z : _≡_ {A = ℕ} 0 1 = cc in absurd (omega arith)
+name-end s at {w} {n} e =
+    let o = opened s at e in
+    let q = number-end s at (o .number) in
+    let r = o .room in
+    let e₁ : o .first ≡ w .place = ap (λ (w : Word). w .place) (o .word) in
+    let e₂ : o .len ≡ w .size = ap (λ (w : Word). w .size) (o .word) in
+    let l : length (take (o .len) (drop (o .first) s)) ≡ o .len = length-take-le (o .len) (drop (o .first) s) (rw length-drop r) in
+    record {
+      later = omega (arith, q, e₁);
+      some = omega (arith, o .some, e₂);
+      few = omega (arith, o .few, e₂);
+      behind = omega (arith, o .behind, e₁, e₂);
+      inside = omega (arith, o .behind, q, r, o .some);
+      sized = sym (ap (λ (w : Word). length (w .text)) (o .word)) ∙ l ∙ e₂;
+    }
 
 -- the same, in the terms of the code: what was answered, and where
 pub record Spanned (s : List ℕ) (at first len : ℕ) : Type 0 where

@@ -11,9 +11,9 @@ use lib.Seq.{drop-cons, drop-drop, getD-append-seam, getD-append-add, getD-take,
 use lib.Dec.{ltb, eqb}
 use borrow.Author.Tests.{lt-ltb, le-ltb, ltb-true, ltb-false, eqb-true, eqb-false}
 use Rattle.text.proofs.Here.{by-test, never}
-use Rattle.form.specs.Form.{Ans, good, bad, bind, leastByte, mostByte, mostNumber, numberAt, printableAt, Word, wordAt, nameBody, nameAt}
-use Rattle.form.specs.Writer.{lowest, writeNumber, writeName, Namely, AllBytes}
-use Rattle.form.proofs.Bounds.{number-end}
+use Rattle.form.specs.Form.{Ans, good, bad, bind, leastByte, mostByte, mostNumber, numberAt, printableAt, Word, nameBody, nameAt}
+use Rattle.form.specs.Writer.{lowest, writeNumber, writeName, NameBytes, AllBytes}
+use Rattle.form.proofs.Bounds.{number-end, Opened, opened}
 use Rattle.form.proofs.Numbers.{none, one, cut, padded, two, cut3, padded3, three, four}
 
 -- ---- the three lengths of a number
@@ -107,13 +107,17 @@ module _ (s : List ℕ) where
     agreed : (v p : ℕ) → good v p ≡ numberAt s at → (v ≡ n) × (p ≡ e)
     agreed v p w = let q : _≡_ {A = Ans ℕ} (good v p) (good n e) = w ∙ h in (cc, cc)
 
-    is-one : at < length s → getD s at 0 < 128 → take (e - at) (drop at s) ≡ writeNumber n
+    -- the bytes between are what is written, and three groups hold it
+    abbrev Shortest : Type 0
+    Shortest = (take (e - at) (drop at s) ≡ writeNumber n) × (n ≤ mostNumber)
+
+    is-one : at < length s → getD s at 0 < 128 → Shortest
     is-one i g =
         let q = agreed (getD s at 0) (at + 1) (one s at i g) in
         let d : e - at ≡ 1 = omega (arith, q .1) in
-        rw d (ap (take 1) (front at i) ∙ sym (write-one (getD s at 0) g) ∙ ap writeNumber (q .0))
+        (rw d (ap (take 1) (front at i) ∙ sym (write-one (getD s at 0) g) ∙ ap writeNumber (q .0)), omega (arith, q .0, g))
 
-    is-two : 128 ≤ getD s at 0 → at + 1 < length s → (getD s (at + 1) 0 ≡ 0 → ⊥) → getD s (at + 1) 0 < 128 → take (e - at) (drop at s) ≡ writeNumber n
+    is-two : 128 ≤ getD s at 0 → at + 1 < length s → (getD s (at + 1) 0 ≡ 0 → ⊥) → getD s (at + 1) 0 < 128 → Shortest
     is-two g i z l =
         let a = getD s at 0 in
         let b = getD s (at + 1) 0 in
@@ -121,11 +125,13 @@ module _ (s : List ℕ) where
         let d : e - at ≡ 2 = omega (arith, q .1) in
         let v = q .0 in
         let x = bytes at in
-        let low : 128 ≤ n = by-test (eqb b 0) (λ t. absurd (z (eqb-true b 0 t))) (λ u. omega (arith, v, eqb-false b 0 u)) in
-        rw d (ap (take 2) (bytes-two at i) ∙ ap₂ (λ y w. y ∷ w ∷ []) (begins-low a b g x v) (begins-rest a b g x v) ∙ sym (write-two n low (omega (arith, v, x, g, l))))
+        let low : 128 ≤ n = by-test (eqb b 0) (λ t. absurd (z (eqb-true b 0 t))) (λ u. omega (arith, v, eqb-false b 0 u)) in (
+          rw d (ap (take 2) (bytes-two at i) ∙ ap₂ (λ y w. y ∷ w ∷ []) (begins-low a b g x v) (begins-rest a b g x v) ∙ sym (write-two n low (omega (arith, v, x, g, l)))),
+          omega (arith, v, x, g, l),
+        )
 
     is-three : 128 ≤ getD s at 0 → 128 ≤ getD s (at + 1) 0 → at + 1 + 1 < length s → (getD s (at + 1 + 1) 0 ≡ 0 → ⊥) → getD s (at + 1 + 1) 0 < 128
-        → take (e - at) (drop at s) ≡ writeNumber n
+        → Shortest
     is-three g k i z l =
         let a = getD s at 0 in
         let b = getD s (at + 1) 0 in
@@ -136,11 +142,13 @@ module _ (s : List ℕ) where
         let v : a - 128 + 128 * m ≡ n = omega (arith, q .0) in
         let r = begins-rest a m g (bytes at) v in
         let c₃ : c ≡ n / 16384 = omega (arith, begins-rest b c k (bytes (at + 1)) r) in
-        let low : 16384 ≤ n = by-test (eqb c 0) (λ t. absurd (z (eqb-true c 0 t))) (λ u. omega (arith, v, eqb-false c 0 u)) in
-        rw d (ap (take 3) (bytes-three at i) ∙ ap₂ (λ w l. w ∷ l) (begins-low a m g (bytes at) v) (ap₂ (λ w l. w ∷ l ∷ []) (begins-low b c k (bytes (at + 1)) r) c₃) ∙ sym (write-three n low))
+        let low : 16384 ≤ n = by-test (eqb c 0) (λ t. absurd (z (eqb-true c 0 t))) (λ u. omega (arith, v, eqb-false c 0 u)) in (
+          rw d (ap (take 3) (bytes-three at i) ∙ ap₂ (λ w l. w ∷ l) (begins-low a m g (bytes at) v) (ap₂ (λ w l. w ∷ l ∷ []) (begins-low b c k (bytes (at + 1)) r) c₃) ∙ sym (write-three n low)),
+          omega (arith, c₃, l),
+        )
 
-    pub number-written : take (e - at) (drop at s) ≡ writeNumber n
-    number-written =
+    is-shortest : Shortest
+    is-shortest =
         by-test (ltb at (length s))
         (λ t₁. let i = ltb-true at (length s) t₁ in
         by-test (ltb (getD s at 0) 128)
@@ -163,6 +171,12 @@ module _ (s : List ℕ) where
         (λ u. wrong (cut3 s at i g j k (ltb-false (at + 1 + 1) (length s) u))))))
         (λ u. wrong (cut s at i g (ltb-false (at + 1) (length s) u)))))
         (λ u. wrong (none s at (ltb-false at (length s) u)))
+
+    pub number-written : take (e - at) (drop at s) ≡ writeNumber n
+    number-written = is-shortest .0
+
+    pub number-most : n ≤ mostNumber
+    number-most = is-shortest .1
 
 -- ---- the bytes of a name
 
@@ -199,7 +213,7 @@ module _ (s : List ℕ) where
 
 -- ---- a name read back
 
-module _ (head bs rest : List ℕ) (h : Namely bs) where
+module _ (head bs rest : List ℕ) (h : NameBytes bs) where
   -- behind its length, wherever that stands
   body-back : (start : ℕ) → nameBody (head ++ (bs ++ rest)) start (length bs) (length head)
       ≡ good (record { place = length head; size = length bs; text = bs }) (length head + length bs)
@@ -209,18 +223,18 @@ module _ (head bs rest : List ℕ) (h : Namely bs) where
       let l = length-append head (bs ++ rest) in
       let m = length-append bs rest in
       let fine : printableAt (length bs) s (length head) ≡ true = all-fine s (length bs) (length head) (λ k i j.
-          let d : k ≡ length head + (k - length head) = omega (arith, i) in
-          let r : k - length head < length bs = omega (arith, i, j) in
-          let g : getD s k 0 ≡ getD bs (k - length head) 0 =
-              ap (λ x. getD s x 0) d ∙ getD-append-add head (bs ++ rest) (k - length head) 0 ∙ List·getD-append bs rest 0 (k - length head) r in
-          rw g (h .printable (k - length head) r)) in
+      let d : k ≡ length head + (k - length head) = omega (arith, i) in
+      let r : k - length head < length bs = omega (arith, i, j) in
+      let g : getD s k 0 ≡ getD bs (k - length head) 0 =
+      ap (λ x. getD s x 0) d ∙ getD-append-add head (bs ++ rest) (k - length head) 0 ∙ List·getD-append bs rest 0 (k - length head) r in
+      rw g (h .printable (k - length head) r)) in
       let text : take (length bs) (drop (length head) s) ≡ bs = ap (take (length bs)) (drop-append-seam head (bs ++ rest)) ∙ take-append-seam bs rest in
       rw (le-ltb (length bs) 1 (h .some))
       (rw (le-ltb 128 (length bs) (h .few))
       (rw (le-ltb (length s - length head) (length bs) (omega (arith, l, m)))
       (rw fine (ap (λ t. good (record { place = length head; size = length bs; text = t }) (length head + length bs)) text))))
 
-pub name-back : (pre bs rest : List ℕ) → Namely bs → let first = length pre + length (writeNumber (length bs)) in
+pub name-back : (pre bs rest : List ℕ) → NameBytes bs → let first = length pre + length (writeNumber (length bs)) in
     nameAt (pre ++ (writeName bs ++ rest)) (length pre) ≡ good (record { place = first; size = length bs; text = bs }) (first + length bs)
 unfolding nameAt writeName
 name-back pre bs rest h =
@@ -238,49 +252,25 @@ name-back pre bs rest h =
 
 -- ---- a name that was read
 
-record Opened (s : List ℕ) (at : ℕ) (w : Word) (n : ℕ) : Type 0 where
-  len : ℕ
-  first : ℕ
-  number : numberAt s at ≡ good len first
-  some : 1 ≤ len
-  few : len ≤ 128
-  room : len ≤ length s - first
-  fine : printableAt len s first ≡ true
-  word : wordAt s first len ≡ w
-  behind : first + len ≡ n
-
-opened : (s : List ℕ) (at : ℕ) {w : Word} {n : ℕ} → nameAt s at ≡ good w n → Opened s at w n
-unfolding nameAt nameBody
-opened s at {w} {n} e = go (numberAt s at) refl e
-  where
-    body : (len first : ℕ) (t₁ t₂ t₃ t₄ : Bool) → numberAt s at ≡ good len first → ltb len 1 ≡ t₁ → ltb 128 len ≡ t₂ → ltb (length s - first) len ≡ t₃ → printableAt len s first ≡ t₄
-        → cond t₁ (bad at) (cond t₂ (bad at) (cond t₃ (bad at) (cond t₄ (good (wordAt s first len) (first + len)) (bad at)))) ≡ good w n → Opened s at w n
-    body len first true t₂ t₃ t₄ h p q k f e = let z : _≡_ {A = ℕ} 0 1 = cc in absurd (omega arith)
-    body len first false true t₃ t₄ h p q k f e = let z : _≡_ {A = ℕ} 0 1 = cc in absurd (omega arith)
-    body len first false false true t₄ h p q k f e = let z : _≡_ {A = ℕ} 0 1 = cc in absurd (omega arith)
-    body len first false false false false h p q k f e = let z : _≡_ {A = ℕ} 0 1 = cc in absurd (omega arith)
-    body len first false false false true h p q k f e =
-        record { len = len; first = first; number = h; some = ltb-false len 1 p; few = ltb-false 128 len q; room = ltb-false (length s - first) len k; fine = f; word = cc; behind = cc }
-
-    go : (a : Ans ℕ) → numberAt s at ≡ a → bind a (nameBody s at) ≡ good w n → Opened s at w n
-    go (good len first) h e = body len first (ltb len 1) (ltb 128 len) (ltb (length s - first) len) (printableAt len s first) h refl refl refl refl e
-    go (bad p) h e = let z : _≡_ {A = ℕ} 0 1 = cc in absurd (omega arith)
-
 module _ (s : List ℕ) (at : ℕ) {w : Word} {n : ℕ} (h : nameAt s at ≡ good w n) where
   text-size : (o : Opened s at w n) → length (take (o .len) (drop (o .first) s)) ≡ o .len
   text-size o = let r = o .room in length-take-le (o .len) (drop (o .first) s) (rw length-drop r)
 
-  pub name-namely : Namely (w .text)
-  name-namely =
+  pub name-bytes : NameBytes (w .text)
+  name-bytes =
       let o = opened s at h in
       let l = text-size o in
       let t : take (o .len) (drop (o .first) s) ≡ w .text = ap (λ (w : Word). w .text) (o .word) in
       let m : length (w .text) ≡ o .len = ap length (sym t) ∙ l in
-      record { some = rw m (o .some); few = rw m (o .few); printable = λ k i.
-          let j : k < o .len = rw (← m) i in
-          let g : getD (w .text) k 0 ≡ getD s (o .first + k) 0 =
-              ap (λ l. getD l k 0) (sym t) ∙ getD-take (o .len) (drop (o .first) s) k 0 j ∙ getD-drop (o .first) s k 0 in
-          rw g (each-fine s (o .len) (o .first) (o .fine) (o .first + k) (omega arith) (omega (arith, j))) }
+      record {
+        some = rw m (o .some);
+        few = rw m (o .few);
+        printable = λ k i.
+            let j : k < o .len = rw (← m) i in
+            let g : getD (w .text) k 0 ≡ getD s (o .first + k) 0 =
+            ap (λ l. getD l k 0) (sym t) ∙ getD-take (o .len) (drop (o .first) s) k 0 j ∙ getD-drop (o .first) s k 0 in
+            rw g (each-fine s (o .len) (o .first) (o .fine) (o .first + k) (omega arith) (omega (arith, j)));
+      }
 
   pub name-written : AllBytes s → take (n - at) (drop at s) ≡ writeName (w .text)
   unfolding writeName

@@ -2,11 +2,11 @@
 -- number 1 to 128 and as many bytes from 33 to 126. Wrong is the start of a number or name; a name starts at its length. What is missing at the
 -- end is wrong at the end.
 -- Assumes nothing.
-use Prim.Native.Nat.{ℕ, zero, suc, _+_, _-_, _*_, _≤_, _<_}
-use mathlib.Core.List.{List, [], _∷_}
+use Prim.Native.Nat.{ℕ, zero, suc, _+_, _-_, _*_}
+use mathlib.Core.List.{List}
 use mathlib.Core.Bool.{Bool, true, false, cond}
 use lib.ListN.{length, getD, take, drop}
-use lib.Dec.{ltb, leb, eqb}
+use lib.Dec.{ltb, eqb}
 use Rattle.form.specs.declared.Cursor.{Cursor}
 use Rattle.form.specs.declared.Number.{Number}
 use Rattle.form.specs.declared.Number.the-variants.{Value, Wrong}
@@ -18,12 +18,9 @@ pub data Ans (A : Type 0) : Type 0 where
   good : A → ℕ → Ans A
   bad : ℕ → Ans A
 
--- a byte from here on has its top bit set; a group has as many values, from 0 to the last
+-- a byte from here on has its top bit set; a 1 in the second group is worth as much
 abbrev pub topBit : ℕ
 topBit = 128
-
-abbrev pub mostGroup : ℕ
-mostGroup = 127
 
 -- what a 1 in the third group is worth
 abbrev pub third : ℕ

@@ -22,7 +22,7 @@ unfoldable pub writeName : List ℕ → List ℕ
 writeName bs = writeNumber (length bs) ++ bs
 
 -- bytes that make a name
-pub record Namely (bs : List ℕ) : Type 0 where
+pub record NameBytes (bs : List ℕ) : Type 0 where
   pub some : 1 ≤ length bs
   pub few : length bs ≤ mostName
   pub printable : (k : ℕ) → k < length bs → (leastByte ≤ getD bs k 0) × (getD bs k 0 ≤ mostByte)

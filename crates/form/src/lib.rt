@@ -4,14 +4,11 @@ ghost use Prim.Native.Nat.{_+_, _≤_};
 ghost use lib.ListN.{length};
 ghost use Rattle.form.specs.Form.{numberAt, numberSeen, printableAt, nameAt, nameSeen};
 
-// A byte from here on has its top bit set: another group follows, and a 1 in it is worth as much as this.
+// A byte from here on has its top bit set: another group follows. A 1 in the second group is worth as much.
 const TOP_BIT: usize = 128;
 
 // What a 1 in the third group is worth.
 const THIRD: usize = 16384;
-
-// The greatest number that three groups make.
-pub const MOST_NUMBER: usize = 2097151;
 
 // How many bytes a name has at the most.
 pub const MOST_NAME: usize = 128;
@@ -38,7 +35,7 @@ pub enum Name {
     Wrong(usize),
 }
 
-// Whether `count` bytes from `from` on are all of a name.
+// Whether all of the `count` bytes from `from` on are bytes of a name.
 fn printable(s: &[u8], from: usize, count: usize) -> bool
     requires { ⌜ from + count ≤ length (now s) ⌝ }
     ensures { λ r. ⌜ r ≡ printableAt count (now (s .entry)) from ⌝ }
