@@ -1,7 +1,7 @@
 -- Worked examples: each definition computes what stands beside it.
 -- Assumes nothing.
 use mathlib.Core.Path.{_≡_, refl}
-use mathlib.Core.List.{List, [], _∷_}
+use mathlib.Core.List.{[], _∷_}
 use Rattle.form.specs.Form.{good, bad, groups, numberAt, printableAt, nameBody, nameAt}
 use Rattle.form.specs.Writer.{writeNumber, writeName}
 

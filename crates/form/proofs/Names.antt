@@ -1,14 +1,13 @@
 -- The laws of `printableAt`, by which the loop of `printable` goes, and of `nameAt`, one for each `return` of `Cursor::name`.
 -- Assumes nothing.
-use mathlib.Core.Path.{_≡_, refl, sym, ap, ap₂, _∙_}
+use mathlib.Core.Path.{_≡_, sym, ap, _∙_}
 use mathlib.Core.List.{List}
 use mathlib.Core.Bool.{Bool, true, false}
-use Prim.Native.Nat.{ℕ, zero, suc, _+_, _-_, _*_, _≤_, _<_}
-use native.Mathlib.Omega.{arith}
+use Prim.Native.Nat.{ℕ, zero, suc, _+_, _-_, _≤_, _<_}
 use native.Mathlib.Numerals.{sub-one}
 use lib.ListN.{length, getD}
 use borrow.Author.Tests.{lt-ltb, le-ltb}
-use Rattle.form.specs.Form.{Ans, good, bad, numberAt, numberSeen, printableAt, Word, wordAt, nameBody, nameAt}
+use Rattle.form.specs.Form.{good, bad, numberAt, numberSeen, printableAt, wordAt, nameBody, nameAt}
 use Rattle.form.specs.declared.Cursor.{Cursor}
 use Rattle.form.specs.declared.Number.{Number}
 use Rattle.form.specs.declared.Number.the-variants.{Value, Wrong}

@@ -7,7 +7,6 @@ use mathlib.Core.List.{List}
 use mathlib.Core.Bool.{Bool, true, false, cond}
 use lib.ListN.{length, getD, take, drop}
 use lib.Dec.{ltb, eqb}
-use Rattle.form.specs.declared.Cursor.{Cursor}
 use Rattle.form.specs.declared.Number.{Number}
 use Rattle.form.specs.declared.Number.the-variants.{Value, Wrong}
 use Rattle.form.specs.declared.Name.{Name}

@@ -1,4 +1,5 @@
--- `form::printable` meets its contract. Each way out is one law of Names, which `search` fits to what is known there. Assumes nothing.
+-- `form::printable`. The loop keeps that the answer from here is the answer from the start; each way out is one law of Names.
+-- Assumes nothing.
 use borrow.Author.Needs.{needs}
 use native.Mathlib.Omega.{arith}
 use mathlib.Core.Path.{refl}

@@ -1,4 +1,5 @@
--- `form::Cursor::name` meets its contract. Each way out is one law of Names, which `search` fits to what is known there. Assumes nothing.
+-- `form::Cursor::name`. Each way out is one law of Names.
+-- Assumes nothing.
 use Rattle.form.proofs.Names.{no-number, first-in, empty, long, cut, unprintable, whole}
 use borrow.Author.Needs.{needs}
 use Rattle.form.proofs.Cursor.name.Statement.{statement}

@@ -1,4 +1,5 @@
--- `form::Cursor::number` meets its contract. Each way out is one law of Bytes and Numbers, which `search` fits to what is known there. Assumes nothing.
+-- `form::Cursor::number`. Each way out is one law of Numbers.
+-- Assumes nothing.
 use borrow.Author.Needs.{needs}
 use Rattle.form.proofs.Cursor.number.Statement.{statement}
 use Rattle.form.proofs.Cursor.number.Tie as tie
