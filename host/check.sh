@@ -1,11 +1,13 @@
 #!/bin/sh
-# check.sh: the host's quick checks: the archive from C, then the port beside the original Rust. What needs the NetGauze source, or a Rust that can compile it, is
+# check.sh: the host's quick checks: the archive from C, the packing of images and bundles, then the port beside the original Rust. What needs the NetGauze source, or a Rust that can compile it, is
 # skipped where that is not at hand, and says so.
 set -eu
 here=$(cd "$(dirname "$0")" && pwd)
 cd "$here/.."
 "$here/archive/test.sh"
 "$here/c/test.sh" "$("$here/archive/archive.sh" nuvaleta)"
+"$here/need" python3
+"$here/pack/test.py"
 
 skip() { echo "host: SKIPPED, $*: the oracle, the recorded answers and the comparison"; exit 0; }
 minor=$(rustc --version 2>/dev/null | sed -n 's/^rustc 1\.\([0-9]*\)\..*/\1/p')
