@@ -24,11 +24,6 @@ use Rattle.index.specs.Names.{firstFrom, firstOf, nameIn, namesIn, hashF
 
 -- ---- the bucket of a name
 
-pub hash-low : (h : ℕ) (t : List ℕ) → h < 2048 → hashFrom h t < 2048
-unfolding hashFrom
-hash-low h [] l = l
-hash-low h (b ∷ xs) l = hash-low ((h * 131 + b) % 2048) xs (mod-lt (h * 131 + b) (omega arith))
-
 module _ (t : List ℕ) where
   pub record Hashing (h i : ℕ) : Type 0 where
     pub same : hashFrom h (drop i t) ≡ hashOf t
@@ -53,7 +48,7 @@ module _ (t : List ℕ) where
 -- ---- the plain search, one word more
 
 -- the first where it is a hit, or the second
-abbrev pub orElse : Found → Found → Found
+abbrev orElse : Found → Found → Found
 orElse (At i) k = At i
 orElse Nothing k = k
 
@@ -75,7 +70,7 @@ module _ (s tab : List ℕ) where
 
   -- ---- the chains
 
-  pub top-low : (h n : ℕ) → topIn s tab h n ≤ n
+  top-low : (h n : ℕ) → topIn s tab h n ≤ n
   unfolding topIn
   top-low h zero = omega arith
   top-low h (suc n) = go (eqb (hashOf (nameIn s tab n .text)) h) (top-low h n)
@@ -85,7 +80,7 @@ module _ (s tab : List ℕ) where
       go false l = omega arith
 
   -- a chain's first name is in the chain's bucket
-  pub top-own : (h n : ℕ) → 0 < topIn s tab h n → hashOf (nameIn s tab (topIn s tab h n - 1) .text) ≡ h
+  top-own : (h n : ℕ) → 0 < topIn s tab h n → hashOf (nameIn s tab (topIn s tab h n - 1) .text) ≡ h
   unfolding topIn
   top-own h zero l = absurd (omega arith)
   top-own h (suc n) l = go (eqb (hashOf (nameIn s tab n .text)) h) refl (top-own h n) l
@@ -97,7 +92,7 @@ module _ (s tab : List ℕ) where
 
   module _ (t : List ℕ) where
     -- the search among the first n names
-    abbrev pub Among : ℕ → Found
+    abbrev Among : ℕ → Found
     Among n = firstOf t (namesIn s tab n)
 
     one-more : (n : ℕ) → Among (suc n) ≡ orElse (Among n) (cond (same (nameIn s tab n .text) t) (At n) Nothing)
@@ -108,7 +103,7 @@ module _ (s tab : List ℕ) where
     or-nothing (At i) = refl
     or-nothing Nothing = refl
 
-    pub passed : (n : ℕ) → same (nameIn s tab n .text) t ≡ false → Among (suc n) ≡ Among n
+    passed : (n : ℕ) → same (nameIn s tab n .text) t ≡ false → Among (suc n) ≡ Among n
     passed n e = one-more n ∙ rw e (or-nothing (Among n))
 
     -- a name in another bucket is another name
@@ -116,7 +111,7 @@ module _ (s tab : List ℕ) where
     other-bucket w d = same-no w t (λ e. d (ap hashOf e))
 
     -- so all names behind the chain's first can be left out
-    pub skip : (n : ℕ) → Among n ≡ Among (topIn s tab (hashOf t) n)
+    skip : (n : ℕ) → Among n ≡ Among (topIn s tab (hashOf t) n)
     unfolding topIn
     skip zero = refl
     skip (suc n) = go (eqb (hashOf (nameIn s tab n .text)) (hashOf t)) refl (skip n)

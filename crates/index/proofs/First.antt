@@ -16,7 +16,6 @@ use Rattle.text.proofs.Here.{by-test, never}
 use Rattle.index.specs.declared.Found.the-variants.{At, Nothing}
 use Rattle.index.specs.Names.{firstFrom, firstOf, firstBy, memb, addNew, addAll, nameIn, namesIn}
 use Rattle.index.proofs.Chain.{length-names}
-use Rattle.index.proofs.Stores.{decide}
 
 none : Word
 none = wordAt [] 0 0
@@ -48,11 +47,8 @@ unfolding namesIn
 nth s tab zero i l = absurd (omega arith)
 nth s tab (suc n) i l = ⊎-elim
     (λ e. rw e (getD-at (namesIn s tab n) (nameIn s tab n) [] none n (length-names s tab n)))
-    (λ d. List·getD-append (namesIn s tab n) (nameIn s tab n ∷ []) none i (rw (length-names s tab n) (below d)) ∙ nth s tab n i (below d))
-    (decide i n)
-  where
-    below : (i ≡ n → ⊥) → i < n
-    below d = ⊎-elim (λ e. absurd (d e)) (λ k. k) (eq-or-lt-of-le {n = i} {m = n} (omega arith))
+    (λ k. List·getD-append (namesIn s tab n) (nameIn s tab n ∷ []) none i (rw (length-names s tab n) k) ∙ nth s tab n i k)
+    (eq-or-lt-of-le {n = i} {m = n} (omega arith))
 
 -- ---- the number is of the word that any other search through the same words finds
 

@@ -4,20 +4,18 @@ use mathlib.Core.Path.{_≡_, refl, sym, ap, ap₂, _∙_}
 use mathlib.Core.Logic.{⊎-elim}
 use mathlib.Core.List.{List, [], _∷_, _++_}
 use mathlib.Core.Bool.{cond}
-use Prim.Native.Nat.{ℕ, zero, suc, _+_, _-_, _*_, _^_, _≤_, _<_}
+use Prim.Native.Nat.{ℕ, zero, suc, _+_, _-_, _*_, _≤_, _<_}
 use native.Mathlib.Omega.{arith}
 use native.Mathlib.Nat.{eq-or-lt-of-le}
 use native.Mathlib.Numerals.{add-one}
 use lib.ListN.{length, getD, take, drop}
 use lib.Dec.{eqb}
-use mir.Syntax.{w64}
-use mir.Val.{Fits}
 use borrow.Author.Tests.{eq-eqb, ne-eqb}
 use Rattle.form.specs.Form.{Word, wordAt}
 use Rattle.form.proofs.Bounds.{part-word}
 use Rattle.index.specs.declared.Found.{Found}
 use Rattle.index.specs.declared.Found.the-variants.{At, Nothing}
-use Rattle.index.specs.Names.{firstOf, nameIn, namesIn, hashOf, topIn, Indexed, Sought, Room, Added, Puts, Stored, Cleared}
+use Rattle.index.specs.Names.{firstOf, nameIn, namesIn, hashOf, topIn, Indexed, Room, Added, Stored, Cleared}
 use Rattle.index.proofs.Stores.{decide}
 
 -- ---- an empty table
@@ -36,12 +34,12 @@ none-yet s before tab e = record {
 -- ---- tables whose first n names agree
 
 module _ (s tab after : List ℕ) (n : ℕ) (same : (i : ℕ) → i < n → nameIn s after i ≡ nameIn s tab i) where
-  pub names-same : (m : ℕ) → m ≤ n → namesIn s after m ≡ namesIn s tab m
+  names-same : (m : ℕ) → m ≤ n → namesIn s after m ≡ namesIn s tab m
   unfolding namesIn
   names-same zero l = refl
   names-same (suc m) l = ap₂ (λ (ws : List Word) (w : Word). ws ++ (w ∷ [])) (names-same m (omega arith)) (same m (omega arith))
 
-  pub top-same : (h m : ℕ) → m ≤ n → topIn s after h m ≡ topIn s tab h m
+  top-same : (h m : ℕ) → m ≤ n → topIn s after h m ≡ topIn s tab h m
   unfolding topIn
   top-same h zero l = refl
   top-same h (suc m) l = ap₂ (λ (w : Word) (k : ℕ). cond (eqb (hashOf (w .text)) h) (suc m) k) (same m (omega arith)) (top-same h m (omega arith))
@@ -50,19 +48,13 @@ module _ (s tab after : List ℕ) (n : ℕ) (same : (i : ℕ) → i < n → name
 
 module _ (s tab after : List ℕ) (n h place len : ℕ) (g : Indexed s tab n) (q : Stored tab n h place len after) (b : h ≡ hashOf (wordAt s place len .text))
     (low : h < 2048) (free : 2048 + n * 3 + 3 ≤ length tab) (few : n < 16777216) where
-  below : (i : ℕ) → i < suc n → (i ≡ n → ⊥) → i < n
-  below i l d = ⊎-elim (λ e. absurd (d e)) (λ k. k) (eq-or-lt-of-le {n = i} {m = n} (omega arith))
-
-  row-same : (k : ℕ) → 2048 ≤ k → k < 2048 + n * 3 → getD after k 0 ≡ getD tab k 0
-  row-same k a b = q .rows k a b
-
   same : (i : ℕ) → i < n → nameIn s after i ≡ nameIn s tab i
-  same i l = ap₂ (wordAt s) (row-same (2048 + i * 3) (omega arith) (omega arith)) (row-same (2048 + i * 3 + 1) (omega arith) (omega arith))
+  same i l = ap₂ (wordAt s) (q .rows (2048 + i * 3) (omega arith) (omega arith)) (q .rows (2048 + i * 3 + 1) (omega arith) (omega arith))
 
   own : nameIn s after n ≡ wordAt s place len
   own = ap₂ (wordAt s) (q .place-of) (q .len-of)
 
-  pub grown : namesIn s after (n + 1) ≡ namesIn s tab n ++ (wordAt s place len ∷ [])
+  grown : namesIn s after (n + 1) ≡ namesIn s tab n ++ (wordAt s place len ∷ [])
   unfolding namesIn
   grown = rw add-one (ap₂ (λ (ws : List Word) (w : Word). ws ++ (w ∷ [])) (names-same s tab after n same n (omega arith)) own)
 
@@ -84,43 +76,38 @@ module _ (s tab after : List ℕ) (n h place len : ℕ) (g : Indexed s tab n) (q
 
   links : (i : ℕ) → i < suc n → getD after (2048 + i * 3 + 2) 0 ≡ topIn s after (hashOf (nameIn s after i .text)) i
   links i l = ⊎-elim
-      (λ e. ap (λ (k : ℕ). getD after (2048 + k * 3 + 2) 0) e ∙ q .link-of ∙ g .heads h low ∙ sym (top-same s tab after n same h n (omega arith))
-      ∙ ap (λ (k : ℕ). topIn s after k n) (b ∙ ap (λ (w : Word). hashOf (w .text)) (sym own)) ∙ ap (λ (k : ℕ). topIn s after (hashOf (nameIn s after k .text)) k) (sym e))
-      (λ d. (let m : i < n = below i l d in row-same (2048 + i * 3 + 2) (omega arith) (omega arith)) ∙ g .links i (below i l d)
-      ∙ sym (top-same s tab after n same (hashOf (nameIn s tab i .text)) i (omega arith)) ∙ ap (λ (w : Word). topIn s after (hashOf (w .text)) i) (sym (same i (below i l d))))
-      (decide i n)
+      (λ e. ap (λ (k : ℕ). getD after (2048 + k * 3 + 2) 0) e ∙ q .link-of ∙ g .heads h low
+      ∙ sym (top-same s tab after n same h n (omega arith))
+      ∙ ap (λ (k : ℕ). topIn s after k n) (b ∙ ap (λ (w : Word). hashOf (w .text)) (sym own))
+      ∙ ap (λ (k : ℕ). topIn s after (hashOf (nameIn s after k .text)) k) (sym e))
+      (λ m. q .rows (2048 + i * 3 + 2) (omega arith) (omega arith) ∙ g .links i m
+      ∙ sym (top-same s tab after n same (hashOf (nameIn s tab i .text)) i (omega arith))
+      ∙ ap (λ (w : Word). topIn s after (hashOf (w .text)) i) (sym (same i m)))
+      (eq-or-lt-of-le {n = i} {m = n} (omega arith))
 
   inside : place + len ≤ length s → (i : ℕ) → i < suc n → getD after (2048 + i * 3) 0 + getD after (2048 + i * 3 + 1) 0 ≤ length s
   inside w i l = ⊎-elim
       (λ e. let p : getD after (2048 + i * 3) 0 ≡ place = ap (λ (k : ℕ). getD after (2048 + k * 3) 0) e ∙ q .place-of in
       let z : getD after (2048 + i * 3 + 1) 0 ≡ len = ap (λ (k : ℕ). getD after (2048 + k * 3 + 1) 0) e ∙ q .len-of in omega arith)
-      (λ d. let p : nameIn s after i ≡ nameIn s tab i = same i (below i l d) in
-      let x : getD after (2048 + i * 3) 0 ≡ getD tab (2048 + i * 3) 0 = ap (λ (w : Word). w .place) p in
-      let y : getD after (2048 + i * 3 + 1) 0 ≡ getD tab (2048 + i * 3 + 1) 0 = ap (λ (w : Word). w .size) p in omega (arith, g .inside i (below i l d)))
-      (decide i n)
+      (λ m. let x : getD after (2048 + i * 3) 0 ≡ getD tab (2048 + i * 3) 0 = q .rows (2048 + i * 3) (omega arith) (omega arith) in
+      let y : getD after (2048 + i * 3 + 1) 0 ≡ getD tab (2048 + i * 3 + 1) 0 = q .rows (2048 + i * 3 + 1) (omega arith) (omega arith) in
+      omega (arith, g .inside i m))
+      (eq-or-lt-of-le {n = i} {m = n} (omega arith))
 
-  differ : firstOf (wordAt s place len .text) (namesIn s tab n) ≡ Nothing → (i : ℕ) → i < suc n → firstOf (nameIn s after i .text) (namesIn s after i) ≡ Nothing
+  differ : firstOf (wordAt s place len .text) (namesIn s tab n) ≡ Nothing
+      → (i : ℕ) → i < suc n → firstOf (nameIn s after i .text) (namesIn s after i) ≡ Nothing
   differ f i l = ⊎-elim
       (λ e. ap (λ (k : ℕ). firstOf (nameIn s after k .text) (namesIn s after k)) e
       ∙ ap₂ (λ (w : Word) (ws : List Word). firstOf (w .text) ws) own (names-same s tab after n same n (omega arith)) ∙ f)
-      (λ d. ap₂ (λ (w : Word) (ws : List Word). firstOf (w .text) ws) (same i (below i l d)) (names-same s tab after n same i (omega arith)) ∙ g .differ i (below i l d))
-      (decide i n)
+      (λ m. ap₂ (λ (w : Word) (ws : List Word). firstOf (w .text) ws) (same i m) (names-same s tab after n same i (omega arith)) ∙ g .differ i m)
+      (eq-or-lt-of-le {n = i} {m = n} (omega arith))
 
-  pub kept : place + len ≤ length s → firstOf (wordAt s place len .text) (namesIn s tab n) ≡ Nothing → Indexed s after (n + 1)
+  kept : place + len ≤ length s → firstOf (wordAt s place len .text) (namesIn s tab n) ≡ Nothing → Indexed s after (n + 1)
   kept w f = rw add-one (record { long = omega (arith, q .kept); small = omega arith; heads = heads; links = links; inside = inside w; differ = differ f })
 
 -- ---- the ways out of `add`
 
 module _ (s tab : List ℕ) (n place len : ℕ) (m : Room s tab n place len) where
-  pub end-fits : length s < 2 ^ 64 → Fits w64 (place + len)
-  end-fits l = record { fits = omega (arith, m .within) }
-
-  pub sought : {h : ℕ} → h ≡ hashOf (take (place + len - place) (drop place s)) → h < 2048 → Sought s tab n h (take (place + len - place) (drop place s))
-  sought e l = record { indexed = m .indexed; bucket = e; low = l }
-
-  pub puts : {h : ℕ} → h < 2048 → Puts tab n h place len
-  puts l = record { free = m .free; small = m .small; low = l; place-small = omega (arith, m .within, m .short); len-small = omega (arith, m .within, m .short) }
-
   module _ {r : Found} (e : r ≡ firstOf (take (place + len - place) (drop place s)) (namesIn s tab n)) where
     found : r ≡ firstOf (wordAt s place len .text) (namesIn s tab n)
     found = e ∙ ap (λ (t : List ℕ). firstOf t (namesIn s tab n)) (part-word s place len)
