@@ -52,13 +52,16 @@ abbrev orElse : Found → Found → Found
 orElse (At i) k = At i
 orElse Nothing k = k
 
-first-snoc : (i : ℕ) (t : List ℕ) (ws : List Word) (w : Word) → firstFrom i t (ws ++ (w ∷ [])) ≡ orElse (firstFrom i t ws) (cond (same (w .text) t) (At (i + length ws)) Nothing)
+first-snoc : (i : ℕ) (t : List ℕ) (ws : List Word) (w : Word)
+    → firstFrom i t (ws ++ (w ∷ [])) ≡ orElse (firstFrom i t ws) (cond (same (w .text) t) (At (i + length ws)) Nothing)
 unfolding firstFrom
 first-snoc i t [] w = let e : i + 0 ≡ i = omega arith in rw e
 first-snoc i t (v ∷ ws) w = go (same (v .text) t) (first-snoc (suc i) t ws w)
   where
-    go : (b : Bool) → firstFrom (suc i) t (ws ++ (w ∷ [])) ≡ orElse (firstFrom (suc i) t ws) (cond (same (w .text) t) (At (suc i + length ws)) Nothing)
-        → cond b (At i) (firstFrom (suc i) t (ws ++ (w ∷ []))) ≡ orElse (cond b (At i) (firstFrom (suc i) t ws)) (cond (same (w .text) t) (At (i + suc (length ws))) Nothing)
+    go : (b : Bool)
+        → firstFrom (suc i) t (ws ++ (w ∷ [])) ≡ orElse (firstFrom (suc i) t ws) (cond (same (w .text) t) (At (suc i + length ws)) Nothing)
+        → cond b (At i) (firstFrom (suc i) t (ws ++ (w ∷ [])))
+        ≡ orElse (cond b (At i) (firstFrom (suc i) t ws)) (cond (same (w .text) t) (At (i + suc (length ws))) Nothing)
     go true ih = refl
     go false ih = let e : suc i + length ws ≡ i + suc (length ws) = omega arith in ih ∙ rw e
 
@@ -97,7 +100,9 @@ module _ (s tab : List ℕ) where
 
     one-more : (n : ℕ) → Among (suc n) ≡ orElse (Among n) (cond (same (nameIn s tab n .text) t) (At n) Nothing)
     unfolding namesIn
-    one-more n = first-snoc 0 t (namesIn s tab n) (nameIn s tab n) ∙ (let e : 0 + length (namesIn s tab n) ≡ n = rw (length-names n) (omega arith) in rw e)
+    one-more n =
+        let e : 0 + length (namesIn s tab n) ≡ n = rw (length-names n) (omega arith) in
+        first-snoc 0 t (namesIn s tab n) (nameIn s tab n) ∙ rw e
 
     or-nothing : (r : Found) → orElse r Nothing ≡ r
     or-nothing (At i) = refl
@@ -116,7 +121,8 @@ module _ (s tab : List ℕ) where
     skip zero = refl
     skip (suc n) = go (eqb (hashOf (nameIn s tab n .text)) (hashOf t)) refl (skip n)
       where
-        go : (b : Bool) → eqb (hashOf (nameIn s tab n .text)) (hashOf t) ≡ b → Among n ≡ Among (topIn s tab (hashOf t) n) → Among (suc n) ≡ Among (cond b (suc n) (topIn s tab (hashOf t) n))
+        go : (b : Bool) → eqb (hashOf (nameIn s tab n .text)) (hashOf t) ≡ b → Among n ≡ Among (topIn s tab (hashOf t) n)
+            → Among (suc n) ≡ Among (cond b (suc n) (topIn s tab (hashOf t) n))
         go true e ih = refl
         go false e ih = passed n (other-bucket (nameIn s tab n .text) (eqb-false _ _ e)) ∙ ih
 
@@ -154,11 +160,15 @@ module _ (s tab : List ℕ) where
           pub chain-falls : {next : ℕ} → next ≡ getD tab (2048 + (j - 1) * 3 + 2) 0 → next < j
           chain-falls q = rw (linked q) (omega (arith, top-low (hashOf t) (j - 1)))
 
-          part : take (place + len - place) (drop place s) ≡ nameIn s tab (j - 1) .text
+          -- what is compared
+          abbrev Part : List ℕ
+          Part = take (place + len - place) (drop place s)
+
+          part : Part ≡ nameIn s tab (j - 1) .text
           part = part-word s place len ∙ ap₂ (λ (p z : ℕ). take z (drop p s)) p z
 
           -- b is what the comparison answers
-          module _ {b : Bool} (k : (b ≡ true → take (place + len - place) (drop place s) ≡ t) × (take (place + len - place) (drop place s) ≡ t → b ≡ true)) where
+          module _ {b : Bool} (k : (b ≡ true → Part ≡ t) × (Part ≡ t → b ≡ true)) where
             pub chain-hit : b ≡ true → At (j - 1) ≡ Among n
             chain-hit y =
                 let e : nameIn s tab (j - 1) .text ≡ t = sym part ∙ k .0 y in

@@ -46,8 +46,8 @@ module _ (s tab after : List ℕ) (n : ℕ) (same : (i : ℕ) → i < n → name
 
 -- ---- one name more
 
-module _ (s tab after : List ℕ) (n h place len : ℕ) (g : Indexed s tab n) (q : Stored tab n h place len after) (b : h ≡ hashOf (wordAt s place len .text))
-    (low : h < 2048) (free : 2048 + n * 3 + 3 ≤ length tab) (few : n < 16777216) where
+module _ (s tab after : List ℕ) (n h place len : ℕ) (g : Indexed s tab n) (q : Stored tab n h place len after)
+    (b : h ≡ hashOf (wordAt s place len .text)) (low : h < 2048) (free : 2048 + n * 3 + 3 ≤ length tab) (few : n < 16777216) where
   same : (i : ℕ) → i < n → nameIn s after i ≡ nameIn s tab i
   same i l = ap₂ (wordAt s) (q .rows (2048 + i * 3) (omega arith) (omega arith)) (q .rows (2048 + i * 3 + 1) (omega arith) (omega arith))
 
@@ -61,7 +61,8 @@ module _ (s tab after : List ℕ) (n h place len : ℕ) (g : Indexed s tab n) (q
   -- the buckets
   in-own : topIn s after h (suc n) ≡ suc n
   unfolding topIn
-  in-own = ap (λ (w : Word). cond (eqb (hashOf (w .text)) h) (suc n) (topIn s after h n)) own ∙ rw (eq-eqb (hashOf (wordAt s place len .text)) h (sym b))
+  in-own = ap (λ (w : Word). cond (eqb (hashOf (w .text)) h) (suc n) (topIn s after h n)) own
+      ∙ rw (eq-eqb (hashOf (wordAt s place len .text)) h (sym b))
 
   in-other : (k : ℕ) → (k ≡ h → ⊥) → topIn s after k (suc n) ≡ topIn s tab k n
   unfolding topIn
@@ -103,7 +104,14 @@ module _ (s tab after : List ℕ) (n h place len : ℕ) (g : Indexed s tab n) (q
       (eq-or-lt-of-le {n = i} {m = n} (omega arith))
 
   kept : place + len ≤ length s → firstOf (wordAt s place len .text) (namesIn s tab n) ≡ Nothing → Indexed s after (n + 1)
-  kept w f = rw add-one (record { long = omega (arith, q .kept); small = omega arith; heads = heads; links = links; inside = inside w; differ = differ f })
+  kept w f = rw add-one (record {
+    long = omega (arith, q .kept);
+    small = omega arith;
+    heads = heads;
+    links = links;
+    inside = inside w;
+    differ = differ f;
+  })
 
 -- ---- the ways out of `add`
 
@@ -118,16 +126,17 @@ module _ (s tab : List ℕ) (n place len : ℕ) (m : Room s tab n place len) whe
       kept = refl;
       there = λ i e. refl;
       indexed = λ k. let z : _≡_ {A = ℕ} 0 1 = cc in absurd (omega arith);
-      names = λ k. let z : _≡_ {A = ℕ} 0 1 = cc in absurd (omega arith);
+      names = λ k. cc;
     }
 
-    pub added : {h : ℕ} {after : List ℕ} → r ≡ Nothing → h ≡ hashOf (take (place + len - place) (drop place s)) → h < 2048 → Stored tab n h place len after → Added s tab n place len r after
+    pub added : {h : ℕ} {after : List ℕ} → r ≡ Nothing → h ≡ hashOf (take (place + len - place) (drop place s)) → h < 2048
+        → Stored tab n h place len after → Added s tab n place len r after
     added {h} {after} f b l q =
         let b′ : h ≡ hashOf (wordAt s place len .text) = b ∙ ap hashOf (part-word s place len) in
         record {
           answer = found;
           kept = q .kept;
-          there = λ i k. let z : _≡_ {A = ℕ} 0 1 = cc in absurd (omega arith);
+          there = λ i k. cc;
           indexed = λ k. kept s tab after n h place len (m .indexed) q b′ l (m .free) (m .small) (m .within) (sym found ∙ f);
           names = λ k. grown s tab after n h place len (m .indexed) q b′ l (m .free) (m .small);
         }

@@ -1,4 +1,4 @@
--- `index::add` meets its contract. Each way out is one law of Insert.
+-- `index::add`. Each way out is one law of Insert.
 -- Assumes nothing.
 use borrow.Author.Needs.{needs}
 use Rattle.index.proofs.Insert.{already, added}

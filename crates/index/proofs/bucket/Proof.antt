@@ -1,4 +1,4 @@
--- `index::bucket` meets its contract: the hash from here is the hash from the start.
+-- `index::bucket`. The hash from here is the hash from the start.
 -- Assumes nothing.
 use borrow.Author.Needs.{needs}
 use Prim.Native.Nat.{_-_}

@@ -1,4 +1,4 @@
--- `index::clear` meets its contract: the heads below h are 0.
+-- `index::clear`. The heads below h are 0.
 -- Assumes nothing.
 use borrow.Author.Needs.{needs}
 use Prim.Native.Nat.{_-_}

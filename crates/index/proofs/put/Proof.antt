@@ -1,4 +1,4 @@
--- `index::put` meets its contract: what the four stores leave.
+-- `index::put`. What the four stores leave.
 -- Assumes nothing.
 use borrow.Author.Needs.{needs}
 use native.Mathlib.Omega.{arith}

@@ -1,4 +1,4 @@
--- `index::seek` meets its contract. Each way out is one law of Chain.
+-- `index::seek`. Each way out is one law of Chain.
 -- Assumes nothing.
 use borrow.Author.Needs.{needs}
 use Rattle.index.proofs.Chain.{Chained, chain-begun, name-in, name-fits, chain-hit, chain-on, chain-falls, chain-done}
@@ -94,7 +94,9 @@ loop-again c =
     let place = len .before .before in
     let test = place .before .before in
     let loop = test .before in
-    chain-on _ _ _ _ _ (loop .before .before .before .before .before .before .pre) _ (loop .loop .inv) (place .of-word2 .ensures) (len .of-word3 .ensures) (test .loop-test .taken) (same .same .ensures) (c .of-word4 .ensures) (if1 .if1 .left)
+    let pre = loop .before .before .before .before .before .before .pre in
+    chain-on _ _ _ _ _ pre _ (loop .loop .inv) (place .of-word2 .ensures) (len .of-word3 .ensures) (test .loop-test .taken)
+    (same .same .ensures) (c .of-word4 .ensures) (if1 .if1 .left)
 
 returns-2 : tie.Need-returns-2 Inv-loop μ-loop
 returns-2 c = search chain-done
