@@ -1,1 +1,4 @@
 pub mod Examples
+pub mod ImageLaws
+pub mod Lawful
+pub mod Steps
