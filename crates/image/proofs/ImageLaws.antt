@@ -1,22 +1,23 @@
 -- What is accepted is what the writer writes, and reading what it writes gives the library back: from the laws of names, and of counted lists of what
 -- is lawful.
 -- Assumes nothing.
-use mathlib.Core.Path.{_≡_, refl, sym, ap, ap₂, _∙_, subst}
-use mathlib.Core.List.{List, [], _∷_, _++_, map, map-map, append-nil}
-use mathlib.Core.Bool.{Bool, true, false, cond}
-use Prim.Native.Nat.{ℕ, zero, suc, _+_, _-_, _≤_, _<_}
+use mathlib.Core.Path.{_≡_, refl, sym, ap, _∙_, subst}
+use mathlib.Core.List.{List, [], _++_, map, map-map, append-nil}
+use mathlib.Core.Bool.{cond}
+use Prim.Native.Nat.{ℕ, _+_, _-_, _≤_}
 use native.Mathlib.Omega.{arith}
-use lib.ListN.{length, take, drop, length-append}
+use lib.ListN.{length, take, length-append}
 use lib.Seq.{take-all}
 use lib.Dec.{ltb}
 use borrow.Author.Tests.{le-ltb, ltb-false}
-use Rattle.form.specs.Form.{Ans, good, bad, bind, Word, nameAt}
-use Rattle.form.specs.Writer.{writeNumber, writeName, NameBytes, AllBytes}
+use Rattle.form.specs.Form.{good, bad, bind, Word, nameAt}
+use Rattle.form.specs.Writer.{writeNumber, writeName, AllBytes}
 use Rattle.form.proofs.WriterLaws.{name-bytes}
 use Rattle.image.specs.Library.{Module, ImportOnly, ModuleSet, Library}
 use Rattle.image.specs.Image.{mostImage, mostSets, mostModules, mostNames, leastRevisions, mostRevisions, counted, among, newName, anyWord, newWord, moduleAt, revisionAt, importOnlyAt, setAt, libraryAt, imageAt}
 use Rattle.image.specs.ImageWriter.{Name, PlainModule, PlainImportOnly, PlainSet, PlainLibrary, plainName, plainModule, plainImportOnly, plainSet, plain, writeList, writeModule, writeImportOnly, writeSet, writeImage, Listed, AnyName, NewName, FormedModule, FormedRevision, FormedImportOnly, FormedSet, Formed}
-use Rattle.image.proofs.Steps.{on-good, bind-good, passed, carry, pass, Wrote, wrote-join, name-wrote, Stands, stands-left, stands-right, name-stands}
+use Rattle.image.proofs.Steps.{on-good, bind-good, passed, carry, pass, wrote-join, name-wrote, Stands, stands-left, stands-right, name-stands}
+use Rattle.image.proofs.Differ.{none-of, not-among}
 use Rattle.image.proofs.Lawful.{Forth, Back, Lawful, counted-lawful}
 
 -- ---- names
@@ -37,7 +38,7 @@ new-forth s bytes before at e =
     on-good (nameAt s at) _ e (λ v m e₁ e₂.
     let g = passed (among (v .text) before) at (good v m) e₂ in
     carry (λ w n. Forth writeName NewName s before at (w .text) n) (g .1)
-    (record { wrote = name-wrote s bytes at e₁; right = (name-bytes s at e₁, g .0) }))
+    (record { wrote = name-wrote s bytes at e₁; right = (name-bytes s at e₁, none-of (v .text) before (g .0)) }))
 
 new-back : (s : List ℕ) (before : List Name) (at : ℕ) (b : Name) (rest : List ℕ) → NewName before b → Stands s at (writeName b) rest
     → Back (λ s seen at. newName s before at) plainName writeName s [] at b
@@ -49,7 +50,7 @@ new-back s before at b rest h t =
       plain = refl;
       read =
           bind-good (λ w n. cond (among (w .text) before) (bad at) (good w n)) (name-stands s at b rest (h .0) t)
-          (pass at (good w (at + length (writeName b))) (h .1));
+          (pass at (good w (at + length (writeName b))) (not-among b before (h .1)));
     }
 
 new-lawful : Lawful newWord plainName writeName NewName

@@ -3,14 +3,14 @@
 -- Assumes nothing.
 use mathlib.Core.Path.{_≡_, refl, sym, ap, ap₂, _∙_, subst}
 use mathlib.Core.List.{List, [], _∷_, _++_, map, append-nil, map-append}
-use mathlib.Core.Bool.{Bool, true, false, cond}
-use Prim.Native.Nat.{ℕ, zero, suc, _+_, _-_, _≤_, _<_}
+use mathlib.Core.Bool.{cond}
+use Prim.Native.Nat.{ℕ, zero, suc, _+_, _≤_}
 use native.Mathlib.Omega.{arith}
 use lib.ListN.{length, length-append, length-map}
 use lib.Seq.{append-snoc}
 use lib.Dec.{ltb}
 use borrow.Author.Tests.{le-ltb, ltb-false}
-use Rattle.form.specs.Form.{Ans, good, bad, bind, mostNumber, numberAt}
+use Rattle.form.specs.Form.{good, bad, mostNumber, numberAt}
 use Rattle.form.specs.Writer.{writeNumber, AllBytes}
 use Rattle.image.specs.Image.{Reader, many, counted}
 use Rattle.image.specs.ImageWriter.{writeEach, writeList, EachOf, Listed}

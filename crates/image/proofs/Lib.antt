@@ -1,3 +1,4 @@
+pub mod Differ
 pub mod Examples
 pub mod ImageLaws
 pub mod Lawful

@@ -1,11 +1,11 @@
 -- Reading one thing after another: what a good reading says of its parts, and bytes that stand one behind the other.
 -- Assumes nothing.
 use mathlib.Core.Path.{_≡_, refl, sym, ap, ap₂, _∙_, subst}
-use mathlib.Core.List.{List, [], _∷_, _++_, append-assoc}
+use mathlib.Core.List.{List, [], _++_, append-assoc}
 use mathlib.Core.Bool.{Bool, true, false, cond}
-use Prim.Native.Nat.{ℕ, zero, suc, _+_, _-_, _≤_, _<_}
+use Prim.Native.Nat.{ℕ, _+_, _-_, _≤_}
 use native.Mathlib.Omega.{arith}
-use lib.ListN.{length, getD, take, drop, length-append, length-drop, take-append-drop}
+use lib.ListN.{length, take, drop, length-append, length-drop, take-append-drop}
 use lib.Seq.{drop-drop, take-add, drop-append-seam, length-take-le}
 use Rattle.form.specs.Form.{Ans, good, bad, bind, mostNumber, numberAt, Word, nameAt}
 use Rattle.form.specs.Writer.{writeNumber, writeName, NameBytes, AllBytes}

@@ -4,13 +4,12 @@
 -- Assumes nothing.
 use Prim.Native.Nat.{ℕ, _≤_}
 use mathlib.Core.Path.{_≡_}
-use mathlib.Core.Bool.{false}
 use mathlib.Core.List.{List, [], _∷_, _++_, map}
 use lib.ListN.{length}
 use Rattle.form.specs.Form.{Word}
 use Rattle.form.specs.Writer.{writeNumber, writeName, NameBytes}
 use Rattle.image.specs.Library.{Module, ImportOnly, ModuleSet, Library}
-use Rattle.image.specs.Image.{mostImage, mostSets, mostModules, mostNames, leastRevisions, mostRevisions, among}
+use Rattle.image.specs.Image.{mostImage, mostSets, mostModules, mostNames, leastRevisions, mostRevisions}
 
 -- ---- the library without places: a name is its bytes
 
@@ -95,9 +94,13 @@ module _ {B : Type 0} where
 abbrev pub AnyName : (before : List Name) → Name → Type 0
 AnyName before n = NameBytes n
 
--- it differs from those before it
+-- a name differs from each of the list
+unfoldable pub NoneOf : Name → List Name → Type 0
+NoneOf n [] = Unit {0}
+NoneOf n (u ∷ us) = (u ≡ n → ⊥) × NoneOf n us
+
 abbrev pub NewName : (before : List Name) → Name → Type 0
-NewName before n = NameBytes n × (among n before ≡ false)
+NewName before n = NameBytes n × NoneOf n before
 
 pub record FormedModule (before : List PlainModule) (m : PlainModule) : Type 0 where
   pub name : NewName (map (λ (k : PlainModule). k .name) before) (m .name)
