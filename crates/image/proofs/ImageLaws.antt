@@ -4,12 +4,12 @@
 use mathlib.Core.Path.{_≡_, refl, sym, ap, _∙_, subst}
 use mathlib.Core.List.{List, [], _++_, map, map-map, append-nil}
 use mathlib.Core.Bool.{cond}
-use Prim.Native.Nat.{ℕ, _+_, _-_, _≤_}
+use Prim.Native.Nat.{ℕ, _+_, _-_, _≤_, _<_}
 use native.Mathlib.Omega.{arith}
 use lib.ListN.{length, take, length-append}
 use lib.Seq.{take-all}
 use lib.Dec.{ltb}
-use borrow.Author.Tests.{le-ltb, ltb-false}
+use borrow.Author.Tests.{lt-ltb, le-ltb, ltb-false}
 use Rattle.form.specs.Form.{good, bad, bind, Word, nameAt}
 use Rattle.form.specs.Writer.{writeNumber, writeName, AllBytes}
 use Rattle.form.proofs.WriterLaws.{name-bytes}
@@ -205,6 +205,11 @@ sets-lawful : Lawful (λ s seen at. counted 0 mostSets setAt s at) plain (writeL
 sets-lawful = counted-lawful set-lawful 0 mostSets (omega arith)
 
 -- ---- the image
+
+-- one that is too long is wrong at 0
+pub image-long : (s : List ℕ) → mostImage < length s → imageAt s ≡ bad 0
+unfolding imageAt
+image-long s h = rw (lt-ltb mostImage (length s) h)
 
 -- an image that is accepted is not too long, and its library's sets end where it ends
 record Accepted (s : List ℕ) (l : Library) (n : ℕ) : Type 0 where
