@@ -212,12 +212,12 @@ unfolding imageAt
 image-long s h = rw (lt-ltb mostImage (length s) h)
 
 -- an image that is accepted is not too long, and its library's sets end where it ends
-record Accepted (s : List ℕ) (l : Library) (n : ℕ) : Type 0 where
-  short : length s ≤ mostImage
-  read : libraryAt s 0 ≡ good l n
-  end : length s ≤ n
+pub record Accepted (s : List ℕ) (l : Library) (n : ℕ) : Type 0 where
+  pub short : length s ≤ mostImage
+  pub read : libraryAt s 0 ≡ good l n
+  pub end : length s ≤ n
 
-accepted : (s : List ℕ) {l : Library} {n : ℕ} → imageAt s ≡ good l n → Accepted s l n
+pub accepted : (s : List ℕ) {l : Library} {n : ℕ} → imageAt s ≡ good l n → Accepted s l n
 unfolding imageAt
 accepted s e =
     let g = passed (ltb mostImage (length s)) 0 (bind (libraryAt s 0) (λ l n. cond (ltb n (length s)) (bad n) (good l n))) e in
