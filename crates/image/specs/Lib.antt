@@ -1,0 +1,3 @@
+pub mod Library
+pub mod Image
+pub mod ImageWriter
