@@ -1,0 +1,5 @@
+pub mod Entries
+pub mod Examples
+pub mod Filing
+pub mod Looking
+pub mod Opening
