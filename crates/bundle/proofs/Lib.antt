@@ -1,3 +1,4 @@
+pub mod BundleWriterLaws
 pub mod Entries
 pub mod Examples
 pub mod Filing

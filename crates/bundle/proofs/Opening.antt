@@ -27,7 +27,7 @@ length-words : (es : List Text) → length (words es) ≡ length es
 length-words [] = refl
 length-words (e ∷ es) = ap suc (length-words es)
 
-words-snoc : (es : List Text) (e : Text) → words (es ++ (e ∷ [])) ≡ words es ++ (e .word ∷ [])
+pub words-snoc : (es : List Text) (e : Text) → words (es ++ (e ∷ [])) ≡ words es ++ (e .word ∷ [])
 words-snoc [] e = refl
 words-snoc (d ∷ es) e = ap (λ (ws : List Word). d .word ∷ ws) (words-snoc es e)
 
