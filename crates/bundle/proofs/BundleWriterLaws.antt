@@ -7,20 +7,20 @@ use Prim.Native.Nat.{ℕ, zero, suc, _+_, _-_, _≤_, _<_}
 use native.Mathlib.Omega.{arith}
 use lib.ListN.{length, take, drop, length-append, length-drop, take-append-drop}
 use lib.Seq.{drop-drop, take-add, take-append-seam, drop-append-seam, length-take-le, take-all}
-use lib.Dec.{ltb}
-use borrow.Author.Tests.{le-ltb, ltb-false}
+use borrow.Author.Tests.{le-ltb}
 use Rattle.text.specs.Keyword.{same}
 use Rattle.text.proofs.KeywordLaws.{same-yes, same-no}
-use Rattle.text.proofs.Here.{by-test, never}
+use Rattle.text.proofs.Here.{never}
 use Rattle.form.specs.Form.{Ans, good, bad, bind, Word, mostNumber, numberAt, nameAt}
 use Rattle.form.specs.Writer.{writeNumber, writeName, NameBytes, AllBytes}
 use Rattle.form.proofs.Bounds.{number-end, name-end}
 use Rattle.form.proofs.WriterLaws.{number-back, name-back, name-bytes, number-written, number-most, name-written}
 use Rattle.index.specs.Names.{memb}
-use Rattle.bundle.specs.Bundle.{mostTexts, mostBytes, Text, textOf, bodyAt, entryAt, filedAt, words, newText, many, ended, textsAt, bundleAt}
+use Rattle.bundle.specs.Bundle.{mostTexts, mostBytes, Text, textOf, bodyAt, entryAt, filedAt, words, newText, many, textsAt, bundleAt}
 use Rattle.bundle.specs.BundleWriter.{Named, writeText, writeTexts, writeBundle, named, allNamed, TextBytes, AllTexts, Others, Differ, BundleTexts}
-use Rattle.bundle.proofs.Entries.{Parted, parted}
+use Rattle.bundle.proofs.Entries.{parted}
 use Rattle.bundle.proofs.Opening.{words-snoc}
+use Rattle.bundle.proofs.Parts.{filed-new, bundle-parted}
 
 -- ---- lists
 
@@ -225,21 +225,6 @@ module _ (s : List ℕ) where
           fine = record { name = name-bytes s at (o .name); few = rw z (number-most s bytes b (o .size)) };
         }
 
-    -- a text that is new
-    filed-new : (ws : List Word) (at : ℕ) {e : Text} {n : ℕ} → filedAt s ws at ≡ good e n → (entryAt s at ≡ good e n) × (memb (e .word .text) ws ≡ false)
-    unfolding filedAt
-    filed-new ws at {e} {n} h = go (entryAt s at) refl h
-      where
-        new : (d : Text) (m : ℕ) → (b : Bool) → memb (d .word .text) ws ≡ b → cond b (bad at) (good d m) ≡ good e n
-            → (_≡_ {A = Ans Text} (good d m) (good e n)) × (memb (e .word .text) ws ≡ false)
-        new d m true p q = let z : _≡_ {A = ℕ} 0 1 = cc in absurd (omega arith)
-        new d m false p q = let y : d ≡ e = cc in (q, rw (← y) p)
-
-        go : (a : Ans Text) → entryAt s at ≡ a → bind a (λ d m. cond (memb (d .word .text) ws) (bad at) (good d m)) ≡ good e n
-            → (a ≡ good e n) × (memb (e .word .text) ws ≡ false)
-        go (good d m) p q = new d m (memb (d .word .text) ws) refl q
-        go (bad x) p q = let z : _≡_ {A = ℕ} 0 1 = cc in absurd (omega arith)
-
     record AllSaid (at k : ℕ) (seen es : List Text) (n : ℕ) : Type 0 where
       new : List Text
       all : es ≡ seen ++ new
@@ -274,7 +259,7 @@ module _ (s : List ℕ) where
             → ((e : Text) (m : ℕ) → m ≤ length s → many (newText s) k (seen ++ (e ∷ [])) m ≡ good es n → AllSaid m k (seen ++ (e ∷ [])) es n)
             → bind a (λ e m. many (newText s) k (seen ++ (e ∷ [])) m) ≡ good es n → AllSaid at (suc k) seen es n
         go (good e m) p ih q =
-            let f = filed-new (words seen) at p in
+            let f = filed-new s (words seen) at p in
             let t = text-written at (f .0) in
             let r = ih e m (t .inside) q in
             let x = fresh-less (words seen) (e .word) (allNamed s (r .new)) (rw (words-snoc seen e) at (r .fresh)) in
@@ -298,42 +283,18 @@ module _ (s : List ℕ) where
       pub fine : BundleTexts (allNamed s es)
 
     pub bundle-written : {es : List Text} {n : ℕ} → bundleAt s ≡ good es n → Accepted es n
-    unfolding bundleAt textsAt writeBundle
-    bundle-written {es} {n} h = go (ltb mostBytes (length s)) refl h
-      where
-        ending : (count at : ℕ) (ds : List Text) (m : ℕ) → length s ≤ mostBytes → numberAt s 0 ≡ good count at → count ≤ mostTexts → AllSaid at count [] ds m
-            → (b : Bool) → ltb m (length s) ≡ b → cond b (bad m) (good ds m) ≡ good es n → Accepted es n
-        ending count at ds m short c few r true p q = let z : _≡_ {A = ℕ} 0 1 = cc in absurd (omega arith)
-        ending count at ds m short c few r false p q =
-            let x : ds ≡ es = cc in
-            let y : m ≡ n = cc in
-            let a : es ≡ r .new = sym x ∙ r .all in
-            let e : m ≡ length s = omega (arith, ltb-false m (length s) p, r .inside) in
-            let k : count ≡ length (allNamed s (r .new)) = sym (r .count) ∙ sym (length-named s (r .new)) in
-            let w : s ≡ writeBundle (allNamed s (r .new)) =
-            sym (take-all (m - 0) s (omega (arith, e))) ∙ joined 0 at m (omega arith) (r .later)
-            ∙ ap₂ _++_ (number-written s bytes 0 c ∙ ap writeNumber k) (r .said) in
-            record {
-              end = sym y ∙ e;
-              said = rw a w;
-              fine = rw a (record { few = omega (arith, k, few); each = r .fine; differ = r .differ; short = omega (arith, ap length w, short) });
-            }
-
-        listed : (count at : ℕ) → length s ≤ mostBytes → numberAt s 0 ≡ good count at → count ≤ mostTexts
-            → (a : Ans (List Text)) → many (newText s) count [] at ≡ a → bind a (ended s) ≡ good es n → Accepted es n
-        listed count at short c few (good ds m) p q =
-            ending count at ds m short c few (texts-written count at [] (number-end s 0 c .1) p) (ltb m (length s)) refl q
-        listed count at short c few (bad x) p q = let z : _≡_ {A = ℕ} 0 1 = cc in absurd (omega arith)
-
-        counts : (count at : ℕ) → length s ≤ mostBytes → numberAt s 0 ≡ good count at
-            → (b : Bool) → ltb mostTexts count ≡ b → cond b (bad 0) (bind (many (newText s) count [] at) (ended s)) ≡ good es n → Accepted es n
-        counts count at short c true p q = let z : _≡_ {A = ℕ} 0 1 = cc in absurd (omega arith)
-        counts count at short c false p q = listed count at short c (ltb-false mostTexts count p) (many (newText s) count [] at) refl q
-
-        number : length s ≤ mostBytes → (a : Ans ℕ) → numberAt s 0 ≡ a → bind a (textsAt s) ≡ good es n → Accepted es n
-        number short (good count at) p q = counts count at short p (ltb mostTexts count) refl q
-        number short (bad x) p q = let z : _≡_ {A = ℕ} 0 1 = cc in absurd (omega arith)
-
-        go : (b : Bool) → ltb mostBytes (length s) ≡ b → cond b (bad 0) (bind (numberAt s 0) (textsAt s)) ≡ good es n → Accepted es n
-        go true p q = let z : _≡_ {A = ℕ} 0 1 = cc in absurd (omega arith)
-        go false p q = number (ltb-false mostBytes (length s) p) (numberAt s 0) refl q
+    unfolding writeBundle
+    bundle-written {es} {n} h =
+        let o = bundle-parted s h in
+        let r = texts-written (o .count) (o .first) [] (number-end s 0 (o .number) .1) (o .texts) in
+        let a = r .all in
+        let e = o .end in
+        let k : o .count ≡ length (allNamed s (r .new)) = sym (r .count) ∙ sym (length-named s (r .new)) in
+        let w : s ≡ writeBundle (allNamed s (r .new)) =
+        sym (take-all (n - 0) s (omega (arith, r .inside, e))) ∙ joined 0 (o .first) n (omega arith) (r .later)
+        ∙ ap₂ _++_ (number-written s bytes 0 (o .number) ∙ ap writeNumber k) (r .said) in
+        record {
+          end = omega (arith, r .inside, e);
+          said = rw a w;
+          fine = rw a (record { few = omega (arith, k, o .few); each = r .fine; differ = r .differ; short = omega (arith, ap length w, o .short) });
+        }

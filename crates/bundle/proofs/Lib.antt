@@ -4,3 +4,4 @@ pub mod Examples
 pub mod Filing
 pub mod Looking
 pub mod Opening
+pub mod Parts

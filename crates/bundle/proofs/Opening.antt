@@ -31,7 +31,7 @@ pub words-snoc : (es : List Text) (e : Text) → words (es ++ (e ∷ [])) ≡ wo
 words-snoc [] e = refl
 words-snoc (d ∷ es) e = ap (λ (ws : List Word). d .word ∷ ws) (words-snoc es e)
 
-sizes-snoc : (s : List ℕ) (es : List Text) (e : Text) → Sizes s es → Sized s e → Sizes s (es ++ (e ∷ []))
+pub sizes-snoc : (s : List ℕ) (es : List Text) (e : Text) → Sizes s es → Sized s e → Sizes s (es ++ (e ∷ []))
 sizes-snoc s [] e h k = (k, tt)
 sizes-snoc s (d ∷ es) e h k = (h .0, sizes-snoc s es e (h .1) k)
 
