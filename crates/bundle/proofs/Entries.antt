@@ -11,18 +11,17 @@ use mir.Syntax.{w64}
 use mir.Val.{Fits}
 use borrow.Author.Tests.{lt-ltb, le-ltb, ltb-false}
 use Rattle.form.specs.Form.{Ans, good, bad, bind, Word, wordAt, numberAt, numberSeen, nameAt, nameSeen}
-use Rattle.form.specs.Writer.{NameBytes}
 use Rattle.form.specs.declared.Cursor.{Cursor}
 use Rattle.form.specs.declared.Number.{Number}
 use Rattle.form.specs.declared.Number.the-variants.{Value, Wrong as WrongNumber}
 use Rattle.form.specs.declared.Name.{Name}
 use Rattle.form.specs.declared.Name.the-variants.{Bytes, Wrong as WrongName}
-use Rattle.form.proofs.Bounds.{spanned, missed, number-place, number-end, name-end, Within}
+use Rattle.form.proofs.Bounds.{spanned, missed, number-place, number-end, name-end}
 use Rattle.form.proofs.WriterLaws.{name-bytes}
 use Rattle.bundle.specs.Bundle.{Text, textOf, bodyAt, entryAt}
 use Rattle.bundle.specs.Reading.{entrySeen, Sized}
 use Rattle.bundle.specs.declared.Entry.{Entry}
-use Rattle.bundle.specs.declared.Entry.the-variants.{Whole, Wrong}
+use Rattle.bundle.specs.declared.Entry.the-variants.{Whole}
 
 -- ---- the ways out
 

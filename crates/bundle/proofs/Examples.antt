@@ -5,7 +5,9 @@ use mathlib.Core.List.{List, [], _∷_}
 use Prim.Native.Nat.{ℕ}
 use Rattle.text.specs.Keyword.{same}
 use Rattle.form.specs.Form.{good, bad, groups, numberAt, printableAt, wordAt, nameBody, nameAt}
-use Rattle.bundle.specs.Bundle.{textOf, bodyAt, entryAt, filedAt, many, textsAt, bundleAt, lookUp, placeUnder, textUnder}
+use Rattle.form.specs.Writer.{writeNumber, writeName}
+use Rattle.bundle.specs.Bundle.{textOf, bodyAt, entryAt, filedAt, many, textsAt, bundleAt, lookUp, textUnder}
+use Rattle.bundle.specs.BundleWriter.{writeText, writeTexts, writeBundle}
 use Rattle.bundle.specs.declared.LookUp.the-variants.{Broken, Nothing, At}
 
 -- m
@@ -36,11 +38,11 @@ abbrev two : List ℕ
 two = 2 ∷ 1 ∷ 109 ∷ 2 ∷ 7 ∷ 8 ∷ 2 ∷ 109 ∷ 109 ∷ 1 ∷ 9 ∷ []
 
 first-text : textUnder two m ≡ 7 ∷ 8 ∷ []
-unfolding textUnder placeUnder bundleAt numberAt groups textsAt many filedAt entryAt nameAt nameBody printableAt bodyAt same
+unfolding textUnder lookUp bundleAt numberAt groups textsAt many filedAt entryAt nameAt nameBody printableAt bodyAt same
 first-text = refl
 
 second-text : textUnder two (109 ∷ 109 ∷ []) ≡ 9 ∷ []
-unfolding textUnder placeUnder bundleAt numberAt groups textsAt many filedAt entryAt nameAt nameBody printableAt bodyAt same
+unfolding textUnder lookUp bundleAt numberAt groups textsAt many filedAt entryAt nameAt nameBody printableAt bodyAt same
 second-text = refl
 
 none-there : lookUp two (110 ∷ []) ≡ Nothing
@@ -89,5 +91,15 @@ unfolding lookUp bundleAt numberAt groups textsAt many filedAt entryAt nameAt na
 broken = refl
 
 broken-empty : textUnder (1 ∷ 1 ∷ 109 ∷ 0 ∷ 5 ∷ []) m ≡ []
-unfolding textUnder placeUnder bundleAt numberAt groups textsAt many filedAt entryAt nameAt nameBody printableAt bodyAt
+unfolding textUnder lookUp bundleAt numberAt groups textsAt many filedAt entryAt nameAt nameBody printableAt bodyAt
 broken-empty = refl
+
+-- ---- written
+
+written : writeBundle (record { name = m; bytes = 7 ∷ 8 ∷ [] } ∷ record { name = 109 ∷ 109 ∷ []; bytes = 9 ∷ [] } ∷ []) ≡ two
+unfolding writeBundle writeTexts writeText writeName writeNumber
+written = refl
+
+none-written : writeBundle [] ≡ 0 ∷ []
+unfolding writeBundle writeTexts writeNumber
+none-written = refl

@@ -89,7 +89,7 @@ module _ (s before tab : List ℕ) (count start i at : ℕ) (g : Reading s befor
     indexed = k .indexed;
     names = k .names ∙ ap (λ (ws : List Word). ws ++ (k .entry .word ∷ [])) (g .names) ∙ sym (words-snoc (g .seen) (k .entry));
     sizes = sizes-snoc s (g .seen) (k .entry) (g .sizes) (entry-sized s at (k .read) .0);
-    }
+  }
 
   pub further : (r : Filed) {n : ℕ} {after : List ℕ} → i < count → r ≡ Next n → FiledAs s tab i at r after → Reading s before after count start (i + 1) n
   further r h e f = more h (rw e at f)
@@ -152,5 +152,5 @@ module _ (s : List ℕ) (short : length s ≤ mostBytes) (q : Number) where
                 indexed = rw k at (g .indexed);
                 names = rw k at (g .names);
                 sizes = g .sizes;
-                            };
+              };
             }

@@ -1,6 +1,6 @@
 -- A bundle that was read, by its parts; and bytes that are no name are under none of its texts.
 -- Assumes nothing.
-use mathlib.Core.Path.{_≡_, refl, sym, ap, _∙_}
+use mathlib.Core.Path.{_≡_, refl, ap, _∙_}
 use mathlib.Core.List.{List, [], _∷_, _++_}
 use mathlib.Core.Bool.{Bool, true, false, cond}
 use Prim.Native.Nat.{ℕ, zero, suc, _≤_}
@@ -15,7 +15,7 @@ use Rattle.form.specs.Writer.{NameBytes}
 use Rattle.index.specs.Names.{memb}
 use Rattle.bundle.specs.Bundle.{mostBytes, mostTexts, Text, entryAt, filedAt, words, newText, many, ended, textsAt, bundleAt, placeOf, onRead, looked, lookUp}
 use Rattle.bundle.specs.Reading.{Sizes}
-use Rattle.bundle.specs.declared.Place.the-variants.{At, Nothing}
+use Rattle.bundle.specs.declared.Place.the-variants.{Nothing}
 use Rattle.bundle.specs.declared.LookUp.the-variants.{Broken, Nothing as Missing}
 use Rattle.bundle.proofs.Entries.{entry-sized}
 use Rattle.bundle.proofs.Opening.{sizes-snoc}

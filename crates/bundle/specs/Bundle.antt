@@ -88,14 +88,11 @@ looked Nothing = Missing
 unfoldable pub lookUp : List ℕ → List ℕ → LookUp
 lookUp s t = onRead (λ es. looked (placeOf t es)) (λ p. Broken p) (bundleAt s)
 
--- the place alone: none in a bundle that is wrong
-unfoldable pub placeUnder : List ℕ → List ℕ → Place
-placeUnder s t = onRead (placeOf t) (λ p. Nothing) (bundleAt s)
-
-abbrev pub partOf : List ℕ → Place → List ℕ
-partOf s (At from size) = take size (drop from s)
-partOf s Nothing = []
+abbrev pub partOf : List ℕ → LookUp → List ℕ
+partOf s (Broken p) = []
+partOf s Missing = []
+partOf s (Stands from size) = take size (drop from s)
 
 -- the bytes under the name t
 unfoldable pub textUnder : List ℕ → List ℕ → List ℕ
-textUnder s t = partOf s (placeUnder s t)
+textUnder s t = partOf s (lookUp s t)

@@ -7,7 +7,7 @@ use index::Found;
 ghost use mathlib.Core.Path.{_≡_};
 ghost use Prim.Native.Nat.{_≤_};
 ghost use lib.ListN.{length};
-ghost use Rattle.bundle.specs.Bundle.{entryAt, placeUnder, lookUp, textUnder};
+ghost use Rattle.bundle.specs.Bundle.{entryAt, looked, lookUp, textUnder};
 ghost use Rattle.bundle.specs.Reading.{tableWords, entrySeen, Files, FiledAs, Held, OpenedAs};
 
 // How many bytes a bundle has at the most, and how many texts.
@@ -129,7 +129,7 @@ pub fn open(s: &[u8], tab: &mut [u32]) -> Opened
 // Where the text under `name` stands in a bundle whose names are in the table.
 pub fn find(s: &[u8], tab: &[u32], count: usize, name: &[u8]) -> Place
     requires { ⌜ Held (now s) (now tab) count ⌝ }
-    ensures { λ r. ⌜ r ≡ placeUnder (now (s .entry)) (now (name .entry)) ⌝ }
+    ensures { λ r. ⌜ looked r ≡ lookUp (now (s .entry)) (now (name .entry)) ⌝ }
 {
     let Found::At(i) = index::find(s, tab, count, name) else {
         return Place::Nothing;
