@@ -1,5 +1,5 @@
--- What the reading of a bundle into the index asks and does: the table holds the names in their order, and behind each name stands the length of
--- its text.
+-- The text under a name is handed back as the caller's own bytes, uncopied. For it a bundle is read once into the index: the table holds the
+-- names in their order, and behind each name stands the length of its text.
 -- Assumes nothing.
 use Prim.Native.Nat.{ℕ, _+_, _≤_, _<_}
 use mathlib.Core.Path.{_≡_}
