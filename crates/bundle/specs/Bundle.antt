@@ -1,0 +1,98 @@
+-- Bundle, at most 16,777,216 bytes: texts (0 to 2,048), each name, length, bytes; names differ. Nothing follows. The text under a name is handed
+-- back as the caller's own bytes, uncopied; empty at 21 or if there is none, and a call beside it says which. Wrong is the start of the first
+-- wrong number or name in reading order, or the first extra byte; a repeated name is wrong where it comes again, a text cut short at its length;
+-- 0 for over-length.
+-- Assumes nothing.
+use Prim.Native.Nat.{ℕ, zero, suc, _+_, _-_}
+use mathlib.Core.Bool.{cond}
+use mathlib.Core.List.{List, [], _∷_, _++_}
+use lib.ListN.{length, take, drop}
+use lib.Dec.{ltb}
+use Rattle.text.specs.Keyword.{same}
+use Rattle.form.specs.Form.{Ans, good, bad, bind, Word, numberAt, nameAt}
+use Rattle.index.specs.Names.{memb}
+use Rattle.bundle.specs.declared.Place.{Place}
+use Rattle.bundle.specs.declared.Place.the-variants.{At, Nothing}
+use Rattle.bundle.specs.declared.LookUp.{LookUp}
+use Rattle.bundle.specs.declared.LookUp.the-variants.{Broken, Nothing as Missing, At as Stands}
+
+-- the most bytes of a bundle, and the most texts
+abbrev pub mostBytes : ℕ
+mostBytes = 16777216
+
+abbrev pub mostTexts : ℕ
+mostTexts = 2048
+
+-- ---- the reading
+
+-- a name and the bytes under it, by their place and length
+pub record Text : Type 0 where
+  pub word : Word
+  pub from : ℕ
+  pub size : ℕ
+
+abbrev pub textOf : Word → ℕ → ℕ → Text
+textOf w f z = record { word = w; from = f; size = z }
+
+-- behind a text's length, which starts at `start`: a text cut short is wrong there
+unfoldable pub bodyAt : List ℕ → Word → (start size from : ℕ) → Ans Text
+bodyAt s w start size from = cond (ltb (length s - from) size) (bad start) (good (textOf w from size) (from + size))
+
+unfoldable pub entryAt : List ℕ → ℕ → Ans Text
+entryAt s at = bind (nameAt s at) (λ w n. bind (numberAt s n) (bodyAt s w n))
+
+-- a text whose name is none of the words; a repeated name is wrong where it comes again
+unfoldable pub filedAt : List ℕ → List Word → ℕ → Ans Text
+filedAt s ws at = bind (entryAt s at) (λ e n. cond (memb (e .word .text) ws) (bad at) (good e n))
+
+abbrev pub words : List Text → List Word
+words [] = []
+words (e ∷ es) = e .word ∷ words es
+
+abbrev pub newText : List ℕ → List Text → ℕ → Ans Text
+newText s seen at = filedAt s (words seen) at
+
+-- `count` things from `at` on, each read by p, which is told those before it
+unfoldable pub many : {A : Type 0} → (List A → ℕ → Ans A) → (count : ℕ) → List A → ℕ → Ans (List A)
+many p zero seen at = good seen at
+many p (suc k) seen at = bind (p seen at) (λ a n. many p k (seen ++ (a ∷ [])) n)
+
+-- nothing follows the last
+abbrev pub ended : List ℕ → List Text → ℕ → Ans (List Text)
+ended s es n = cond (ltb n (length s)) (bad n) (good es n)
+
+-- more texts than there may be are wrong where their number starts
+unfoldable pub textsAt : List ℕ → (count at : ℕ) → Ans (List Text)
+textsAt s k n = cond (ltb mostTexts k) (bad 0) (bind (many (newText s) k [] n) (ended s))
+
+unfoldable pub bundleAt : List ℕ → Ans (List Text)
+bundleAt s = cond (ltb mostBytes (length s)) (bad 0) (bind (numberAt s 0) (textsAt s))
+
+-- ---- the look-up
+
+-- where the first text with the name t stands
+abbrev pub placeOf : List ℕ → List Text → Place
+placeOf t [] = Nothing
+placeOf t (e ∷ es) = cond (same (e .word .text) t) (At (e .from) (e .size)) (placeOf t es)
+
+-- by what a reading answered: f of what was read, or g of the wrong place
+abbrev pub onRead : {A B : Type 0} → (A → B) → (ℕ → B) → Ans A → B
+onRead f g (good a n) = f a
+onRead f g (bad p) = g p
+
+abbrev pub looked : Place → LookUp
+looked (At from size) = Stands from size
+looked Nothing = Missing
+
+-- which it is: 21 at a place, none, or a place and a length
+unfoldable pub lookUp : List ℕ → List ℕ → LookUp
+lookUp s t = onRead (λ es. looked (placeOf t es)) (λ p. Broken p) (bundleAt s)
+
+abbrev pub partOf : List ℕ → LookUp → List ℕ
+partOf s (Broken p) = []
+partOf s Missing = []
+partOf s (Stands from size) = take size (drop from s)
+
+-- the bytes under the name t
+unfoldable pub textUnder : List ℕ → List ℕ → List ℕ
+textUnder s t = partOf s (lookUp s t)

@@ -1,0 +1,77 @@
+-- The text under a name is handed back as the caller's own bytes, uncopied. For it a bundle is read once into the index: the table holds the
+-- names in their order, and behind each name stands the length of its text.
+-- Assumes nothing.
+use Prim.Native.Nat.{ℕ, _+_, _≤_, _<_}
+use mathlib.Core.Path.{_≡_}
+use mathlib.Core.List.{List, [], _∷_, _++_}
+use lib.ListN.{length}
+use Rattle.form.specs.Form.{Ans, good, bad, wordAt, numberAt}
+use Rattle.form.specs.Writer.{NameBytes}
+use Rattle.index.specs.Names.{rowOf, rowWords, namesIn, Indexed}
+use Rattle.bundle.specs.Bundle.{mostBytes, mostTexts, Text, textOf, entryAt, filedAt, words, bundleAt}
+use Rattle.bundle.specs.declared.Entry.{Entry}
+use Rattle.bundle.specs.declared.Entry.the-variants.{Whole, Wrong as WrongEntry}
+use Rattle.bundle.specs.declared.Filed.{Filed}
+use Rattle.bundle.specs.declared.Filed.the-variants.{Next, Wrong as WrongText}
+use Rattle.bundle.specs.declared.Opened.{Opened}
+use Rattle.bundle.specs.declared.Opened.the-variants.{Texts, Wrong}
+
+-- how many words the table has at the least
+abbrev pub tableWords : ℕ
+tableWords = 8192
+
+abbrev pub entrySeen : List ℕ → Entry → Ans Text
+entrySeen s (Whole word len from size) = good (textOf (wordAt s word len) from size) (from + size)
+entrySeen s (WrongEntry p) = bad p
+
+-- how many were read, and where that ended
+abbrev pub counted : Ans (List Text) → Ans ℕ
+counted (good es n) = good (length es) n
+counted (bad p) = bad p
+
+abbrev pub openedSeen : List ℕ → Opened → Ans ℕ
+openedSeen s (Texts k) = good k (length s)
+openedSeen s (Wrong p) = bad p
+
+-- what holds of a text that was read: its name is one, its length stands behind the name, and it lies within the bytes
+pub record Sized (s : List ℕ) (e : Text) : Type 0 where
+  pub named : NameBytes (e .word .text)
+  pub name-in : e .word .place + e .word .size ≤ length s
+  pub length-of : numberAt s (e .word .place + e .word .size) ≡ good (e .size) (e .from)
+  pub within : e .from + e .size ≤ length s
+
+abbrev pub Sizes : List ℕ → List Text → Type 0
+Sizes s [] = Unit
+Sizes s (e ∷ es) = Sized s e × Sizes s es
+
+-- what the filing of one text asks and does
+pub record Files (s tab : List ℕ) (i : ℕ) : Type 0 where
+  pub indexed : Indexed s tab i
+  pub free : rowOf i + rowWords ≤ length tab
+  pub small : i < mostTexts
+  pub short : length s ≤ mostBytes
+
+pub record Entered (s tab : List ℕ) (i at n : ℕ) (after : List ℕ) : Type 0 where
+  pub entry : Text
+  pub kept : length after ≡ length tab
+  pub read : entryAt s at ≡ good entry n
+  pub fresh : filedAt s (namesIn s tab i) at ≡ good entry n
+  pub indexed : Indexed s after (i + 1)
+  pub names : namesIn s after (i + 1) ≡ namesIn s tab i ++ (entry .word ∷ [])
+
+abbrev pub FiledAs : List ℕ → List ℕ → (i at : ℕ) → Filed → List ℕ → Type 0
+FiledAs s tab i at (Next n) after = Entered s tab i at n after
+FiledAs s tab i at (WrongText p) after = filedAt s (namesIn s tab i) at ≡ bad p
+
+-- a table that holds the names of the bundle in their order
+pub record Held (s tab : List ℕ) (n : ℕ) : Type 0 where
+  pub texts : List Text
+  pub read : bundleAt s ≡ good texts (length s)
+  pub indexed : Indexed s tab n
+  pub names : namesIn s tab n ≡ words texts
+  pub sizes : Sizes s texts
+
+-- the number of texts or the wrong place; and in a bundle that is good, the table
+pub record OpenedAs (s : List ℕ) (r : Opened) (after : List ℕ) : Type 0 where
+  pub answer : openedSeen s r ≡ counted (bundleAt s)
+  pub held : (n : ℕ) → r ≡ Texts n → Held s after n
