@@ -11,12 +11,12 @@ use borrow.Author.Tests.{le-ltb}
 use Rattle.text.specs.Keyword.{same}
 use Rattle.text.proofs.KeywordLaws.{same-yes, same-no}
 use Rattle.text.proofs.Here.{never}
-use Rattle.form.specs.Form.{Ans, good, bad, bind, Word, mostNumber, numberAt, nameAt}
+use Rattle.form.specs.Form.{Ans, good, bad, bind, Word, mostNumber, numberAt, nameAt, many}
 use Rattle.form.specs.Writer.{writeNumber, writeName, NameBytes, AllBytes}
 use Rattle.form.proofs.Bounds.{number-end, name-end}
 use Rattle.form.proofs.WriterLaws.{number-back, name-back, name-bytes, number-written, number-most, name-written}
 use Rattle.index.specs.Names.{memb}
-use Rattle.bundle.specs.Bundle.{mostTexts, mostBytes, Text, textOf, bodyAt, entryAt, filedAt, words, newText, many, textsAt, bundleAt}
+use Rattle.bundle.specs.Bundle.{mostTexts, mostBytes, Text, textOf, bodyAt, entryAt, filedAt, words, newText, textsAt, bundleAt}
 use Rattle.bundle.specs.BundleWriter.{Named, writeText, writeTexts, writeBundle, named, allNamed, TextBytes, AllTexts, Others, Differ, BundleTexts}
 use Rattle.bundle.proofs.Entries.{parted}
 use Rattle.bundle.proofs.Opening.{words-snoc}

@@ -4,9 +4,9 @@ use mathlib.Core.Path.{_≡_, refl}
 use mathlib.Core.List.{List, [], _∷_}
 use Prim.Native.Nat.{ℕ}
 use Rattle.text.specs.Keyword.{same}
-use Rattle.form.specs.Form.{good, bad, groups, numberAt, printableAt, wordAt, nameBody, nameAt}
+use Rattle.form.specs.Form.{good, bad, groups, numberAt, printableAt, wordAt, nameBody, nameAt, many}
 use Rattle.form.specs.Writer.{writeNumber, writeName}
-use Rattle.bundle.specs.Bundle.{textOf, bodyAt, entryAt, filedAt, many, textsAt, bundleAt, lookUp, textUnder}
+use Rattle.bundle.specs.Bundle.{textOf, bodyAt, entryAt, filedAt, textsAt, bundleAt, lookUp, textUnder}
 use Rattle.bundle.specs.BundleWriter.{writeText, writeTexts, writeBundle}
 use Rattle.bundle.specs.declared.LookUp.the-variants.{Broken, Nothing, At}
 

@@ -6,7 +6,7 @@ use Prim.Native.Nat.{ℕ, suc, _+_, _-_, _≤_, _<_}
 use native.Mathlib.Omega.{arith}
 use lib.ListN.{length}
 use borrow.Author.Tests.{lt-ltb, le-ltb}
-use Rattle.form.specs.Form.{good, bad, bind, Word, numberAt, numberSeen}
+use Rattle.form.specs.Form.{good, bad, bind, Word, numberAt, numberSeen, many}
 use Rattle.form.specs.declared.Cursor.{Cursor}
 use Rattle.form.specs.declared.Number.{Number}
 use Rattle.form.specs.declared.Number.the-variants.{Value, Wrong as WrongNumber}
@@ -14,7 +14,7 @@ use Rattle.form.proofs.Bounds.{number-place, number-end}
 use Rattle.index.specs.Names.{namesIn, Indexed, Cleared}
 use Rattle.index.proofs.Chain.{length-names}
 use Rattle.index.proofs.Insert.{none-yet}
-use Rattle.bundle.specs.Bundle.{mostBytes, mostTexts, Text, filedAt, words, newText, many, ended, textsAt, bundleAt}
+use Rattle.bundle.specs.Bundle.{mostBytes, mostTexts, Text, filedAt, words, newText, ended, textsAt, bundleAt}
 use Rattle.bundle.specs.Reading.{tableWords, counted, Sized, Sizes, Files, Entered, FiledAs, OpenedAs}
 use Rattle.bundle.specs.declared.Filed.{Filed}
 use Rattle.bundle.specs.declared.Filed.the-variants.{Next, Wrong as WrongText}

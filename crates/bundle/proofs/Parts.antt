@@ -10,10 +10,10 @@ use lib.Dec.{ltb}
 use borrow.Author.Tests.{ltb-false}
 use Rattle.text.specs.Keyword.{same}
 use Rattle.text.proofs.KeywordLaws.{same-no}
-use Rattle.form.specs.Form.{Ans, good, bad, bind, Word, numberAt}
+use Rattle.form.specs.Form.{Ans, good, bad, bind, Word, numberAt, many}
 use Rattle.form.specs.Writer.{NameBytes}
 use Rattle.index.specs.Names.{memb}
-use Rattle.bundle.specs.Bundle.{mostBytes, mostTexts, Text, entryAt, filedAt, words, newText, many, ended, textsAt, bundleAt, placeOf, onRead, looked, lookUp}
+use Rattle.bundle.specs.Bundle.{mostBytes, mostTexts, Text, entryAt, filedAt, words, newText, ended, textsAt, bundleAt, placeOf, onRead, looked, lookUp}
 use Rattle.bundle.specs.Reading.{Sizes}
 use Rattle.bundle.specs.declared.Place.the-variants.{Nothing}
 use Rattle.bundle.specs.declared.LookUp.the-variants.{Broken, Nothing as Missing}

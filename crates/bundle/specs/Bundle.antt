@@ -3,13 +3,13 @@
 -- wrong number or name in reading order, or the first extra byte; a repeated name is wrong where it comes again, a text cut short at its length;
 -- 0 for over-length.
 -- Assumes nothing.
-use Prim.Native.Nat.{ℕ, zero, suc, _+_, _-_}
+use Prim.Native.Nat.{ℕ, _+_, _-_}
 use mathlib.Core.Bool.{cond}
-use mathlib.Core.List.{List, [], _∷_, _++_}
+use mathlib.Core.List.{List, [], _∷_}
 use lib.ListN.{length, take, drop}
 use lib.Dec.{ltb}
 use Rattle.text.specs.Keyword.{same}
-use Rattle.form.specs.Form.{Ans, good, bad, bind, Word, numberAt, nameAt}
+use Rattle.form.specs.Form.{Ans, good, bad, bind, Word, numberAt, nameAt, many}
 use Rattle.index.specs.Names.{memb}
 use Rattle.bundle.specs.declared.Place.{Place}
 use Rattle.bundle.specs.declared.Place.the-variants.{At, Nothing}
@@ -51,11 +51,6 @@ words (e ∷ es) = e .word ∷ words es
 
 abbrev pub newText : List ℕ → List Text → ℕ → Ans Text
 newText s seen at = filedAt s (words seen) at
-
--- `count` things from `at` on, each read by p, which is told those before it
-unfoldable pub many : {A : Type 0} → (List A → ℕ → Ans A) → (count : ℕ) → List A → ℕ → Ans (List A)
-many p zero seen at = good seen at
-many p (suc k) seen at = bind (p seen at) (λ a n. many p k (seen ++ (a ∷ [])) n)
 
 -- nothing follows the last
 abbrev pub ended : List ℕ → List Text → ℕ → Ans (List Text)

@@ -3,7 +3,7 @@
 -- end is wrong at the end.
 -- Assumes nothing.
 use Prim.Native.Nat.{ℕ, zero, suc, _+_, _-_, _*_}
-use mathlib.Core.List.{List}
+use mathlib.Core.List.{List, [], _∷_, _++_}
 use mathlib.Core.Bool.{Bool, true, false, cond}
 use lib.ListN.{length, getD, take, drop}
 use lib.Dec.{ltb, eqb}
@@ -65,6 +65,11 @@ numberSeen (Wrong p) = bad p
 abbrev pub bind : {A B : Type 0} → Ans A → (A → ℕ → Ans B) → Ans B
 bind (good a n) f = f a n
 bind (bad p) f = bad p
+
+-- `count` things from `at` on, each told those before it, behind those seen
+unfoldable pub many : {A : Type 0} → (List A → ℕ → Ans A) → (count : ℕ) → List A → ℕ → Ans (List A)
+many p zero seen at = good seen at
+many p (suc k) seen at = bind (p seen at) (λ a n. many p k (seen ++ (a ∷ [])) n)
 
 -- `count` bytes from `at` on are all from 33 to 126
 unfoldable pub printableAt : (count : ℕ) → List ℕ → ℕ → Bool

@@ -7,10 +7,10 @@ use Prim.Native.Nat.{ℕ}
 use lib.Dec.{eqb, T}
 use lib.ListN.{length}
 use Rattle.text.specs.Keyword.{same}
-use Rattle.form.specs.Form.{Ans, good, bad, groups, numberAt, printableAt, nameBody, nameAt, Word}
+use Rattle.form.specs.Form.{Ans, good, bad, groups, numberAt, printableAt, nameBody, nameAt, Word, many}
 use Rattle.form.specs.Writer.{writeNumber, writeName}
 use Rattle.image.specs.Library.{Library}
-use Rattle.image.specs.Image.{many, counted, among, newName, moduleAt, importOnlyAt, setAt, libraryAt, imageAt}
+use Rattle.image.specs.Image.{counted, among, newName, moduleAt, importOnlyAt, setAt, libraryAt, imageAt}
 use Rattle.image.specs.ImageWriter.{plain, writeEach, writeList, writeModule, writeImportOnly, writeSet, writeImage}
 
 -- 01 02 01 6D 01 01 73 00 00 01 62 00 00 00 00: modules m, with submodule s, and b

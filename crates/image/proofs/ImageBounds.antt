@@ -8,10 +8,10 @@ use Prim.Native.Nat.{ℕ, zero, suc, _≤_}
 use native.Mathlib.Omega.{arith}
 use lib.ListN.{length}
 use lib.Dec.{ltb}
-use Rattle.form.specs.Form.{Ans, good, bad, bind, Word, numberAt, nameAt}
+use Rattle.form.specs.Form.{Ans, good, bad, bind, Word, numberAt, nameAt, many}
 use Rattle.form.proofs.Bounds.{number-end, number-place, name-end, name-place}
 use Rattle.image.specs.Library.{Module, ImportOnly, Library}
-use Rattle.image.specs.Image.{mostImage, mostSets, mostModules, mostNames, leastRevisions, mostRevisions, Reader, many, counted, among, newName, anyWord, newWord, moduleAt, revisionAt, importOnlyAt, setAt, libraryAt, imageAt}
+use Rattle.image.specs.Image.{mostImage, mostSets, mostModules, mostNames, leastRevisions, mostRevisions, Reader, counted, among, newName, anyWord, newWord, moduleAt, revisionAt, importOnlyAt, setAt, libraryAt, imageAt}
 use Rattle.image.proofs.ImageLaws.{accepted}
 
 -- the place of an answer

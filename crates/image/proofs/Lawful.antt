@@ -10,9 +10,9 @@ use lib.ListN.{length, length-append, length-map}
 use lib.Seq.{append-snoc}
 use lib.Dec.{ltb}
 use borrow.Author.Tests.{le-ltb, ltb-false}
-use Rattle.form.specs.Form.{good, bad, mostNumber, numberAt}
+use Rattle.form.specs.Form.{good, bad, mostNumber, numberAt, many}
 use Rattle.form.specs.Writer.{writeNumber, AllBytes}
-use Rattle.image.specs.Image.{Reader, many, counted}
+use Rattle.image.specs.Image.{Reader, counted}
 use Rattle.image.specs.ImageWriter.{writeEach, writeList, EachOf, Listed}
 use Rattle.image.proofs.Steps.{on-good, bind-good, passed, carry, pass, Wrote, wrote-none, wrote-join, number-wrote, Stands, stands-left, stands-right, number-stands}
 

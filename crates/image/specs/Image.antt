@@ -9,7 +9,7 @@ use mathlib.Core.List.{List, [], _∷_, _++_, map}
 use lib.ListN.{length}
 use lib.Dec.{ltb}
 use Rattle.text.specs.Keyword.{same}
-use Rattle.form.specs.Form.{Ans, good, bad, bind, Word, numberAt, nameAt}
+use Rattle.form.specs.Form.{Ans, good, bad, bind, Word, numberAt, nameAt, many}
 use Rattle.image.specs.Library.{Module, ImportOnly, ModuleSet, Library}
 
 -- ---- limits
@@ -37,11 +37,6 @@ mostRevisions = 8
 -- reads one thing of a list at a place of the bytes, told those of the list before it
 abbrev pub Reader : Type 0 → Type 0
 Reader A = List ℕ → List A → ℕ → Ans A
-
--- `count` things from `at` on, behind those seen
-unfoldable pub many : {A : Type 0} → (List A → ℕ → Ans A) → (count : ℕ) → List A → ℕ → Ans (List A)
-many p zero seen at = good seen at
-many p (suc k) seen at = bind (p seen at) (λ a n. many p k (seen ++ (a ∷ [])) n)
 
 -- a number from `least` to `most`, wrong where it starts, and as many things
 unfoldable pub counted : {A : Type 0} → (least most : ℕ) → Reader A → List ℕ → ℕ → Ans (List A)
