@@ -1,10 +1,23 @@
 // Reads one text from standard input and writes its imports and includes, or why they are refused.
 use libc::STDIN_FILENO;
 use libc::STDOUT_FILENO;
+use text::Refusal;
 use yangparser::Parsed;
 
 // The longest input, and room for one byte more, which tells that there is more.
 const MOST: usize = 32768;
+
+fn say_number(label: &[u8], n: u64) {
+    io::write_all(STDOUT_FILENO, label);
+    io::print_decimal(STDOUT_FILENO, n);
+}
+
+fn say_refused(r: Refusal) {
+    say_number(b"refused ", r.number as u64);
+    say_number(b" keyword ", r.keyword as u64);
+    say_number(b" at ", r.at as u64);
+    io::write_all(STDOUT_FILENO, b"\n");
+}
 
 fn say(s: &[u8]) {
     let mut store = [0u8; 32768];
@@ -28,7 +41,7 @@ fn say(s: &[u8]) {
             io::write_all(STDOUT_FILENO, buffers::first(&page, printed.length));
         }
         Parsed::Refused(r) => {
-            say::refused(r);
+            say_refused(r);
         }
     }
 }
@@ -37,7 +50,7 @@ fn main() {
     let mut input = [0u8; 32769];
     let n = io::read_full(STDIN_FILENO, &mut input);
     if MOST < n {
-        say::too_long();
+        io::write_all(STDOUT_FILENO, b"input too long\n");
         return;
     }
     say(buffers::first(&input, n));

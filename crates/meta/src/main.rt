@@ -2,6 +2,7 @@
 use libc::STDIN_FILENO;
 use libc::STDOUT_FILENO;
 use rows::Span;
+use text::Refusal;
 
 // The longest input, and room for one byte more, which tells that there is more.
 const MOST: usize = 131072;
@@ -14,12 +15,24 @@ fn say_value(label: &[u8], store: &[u8], x: Span) {
     }
 }
 
+fn say_number(label: &[u8], n: u64) {
+    io::write_all(STDOUT_FILENO, label);
+    io::print_decimal(STDOUT_FILENO, n);
+}
+
+fn say_refused(r: Refusal) {
+    say_number(b"refused ", r.number as u64);
+    say_number(b" keyword ", r.keyword as u64);
+    say_number(b" at ", r.at as u64);
+    io::write_all(STDOUT_FILENO, b"\n");
+}
+
 fn say(s: &[u8]) {
     let mut store = [0u8; 131072];
     let read = metadata::extract_yang_metadata(s, &mut store);
     let answer = read.answer;
     if answer.number != text::NO_REFUSAL {
-        say::refused(answer);
+        say_refused(answer);
         return;
     }
     let values = read.values;
@@ -35,7 +48,7 @@ fn main() {
     let mut input = [0u8; 131073];
     let n = io::read_full(STDIN_FILENO, &mut input);
     if MOST < n {
-        say::too_long();
+        io::write_all(STDOUT_FILENO, b"input too long\n");
         return;
     }
     say(buffers::first(&input, n));
