@@ -18,6 +18,7 @@ use Rattle.form.proofs.WriterLaws.{number-back, name-back, name-bytes, number-w
 use Rattle.index.specs.Names.{memb}
 use Rattle.bundle.specs.Bundle.{mostTexts, mostBytes, Text, textOf, bodyAt, entryAt, filedAt, words, newText, textsAt, bundleAt}
 use Rattle.bundle.specs.BundleWriter.{Named, writeText, writeTexts, writeBundle, named, allNamed, TextBytes, AllTexts, Others, Differ, BundleTexts}
+use Rattle.bundle.proofs.Filing.{repeats-entry}
 use Rattle.bundle.proofs.Entries.{parted}
 use Rattle.bundle.proofs.Opening.{words-snoc}
 use Rattle.bundle.proofs.Parts.{filed-new, bundle-parted}
@@ -157,7 +158,7 @@ module _ (s : List ℕ) where
         texts = r .texts;
         said = r .said ∙ ap (λ (x : List Named). x ++ ts) (named-snoc s seen e ∙ ap (λ (x : Named). allNamed s seen ++ (x ∷ [])) (b .said)) ∙ append-assoc (allNamed s seen) (t ∷ []) ts;
         behind = r .behind;
-        read = rw (b .read, m) (r .read);
+        read = rw (repeats-entry s (words seen) at (b .read) ∙ m) (rw (b .read) (r .read));
         left = r .left;
       }
 

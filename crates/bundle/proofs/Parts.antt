@@ -1,6 +1,6 @@
 -- A bundle that was read, by its parts; and bytes that are no name are under none of its texts.
 -- Assumes nothing.
-use mathlib.Core.Path.{_≡_, refl, ap, _∙_}
+use mathlib.Core.Path.{_≡_, refl, ap, _∙_, sym}
 use mathlib.Core.List.{List, [], _∷_, _++_}
 use mathlib.Core.Bool.{Bool, true, false, cond}
 use Prim.Native.Nat.{ℕ, zero, suc, _≤_}
@@ -13,27 +13,22 @@ use Rattle.text.proofs.KeywordLaws.{same-no}
 use Rattle.form.specs.Form.{Ans, good, bad, bind, Word, numberAt, many}
 use Rattle.form.specs.Writer.{NameBytes}
 use Rattle.index.specs.Names.{memb}
-use Rattle.bundle.specs.Bundle.{mostBytes, mostTexts, Text, entryAt, filedAt, words, newText, ended, textsAt, bundleAt, placeOf, onRead, looked, lookUp}
+use Rattle.bundle.specs.Bundle.{mostBytes, mostTexts, Text, entryAt, repeatsAt, filedAt, words, newText, ended, textsAt, bundleAt, placeOf, onRead, looked, lookUp}
 use Rattle.bundle.specs.Reading.{Sizes}
 use Rattle.bundle.specs.declared.Place.the-variants.{Nothing}
 use Rattle.bundle.specs.declared.LookUp.the-variants.{Broken, Nothing as Missing}
 use Rattle.bundle.proofs.Entries.{entry-sized}
+use Rattle.bundle.proofs.Filing.{repeats-entry}
 use Rattle.bundle.proofs.Opening.{sizes-snoc}
 
 -- a text that is new
 pub filed-new : (s : List ℕ) (ws : List Word) (at : ℕ) {e : Text} {n : ℕ} → filedAt s ws at ≡ good e n → (entryAt s at ≡ good e n) × (memb (e .word .text) ws ≡ false)
 unfolding filedAt
-filed-new s ws at {e} {n} h = go (entryAt s at) refl h
+filed-new s ws at {e} {n} h = go (repeatsAt s ws at) refl h
   where
-    new : (d : Text) (m : ℕ) → (b : Bool) → memb (d .word .text) ws ≡ b → cond b (bad at) (good d m) ≡ good e n
-        → (_≡_ {A = Ans Text} (good d m) (good e n)) × (memb (e .word .text) ws ≡ false)
-    new d m true p q = let z : _≡_ {A = ℕ} 0 1 = cc in absurd (omega arith)
-    new d m false p q = let y : d ≡ e = cc in (q, rw (← y) p)
-
-    go : (a : Ans Text) → entryAt s at ≡ a → bind a (λ d m. cond (memb (d .word .text) ws) (bad at) (good d m)) ≡ good e n
-        → (a ≡ good e n) × (memb (e .word .text) ws ≡ false)
-    go (good d m) p q = new d m (memb (d .word .text) ws) refl q
-    go (bad x) p q = let z : _≡_ {A = ℕ} 0 1 = cc in absurd (omega arith)
+    go : (b : Bool) → repeatsAt s ws at ≡ b → cond b (bad at) (entryAt s at) ≡ good e n → (entryAt s at ≡ good e n) × (memb (e .word .text) ws ≡ false)
+    go true p q = let z : _≡_ {A = ℕ} 0 1 = cc in absurd (omega arith)
+    go false p q = (q, sym (repeats-entry s ws at q) ∙ p)
 
 -- the whole
 pub record Parted (s : List ℕ) (es : List Text) (n : ℕ) : Type 0 where

@@ -4,7 +4,7 @@
 -- 0 for over-length.
 -- Assumes nothing.
 use Prim.Native.Nat.{ℕ, _+_, _-_}
-use mathlib.Core.Bool.{cond}
+use mathlib.Core.Bool.{Bool, false, cond}
 use mathlib.Core.List.{List, [], _∷_}
 use lib.ListN.{length, take, drop}
 use lib.Dec.{ltb}
@@ -41,9 +41,22 @@ bodyAt s w start size from = cond (ltb (length s - from) size) (bad start) (good
 unfoldable pub entryAt : List ℕ → ℕ → Ans Text
 entryAt s at = bind (nameAt s at) (λ w n. bind (numberAt s n) (bodyAt s w n))
 
--- a text whose name is none of the words; a repeated name is wrong where it comes again
+-- by what a reading answered: f of what was read, or g of the wrong place
+abbrev pub onRead : {A B : Type 0} → (A → B) → (ℕ → B) → Ans A → B
+onRead f g (good a n) = f a
+onRead f g (bad p) = g p
+
+-- the name at a place is one of the words
+unfoldable pub repeatsAt : List ℕ → List Word → ℕ → Bool
+repeatsAt s ws at = onRead (λ (w : Word). memb (w .text) ws) (λ p. false) (nameAt s at)
+
+-- a text whose name is none of the words; a repeated name is wrong where it comes again, whatever follows it
 unfoldable pub filedAt : List ℕ → List Word → ℕ → Ans Text
-filedAt s ws at = bind (entryAt s at) (λ e n. cond (memb (e .word .text) ws) (bad at) (good e n))
+filedAt s ws at = cond (repeatsAt s ws at) (bad at) (entryAt s at)
+
+-- where a text is wrong whose reading is wrong at p
+unfoldable pub wrongAt : List ℕ → List Word → (at p : ℕ) → ℕ
+wrongAt s ws at p = cond (repeatsAt s ws at) at p
 
 abbrev pub words : List Text → List Word
 words [] = []
@@ -69,11 +82,6 @@ bundleAt s = cond (ltb mostBytes (length s)) (bad 0) (bind (numberAt s 0) (texts
 abbrev pub placeOf : List ℕ → List Text → Place
 placeOf t [] = Nothing
 placeOf t (e ∷ es) = cond (same (e .word .text) t) (At (e .from) (e .size)) (placeOf t es)
-
--- by what a reading answered: f of what was read, or g of the wrong place
-abbrev pub onRead : {A B : Type 0} → (A → B) → (ℕ → B) → Ans A → B
-onRead f g (good a n) = f a
-onRead f g (bad p) = g p
 
 abbrev pub looked : Place → LookUp
 looked (At from size) = Stands from size

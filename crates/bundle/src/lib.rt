@@ -7,7 +7,8 @@ use index::Found;
 ghost use mathlib.Core.Path.{_≡_};
 ghost use Prim.Native.Nat.{_≤_};
 ghost use lib.ListN.{length};
-ghost use Rattle.bundle.specs.Bundle.{entryAt, looked, lookUp, textUnder};
+ghost use Rattle.bundle.specs.Bundle.{entryAt, wrongAt, looked, lookUp, textUnder};
+ghost use Rattle.index.specs.Names.{namesIn, Indexed};
 ghost use Rattle.bundle.specs.Reading.{tableWords, entrySeen, Files, FiledAs, Held, OpenedAs};
 
 // How many bytes a bundle has at the most, and how many texts.
@@ -86,9 +87,25 @@ fn file(s: &[u8], tab: &mut [u32], i: usize, at: usize) -> Filed
             }
         }
         Entry::Wrong(p) => {
-            return Filed::Wrong(p);
+            return Filed::Wrong(wrong_place(s, tab, i, at, p));
         }
     }
+}
+
+// Where a text is wrong whose reading is wrong at `p`: a repeated name comes before what follows it.
+fn wrong_place(s: &[u8], tab: &[u32], i: usize, at: usize, p: usize) -> usize
+    requires { ⌜ Indexed (now s) (now tab) i ⌝ }
+    ensures { λ r. ⌜ r ≡ wrongAt (now (s .entry)) (namesIn (now (s .entry)) (now (tab .entry)) i) at p ⌝ }
+{
+    let here = Cursor { at: at };
+    let Name::Bytes(word, len) = here.name(s) else {
+        return p;
+    };
+    let end = word + len;
+    let Found::At(j) = index::find(s, tab, i, &s[word..end]) else {
+        return p;
+    };
+    at
 }
 
 // Reads the bundle and puts its names into the table.

@@ -39,6 +39,12 @@ returns-2 c = search entered
 enum-known-p : tie.Need-enum-known-p
 enum-known-p c = search needs
 
+wrong-place-requires : tie.Need-wrong-place-requires
+wrong-place-requires c κs = search needs
+
+same-length-3 : tie.Need-same-length-3
+same-length-3 c = search needs
+
 returns-3 : tie.Need-returns-3
 returns-3 c = search wrong-entry
 
@@ -57,4 +63,6 @@ file-spec =
     same-length-2
     returns-2
     enum-known-p
+    wrong-place-requires
+    same-length-3
     returns-3)
