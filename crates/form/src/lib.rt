@@ -35,6 +35,13 @@ pub enum Name {
     Wrong(usize),
 }
 
+// What a search for a name finds in an image or a bundle: the place where that breaks its form; nothing; or where the hit is, and one number more.
+pub enum LookUp {
+    Broken(usize),
+    Nothing,
+    At(usize, usize),
+}
+
 // Whether all of the `count` bytes from `from` on are bytes of a name.
 fn printable(s: &[u8], from: usize, count: usize) -> bool
     requires { ⌜ from + count ≤ length (now s) ⌝ }

@@ -29,11 +29,11 @@ beginning : firstOf (97 ∷ []) words ≡ Nothing
 unfolding firstFrom same
 beginning = refl
 
-place-of-first : firstBy (λ (w : Word). w .place) (97 ∷ 98 ∷ []) words 9 ≡ 0
+place-of-first : firstBy (λ (w : Word). w) (λ (w : Word). w .place) (97 ∷ 98 ∷ []) words 9 ≡ 0
 unfolding same
 place-of-first = refl
 
-nowhere : firstBy (λ (w : Word). w .place) (98 ∷ []) words 9 ≡ 9
+nowhere : firstBy (λ (w : Word). w) (λ (w : Word). w .place) (98 ∷ []) words 9 ≡ 9
 unfolding same
 nowhere = refl
 

@@ -20,6 +20,10 @@ use Rattle.index.proofs.Chain.{length-names}
 none : Word
 none = wordAt [] 0 0
 
+-- here what is looked through is words
+abbrev word : Word → Word
+word w = w
+
 -- ---- a name is among the words where the search finds it
 
 pub not-among : (k : ℕ) (t : List ℕ) (ws : List Word) → firstFrom k t ws ≡ Nothing → memb t ws ≡ false
@@ -59,7 +63,7 @@ module _ {A : Type 0} (f : Word → A) (d : A) where
     j : ℕ
     number : i ≡ k + j
     low : j < length ws
-    it : firstBy f t ws d ≡ f (getD ws j none)
+    it : firstBy word f t ws d ≡ f (getD ws j none)
 
   which : (t : List ℕ) (ws : List Word) (k i : ℕ) → firstFrom k t ws ≡ At i → Which t ws k i
   unfolding firstFrom
@@ -71,22 +75,22 @@ module _ {A : Type 0} (f : Word → A) (d : A) where
       go true q ih e = let x : k ≡ i = cc in record { j = 0; number = omega arith; low = omega arith; it = rw q }
       go false q ih e = let x = ih e in record { j = suc (x .j); number = omega (arith, x .number); low = omega (arith, x .low); it = rw q (x .it) }
 
-  nowhere : (t : List ℕ) (ws : List Word) (k : ℕ) → firstFrom k t ws ≡ Nothing → firstBy f t ws d ≡ d
+  nowhere : (t : List ℕ) (ws : List Word) (k : ℕ) → firstFrom k t ws ≡ Nothing → firstBy word f t ws d ≡ d
   unfolding firstFrom
   nowhere t [] k e = refl
   nowhere t (w ∷ ws) k e = go (same (w .text) t) (nowhere t ws (suc k)) e
     where
-      go : (b : Bool) → (firstFrom (suc k) t ws ≡ Nothing → firstBy f t ws d ≡ d)
-          → cond b (At k) (firstFrom (suc k) t ws) ≡ Nothing → cond b (f w) (firstBy f t ws d) ≡ d
+      go : (b : Bool) → (firstFrom (suc k) t ws ≡ Nothing → firstBy word f t ws d ≡ d)
+          → cond b (At k) (firstFrom (suc k) t ws) ≡ Nothing → cond b (f w) (firstBy word f t ws d) ≡ d
       go true ih e = cc
       go false ih e = ih e
 
   -- for callers: what the answers of `find` say of any search through the names of the table
   module _ (s tab t : List ℕ) (n : ℕ) where
-    pub no-hit : firstOf t (namesIn s tab n) ≡ Nothing → firstBy f t (namesIn s tab n) d ≡ d
+    pub no-hit : firstOf t (namesIn s tab n) ≡ Nothing → firstBy word f t (namesIn s tab n) d ≡ d
     no-hit e = nowhere t (namesIn s tab n) 0 e
 
-    pub the-hit : {i : ℕ} → firstOf t (namesIn s tab n) ≡ At i → firstBy f t (namesIn s tab n) d ≡ f (nameIn s tab i)
+    pub the-hit : {i : ℕ} → firstOf t (namesIn s tab n) ≡ At i → firstBy word f t (namesIn s tab n) d ≡ f (nameIn s tab i)
     the-hit {i} e =
         let x = which t (namesIn s tab n) 0 i e in
         let y : x .j ≡ i = omega (arith, x .number) in
@@ -98,17 +102,17 @@ hit-low s tab t n {i} e = let x = which (λ (w : Word). w .size) 0 t (namesIn s 
 
 -- ---- names that are there already may be left out
 
-by-append : {A : Type 0} (f : Word → A) (t : List ℕ) (ws vs : List Word) (d : A) → firstBy f t (ws ++ vs) d ≡ firstBy f t ws (firstBy f t vs d)
+by-append : {A : Type 0} (f : Word → A) (t : List ℕ) (ws vs : List Word) (d : A) → firstBy word f t (ws ++ vs) d ≡ firstBy word f t ws (firstBy word f t vs d)
 by-append f t [] vs d = refl
 by-append f t (w ∷ ws) vs d = ap (cond (same (w .text) t) (f w)) (by-append f t ws vs d)
 
 -- where there is a hit, what comes behind does not matter
-by-hit : {A : Type 0} (f : Word → A) (t : List ℕ) (ws : List Word) (d e : A) → memb t ws ≡ true → firstBy f t ws d ≡ firstBy f t ws e
+by-hit : {A : Type 0} (f : Word → A) (t : List ℕ) (ws : List Word) (d e : A) → memb t ws ≡ true → firstBy word f t ws d ≡ firstBy word f t ws e
 by-hit f t [] d e m = cc
 by-hit {A} f t (w ∷ ws) d e m = go (same (w .text) t) (by-hit f t ws d e) m
   where
-    go : (b : Bool) → (memb t ws ≡ true → firstBy f t ws d ≡ firstBy f t ws e)
-        → (b || memb t ws) ≡ true → cond b (f w) (firstBy f t ws d) ≡ cond b (f w) (firstBy f t ws e)
+    go : (b : Bool) → (memb t ws ≡ true → firstBy word f t ws d ≡ firstBy word f t ws e)
+        → (b || memb t ws) ≡ true → cond b (f w) (firstBy word f t ws d) ≡ cond b (f w) (firstBy word f t ws e)
     go true ih m = refl
     go false ih m = ih m
 
@@ -118,17 +122,17 @@ memb-same a b ws e m =
     by-test (memb b ws) (λ y. y) (λ n. absurd (never (same-no a b (λ p. never n (ap (λ (x : List ℕ). memb x ws) (sym p) ∙ m))) e))
 
 add-new : {A : Type 0} (f : Word → A) (t : List ℕ) (ws : List Word) (w : Word) (d : A)
-    → firstBy f t (addNew ws w) d ≡ firstBy f t ws (cond (same (w .text) t) (f w) d)
+    → firstBy word f t (addNew ws w) d ≡ firstBy word f t ws (cond (same (w .text) t) (f w) d)
 add-new {A} f t ws w d = go (memb (w .text) ws) refl (same (w .text) t) refl
   where
     go : (b : Bool) → memb (w .text) ws ≡ b → (c : Bool) → same (w .text) t ≡ c
-        → firstBy f t (cond b ws (ws ++ (w ∷ []))) d ≡ firstBy f t ws (cond c (f w) d)
+        → firstBy word f t (cond b ws (ws ++ (w ∷ []))) d ≡ firstBy word f t ws (cond c (f w) d)
     go true h true k = by-hit f t ws d (f w) (memb-same (w .text) t ws k h)
     go true h false k = refl
-    go false h c k = by-append f t ws (w ∷ []) d ∙ ap (λ (c : Bool). firstBy f t ws (cond c (f w) d)) k
+    go false h c k = by-append f t ws (w ∷ []) d ∙ ap (λ (c : Bool). firstBy word f t ws (cond c (f w) d)) k
 
 -- a search through all words, repeated ones too, is the search through those that were new
-pub once : {A : Type 0} (f : Word → A) (t : List ℕ) (ws vs : List Word) (d : A) → firstBy f t (addAll ws vs) d ≡ firstBy f t (ws ++ vs) d
-once f t ws [] d = ap (λ (l : List Word). firstBy f t l d) (sym (append-nil ws))
+pub once : {A : Type 0} (f : Word → A) (t : List ℕ) (ws vs : List Word) (d : A) → firstBy word f t (addAll ws vs) d ≡ firstBy word f t (ws ++ vs) d
+once f t ws [] d = ap (λ (l : List Word). firstBy word f t l d) (sym (append-nil ws))
 once f t ws (v ∷ vs) d =
-    once f t (addNew ws v) vs d ∙ by-append f t (addNew ws v) vs d ∙ add-new f t ws v (firstBy f t vs d) ∙ sym (by-append f t ws (v ∷ vs) d)
+    once f t (addNew ws v) vs d ∙ by-append f t (addNew ws v) vs d ∙ add-new f t ws v (firstBy word f t vs d) ∙ sym (by-append f t ws (v ∷ vs) d)

@@ -9,7 +9,9 @@ use mathlib.Core.List.{List, [], _∷_, _++_}
 use lib.ListN.{length, getD}
 use lib.Dec.{eqb}
 use Rattle.text.specs.Keyword.{same}
-use Rattle.form.specs.Form.{Word, wordAt}
+use Rattle.form.specs.Form.{Ans, good, bad, bind, Word, wordAt, nameAt, nameSeen}
+use Rattle.form.specs.declared.Name.{Name}
+use Rattle.form.specs.declared.Name.the-variants.{Bytes}
 use Rattle.index.specs.declared.Found.{Found}
 use Rattle.index.specs.declared.Found.the-variants.{At, Nothing}
 
@@ -23,15 +25,19 @@ firstFrom i t (w ∷ ws) = cond (same (w .text) t) (At i) (firstFrom (suc i) t w
 abbrev pub firstOf : List ℕ → List Word → Found
 firstOf t ws = firstFrom 0 t ws
 
--- any search for the first hit: f of the first of the words whose bytes are t, or d
-abbrev pub firstBy : {A : Type 0} → (Word → A) → List ℕ → List Word → A → A
-firstBy f t [] d = d
-firstBy f t (w ∷ ws) d = cond (same (w .text) t) (f w) (firstBy f t ws d)
+-- any search for the first hit: f of the first whose name has the bytes t, or d
+abbrev pub firstBy : {A B : Type 0} → (name : A → Word) → (f : A → B) → List ℕ → List A → B → B
+firstBy name f t [] d = d
+firstBy name f t (a ∷ l) d = cond (same (name a .text) t) (f a) (firstBy name f t l d)
 
 -- a name is among the words
 abbrev pub memb : List ℕ → List Word → Bool
 memb t [] = false
 memb t (w ∷ ws) = same (w .text) t || memb t ws
+
+-- a name that is none of those before it; a repeated one is wrong where it comes again
+unfoldable pub newName : List ℕ → (before : List Word) → ℕ → Ans Word
+newName s before at = bind (nameAt s at) (λ w n. cond (memb (w .text) before) (bad at) (good w n))
 
 -- a word more, unless its bytes are there; and so one after another
 abbrev pub addNew : List Word → Word → List Word
@@ -122,6 +128,19 @@ pub record Added (s tab : List ℕ) (n place len : ℕ) (r : Found) (after : Lis
   pub there : (i : ℕ) → r ≡ At i → after ≡ tab
   pub indexed : r ≡ Nothing → Indexed s after (n + 1)
   pub names : r ≡ Nothing → namesIn s after (n + 1) ≡ namesIn s tab n ++ (wordAt s place len ∷ [])
+
+-- what the taking of a name asks, and does: a name that is read and new becomes the last
+pub record Space (s tab : List ℕ) (n : ℕ) : Type 0 where
+  pub indexed : Indexed s tab n
+  pub free : rowOf n + rowWords ≤ length tab
+  pub small : n < most
+  pub short : length s ≤ most
+
+pub record Taken (s tab : List ℕ) (n at : ℕ) (r : Name) (after : List ℕ) : Type 0 where
+  pub answer : nameSeen s r ≡ newName s (namesIn s tab n) at
+  pub kept : length after ≡ length tab
+  pub indexed : (first len : ℕ) → r ≡ Bytes first len → Indexed s after (n + 1)
+  pub names : (first len : ℕ) → r ≡ Bytes first len → namesIn s after (n + 1) ≡ namesIn s tab n ++ (wordAt s first len ∷ [])
 
 -- what the storing of one name needs, and what it leaves: four words, and all others as they were
 pub record Puts (tab : List ℕ) (n h place len : ℕ) : Type 0 where

@@ -1,9 +1,11 @@
 // An index over names that stand in a slice of bytes. The table has the heads of the buckets, and three words for each name: its place, its
 // length and its link. A head and a link are one more than the number of a name, or 0.
+use form::Cursor;
+use form::Name;
 ghost use mathlib.Core.Path.{_≡_};
 ghost use Prim.Native.Nat.{_+_, _≤_, _<_};
 ghost use lib.ListN.{length, getD};
-ghost use Rattle.index.specs.Names.{buckets, rowWords, rowOf, firstOf, namesIn, hashOf, Indexed, Sought, Room, Added, Puts, Stored, Cleared};
+ghost use Rattle.index.specs.Names.{buckets, rowWords, rowOf, firstOf, namesIn, hashOf, Indexed, Sought, Room, Added, Space, Taken, Puts, Stored, Cleared};
 
 // How many buckets there are.
 pub const BUCKETS: usize = 2048;
@@ -128,4 +130,20 @@ pub fn add(s: &[u8], tab: &mut [u32], count: usize, place: usize, len: usize) ->
     };
     put(tab, count, h, place, len);
     found
+}
+
+// Reads the name at `at` and adds it to the `count` names of the table. One that is there already is wrong.
+pub fn take_name(s: &[u8], tab: &mut [u32], count: usize, at: usize) -> Name
+    requires { ⌜ Space (now s) (now tab) count ⌝ }
+    ensures { λ r. ⌜ Taken (now (s .entry)) (now (tab .entry)) count at r (now (tab .exit)) ⌝ }
+{
+    let here = Cursor { at: at };
+    let name = here.name(s);
+    let Name::Bytes(first, len) = name else {
+        return name;
+    };
+    let Found::Nothing = add(s, tab, count, first, len) else {
+        return Name::Wrong(at);
+    };
+    name
 }
