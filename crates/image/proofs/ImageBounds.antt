@@ -10,8 +10,9 @@ use lib.ListN.{length}
 use lib.Dec.{ltb}
 use Rattle.form.specs.Form.{Ans, good, bad, bind, Word, numberAt, nameAt, many}
 use Rattle.form.proofs.Bounds.{number-end, number-place, name-end, name-place}
+use Rattle.index.specs.Names.{memb, newName}
 use Rattle.image.specs.Library.{Module, ImportOnly, Library}
-use Rattle.image.specs.Image.{mostImage, mostSets, mostModules, mostNames, leastRevisions, mostRevisions, Reader, counted, among, newName, anyWord, newWord, moduleAt, revisionAt, importOnlyAt, setAt, libraryAt, imageAt}
+use Rattle.image.specs.Image.{mostImage, mostSets, mostModules, mostNames, leastRevisions, mostRevisions, Reader, countAt, counted, anyWord, newWord, moduleAt, revisionAt, importOnlyAt, setAt, libraryAt, imageAt}
 use Rattle.image.proofs.ImageLaws.{accepted}
 
 -- the place of an answer
@@ -56,6 +57,12 @@ module _ {A : Type 0} (s : List ℕ) (at : ℕ) where
 
 -- ---- counted lists
 
+pub count-placed : (s : List ℕ) (least most at : ℕ) → at ≤ length s → Placed s at (countAt least most s at)
+unfolding countAt
+count-placed s least most at h =
+    bind-placed s at (numberAt s at) _ (number-placed s at h) (λ c m i j.
+    cond-placed s at h (ltb c least) _ (cond-placed s at h (ltb most c) (good c m) (record { later = i; inside = j })))
+
 module _ {A : Type 0} (p : Reader A) (law : Bounded p) (s : List ℕ) where
   many-placed : (k : ℕ) (seen : List A) (at : ℕ) → at ≤ length s → Placed s at (many (p s) k seen at)
   unfolding many
@@ -66,21 +73,20 @@ module _ {A : Type 0} (p : Reader A) (law : Bounded p) (s : List ℕ) where
   counted-placed : (least most at : ℕ) → at ≤ length s → Placed s at (counted least most p s at)
   unfolding counted
   counted-placed least most at h =
-      bind-placed s at (numberAt s at) _ (number-placed s at h) (λ c m i j.
-      cond-placed s at h (ltb c least) _ (cond-placed s at h (ltb most c) _ (from-earlier s at _ m i (many-placed c [] m j))))
+      bind-placed s at (countAt least most s at) _ (count-placed s least most at h) (λ c m i j. from-earlier s at _ m i (many-placed c [] m j))
 
 -- ---- the library
 
-new-placed : (s : List ℕ) (before : List (List ℕ)) (at : ℕ) → at ≤ length s → Placed s at (newName s before at)
+pub new-placed : (s : List ℕ) (before : List Word) (at : ℕ) → at ≤ length s → Placed s at (newName s before at)
 unfolding newName
 new-placed s before at h =
-    bind-placed s at (nameAt s at) _ (name-placed s at h) (λ w m i j. cond-placed s at h (among (w .text) before) (good w m) (record { later = i; inside = j }))
+    bind-placed s at (nameAt s at) _ (name-placed s at h) (λ w m i j. cond-placed s at h (memb (w .text) before) (good w m) (record { later = i; inside = j }))
 
 any-bounded : Bounded anyWord
 any-bounded s seen at h = name-placed s at h
 
 new-bounded : Bounded newWord
-new-bounded s seen at h = new-placed s (map (λ (w : Word). w .text) seen) at h
+new-bounded = new-placed
 
 names-placed : (s : List ℕ) (at : ℕ) → at ≤ length s → Placed s at (counted 0 mostNames anyWord s at)
 names-placed s at h = counted-placed anyWord any-bounded s 0 mostNames at h
@@ -88,7 +94,7 @@ names-placed s at h = counted-placed anyWord any-bounded s 0 mostNames at h
 module-bounded : Bounded moduleAt
 unfolding moduleAt
 module-bounded s seen at h =
-    bind-placed s at _ _ (new-placed s (map (λ (m : Module). m .name .text) seen) at h) (λ w n₁ i₁ j₁.
+    bind-placed s at _ _ (new-placed s (map (λ (m : Module). m .name) seen) at h) (λ w n₁ i₁ j₁.
     from-earlier s at _ n₁ i₁ (bind-placed s n₁ _ _ (names-placed s n₁ j₁) (λ a n₂ i₂ j₂.
     from-earlier s n₁ _ n₂ i₂ (bind-placed s n₂ _ _ (names-placed s n₂ j₂) (λ b n₃ i₃ j₃.
     from-earlier s n₂ _ n₃ i₃ (bind-placed s n₃ _ _ (names-placed s n₃ j₃) (λ c n₄ i₄ j₄. record { later = i₄; inside = j₄ })))))))
@@ -99,7 +105,7 @@ revision-bounded s seen at h = counted-placed newWord new-bounded s 0 mostNames 
 import-only-bounded : Bounded importOnlyAt
 unfolding importOnlyAt
 import-only-bounded s seen at h =
-    bind-placed s at _ _ (new-placed s (map (λ (m : ImportOnly). m .name .text) seen) at h) (λ w n₁ i₁ j₁.
+    bind-placed s at _ _ (new-placed s (map (λ (m : ImportOnly). m .name) seen) at h) (λ w n₁ i₁ j₁.
     from-earlier s at _ n₁ i₁ (bind-placed s n₁ _ _ (counted-placed revisionAt revision-bounded s leastRevisions mostRevisions n₁ j₁) (λ a n₂ i₂ j₂. record { later = i₂; inside = j₂ })))
 
 set-bounded : Bounded setAt

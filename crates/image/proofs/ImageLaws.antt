@@ -13,10 +13,11 @@ use borrow.Author.Tests.{lt-ltb, le-ltb, ltb-false}
 use Rattle.form.specs.Form.{good, bad, bind, Word, nameAt}
 use Rattle.form.specs.Writer.{writeNumber, writeName, AllBytes}
 use Rattle.form.proofs.WriterLaws.{name-bytes}
-use Rattle.image.specs.Library.{Module, ImportOnly, ModuleSet, Library}
-use Rattle.image.specs.Image.{mostImage, mostSets, mostModules, mostNames, leastRevisions, mostRevisions, counted, among, newName, anyWord, newWord, moduleAt, revisionAt, importOnlyAt, setAt, libraryAt, imageAt}
-use Rattle.image.specs.ImageWriter.{Name, PlainModule, PlainImportOnly, PlainSet, PlainLibrary, plainName, plainModule, plainImportOnly, plainSet, plain, writeList, writeModule, writeImportOnly, writeSet, writeImage, Listed, AnyName, NewName, FormedModule, FormedRevision, FormedImportOnly, FormedSet, Formed}
-use Rattle.image.proofs.Steps.{on-good, bind-good, passed, carry, pass, wrote-join, name-wrote, Stands, stands-left, stands-right, name-stands}
+use Rattle.index.specs.Names.{memb, newName}
+use Rattle.image.specs.Library.{Module, ImportOnly, ModuleSet, Library, Name, PlainModule, PlainImportOnly, PlainSet, PlainLibrary, plainName, plainModule, plainImportOnly, plainSet, plain}
+use Rattle.image.specs.Image.{mostImage, mostSets, mostModules, mostNames, leastRevisions, mostRevisions, counted, anyWord, newWord, moduleAt, revisionAt, importOnlyAt, setAt, libraryAt, imageAt}
+use Rattle.image.specs.ImageWriter.{writeList, writeModule, writeImportOnly, writeSet, writeImage, Listed, AnyName, NewName, FormedModule, FormedRevision, FormedImportOnly, FormedSet, Formed}
+use Rattle.image.proofs.Steps.{on-good, bind-good, passed, carry, wrote-join, name-wrote, Stands, stands-left, stands-right, name-stands}
 use Rattle.image.proofs.Differ.{none-of, not-among}
 use Rattle.image.proofs.Lawful.{Forth, Back, Lawful, counted-lawful}
 
@@ -32,34 +33,26 @@ any-lawful = record {
   };
 }
 
-new-forth : (s : List ℕ) → AllBytes s → (before : List Name) (at : ℕ) {w : Word} {n : ℕ} → newName s before at ≡ good w n → Forth writeName NewName s before at (w .text) n
+new-forth : (s : List ℕ) → AllBytes s → (before : List Word) (at : ℕ) {w : Word} {n : ℕ} → newName s before at ≡ good w n
+    → Forth writeName NewName s (map plainName before) at (w .text) n
 unfolding newName
 new-forth s bytes before at e =
     on-good (nameAt s at) _ e (λ v m e₁ e₂.
-    let g = passed (among (v .text) before) at (good v m) e₂ in
-    carry (λ w n. Forth writeName NewName s before at (w .text) n) (g .1)
+    let g = passed (memb (v .text) before) at (good v m) e₂ in
+    carry (λ w n. Forth writeName NewName s (map plainName before) at (w .text) n) (g .1)
     (record { wrote = name-wrote s bytes at e₁; right = (name-bytes s at e₁, none-of (v .text) before (g .0)) }))
 
-new-back : (s : List ℕ) (before : List Name) (at : ℕ) (b : Name) (rest : List ℕ) → NewName before b → Stands s at (writeName b) rest
-    → Back (λ s seen at. newName s before at) plainName writeName s [] at b
+new-back : (s : List ℕ) (before : List Word) (at : ℕ) (b : Name) (rest : List ℕ) → NewName (map plainName before) b → Stands s at (writeName b) rest
+    → Back newWord plainName writeName s before at b
 unfolding newName
-new-back s before at b rest h t =
-    let w : Word = record { place = at + length (writeNumber (length b)); size = length b; text = b } in
-    record {
-      value = w;
-      plain = refl;
-      read =
-          bind-good (λ w n. cond (among (w .text) before) (bad at) (good w n)) (name-stands s at b rest (h .0) t)
-          (pass at (good w (at + length (writeName b))) (not-among b before (h .1)));
-    }
+new-back s before at b rest h t = record {
+  value = record { place = at + length (writeNumber (length b)); size = length b; text = b };
+  plain = refl;
+  read = rw (name-stands s at b rest (h .0) t, not-among b before (h .1));
+}
 
 new-lawful : Lawful newWord plainName writeName NewName
-new-lawful = record {
-  forth = λ s bytes seen at e. new-forth s bytes (map plainName seen) at e;
-  back = λ s seen at b rest h t.
-      let r = new-back s (map plainName seen) at b rest h t in
-      record { value = r .value; plain = r .plain; read = r .read };
-}
+new-lawful = record { forth = new-forth; back = new-back }
 
 -- ---- lists of names
 
@@ -78,11 +71,11 @@ module-forth : (s : List ℕ) → AllBytes s → (seen : List Module) (at : ℕ)
     → Forth writeModule FormedModule s (map plainModule seen) at (plainModule m) n
 unfolding moduleAt writeModule
 module-forth s bytes seen at e =
-    on-good (newName s (map (λ (m : Module). m .name .text) seen) at) _ e (λ w n₁ e₁ f₁.
+    on-good (newName s (map (λ (m : Module). m .name) seen) at) _ e (λ w n₁ e₁ f₁.
     on-good (counted 0 mostNames anyWord s n₁) _ f₁ (λ a n₂ e₂ f₂.
     on-good (counted 0 mostNames anyWord s n₂) _ f₂ (λ b n₃ e₃ f₃.
     on-good (counted 0 mostNames anyWord s n₃) _ f₃ (λ c n₄ e₄ f₄.
-    let h₁ = new-forth s bytes (map (λ (m : Module). m .name .text) seen) at e₁ in
+    let h₁ = new-forth s bytes (map (λ (m : Module). m .name) seen) at e₁ in
     let h₂ = names-lawful .forth s bytes [] n₁ e₂ in
     let h₃ = names-lawful .forth s bytes [] n₂ e₃ in
     let h₄ = names-lawful .forth s bytes [] n₃ e₄ in
@@ -90,7 +83,7 @@ module-forth s bytes seen at e =
     (record {
       wrote = wrote-join s at n₁ n₄ (h₁ .wrote) (wrote-join s n₁ n₂ n₄ (h₂ .wrote) (wrote-join s n₂ n₃ n₄ (h₃ .wrote) (h₄ .wrote)));
       right = record {
-        name = subst (λ x. NewName x (w .text)) (sym (map-map (λ (k : PlainModule). k .name) plainModule seen)) (h₁ .right);
+        name = simp map-map (simp map-map at (h₁ .right));
         submodules = h₂ .right;
         augmenting = h₃ .right;
         deviations = h₄ .right;
@@ -111,8 +104,8 @@ module-back s seen at b rest h t =
     let t₁ = stands-right s at w₁ (w₂ ++ (w₃ ++ w₄)) rest t in
     let t₂ = stands-right s n₁ w₂ (w₃ ++ w₄) rest t₁ in
     let t₃ = stands-right s n₂ w₃ w₄ rest t₂ in
-    let new = subst (λ x. NewName x (b .name)) (map-map (λ (k : PlainModule). k .name) plainModule seen) (h .name) in
-    let r₁ = new-back s (map (λ (m : Module). m .name .text) seen) at (b .name) (w₂ ++ (w₃ ++ w₄) ++ rest) new (stands-left s at w₁ (w₂ ++ (w₃ ++ w₄)) rest t) in
+    let new : NewName (map plainName (map (λ (m : Module). m .name) seen)) (b .name) = simp map-map (simp map-map at (h .name)) in
+    let r₁ = new-back s (map (λ (m : Module). m .name) seen) at (b .name) (w₂ ++ (w₃ ++ w₄) ++ rest) new (stands-left s at w₁ (w₂ ++ (w₃ ++ w₄)) rest t) in
     let r₂ = names-lawful .back s [] n₁ (b .submodules) (w₃ ++ w₄ ++ rest) (h .submodules) (stands-left s n₁ w₂ (w₃ ++ w₄) rest t₁) in
     let r₃ = names-lawful .back s [] n₂ (b .augmenting) (w₄ ++ rest) (h .augmenting) (stands-left s n₂ w₃ w₄ rest t₂) in
     let r₄ = names-lawful .back s [] n₃ (b .deviations) rest (h .deviations) t₃ in
@@ -139,15 +132,15 @@ import-only-forth : (s : List ℕ) → AllBytes s → (seen : List ImportOnly) (
     → Forth writeImportOnly FormedImportOnly s (map plainImportOnly seen) at (plainImportOnly m) n
 unfolding importOnlyAt writeImportOnly
 import-only-forth s bytes seen at e =
-    on-good (newName s (map (λ (m : ImportOnly). m .name .text) seen) at) _ e (λ w n₁ e₁ f₁.
+    on-good (newName s (map (λ (m : ImportOnly). m .name) seen) at) _ e (λ w n₁ e₁ f₁.
     on-good (counted leastRevisions mostRevisions revisionAt s n₁) _ f₁ (λ a n₂ e₂ f₂.
-    let h₁ = new-forth s bytes (map (λ (m : ImportOnly). m .name .text) seen) at e₁ in
+    let h₁ = new-forth s bytes (map (λ (m : ImportOnly). m .name) seen) at e₁ in
     let h₂ = revisions-lawful .forth s bytes [] n₁ e₂ in
     carry (λ m n. Forth writeImportOnly FormedImportOnly s (map plainImportOnly seen) at (plainImportOnly m) n) f₂
     (record {
       wrote = wrote-join s at n₁ n₂ (h₁ .wrote) (h₂ .wrote);
       right = record {
-        name = subst (λ x. NewName x (w .text)) (sym (map-map (λ (k : PlainImportOnly). k .name) plainImportOnly seen)) (h₁ .right);
+        name = simp map-map (simp map-map at (h₁ .right));
         revisions = h₂ .right;
       };
     })))
@@ -159,8 +152,8 @@ import-only-back s seen at b rest h t =
     let w₁ = writeName (b .name) in
     let w₂ = writeList (writeList writeName) (b .revisions) in
     let n₁ = at + length w₁ in
-    let new = subst (λ x. NewName x (b .name)) (map-map (λ (k : PlainImportOnly). k .name) plainImportOnly seen) (h .name) in
-    let r₁ = new-back s (map (λ (m : ImportOnly). m .name .text) seen) at (b .name) (w₂ ++ rest) new (stands-left s at w₁ w₂ rest t) in
+    let new : NewName (map plainName (map (λ (m : ImportOnly). m .name) seen)) (b .name) = simp map-map (simp map-map at (h .name)) in
+    let r₁ = new-back s (map (λ (m : ImportOnly). m .name) seen) at (b .name) (w₂ ++ rest) new (stands-left s at w₁ w₂ rest t) in
     let r₂ = revisions-lawful .back s [] n₁ (b .revisions) rest (h .revisions) (stands-right s at w₁ w₂ rest t) in
     let d : n₁ + length w₂ ≡ at + length (w₁ ++ w₂) = omega (arith, length-append w₁ w₂) in
     let m : ImportOnly = record { name = r₁ .value; revisions = r₂ .value } in
@@ -258,7 +251,6 @@ image-back l h =
     let j : length s ≤ m = omega arith in (
       k,
       m,
-      pass 0 (bind (counted 0 mostSets setAt s 0) (λ l n. cond (ltb n (length s)) (bad n) (good l n))) (le-ltb mostImage (length s) i)
-          ∙ bind-good _ (r .read) (pass m (good k m) (le-ltb m (length s) j)),
+      rw (le-ltb mostImage (length s) i, r .read, le-ltb m (length s) j),
       r .plain,
     )

@@ -3,18 +3,15 @@
 -- Assumes nothing.
 use mathlib.Core.Path.{_≡_, refl, sym, ap, ap₂, _∙_, subst}
 use mathlib.Core.List.{List, [], _∷_, _++_, map, append-nil, map-append}
-use mathlib.Core.Bool.{cond}
 use Prim.Native.Nat.{ℕ, zero, suc, _+_, _≤_}
 use native.Mathlib.Omega.{arith}
 use lib.ListN.{length, length-append, length-map}
 use lib.Seq.{append-snoc}
-use lib.Dec.{ltb}
-use borrow.Author.Tests.{le-ltb, ltb-false}
-use Rattle.form.specs.Form.{good, bad, mostNumber, numberAt, many}
+use Rattle.form.specs.Form.{good, mostNumber, many}
 use Rattle.form.specs.Writer.{writeNumber, AllBytes}
-use Rattle.image.specs.Image.{Reader, counted}
+use Rattle.image.specs.Image.{Reader, countAt, counted}
 use Rattle.image.specs.ImageWriter.{writeEach, writeList, EachOf, Listed}
-use Rattle.image.proofs.Steps.{on-good, bind-good, passed, carry, pass, Wrote, wrote-none, wrote-join, number-wrote, Stands, stands-left, stands-right, number-stands}
+use Rattle.image.proofs.Steps.{on-good, bind-good, carry, count-good, good-count, Wrote, wrote-none, wrote-join, number-wrote, Stands, stands-left, stands-right, number-stands}
 
 -- what was read from `at` to n is a rightly formed b, written
 pub record Forth {B : Type 0} (w : B → List ℕ) (Right : List B → B → Type 0) (s : List ℕ) (before : List B) (at : ℕ) (b : B) (n : ℕ) : Type 0 where
@@ -90,27 +87,21 @@ module _ {A B : Type 0} {p : Reader A} {f : A → B} {w : B → List ℕ} {Right
   -- ---- counted
 
   module _ (least most : ℕ) (fits : most ≤ mostNumber) where
-    counted-read : (s : List ℕ) → AllBytes s → (before : List (List B)) (at c m n : ℕ) {l : List A} → numberAt s at ≡ good c m → least ≤ c → c ≤ most → Read s c [] m l n
+    counted-forth : (s : List ℕ) → AllBytes s → (before : List (List B)) (at : ℕ) {l : List A} {n : ℕ} → counted least most p s at ≡ good l n
         → Forth (writeList w) (λ before. Listed least most Right) s before at (map f l) n
-    unfolding writeList
-    counted-read s bytes before at c m n {l} e i j r =
+    unfolding counted writeList
+    counted-forth s bytes before at {l} {n} e =
+        on-good (countAt least most s at) _ e (λ c m e₁ e₂.
+        let k = count-good s least most at e₁ in
+        let r = many-forth s bytes c [] m e₂ in
         let q : map f (r .more) ≡ map f l = ap (map f) (r .whole) in
         let z : length (map f l) ≡ c = ap length (sym q) ∙ length-map (r .more) f ∙ r .size in
-        let v : Wrote s at (writeNumber (length (map f l))) m = rw z (number-wrote s bytes at e) in
+        let v : Wrote s at (writeNumber (length (map f l))) m = rw z (number-wrote s bytes at (k .number)) in
         let u : Wrote s m (writeEach w (map f l)) n = subst (λ x. Wrote s m (writeEach w x) n) q (r .wrote) in
         record {
           wrote = wrote-join s at m n v u;
-          right = record { enough = rw z i; few = rw z j; each = subst (λ x. EachOf Right [] x) q (r .each) };
-        }
-
-    counted-forth : (s : List ℕ) → AllBytes s → (before : List (List B)) (at : ℕ) {l : List A} {n : ℕ} → counted least most p s at ≡ good l n
-        → Forth (writeList w) (λ before. Listed least most Right) s before at (map f l) n
-    unfolding counted
-    counted-forth s bytes before at {l} {n} e =
-        on-good (numberAt s at) _ e (λ c m e₁ e₂.
-        let g = passed (ltb c least) at (cond (ltb most c) (bad at) (many (p s) c [] m)) e₂ in
-        let h = passed (ltb most c) at (many (p s) c [] m) (g .1) in
-        counted-read s bytes before at c m n e₁ (ltb-false c least (g .0)) (ltb-false most c (h .0)) (many-forth s bytes c [] m (h .1)))
+          right = record { enough = rw z (k .enough); few = rw z (k .few); each = subst (λ x. EachOf Right [] x) q (r .each) };
+        })
 
     counted-back : (s : List ℕ) (seen : List (List A)) (at : ℕ) (bs : List B) (rest : List ℕ) → Listed least most Right bs → Stands s at (writeList w bs) rest
         → Back (λ s seen at. counted least most p s at) (map f) (writeList w) s seen at bs
@@ -121,14 +112,12 @@ module _ {A B : Type 0} {p : Reader A} {f : A → B} {w : B → List ℕ} {Right
         let m = number-stands s at (length bs) (writeEach w bs ++ rest) (omega arith) (stands-left s at v (writeEach w bs) rest t) in
         let r = many-back s [] (at + length v) bs rest (h .each) (stands-right s at v (writeEach w bs) rest t) in
         let d : at + length v + length (writeEach w bs) ≡ at + length (v ++ writeEach w bs) = omega (arith, length-append v (writeEach w bs)) in
-        let x = many (p s) (length bs) [] (at + length v) in
         record {
           value = r .more;
           plain = r .plain;
           read =
-              bind-good (λ c n. cond (ltb c least) (bad at) (cond (ltb most c) (bad at) (many (p s) c [] n))) m
-              (pass at (cond (ltb most (length bs)) (bad at) x) (le-ltb (length bs) least (h .enough))
-              ∙ pass at x (le-ltb most (length bs) i) ∙ r .read ∙ ap (good (r .more)) d);
+              bind-good (λ c n. many (p s) c [] n) (good-count s least most at (record { number = m; enough = h .enough; few = i }))
+              (r .read ∙ ap (good (r .more)) d);
         }
 
     pub counted-lawful : Lawful (λ s seen at. counted least most p s at) (map f) (writeList w) (λ before. Listed least most Right)

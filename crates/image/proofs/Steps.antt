@@ -5,12 +5,15 @@ use mathlib.Core.List.{List, [], _++_, append-assoc}
 use mathlib.Core.Bool.{Bool, true, false, cond}
 use Prim.Native.Nat.{ℕ, _+_, _-_, _≤_}
 use native.Mathlib.Omega.{arith}
+use lib.Dec.{ltb}
+use borrow.Author.Tests.{le-ltb, ltb-false}
 use lib.ListN.{length, take, drop, length-append, length-drop, take-append-drop}
 use lib.Seq.{drop-drop, take-add, drop-append-seam, length-take-le}
 use Rattle.form.specs.Form.{Ans, good, bad, bind, mostNumber, numberAt, Word, nameAt}
 use Rattle.form.specs.Writer.{writeNumber, writeName, NameBytes, AllBytes}
 use Rattle.form.proofs.Bounds.{number-end, name-end}
 use Rattle.form.proofs.WriterLaws.{number-back, number-written, name-back, name-written}
+use Rattle.image.specs.Image.{countAt}
 
 -- ---- good readings
 
@@ -34,8 +37,25 @@ module _ {A : Type 0} where
   pub carry : (P : A → ℕ → Type 0) {a b : A} {m n : ℕ} → good a m ≡ good b n → P a m → P b n
   carry P {a} {b} {m} {n} e h = let x : a ≡ b = cc in let y : m ≡ n = cc in subst (λ i. P b i) y (subst (λ c. P c m) x h)
 
-  pub pass : {b : Bool} (p : ℕ) (r : Ans A) → b ≡ false → cond b (bad p) r ≡ r
-  pass p r e = rw e
+-- a number within its limits
+pub record Limited (s : List ℕ) (least most at c n : ℕ) : Type 0 where
+  pub number : numberAt s at ≡ good c n
+  pub enough : least ≤ c
+  pub few : c ≤ most
+
+module _ (s : List ℕ) (least most at : ℕ) {c n : ℕ} where
+  pub count-good : countAt least most s at ≡ good c n → Limited s least most at c n
+  unfolding countAt
+  count-good e =
+      on-good (numberAt s at) _ e (λ d m e₁ e₂.
+      let g = passed (ltb d least) at (cond (ltb most d) (bad at) (good d m)) e₂ in
+      let h = passed (ltb most d) at (good d m) (g .1) in
+      carry (λ c n. Limited s least most at c n) (h .1)
+      (record { number = e₁; enough = ltb-false d least (g .0); few = ltb-false most d (h .0) }))
+
+  pub good-count : Limited s least most at c n → countAt least most s at ≡ good c n
+  unfolding countAt
+  good-count w = rw (w .number, le-ltb c least (w .enough), le-ltb most c (w .few))
 
 -- ---- the bytes between two places
 

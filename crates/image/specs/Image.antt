@@ -3,14 +3,18 @@
 -- one set module names differ, and import-only names differ; in one import-only revision submodules differ. Nothing follows. Wrong: start of the first
 -- wrong number or name in reading order, or first extra byte; a repeated name is wrong where it comes again; 0 for over-length.
 -- Assumes nothing.
-use Prim.Native.Nat.{ℕ, zero, suc}
-use mathlib.Core.Bool.{Bool, false, cond, _||_}
-use mathlib.Core.List.{List, [], _∷_, _++_, map}
+use Prim.Native.Nat.{ℕ}
+use mathlib.Core.Bool.{cond}
+use mathlib.Core.List.{List, [], map}
 use lib.ListN.{length}
 use lib.Dec.{ltb}
-use Rattle.text.specs.Keyword.{same}
 use Rattle.form.specs.Form.{Ans, good, bad, bind, Word, numberAt, nameAt, many}
+use Rattle.index.specs.Names.{newName}
 use Rattle.image.specs.Library.{Module, ImportOnly, ModuleSet, Library}
+
+-- the refusal of an image that breaks its form
+abbrev pub imageBroken : ℕ
+imageBroken = 20
 
 -- ---- limits
 
@@ -38,34 +42,28 @@ mostRevisions = 8
 abbrev pub Reader : Type 0 → Type 0
 Reader A = List ℕ → List A → ℕ → Ans A
 
--- a number from `least` to `most`, wrong where it starts, and as many things
+-- a number from `least` to `most`, wrong where it starts
+unfoldable pub countAt : (least most : ℕ) → List ℕ → ℕ → Ans ℕ
+countAt least most s at = bind (numberAt s at) (λ c n. cond (ltb c least) (bad at) (cond (ltb most c) (bad at) (good c n)))
+
+-- and as many things
 unfoldable pub counted : {A : Type 0} → (least most : ℕ) → Reader A → List ℕ → ℕ → Ans (List A)
-counted least most p s at =
-    bind (numberAt s at) (λ c n. cond (ltb c least) (bad at) (cond (ltb most c) (bad at) (many (p s) c [] n)))
+counted least most p s at = bind (countAt least most s at) (λ c n. many (p s) c [] n)
 
 -- ---- names that differ
-
--- a name is one of the list
-unfoldable pub among : List ℕ → List (List ℕ) → Bool
-among t [] = false
-among t (u ∷ us) = same u t || among t us
-
--- a name that is none of those before it
-unfoldable pub newName : List ℕ → (before : List (List ℕ)) → ℕ → Ans Word
-newName s before at = bind (nameAt s at) (λ w n. cond (among (w .text) before) (bad at) (good w n))
 
 -- one of a list whose names may be the same, and one of a list whose names differ
 abbrev pub anyWord : Reader Word
 anyWord s seen at = nameAt s at
 
 abbrev pub newWord : Reader Word
-newWord s seen at = newName s (map (λ (w : Word). w .text) seen) at
+newWord s seen at = newName s seen at
 
 -- ---- the library
 
 unfoldable pub moduleAt : Reader Module
 moduleAt s seen at =
-    bind (newName s (map (λ (m : Module). m .name .text) seen) at) (λ w n₁.
+    bind (newName s (map (λ (m : Module). m .name) seen) at) (λ w n₁.
     bind (counted 0 mostNames anyWord s n₁) (λ submodules n₂.
     bind (counted 0 mostNames anyWord s n₂) (λ augmenting n₃.
     bind (counted 0 mostNames anyWord s n₃) (λ deviations n₄.
@@ -77,7 +75,7 @@ revisionAt s seen at = counted 0 mostNames newWord s at
 
 unfoldable pub importOnlyAt : Reader ImportOnly
 importOnlyAt s seen at =
-    bind (newName s (map (λ (m : ImportOnly). m .name .text) seen) at) (λ w n₁.
+    bind (newName s (map (λ (m : ImportOnly). m .name) seen) at) (λ w n₁.
     bind (counted leastRevisions mostRevisions revisionAt s n₁) (λ revisions n₂.
     good (record { name = w; revisions = revisions }) n₂))
 

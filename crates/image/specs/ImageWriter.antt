@@ -6,52 +6,9 @@ use Prim.Native.Nat.{ℕ, _≤_}
 use mathlib.Core.Path.{_≡_}
 use mathlib.Core.List.{List, [], _∷_, _++_, map}
 use lib.ListN.{length}
-use Rattle.form.specs.Form.{Word}
 use Rattle.form.specs.Writer.{writeNumber, writeName, NameBytes}
-use Rattle.image.specs.Library.{Module, ImportOnly, ModuleSet, Library}
+use Rattle.image.specs.Library.{Name, PlainModule, PlainImportOnly, PlainSet, PlainLibrary}
 use Rattle.image.specs.Image.{mostImage, mostSets, mostModules, mostNames, leastRevisions, mostRevisions}
-
--- ---- the library without places: a name is its bytes
-
-abbrev pub Name : Type 0
-Name = List ℕ
-
-pub record PlainModule : Type 0 where
-  pub name : Name
-  pub submodules : List Name
-  pub augmenting : List Name
-  pub deviations : List Name
-
-pub record PlainImportOnly : Type 0 where
-  pub name : Name
-  pub revisions : List (List Name)
-
-pub record PlainSet : Type 0 where
-  pub modules : List PlainModule
-  pub importOnly : List PlainImportOnly
-
-abbrev pub PlainLibrary : Type 0
-PlainLibrary = List PlainSet
-
-abbrev pub plainName : Word → Name
-plainName w = w .text
-
-abbrev pub plainModule : Module → PlainModule
-plainModule m = record {
-  name = plainName (m .name);
-  submodules = map plainName (m .submodules);
-  augmenting = map plainName (m .augmenting);
-  deviations = map plainName (m .deviations);
-}
-
-abbrev pub plainImportOnly : ImportOnly → PlainImportOnly
-plainImportOnly m = record { name = plainName (m .name); revisions = map (map plainName) (m .revisions) }
-
-abbrev pub plainSet : ModuleSet → PlainSet
-plainSet s = record { modules = map plainModule (s .modules); importOnly = map plainImportOnly (s .importOnly) }
-
-abbrev pub plain : Library → PlainLibrary
-plain l = map plainSet l
 
 -- ---- written
 
