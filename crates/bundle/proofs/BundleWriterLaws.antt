@@ -1,37 +1,26 @@
 -- Texts that were written are read back; and a bundle that was read is what would be written of its texts.
 -- Assumes nothing.
 use mathlib.Core.Path.{_≡_, refl, sym, ap, ap₂, _∙_}
-use mathlib.Core.List.{List, [], _∷_, _++_, append-assoc, append-nil}
-use mathlib.Core.Bool.{Bool, true, false, cond, _||_}
+use mathlib.Core.List.{List, [], _∷_, _++_, map-append, append-assoc, append-nil}
+use mathlib.Core.Bool.{Bool, true, false, _||_}
 use Prim.Native.Nat.{ℕ, zero, suc, _+_, _-_, _≤_}
 use native.Mathlib.Omega.{arith}
-use lib.ListN.{length, take, drop, length-append, length-drop, take-append-drop}
+use lib.ListN.{length, length-map, take, drop, length-append, length-drop, take-append-drop}
 use lib.Seq.{drop-drop, take-add, take-append-seam, drop-append-seam, length-take-le, take-all}
 use borrow.Author.Tests.{le-ltb}
 use Rattle.text.specs.Keyword.{same}
 use Rattle.text.proofs.KeywordLaws.{same-yes, same-no}
-use Rattle.text.proofs.Here.{never}
+use Rattle.text.proofs.Here.{never, neither}
 use Rattle.form.specs.Form.{Ans, good, bad, bind, Word, mostNumber, numberAt, nameAt, many}
 use Rattle.form.specs.Writer.{writeNumber, writeName, NameBytes, AllBytes}
 use Rattle.form.proofs.Bounds.{number-end, name-end}
 use Rattle.form.proofs.WriterLaws.{number-back, name-back, name-bytes, number-written, number-most, name-written}
-use Rattle.index.specs.Names.{memb}
-use Rattle.bundle.specs.Bundle.{mostTexts, mostBytes, Text, textOf, bodyAt, entryAt, filedAt, words, newText, textsAt, bundleAt}
+use Rattle.index.specs.Names.{memb, newName}
+use Rattle.bundle.specs.Bundle.{mostTexts, mostBytes, Text, textOf, bodyAt, filedAt, words, newText, textsAt, bundleAt}
 use Rattle.bundle.specs.BundleWriter.{Named, writeText, writeTexts, writeBundle, named, allNamed, TextBytes, AllTexts, Others, Differ, BundleTexts}
-use Rattle.bundle.proofs.Filing.{repeats-entry}
 use Rattle.bundle.proofs.Entries.{parted}
 use Rattle.bundle.proofs.Opening.{words-snoc}
-use Rattle.bundle.proofs.Parts.{filed-new, bundle-parted}
-
--- ---- lists
-
-named-snoc : (s : List ℕ) (es : List Text) (e : Text) → allNamed s (es ++ (e ∷ [])) ≡ allNamed s es ++ (named s e ∷ [])
-named-snoc s [] e = refl
-named-snoc s (d ∷ es) e = ap (λ (ts : List Named). named s d ∷ ts) (named-snoc s es e)
-
-length-named : (s : List ℕ) (es : List Text) → length (allNamed s es) ≡ length es
-length-named s [] = refl
-length-named s (e ∷ es) = ap suc (length-named s es)
+use Rattle.bundle.proofs.Parts.{bundle-parted}
 
 -- ---- names that are new
 
@@ -59,10 +48,6 @@ fresh-more : (ws : List Word) (w : Word) (ts : List Named) → Fresh ws ts → O
 fresh-more ws w [] f o = tt
 fresh-more ws w (t ∷ ts) f o =
     (memb-snoc (t .name) ws w ∙ rw (f .0) (same-no (w .text) (t .name) (o .0)), fresh-more ws w ts (f .1) (o .1))
-
-neither : (a b : Bool) → (a || b) ≡ false → (a ≡ false) × (b ≡ false)
-neither true b e = absurd (never e refl)
-neither false b e = (refl, e)
 
 fresh-less : (ws : List Word) (w : Word) (ts : List Named) → Fresh (ws ++ (w ∷ [])) ts → Fresh ws ts × Others (w .text) ts
 fresh-less ws w [] f = (tt, tt)
@@ -98,16 +83,16 @@ module _ (s : List ℕ) where
       ap₂ nameAt e (sym p) ∙ name-back (take at s) bs l m
       ∙ ap (λ (k : ℕ). good (record { place = k + w; size = length bs; text = bs }) (k + w + length bs)) p
 
-  record Back (at : ℕ) (t : Named) (l : List ℕ) : Type 0 where
+  record Back (ws : List Word) (at : ℕ) (t : Named) (l : List ℕ) : Type 0 where
     entry : Text
     said : named s entry ≡ t
     behind : ℕ
-    read : entryAt s at ≡ good entry behind
+    read : filedAt s ws at ≡ good entry behind
     left : Left s behind l
 
-  text-back : (at : ℕ) (t : Named) (l : List ℕ) → Left s at (writeText t ++ l) → TextBytes t → Back at t l
-  unfolding writeText writeName entryAt bodyAt
-  text-back at t l g h =
+  text-back : (ws : List Word) (at : ℕ) (t : Named) (l : List ℕ) → Left s at (writeText t ++ l) → TextBytes t → memb (t .name) ws ≡ false → Back ws at t l
+  unfolding writeText writeName filedAt newName bodyAt
+  text-back ws at t l g h new =
       let bs = t .name in
       let b = t .bytes in
       let w = writeName bs in
@@ -129,9 +114,7 @@ module _ (s : List ℕ) where
         entry = textOf word from (length b);
         said = ap (λ (x : List ℕ). record { name = bs; bytes = x }) c;
         behind = from + length b;
-        read = ap (λ (x : Ans Word). bind x (λ w n. bind (numberAt s n) (bodyAt s w n))) n
-            ∙ ap (λ (x : Ans ℕ). bind x (bodyAt s word (at + length w))) m
-            ∙ ap (λ (x : Bool). cond x (bad (at + length w)) (good (textOf word from (length b)) (from + length b))) (le-ltb (length s - from) (length b) r);
+        read = rw (n, new, m, le-ltb (length s - from) (length b) r);
         left = g₄;
       }
 
@@ -143,22 +126,21 @@ module _ (s : List ℕ) where
     left : Left s behind l
 
   texts-back : (at : ℕ) (seen : List Text) (ts : List Named) (l : List ℕ) → Left s at (writeTexts ts ++ l) → AllTexts ts → Fresh (words seen) ts → Differ ts → AllBack at seen ts l
-  unfolding writeTexts many filedAt
+  unfolding writeTexts many
   texts-back at seen [] l g h f d = record { texts = seen; said = sym (append-nil (allNamed s seen)); behind = at; read = refl; left = g }
   texts-back at seen (t ∷ ts) l g h f d =
       let a : writeText t ++ writeTexts ts ++ l ≡ writeText t ++ (writeTexts ts ++ l) = append-assoc (writeText t) (writeTexts ts) l in
-      let b = text-back at t (writeTexts ts ++ l) (record { inside = g .inside; here = g .here ∙ a }) (h .0) in
+      let b = text-back (words seen) at t (writeTexts ts ++ l) (record { inside = g .inside; here = g .here ∙ a }) (h .0) (f .0) in
       let e = b .entry in
       let n : e .word .text ≡ t .name = ap (λ (x : Named). x .name) (b .said) in
       let o : Others (e .word .text) ts = rw n (d .0) in
       let f₁ : Fresh (words (seen ++ (e ∷ []))) ts = rw (words-snoc seen e) (fresh-more (words seen) (e .word) ts (f .1) o) in
       let r = texts-back (b .behind) (seen ++ (e ∷ [])) ts l (b .left) (h .1) f₁ (d .1) in
-      let m : memb (e .word .text) (words seen) ≡ false = rw n (f .0) in
       record {
         texts = r .texts;
-        said = r .said ∙ ap (λ (x : List Named). x ++ ts) (named-snoc s seen e ∙ ap (λ (x : Named). allNamed s seen ++ (x ∷ [])) (b .said)) ∙ append-assoc (allNamed s seen) (t ∷ []) ts;
+        said = r .said ∙ ap (λ (x : List Named). x ++ ts) (map-append (named s) seen (e ∷ []) ∙ ap (λ (x : Named). allNamed s seen ++ (x ∷ [])) (b .said)) ∙ append-assoc (allNamed s seen) (t ∷ []) ts;
         behind = r .behind;
-        read = rw (repeats-entry s (words seen) at (b .read) ∙ m) (rw (b .read) (r .read));
+        read = rw (b .read) (r .read);
         left = r .left;
       }
 
@@ -203,10 +185,10 @@ module _ (s : List ℕ) where
       said : take (n - at) (drop at s) ≡ writeText (named s e)
       fine : TextBytes (named s e)
 
-    text-written : (at : ℕ) {e : Text} {n : ℕ} → entryAt s at ≡ good e n → Said at e n
+    text-written : (ws : List Word) (at : ℕ) {e : Text} {n : ℕ} → filedAt s ws at ≡ good e n → Said at e n
     unfolding writeText
-    text-written at {e} {n} h =
-        let o = parted s at h in
+    text-written ws at {e} {n} h =
+        let o = parted s ws at h in
         let i = name-end s at (o .name) in
         let l = number-end s (o .behind) (o .size) in
         let b = o .behind in
@@ -260,8 +242,7 @@ module _ (s : List ℕ) where
             → ((e : Text) (m : ℕ) → m ≤ length s → many (newText s) k (seen ++ (e ∷ [])) m ≡ good es n → AllSaid m k (seen ++ (e ∷ [])) es n)
             → bind a (λ e m. many (newText s) k (seen ++ (e ∷ [])) m) ≡ good es n → AllSaid at (suc k) seen es n
         go (good e m) p ih q =
-            let f = filed-new s (words seen) at p in
-            let t = text-written at (f .0) in
+            let t = text-written (words seen) at p in
             let r = ih e m (t .inside) q in
             let x = fresh-less (words seen) (e .word) (allNamed s (r .new)) (rw (words-snoc seen e) at (r .fresh)) in
             record {
@@ -272,7 +253,7 @@ module _ (s : List ℕ) where
               inside = r .inside;
               said = joined at m n (t .later) (r .later) ∙ ap₂ _++_ (t .said) (r .said);
               fine = (t .fine, r .fine);
-              fresh = (f .1, x .0);
+              fresh = (parted s (words seen) at p .new, x .0);
               differ = (x .1, r .differ);
             }
         go (bad y) p ih q = let z : _≡_ {A = ℕ} 0 1 = cc in absurd (omega arith)
@@ -290,7 +271,7 @@ module _ (s : List ℕ) where
         let r = texts-written (o .count) (o .first) [] (number-end s 0 (o .number) .1) (o .texts) in
         let a = r .all in
         let e = o .end in
-        let k : o .count ≡ length (allNamed s (r .new)) = sym (r .count) ∙ sym (length-named s (r .new)) in
+        let k : o .count ≡ length (allNamed s (r .new)) = sym (r .count) ∙ sym (length-map (r .new) (named s)) in
         let w : s ≡ writeBundle (allNamed s (r .new)) =
         sym (take-all (n - 0) s (omega (arith, r .inside, e))) ∙ joined 0 (o .first) n (omega arith) (r .later)
         ∙ ap₂ _++_ (number-written s bytes 0 (o .number) ∙ ap writeNumber k) (r .said) in

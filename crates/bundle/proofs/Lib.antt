@@ -2,6 +2,8 @@ pub mod BundleWriterLaws
 pub mod Entries
 pub mod Examples
 pub mod Filing
+pub mod LookBounds
 pub mod Looking
+pub mod Measuring
 pub mod Opening
 pub mod Parts

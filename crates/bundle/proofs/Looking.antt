@@ -17,11 +17,11 @@ use Rattle.index.specs.Names.{rowOf, rowWords, firstOf, firstBy, namesIn}
 use Rattle.index.specs.declared.Found.{Found}
 use Rattle.index.specs.declared.Found.the-variants.{At as Numbered, Nothing as Unnumbered}
 use Rattle.index.proofs.First.{no-hit, hit-low, the-hit}
-use Rattle.bundle.specs.Bundle.{Text, words, bundleAt, placeOf, onRead, looked, lookUp, partOf, textUnder}
+use Rattle.bundle.specs.Bundle.{Text, words, bundleAt, placeOf, looked, lookIn, lookUp, partOf, textUnder}
 use Rattle.bundle.specs.Reading.{counted, openedSeen, Sizes, Held, OpenedAs}
 use Rattle.bundle.specs.declared.Place.{Place}
 use Rattle.bundle.specs.declared.Place.the-variants.{At, Nothing}
-use Rattle.bundle.specs.declared.LookUp.the-variants.{Broken, Nothing as Missing, At as Stands}
+use Rattle.form.specs.declared.LookUp.the-variants.{Broken, Nothing as Missing, At as Stands}
 use Rattle.bundle.specs.declared.Opened.{Opened}
 use Rattle.bundle.specs.declared.Opened.the-variants.{Texts, Wrong}
 
@@ -34,11 +34,11 @@ seenPlace (bad p) = Nothing
 abbrev behind : List ℕ → Word → Place
 behind s w = seenPlace (numberAt s (w .place + w .size))
 
-place-first : (s t : List ℕ) (es : List Text) → Sizes s es → placeOf t es ≡ firstBy (behind s) t (words es) Nothing
+place-first : (s t : List ℕ) (es : List Text) → Sizes s es → placeOf t es ≡ firstBy (λ w. w) (behind s) t (words es) Nothing
 place-first s t [] h = refl
 place-first s t (e ∷ es) h = rw (h .0 .length-of) (ap (cond (same (e .word .text) t) (At (e .from) (e .size))) (place-first s t es (h .1)))
 
-place-in : (s t : List ℕ) (es : List Text) {f z : ℕ} → Sizes s es → placeOf t es ≡ At f z → f + z ≤ length s
+pub place-in : (s t : List ℕ) (es : List Text) {f z : ℕ} → Sizes s es → placeOf t es ≡ At f z → f + z ≤ length s
 place-in s t [] h e = let z : _≡_ {A = ℕ} 0 1 = cc in absurd (omega arith)
 place-in s t (d ∷ es) {f} {z} h e = go (same (d .word .text) t) (place-in s t es (h .1)) e
   where
@@ -46,22 +46,22 @@ place-in s t (d ∷ es) {f} {z} h e = go (same (d .word .text) t) (place-in s t 
     go true ih e = let x : d .from ≡ f = cc in let y : d .size ≡ z = cc in omega (arith, h .0 .within)
     go false ih e = ih e
 
-is-at : (p : Place) {f z : ℕ} → looked p ≡ Stands f z → p ≡ At f z
+pub is-at : (p : Place) {f z : ℕ} → looked p ≡ Stands f z → p ≡ At f z
 is-at (At x y) {f} {z} e = let p : x ≡ f = cc in let q : y ≡ z = cc in ap₂ At p q
 is-at Nothing e = let z : _≡_ {A = ℕ} 0 1 = cc in absurd (omega arith)
 
 module _ (s tab t : List ℕ) (n : ℕ) (g : Held s tab n) where
-  held-look : lookUp s t ≡ looked (placeOf t (g .texts))
+  pub held-look : lookUp s t ≡ looked (placeOf t (g .texts))
   unfolding lookUp
-  held-look = ap (λ (a : Ans (List Text)). onRead (λ es. looked (placeOf t es)) (λ p. Broken p) a) (g .read)
+  held-look = ap (lookIn t) (g .read)
 
 -- ---- the ways out of `find`
 
 module _ (s tab t : List ℕ) (n : ℕ) (g : Held s tab n) {r : Found} (a : r ≡ firstOf t (namesIn s tab n)) where
-  sought : lookUp s t ≡ looked (firstBy (behind s) t (namesIn s tab n) Nothing)
+  sought : lookUp s t ≡ looked (firstBy (λ w. w) (behind s) t (namesIn s tab n) Nothing)
   sought =
       held-look s tab t n g
-      ∙ ap looked (place-first s t (g .texts) (g .sizes) ∙ ap (λ (ws : List Word). firstBy (behind s) t ws Nothing) (sym (g .names)))
+      ∙ ap looked (place-first s t (g .texts) (g .sizes) ∙ ap (λ (ws : List Word). firstBy (λ w. w) (behind s) t ws Nothing) (sym (g .names)))
 
   pub unnamed : r ≡ Unnumbered → looked Nothing ≡ lookUp s t
   unnamed e = sym (sought ∙ ap looked (no-hit (behind s) Nothing s tab t n (sym a ∙ e)))

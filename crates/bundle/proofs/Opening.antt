@@ -1,35 +1,30 @@
 -- What the loop of `open` keeps, and one law for each way out.
 -- Assumes nothing.
 use mathlib.Core.Path.{_≡_, refl, sym, ap, _∙_}
-use mathlib.Core.List.{List, [], _∷_, _++_}
+use mathlib.Core.List.{List, [], _∷_, _++_, map-append}
 use Prim.Native.Nat.{ℕ, suc, _+_, _-_, _≤_, _<_}
 use native.Mathlib.Omega.{arith}
-use lib.ListN.{length}
+use lib.ListN.{length, length-map}
 use borrow.Author.Tests.{lt-ltb, le-ltb}
 use Rattle.form.specs.Form.{good, bad, bind, Word, numberAt, numberSeen, many}
 use Rattle.form.specs.declared.Cursor.{Cursor}
 use Rattle.form.specs.declared.Number.{Number}
 use Rattle.form.specs.declared.Number.the-variants.{Value, Wrong as WrongNumber}
 use Rattle.form.proofs.Bounds.{number-place, number-end}
-use Rattle.index.specs.Names.{namesIn, Indexed, Cleared}
+use Rattle.index.specs.Names.{namesIn, Indexed, Cleared, Space}
 use Rattle.index.proofs.Chain.{length-names}
 use Rattle.index.proofs.Insert.{none-yet}
 use Rattle.bundle.specs.Bundle.{mostBytes, mostTexts, Text, filedAt, words, newText, ended, textsAt, bundleAt}
-use Rattle.bundle.specs.Reading.{tableWords, counted, Sized, Sizes, Files, Entered, FiledAs, OpenedAs}
+use Rattle.bundle.specs.Reading.{tableWords, counted, Sized, Sizes, Entered, FiledAs, OpenedAs}
 use Rattle.bundle.specs.declared.Filed.{Filed}
 use Rattle.bundle.specs.declared.Filed.the-variants.{Next, Wrong as WrongText}
 use Rattle.bundle.specs.declared.Opened.the-variants.{Texts, Wrong}
-use Rattle.bundle.proofs.Entries.{entry-sized}
+use Rattle.bundle.proofs.Entries.{text-sized}
 
 -- ---- one text more
 
-length-words : (es : List Text) → length (words es) ≡ length es
-length-words [] = refl
-length-words (e ∷ es) = ap suc (length-words es)
-
 pub words-snoc : (es : List Text) (e : Text) → words (es ++ (e ∷ [])) ≡ words es ++ (e .word ∷ [])
-words-snoc [] e = refl
-words-snoc (d ∷ es) e = ap (λ (ws : List Word). d .word ∷ ws) (words-snoc es e)
+words-snoc es e = map-append (λ (e : Text). e .word) es (e ∷ [])
 
 pub sizes-snoc : (s : List ℕ) (es : List Text) (e : Text) → Sizes s es → Sized s e → Sizes s (es ++ (e ∷ []))
 sizes-snoc s [] e h k = (k, tt)
@@ -63,8 +58,8 @@ begun s before tab count start e l m = let z : count - 0 ≡ count = omega arith
 }
 
 module _ (s before tab : List ℕ) (count start i at : ℕ) (g : Reading s before tab count start i at) where
-  pub files : i < count → count ≤ mostTexts → length s ≤ mostBytes → Files s tab i
-  files h k l = record { indexed = g .indexed; free = omega (arith, g .space); small = omega arith; short = l }
+  pub space-left : i < count → count ≤ mostTexts → length s ≤ mostBytes → Space s tab i
+  space-left h k l = record { indexed = g .indexed; free = omega (arith, g .space); small = omega arith; short = l }
 
   left : i < count → count - i ≡ suc (count - (i + 1))
   left h = omega arith
@@ -81,14 +76,14 @@ module _ (s before tab : List ℕ) (count start i at : ℕ) (g : Reading s befor
   more : {n : ℕ} {after : List ℕ} → i < count → Entered s tab i at n after → Reading s before after count start (i + 1) n
   more {n} {after} h k = record {
     seen = g .seen ++ (k .entry ∷ []);
-    rest = g .rest ∙ next h ∙ rw (k .fresh);
+    rest = g .rest ∙ next h ∙ rw (k .read);
     room = omega arith;
-    within = entry-sized s at (k .read) .1;
+    within = text-sized s (namesIn s tab i) at (k .read) .1;
     kept = k .kept ∙ g .kept;
     space = omega (arith, g .space, k .kept);
     indexed = k .indexed;
     names = k .names ∙ ap (λ (ws : List Word). ws ++ (k .entry .word ∷ [])) (g .names) ∙ sym (words-snoc (g .seen) (k .entry));
-    sizes = sizes-snoc s (g .seen) (k .entry) (g .sizes) (entry-sized s at (k .read) .0);
+    sizes = sizes-snoc s (g .seen) (k .entry) (g .sizes) (text-sized s (namesIn s tab i) at (k .read) .0);
   }
 
   pub further : (r : Filed) {n : ℕ} {after : List ℕ} → i < count → r ≡ Next n → FiledAs s tab i at r after → Reading s before after count start (i + 1) n
@@ -99,7 +94,7 @@ module _ (s before tab : List ℕ) (count start i at : ℕ) (g : Reading s befor
   all-read h = let e : count - i ≡ 0 = omega arith in g .rest ∙ rw e
 
   pub all-counted : count ≤ i → length (g .seen) ≡ count
-  all-counted h = sym (length-words (g .seen)) ∙ sym (ap length (g .names)) ∙ length-names s tab i ∙ (omega (arith, g .room))
+  all-counted h = sym (length-map (g .seen) (λ (e : Text). e .word)) ∙ sym (ap length (g .names)) ∙ length-names s tab i ∙ (omega (arith, g .room))
 
 -- ---- the ways out
 

@@ -1,6 +1,6 @@
 -- A bundle that was read, by its parts; and bytes that are no name are under none of its texts.
 -- Assumes nothing.
-use mathlib.Core.Path.{_≡_, refl, ap, _∙_, sym}
+use mathlib.Core.Path.{_≡_, refl, ap, _∙_}
 use mathlib.Core.List.{List, [], _∷_, _++_}
 use mathlib.Core.Bool.{Bool, true, false, cond}
 use Prim.Native.Nat.{ℕ, zero, suc, _≤_}
@@ -10,27 +10,15 @@ use lib.Dec.{ltb}
 use borrow.Author.Tests.{ltb-false}
 use Rattle.text.specs.Keyword.{same}
 use Rattle.text.proofs.KeywordLaws.{same-no}
-use Rattle.form.specs.Form.{Ans, good, bad, bind, Word, numberAt, many}
+use Rattle.form.specs.Form.{Ans, good, bad, bind, numberAt, many}
 use Rattle.form.specs.Writer.{NameBytes}
-use Rattle.index.specs.Names.{memb}
-use Rattle.bundle.specs.Bundle.{mostBytes, mostTexts, Text, entryAt, repeatsAt, filedAt, words, newText, ended, textsAt, bundleAt, placeOf, onRead, looked, lookUp}
+use Rattle.bundle.specs.Bundle.{mostBytes, mostTexts, Text, filedAt, words, newText, ended, textsAt, bundleAt, placeOf, looked, lookIn, lookUp}
 use Rattle.bundle.specs.Reading.{Sizes}
 use Rattle.bundle.specs.declared.Place.the-variants.{Nothing}
-use Rattle.bundle.specs.declared.LookUp.the-variants.{Broken, Nothing as Missing}
-use Rattle.bundle.proofs.Entries.{entry-sized}
-use Rattle.bundle.proofs.Filing.{repeats-entry}
+use Rattle.form.specs.declared.LookUp.the-variants.{Nothing as Missing}
+use Rattle.bundle.proofs.Entries.{text-sized}
 use Rattle.bundle.proofs.Opening.{sizes-snoc}
 
--- a text that is new
-pub filed-new : (s : List ℕ) (ws : List Word) (at : ℕ) {e : Text} {n : ℕ} → filedAt s ws at ≡ good e n → (entryAt s at ≡ good e n) × (memb (e .word .text) ws ≡ false)
-unfolding filedAt
-filed-new s ws at {e} {n} h = go (repeatsAt s ws at) refl h
-  where
-    go : (b : Bool) → repeatsAt s ws at ≡ b → cond b (bad at) (entryAt s at) ≡ good e n → (entryAt s at ≡ good e n) × (memb (e .word .text) ws ≡ false)
-    go true p q = let z : _≡_ {A = ℕ} 0 1 = cc in absurd (omega arith)
-    go false p q = (q, sym (repeats-entry s ws at q) ∙ p)
-
--- the whole
 pub record Parted (s : List ℕ) (es : List Text) (n : ℕ) : Type 0 where
   pub short : length s ≤ mostBytes
   pub count : ℕ
@@ -71,7 +59,7 @@ bundle-parted s {es} {n} h = go (ltb mostBytes (length s)) refl h
 
 -- ---- bytes that are no name
 
-texts-sized : (s : List ℕ) (k at : ℕ) (seen : List Text) {es : List Text} {n : ℕ} → Sizes s seen → many (newText s) k seen at ≡ good es n → Sizes s es
+pub texts-sized : (s : List ℕ) (k at : ℕ) (seen : List Text) {es : List Text} {n : ℕ} → Sizes s seen → many (newText s) k seen at ≡ good es n → Sizes s es
 unfolding many
 texts-sized s zero at seen {es} {n} z h = let p : seen ≡ es = cc in rw (← p) z
 texts-sized s (suc k) at seen {es} {n} z h = go (filedAt s (words seen) at) refl (λ e m. texts-sized s k m (seen ++ (e ∷ []))) h
@@ -79,7 +67,7 @@ texts-sized s (suc k) at seen {es} {n} z h = go (filedAt s (words seen) at) refl
     go : (a : Ans Text) → filedAt s (words seen) at ≡ a
         → ((e : Text) (m : ℕ) → Sizes s (seen ++ (e ∷ [])) → many (newText s) k (seen ++ (e ∷ [])) m ≡ good es n → Sizes s es)
         → bind a (λ e m. many (newText s) k (seen ++ (e ∷ [])) m) ≡ good es n → Sizes s es
-    go (good e m) p ih q = ih e m (sizes-snoc s seen e z (entry-sized s at (filed-new s (words seen) at p .0) .0)) q
+    go (good e m) p ih q = ih e m (sizes-snoc s seen e z (text-sized s (words seen) at p .0)) q
     go (bad y) p ih q = let x : _≡_ {A = ℕ} 0 1 = cc in absurd (omega arith)
 
 no-place : (s t : List ℕ) (es : List Text) → (NameBytes t → ⊥) → Sizes s es → placeOf t es ≡ Nothing
@@ -93,5 +81,5 @@ pub not-a-name : (s t : List ℕ) {es : List Text} {n : ℕ} → bundleAt s ≡ 
 unfolding lookUp
 not-a-name s t {es} {n} e h =
     let o = bundle-parted s e in
-    ap (λ (a : Ans (List Text)). onRead (λ es. looked (placeOf t es)) (λ p. Broken p) a) e
+    ap (lookIn t) e
     ∙ ap looked (no-place s t es h (texts-sized s (o .count) (o .first) [] tt (o .texts)))

@@ -4,17 +4,20 @@
 -- 0 for over-length.
 -- Assumes nothing.
 use Prim.Native.Nat.{ℕ, _+_, _-_}
-use mathlib.Core.Bool.{Bool, false, cond}
-use mathlib.Core.List.{List, [], _∷_}
+use mathlib.Core.Bool.{cond}
+use mathlib.Core.List.{List, [], map}
 use lib.ListN.{length, take, drop}
 use lib.Dec.{ltb}
-use Rattle.text.specs.Keyword.{same}
-use Rattle.form.specs.Form.{Ans, good, bad, bind, Word, numberAt, nameAt, many}
-use Rattle.index.specs.Names.{memb}
+use Rattle.form.specs.Form.{Ans, good, bad, bind, Word, numberAt, many}
+use Rattle.index.specs.Names.{firstBy, newName}
 use Rattle.bundle.specs.declared.Place.{Place}
 use Rattle.bundle.specs.declared.Place.the-variants.{At, Nothing}
-use Rattle.bundle.specs.declared.LookUp.{LookUp}
-use Rattle.bundle.specs.declared.LookUp.the-variants.{Broken, Nothing as Missing, At as Stands}
+use Rattle.form.specs.declared.LookUp.{LookUp}
+use Rattle.form.specs.declared.LookUp.the-variants.{Broken, Nothing as Missing, At as Stands}
+
+-- the refusal of a bundle that breaks its form
+abbrev pub bundleBroken : ℕ
+bundleBroken = 21
 
 -- the most bytes of a bundle, and the most texts
 abbrev pub mostBytes : ℕ
@@ -38,29 +41,12 @@ textOf w f z = record { word = w; from = f; size = z }
 unfoldable pub bodyAt : List ℕ → Word → (start size from : ℕ) → Ans Text
 bodyAt s w start size from = cond (ltb (length s - from) size) (bad start) (good (textOf w from size) (from + size))
 
-unfoldable pub entryAt : List ℕ → ℕ → Ans Text
-entryAt s at = bind (nameAt s at) (λ w n. bind (numberAt s n) (bodyAt s w n))
-
--- by what a reading answered: f of what was read, or g of the wrong place
-abbrev pub onRead : {A B : Type 0} → (A → B) → (ℕ → B) → Ans A → B
-onRead f g (good a n) = f a
-onRead f g (bad p) = g p
-
--- the name at a place is one of the words
-unfoldable pub repeatsAt : List ℕ → List Word → ℕ → Bool
-repeatsAt s ws at = onRead (λ (w : Word). memb (w .text) ws) (λ p. false) (nameAt s at)
-
 -- a text whose name is none of the words; a repeated name is wrong where it comes again, whatever follows it
 unfoldable pub filedAt : List ℕ → List Word → ℕ → Ans Text
-filedAt s ws at = cond (repeatsAt s ws at) (bad at) (entryAt s at)
-
--- where a text is wrong whose reading is wrong at p
-unfoldable pub wrongAt : List ℕ → List Word → (at p : ℕ) → ℕ
-wrongAt s ws at p = cond (repeatsAt s ws at) at p
+filedAt s ws at = bind (newName s ws at) (λ w n. bind (numberAt s n) (bodyAt s w n))
 
 abbrev pub words : List Text → List Word
-words [] = []
-words (e ∷ es) = e .word ∷ words es
+words es = map (λ (e : Text). e .word) es
 
 abbrev pub newText : List ℕ → List Text → ℕ → Ans Text
 newText s seen at = filedAt s (words seen) at
@@ -80,16 +66,19 @@ bundleAt s = cond (ltb mostBytes (length s)) (bad 0) (bind (numberAt s 0) (texts
 
 -- where the first text with the name t stands
 abbrev pub placeOf : List ℕ → List Text → Place
-placeOf t [] = Nothing
-placeOf t (e ∷ es) = cond (same (e .word .text) t) (At (e .from) (e .size)) (placeOf t es)
+placeOf t es = firstBy (λ (e : Text). e .word) (λ (e : Text). At (e .from) (e .size)) t es Nothing
 
 abbrev pub looked : Place → LookUp
 looked (At from size) = Stands from size
 looked Nothing = Missing
 
 -- which it is: 21 at a place, none, or a place and a length
+abbrev pub lookIn : List ℕ → Ans (List Text) → LookUp
+lookIn t (good es n) = looked (placeOf t es)
+lookIn t (bad p) = Broken p
+
 unfoldable pub lookUp : List ℕ → List ℕ → LookUp
-lookUp s t = onRead (λ es. looked (placeOf t es)) (λ p. Broken p) (bundleAt s)
+lookUp s t = lookIn t (bundleAt s)
 
 abbrev pub partOf : List ℕ → LookUp → List ℕ
 partOf s (Broken p) = []

@@ -2,7 +2,7 @@
 -- Assumes nothing.
 use Prim.Native.Nat.{ℕ, _≤_}
 use mathlib.Core.Path.{_≡_}
-use mathlib.Core.List.{List, [], _∷_, _++_}
+use mathlib.Core.List.{List, [], _∷_, _++_, map}
 use lib.ListN.{length, take, drop}
 use Rattle.form.specs.Form.{mostNumber}
 use Rattle.form.specs.Writer.{writeNumber, writeName, NameBytes}
@@ -28,8 +28,7 @@ abbrev pub named : List ℕ → Text → Named
 named s e = record { name = e .word .text; bytes = take (e .size) (drop (e .from) s) }
 
 abbrev pub allNamed : List ℕ → List Text → List Named
-allNamed s [] = []
-allNamed s (e ∷ es) = named s e ∷ allNamed s es
+allNamed s es = map (named s) es
 
 -- texts that make a bundle
 pub record TextBytes (t : Named) : Type 0 where

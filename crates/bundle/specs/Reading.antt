@@ -1,16 +1,14 @@
 -- The text under a name is handed back as the caller's own bytes, uncopied. For it a bundle is read once into the index: the table holds the
 -- names in their order, and behind each name stands the length of its text.
 -- Assumes nothing.
-use Prim.Native.Nat.{ℕ, _+_, _≤_, _<_}
+use Prim.Native.Nat.{ℕ, max, _+_, _≤_}
 use mathlib.Core.Path.{_≡_}
 use mathlib.Core.List.{List, [], _∷_, _++_}
-use lib.ListN.{length}
-use Rattle.form.specs.Form.{Ans, good, bad, wordAt, numberAt}
+use lib.ListN.{length, getD}
+use Rattle.form.specs.Form.{Ans, good, bad, Word, numberAt}
 use Rattle.form.specs.Writer.{NameBytes}
-use Rattle.index.specs.Names.{rowOf, rowWords, namesIn, Indexed}
-use Rattle.bundle.specs.Bundle.{mostBytes, mostTexts, Text, textOf, entryAt, filedAt, words, bundleAt}
-use Rattle.bundle.specs.declared.Entry.{Entry}
-use Rattle.bundle.specs.declared.Entry.the-variants.{Whole, Wrong as WrongEntry}
+use Rattle.index.specs.Names.{rowOf, rowWords, nameIn, namesIn, Indexed}
+use Rattle.bundle.specs.Bundle.{Text, filedAt, words, bundleAt}
 use Rattle.bundle.specs.declared.Filed.{Filed}
 use Rattle.bundle.specs.declared.Filed.the-variants.{Next, Wrong as WrongText}
 use Rattle.bundle.specs.declared.Opened.{Opened}
@@ -19,10 +17,6 @@ use Rattle.bundle.specs.declared.Opened.the-variants.{Texts, Wrong}
 -- how many words the table has at the least
 abbrev pub tableWords : ℕ
 tableWords = 8192
-
-abbrev pub entrySeen : List ℕ → Entry → Ans Text
-entrySeen s (Whole word len from size) = good (textOf (wordAt s word len) from size) (from + size)
-entrySeen s (WrongEntry p) = bad p
 
 -- how many were read, and where that ended
 abbrev pub counted : Ans (List Text) → Ans ℕ
@@ -44,18 +38,11 @@ abbrev pub Sizes : List ℕ → List Text → Type 0
 Sizes s [] = Unit
 Sizes s (e ∷ es) = Sized s e × Sizes s es
 
--- what the filing of one text asks and does
-pub record Files (s tab : List ℕ) (i : ℕ) : Type 0 where
-  pub indexed : Indexed s tab i
-  pub free : rowOf i + rowWords ≤ length tab
-  pub small : i < mostTexts
-  pub short : length s ≤ mostBytes
-
+-- what the filing of one text does
 pub record Entered (s tab : List ℕ) (i at n : ℕ) (after : List ℕ) : Type 0 where
   pub entry : Text
   pub kept : length after ≡ length tab
-  pub read : entryAt s at ≡ good entry n
-  pub fresh : filedAt s (namesIn s tab i) at ≡ good entry n
+  pub read : filedAt s (namesIn s tab i) at ≡ good entry n
   pub indexed : Indexed s after (i + 1)
   pub names : namesIn s after (i + 1) ≡ namesIn s tab i ++ (entry .word ∷ [])
 
@@ -75,3 +62,33 @@ pub record Held (s tab : List ℕ) (n : ℕ) : Type 0 where
 pub record OpenedAs (s : List ℕ) (r : Opened) (after : List ℕ) : Type 0 where
   pub answer : openedSeen s r ≡ counted (bundleAt s)
   pub held : (n : ℕ) → r ≡ Texts n → Held s after n
+
+-- ---- the longest text of a bundle, read or not; one that breaks its form has none
+
+unfoldable pub longestOf : List Text → ℕ
+longestOf [] = 0
+longestOf (e ∷ es) = max (e .size) (longestOf es)
+
+abbrev pub textsOr : Ans (List Text) → List Text
+textsOr (good es n) = es
+textsOr (bad p) = []
+
+unfoldable pub longestText : List ℕ → ℕ
+longestText s = longestOf (textsOr (bundleAt s))
+
+-- ---- the length that stands behind a name; behind the i-th name of the table it is that of the i-th text
+
+abbrev pub sizeRead : Ans ℕ → ℕ
+sizeRead (good z f) = z
+sizeRead (bad p) = 0
+
+abbrev pub sizeBehind : List ℕ → Word → ℕ
+sizeBehind s w = sizeRead (numberAt s (w .place + w .size))
+
+unfoldable pub sizeIn : List ℕ → List ℕ → ℕ → ℕ
+sizeIn s tab i = sizeBehind s (nameIn s tab i)
+
+-- the table has an i-th name, and it lies within the bytes
+pub record NameHeld (s tab : List ℕ) (i : ℕ) : Type 0 where
+  pub row : rowOf i + rowWords ≤ length tab
+  pub inside : getD tab (rowOf i) 0 + getD tab (rowOf i + 1) 0 ≤ length s

@@ -1,15 +1,19 @@
 // The bundle: a number of texts, each a name, a length and as many bytes. It is read once, its names are put into an index, and the text under
 // a name is a part of the lent slice.
 use form::Cursor;
+use form::LookUp;
 use form::Name;
 use form::Number;
 use index::Found;
 ghost use mathlib.Core.Path.{_≡_};
-ghost use Prim.Native.Nat.{_≤_};
+ghost use Prim.Native.Nat.{max, _≤_};
 ghost use lib.ListN.{length};
-ghost use Rattle.bundle.specs.Bundle.{entryAt, wrongAt, looked, lookUp, textUnder};
-ghost use Rattle.index.specs.Names.{namesIn, Indexed};
-ghost use Rattle.bundle.specs.Reading.{tableWords, entrySeen, Files, FiledAs, Held, OpenedAs};
+ghost use Rattle.index.specs.Names.{Space};
+ghost use Rattle.bundle.specs.Bundle.{looked, lookUp, textUnder};
+ghost use Rattle.bundle.specs.Reading.{tableWords, FiledAs, Held, OpenedAs, NameHeld, sizeIn, longestText};
+
+// The refusal of this layer: a bundle that breaks its form.
+pub const BUNDLE_BROKEN: u32 = 21;
 
 // How many bytes a bundle has at the most, and how many texts.
 pub const MOST_BYTES: usize = 16777216;
@@ -18,12 +22,6 @@ pub const MOST_TEXTS: usize = 2048;
 
 // How many words the table has for as many names.
 pub const TABLE: usize = 8192;
-
-// A text: the place and the length of its name, the place and the length of its bytes; or where it is wrong.
-pub enum Entry {
-    Whole(usize, usize, usize, usize),
-    Wrong(usize),
-}
 
 // The place behind a text that was filed, or where it is wrong.
 pub enum Filed {
@@ -43,69 +41,28 @@ pub enum Place {
     Nothing,
 }
 
-// What a look-up finds: where the bundle is wrong (refusal 21), that it has no such text, or where the text stands and how long it is.
-pub enum LookUp {
-    Broken(usize),
-    Nothing,
-    At(usize, usize),
-}
-
-// The text at `at`. One cut short is wrong at its length.
-fn read_entry(s: &[u8], at: usize) -> Entry
-    ensures { λ r. ⌜ entrySeen (now (s .entry)) r ≡ entryAt (now (s .entry)) at ⌝ }
-{
-    let here = Cursor { at: at };
-    let Name::Bytes(word, len) = here.name(s) else {
-        return Entry::Wrong(at);
-    };
-    let end = word + len;
-    let behind = Cursor { at: end };
-    let Number::Value(size, body) = behind.number(s) else {
-        return Entry::Wrong(end);
-    };
-    let from = body.at;
-    if s.len() - from < size {
-        return Entry::Wrong(end);
-    }
-    Entry::Whole(word, len, from, size)
-}
-
-// Files the text at `at` behind `i` others, none of which may have its name.
+// Files the text at `at` behind `i` others, none of which may have its name. One cut short is wrong at its length.
 fn file(s: &[u8], tab: &mut [u32], i: usize, at: usize) -> Filed
-    requires { ⌜ Files (now s) (now tab) i ⌝ }
+    requires { ⌜ Space (now s) (now tab) i ⌝ }
     ensures { λ r. ⌜ FiledAs (now (s .entry)) (now (tab .entry)) i at r (now (tab .exit)) ⌝ }
 {
-    match read_entry(s, at) {
-        Entry::Whole(word, len, from, size) => {
-            match index::add(s, tab, i, word, len) {
-                Found::At(j) => {
-                    return Filed::Wrong(at);
-                }
-                Found::Nothing => {
-                    return Filed::Next(from + size);
-                }
-            }
+    match index::take_name(s, tab, i, at) {
+        Name::Wrong(p) => {
+            return Filed::Wrong(p);
         }
-        Entry::Wrong(p) => {
-            return Filed::Wrong(wrong_place(s, tab, i, at, p));
+        Name::Bytes(word, len) => {
+            let end = word + len;
+            let behind = Cursor { at: end };
+            let Number::Value(size, body) = behind.number(s) else {
+                return Filed::Wrong(end);
+            };
+            let from = body.at;
+            if s.len() - from < size {
+                return Filed::Wrong(end);
+            }
+            return Filed::Next(from + size);
         }
     }
-}
-
-// Where a text is wrong whose reading is wrong at `p`: a repeated name comes before what follows it.
-fn wrong_place(s: &[u8], tab: &[u32], i: usize, at: usize, p: usize) -> usize
-    requires { ⌜ Indexed (now s) (now tab) i ⌝ }
-    ensures { λ r. ⌜ r ≡ wrongAt (now (s .entry)) (namesIn (now (s .entry)) (now (tab .entry)) i) at p ⌝ }
-{
-    let here = Cursor { at: at };
-    let Name::Bytes(word, len) = here.name(s) else {
-        return p;
-    };
-    let end = word + len;
-    let Found::At(j) = index::find(s, tab, i, &s[word..end]) else {
-        return p;
-    };
-    at
 }
 
 // Reads the bundle and puts its names into the table.
@@ -158,6 +115,41 @@ pub fn find(s: &[u8], tab: &[u32], count: usize, name: &[u8]) -> Place
         return Place::Nothing;
     };
     Place::At(body.at, size)
+}
+
+// The larger of two.
+fn larger(a: usize, b: usize) -> usize
+    ensures { λ r. ⌜ r ≡ max a b ⌝ }
+{
+    if a <= b { b } else { a }
+}
+
+// The length of the i-th text.
+fn size_of(s: &[u8], tab: &[u32], i: usize) -> usize
+    requires { ⌜ NameHeld (now s) (now tab) i ⌝ }
+    ensures { λ r. ⌜ r ≡ sizeIn (now (s .entry)) (now (tab .entry)) i ⌝ }
+{
+    let place = index::place_of(tab, i);
+    let len = index::length_of(tab, i);
+    let behind = Cursor { at: place + len };
+    let Number::Value(size, _) = behind.number(s) else {
+        return 0;
+    };
+    size
+}
+
+// How long the longest text is.
+pub fn longest(s: &[u8], tab: &[u32], count: usize) -> usize
+    requires { ⌜ Held (now s) (now tab) count ⌝ }
+    ensures { λ r. ⌜ r ≡ longestText (now (s .entry)) ⌝ }
+{
+    let mut most = 0;
+    let mut i = 0;
+    while i < count {
+        most = larger(most, size_of(s, tab, i));
+        i += 1;
+    }
+    most
 }
 
 // The text under `name`, empty where there is none.

@@ -2,7 +2,7 @@
 -- Assumes nothing.
 use borrow.Author.Needs.{needs}
 use Prim.Native.Nat.{_-_}
-use Rattle.bundle.proofs.Opening.{Reading, begun, start-in, files, further, too-long, no-count, too-many, wrong-text, extra, opened}
+use Rattle.bundle.proofs.Opening.{Reading, begun, start-in, space-left, further, too-long, no-count, too-many, wrong-text, extra, opened}
 use Rattle.bundle.proofs.open.Statement.{statement}
 use Rattle.bundle.proofs.open.Tie as tie
 
@@ -41,7 +41,7 @@ file-requires c κs =
     let loop = c .before .before in
     let few = loop .before .before .before .before .before in
     let short = few .before .before .before .before .before in
-    files _ _ _ _ _ _ _ (loop .loop .inv) (c .before .loop-test .taken) (few .if2 .left) (short .if1 .left)
+    space-left _ _ _ _ _ _ _ (loop .loop .inv) (c .before .loop-test .taken) (few .if2 .left) (short .if1 .left)
 
 enum-known-n : tie.Need-enum-known-n Inv-loop μ-loop
 enum-known-n c = search needs
