@@ -1,0 +1,60 @@
+-- `library::read_word`. Each way out is one law of Bounds or Words.
+-- Assumes nothing.
+use borrow.Author.Needs.{needs}
+use Rattle.form.proofs.Bounds.{end-fits, end-in}
+use Rattle.library.proofs.Words.{no-word, any-word, repeated, new-word}
+use Rattle.library.proofs.read_word.Statement.{statement}
+use Rattle.library.proofs.read_word.Tie as tie
+
+name-requires : tie.Need-name-requires
+name-requires c κs = search needs
+
+enum-known-name : tie.Need-enum-known-name
+enum-known-name c = search needs
+
+enum-told : tie.Need-enum-told
+enum-told c = search needs
+
+returns : tie.Need-returns
+returns c = search no-word
+
+add-end : tie.Need-add-end
+add-end c = search end-fits
+
+sub-among : tie.Need-sub-among
+sub-among c = search needs
+
+part-among-start : tie.Need-part-among-start
+part-among-start c = search needs
+
+part-among-end : tie.Need-part-among-end
+part-among-end c = search end-in
+
+among-requires : tie.Need-among-requires
+among-requires c κs = search needs
+
+returns-2 : tie.Need-returns-2
+returns-2 c = search repeated
+
+returns-3 : tie.Need-returns-3
+returns-3 c = search new-word
+
+returns-4 : tie.Need-returns-4
+returns-4 c = search any-word
+
+pub read-word-spec : {M : Type 1} → statement M
+read-word-spec =
+    tie.close
+    (tie.spec
+    name-requires
+    enum-known-name
+    enum-told
+    returns
+    add-end
+    sub-among
+    part-among-start
+    part-among-end
+    among-requires
+    returns-2
+    returns-3
+    returns-4)
