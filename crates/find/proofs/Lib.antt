@@ -1,0 +1,8 @@
+pub mod Abstract
+pub mod Answers
+pub mod Examples
+pub mod FindBounds
+pub mod Lists
+pub mod Loops
+pub mod Submodules
+pub mod Ways
