@@ -1,0 +1,93 @@
+-- The library without places, list by list: what a walk over words asks of names it asks of the same names without places.
+-- Assumes nothing.
+use mathlib.Core.Path.{_≡_, refl, sym, ap, ap₂, _∙_}
+use mathlib.Core.Bool.{Bool, true, false, _||_}
+use mathlib.Core.List.{List, [], _∷_, _++_, map, map-append, flatMap}
+use Rattle.text.specs.Keyword.{same}
+use Rattle.form.specs.Form.{Word}
+use Rattle.image.specs.Library.{Name, Module, ImportOnly, PlainModule, PlainImportOnly, Library, plainName, plainModule, plainImportOnly, plain, modulesOf, importOnlyOf, submodulesOf}
+use Rattle.graph.specs.Nodes.{Mode, among, memb, wordNodes, nodesOf}
+use Rattle.graph.specs.Graph.{EntryOf, Entry, moduleEntry, importEntry, setEntries, entries, entryNames, submoduleNames}
+use Rattle.graph.proofs.WordNodes.{among-names, node-names}
+
+-- ---- over all sets
+
+pub plain-modules : (l : Library) → modulesOf (plain l) ≡ map plainModule (modulesOf l)
+unfolding modulesOf
+plain-modules [] = refl
+plain-modules (s ∷ l) = ap (λ t. map plainModule (s .modules) ++ t) (plain-modules l) ∙ sym (map-append plainModule (s .modules) (modulesOf l))
+
+pub plain-importOnly : (l : Library) → importOnlyOf (plain l) ≡ map plainImportOnly (importOnlyOf l)
+unfolding importOnlyOf
+plain-importOnly [] = refl
+plain-importOnly (s ∷ l) =
+    ap (λ t. map plainImportOnly (s .importOnly) ++ t) (plain-importOnly l) ∙ sym (map-append plainImportOnly (s .importOnly) (importOnlyOf l))
+
+submodules-plain : (ms : List Module) → submodulesOf (map plainModule ms) ≡ map plainName (submodulesOf ms)
+unfolding submodulesOf
+submodules-plain [] = refl
+submodules-plain (m ∷ ms) = ap (λ t. map plainName (m .submodules) ++ t) (submodules-plain ms) ∙ sym (map-append plainName (m .submodules) (submodulesOf ms))
+
+pub plain-submodules : (l : Library) → submoduleNames (plain l) ≡ map plainName (submodulesOf (modulesOf l))
+plain-submodules l = ap submodulesOf (plain-modules l) ∙ submodules-plain (modulesOf l)
+
+-- ---- a name is among them
+
+among-append : (u : Name) (s t : List Name) → memb u (s ++ t) ≡ (memb u s || memb u t)
+unfolding among
+among-append u [] t = refl
+among-append u (w ∷ s) t = go (same w u) (among-append u s t)
+  where
+    go : (b : Bool) → memb u (s ++ t) ≡ (memb u s || memb u t) → (b || memb u (s ++ t)) ≡ ((b || memb u s) || memb u t)
+    go true ih = refl
+    go false ih = ih
+
+among-modules : (u : Name) (ms : List Module) → memb u (map (λ (m : PlainModule). m .name) (map plainModule ms)) ≡ among (λ (m : Module). plainName (m .name)) u ms
+unfolding among
+among-modules u [] = refl
+among-modules u (m ∷ ms) = ap (λ b. same (plainName (m .name)) u || b) (among-modules u ms)
+
+among-importOnly : (u : Name) (is : List ImportOnly)
+    → memb u (map (λ (i : PlainImportOnly). i .name) (map plainImportOnly is)) ≡ among (λ (i : ImportOnly). plainName (i .name)) u is
+unfolding among
+among-importOnly u [] = refl
+among-importOnly u (i ∷ is) = ap (λ b. same (plainName (i .name)) u || b) (among-importOnly u is)
+
+pub known-words : (u : Name) (l : Library)
+    → memb u (entryNames (plain l)) ≡ (among (λ (m : Module). plainName (m .name)) u (modulesOf l) || among (λ (i : ImportOnly). plainName (i .name)) u (importOnlyOf l))
+known-words u l =
+    among-append u (map (λ (m : PlainModule). m .name) (modulesOf (plain l))) (map (λ (i : PlainImportOnly). i .name) (importOnlyOf (plain l)))
+    ∙ ap₂ _||_
+    (ap (λ t. memb u (map (λ (m : PlainModule). m .name) t)) (plain-modules l) ∙ among-modules u (modulesOf l))
+    (ap (λ t. memb u (map (λ (i : PlainImportOnly). i .name) t)) (plain-importOnly l) ∙ among-importOnly u (importOnlyOf l))
+
+pub listed-words : (u : Name) (l : Library) → memb u (submoduleNames (plain l)) ≡ among plainName u (submodulesOf (modulesOf l))
+listed-words u l = ap (memb u) (plain-submodules l) ∙ sym (among-names u (submodulesOf (modulesOf l)))
+
+pub node-words : (mode : Mode) (u : Name) (l : Library) → memb u (nodesOf mode (plain l)) ≡ among plainName u (wordNodes mode l)
+node-words mode u l = ap (memb u) (sym (node-names mode l)) ∙ sym (among-names u (wordNodes mode l))
+
+-- ---- the entries
+
+abbrev pub plainEntry : EntryOf Word → Entry
+plainEntry e = record { name = plainName (e .name); lists = map plainName (e .lists) }
+
+module-entries : (ms : List Module) → map moduleEntry (map plainModule ms) ≡ map plainEntry (map moduleEntry ms)
+module-entries [] = refl
+module-entries (m ∷ ms) =
+    let q = map-append plainName (m .augmenting) (m .deviations) in
+    let e : moduleEntry (plainModule m) ≡ plainEntry (moduleEntry m) = λ i. record { name = plainName (m .name); lists = sym q i } in
+    ap₂ _∷_ e (module-entries ms)
+
+import-entries : (is : List ImportOnly) → map importEntry (map plainImportOnly is) ≡ map plainEntry (map importEntry is)
+import-entries [] = refl
+import-entries (i ∷ is) = ap (λ t. importEntry (plainImportOnly i) ∷ t) (import-entries is)
+
+pub plain-entries : (l : Library) → entries (plain l) ≡ map plainEntry (entries l)
+unfolding flatMap
+plain-entries [] = refl
+plain-entries (s ∷ l) =
+    ap₂ _++_
+    (ap₂ _++_ (module-entries (s .modules)) (import-entries (s .importOnly)) ∙ sym (map-append plainEntry (map moduleEntry (s .modules)) (map importEntry (s .importOnly))))
+    (plain-entries l)
+    ∙ sym (map-append plainEntry (setEntries s) (entries l))

@@ -1,0 +1,81 @@
+-- The names of the nodes with their places are the nodes of the library without places: whether a name is added hangs on names alone.
+-- Assumes nothing.
+use mathlib.Core.Path.{_≡_, refl, ap, ap₂, _∙_}
+use mathlib.Core.Bool.{Bool, true, false, cond, _||_}
+use mathlib.Core.List.{List, [], _∷_, _++_, map, map-append, flatMap}
+use Rattle.text.specs.Keyword.{same}
+use Rattle.form.specs.Form.{Word}
+use Rattle.image.specs.Library.{Name, Module, ImportOnly, Library, plainName, plainModule, plainImportOnly, plain}
+use Rattle.graph.specs.Nodes.{Mode, passOver, Group, moduleGroup, revisionGroups, setGroups, groups, among, addNode, addNodes, addGroup, addGroups, nodesBy, itself, memb, wordNodes, nodesOf}
+
+abbrev texts : List Word → List Name
+texts ws = map plainName ws
+
+abbrev plainGroup : Group Word → Group Name
+plainGroup g = record { head = plainName (g .head); subs = texts (g .subs) }
+
+-- ---- one after another
+
+pub among-names : (u : Name) (ws : List Word) → among plainName u ws ≡ memb u (map plainName ws)
+unfolding among
+among-names u [] = refl
+among-names u (w ∷ ws) = ap (λ b. same (plainName w) u || b) (among-names u ws)
+
+snoc-names : (ns : List Word) (w : Word) → texts (ns ++ (w ∷ [])) ≡ texts ns ++ (plainName w ∷ [])
+snoc-names ns w = map-append plainName ns (w ∷ [])
+
+node-added : (ns : List Word) (w : Word) → texts (addNode plainName ns w) ≡ addNode itself (texts ns) (plainName w)
+node-added ns w = go (among plainName (plainName w) ns) ∙ ap (λ b. cond b (texts ns) (texts ns ++ (plainName w ∷ []))) (among-names (plainName w) ns)
+  where
+    go : (b : Bool) → texts (cond b ns (ns ++ (w ∷ []))) ≡ cond b (texts ns) (texts ns ++ (plainName w ∷ []))
+    go true = refl
+    go false = snoc-names ns w
+
+pub nodes-added : (ws ns : List Word) → map plainName (addNodes plainName ns ws) ≡ addNodes itself (map plainName ns) (map plainName ws)
+unfolding addNodes
+nodes-added [] ns = refl
+nodes-added (w ∷ ws) ns = nodes-added ws (addNode plainName ns w) ∙ ap (λ l. addNodes itself l (texts ws)) (node-added ns w)
+
+group-added : (mode : Mode) (ns : List Word) (g : Group Word) → texts (addGroup plainName mode ns g) ≡ addGroup itself mode (texts ns) (plainGroup g)
+group-added passOver ns g =
+    go (among plainName (plainName (g .head)) ns)
+    ∙ ap (λ b. cond b (texts ns) (addNodes itself (texts ns ++ (plainName (g .head) ∷ [])) (texts (g .subs)))) (among-names (plainName (g .head)) ns)
+  where
+    go : (b : Bool)
+        → texts (cond b ns (addNodes plainName (ns ++ (g .head ∷ [])) (g .subs))) ≡ cond b (texts ns) (addNodes itself (texts ns ++ (plainName (g .head) ∷ [])) (texts (g .subs)))
+    go true = refl
+    go false = nodes-added (g .subs) (ns ++ (g .head ∷ [])) ∙ ap (λ l. addNodes itself l (texts (g .subs))) (snoc-names ns (g .head))
+
+groups-added : (mode : Mode) (gs : List (Group Word)) (ns : List Word)
+    → texts (addGroups plainName mode ns gs) ≡ addGroups itself mode (texts ns) (map plainGroup gs)
+unfolding addGroups
+groups-added mode [] ns = refl
+groups-added mode (g ∷ gs) ns =
+    groups-added mode gs (addGroup plainName mode ns g) ∙ ap (λ l. addGroups itself mode l (map plainGroup gs)) (group-added mode ns g)
+
+-- ---- the groups without places
+
+modules-plain : (ms : List Module) → map plainGroup (map moduleGroup ms) ≡ map moduleGroup (map plainModule ms)
+modules-plain [] = refl
+modules-plain (m ∷ ms) = ap (λ l. moduleGroup (plainModule m) ∷ l) (modules-plain ms)
+
+revisions-plain : (w : Word) (rs : List (List Word))
+    → map plainGroup (map (λ (subs : List Word). record { head = w; subs = subs }) rs) ≡ map (λ (subs : List Name). record { head = plainName w; subs = subs }) (map (map plainName) rs)
+revisions-plain w [] = refl
+revisions-plain w (r ∷ rs) = ap (λ (l : List (Group Name)). record { head = plainName w; subs = texts r } ∷ l) (revisions-plain w rs)
+
+imports-plain : (is : List ImportOnly) → map plainGroup (flatMap revisionGroups is) ≡ flatMap revisionGroups (map plainImportOnly is)
+unfolding flatMap
+imports-plain [] = refl
+imports-plain (i ∷ is) =
+    map-append plainGroup (revisionGroups i) (flatMap revisionGroups is) ∙ ap₂ _++_ (revisions-plain (i .name) (i .revisions)) (imports-plain is)
+
+groups-plain : (l : Library) → map plainGroup (groups l) ≡ groups (plain l)
+unfolding flatMap
+groups-plain [] = refl
+groups-plain (s ∷ l) = map-append plainGroup (setGroups s) (groups l)
+    ∙ ap₂ _++_ (map-append plainGroup (map moduleGroup (s .modules)) (flatMap revisionGroups (s .importOnly)) ∙ ap₂ _++_ (modules-plain (s .modules)) (imports-plain (s .importOnly))) (groups-plain l)
+
+pub node-names : (mode : Mode) (l : Library) → map plainName (wordNodes mode l) ≡ nodesOf mode (plain l)
+unfolding nodesBy
+node-names mode l = groups-added mode (groups l) [] ∙ ap (addGroups itself mode []) (groups-plain l)

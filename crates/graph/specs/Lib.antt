@@ -1,0 +1,5 @@
+pub mod Nodes
+pub mod Graph
+pub mod Numbers
+pub mod Meaning
+pub mod Demand3
