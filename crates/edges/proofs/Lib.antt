@@ -1,0 +1,4 @@
+pub mod Laying
+pub mod Linking
+pub mod Looks
+pub mod Spans

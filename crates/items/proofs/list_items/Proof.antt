@@ -1,0 +1,65 @@
+-- `items::list_items`. Each way out is one law of Listing; its loop is one of Ahead.
+-- Assumes nothing.
+use borrow.Author.Needs.{needs}
+use Rattle.items.specs.Table.{setRead, setsRead}
+use Rattle.items.proofs.Ahead.{Ahead, ahead-reads, ahead-on}
+use Rattle.items.proofs.Listing.{no-sets, sets-begun, all-listed, length-kept}
+use Rattle.items.proofs.list_items.Statement.{statement}
+use Rattle.items.proofs.list_items.Tie as tie
+
+abbrev Inv-loop : tie.InvT-loop
+Inv-loop s tab₀ count reach₀ left₀ tab reach left = Ahead (setRead s) s tab₀ 0 (setsRead s 0) tab reach left
+
+abbrev μ-loop : tie.MeasureT-loop
+μ-loop s tab₀ count reach₀ left₀ tab reach left = left
+
+read-count-requires : tie.Need-read-count-requires Inv-loop μ-loop
+read-count-requires c κs = search needs
+
+enum-known-count : tie.Need-enum-known-count Inv-loop μ-loop
+enum-known-count c = search needs
+
+enum-told : tie.Need-enum-told Inv-loop μ-loop
+enum-told c = search needs
+
+returns : tie.Need-returns Inv-loop μ-loop
+returns c = absurd (search no-sets)
+
+loop-holds : tie.Need-loop-holds Inv-loop μ-loop
+loop-holds c = search sets-begun
+
+take-set-requires : tie.Need-take-set-requires Inv-loop μ-loop
+take-set-requires c κs = (search needs, ahead-reads (c .before .before .loop .inv) (c .before .loop-test .taken))
+
+sub-left : tie.Need-sub-left Inv-loop μ-loop
+sub-left c = search needs
+
+loop-less : tie.Need-loop-less Inv-loop μ-loop
+loop-less c = search needs
+
+loop-again : tie.Need-loop-again Inv-loop μ-loop
+loop-again c = search ahead-on
+
+same-length : tie.Need-same-length Inv-loop μ-loop
+same-length c = search needs
+
+returns-2 : tie.Need-returns-2 Inv-loop μ-loop
+returns-2 c = (search all-listed, search length-kept)
+
+pub list-items-spec : {M : Type 1} → statement M
+list-items-spec =
+    tie.close
+    (tie.spec
+    Inv-loop
+    μ-loop
+    read-count-requires
+    enum-known-count
+    enum-told
+    returns
+    loop-holds
+    take-set-requires
+    sub-left
+    loop-less
+    loop-again
+    same-length
+    returns-2)

@@ -1,0 +1,43 @@
+-- `items::take_entry`. A name and what stands behind it, by laws of Parts.
+-- Assumes nothing.
+use borrow.Author.Needs.{needs}
+use Rattle.items.proofs.Parts.{import-name-read, revisions-read, import-taken, module-name-read, lists-read, module-taken}
+use Rattle.items.proofs.take_entry.Statement.{statement}
+use Rattle.items.proofs.take_entry.Tie as tie
+
+take-item-requires : tie.Need-take-item-requires
+take-item-requires c κs = (search needs, search needs, search import-name-read)
+
+take-revisions-requires : tie.Need-take-revisions-requires
+take-revisions-requires c κs = (search needs, search revisions-read)
+
+same-length : tie.Need-same-length
+same-length c = search needs
+
+returns : tie.Need-returns
+returns c = search import-taken
+
+take-item-requires-2 : tie.Need-take-item-requires-2
+take-item-requires-2 c κs = (search needs, search needs, search module-name-read)
+
+take-lists-requires : tie.Need-take-lists-requires
+take-lists-requires c κs = (search needs, search lists-read)
+
+same-length-2 : tie.Need-same-length-2
+same-length-2 c = search needs
+
+returns-2 : tie.Need-returns-2
+returns-2 c = search module-taken
+
+pub take-entry-spec : {M : Type 1} → statement M
+take-entry-spec =
+    tie.close
+    (tie.spec
+    take-item-requires
+    take-revisions-requires
+    same-length
+    returns
+    take-item-requires-2
+    take-lists-requires
+    same-length-2
+    returns-2)

@@ -1,0 +1,65 @@
+-- `items::take_list`. Its loop is one of Ahead.
+-- Assumes nothing.
+use borrow.Author.Needs.{needs}
+use Rattle.items.specs.Table.{nameRead, listRead}
+use Rattle.items.proofs.Ahead.{Ahead, ahead-reads, ahead-on, ahead-done}
+use Rattle.items.proofs.Parts.{no-list, list-begun}
+use Rattle.items.proofs.take_list.Statement.{statement}
+use Rattle.items.proofs.take_list.Tie as tie
+
+abbrev Inv-loop : tie.InvT-loop
+Inv-loop s tab₀ n kind at count reach₀ names₀ tab reach names = Ahead (nameRead kind s) s tab₀ n (listRead kind s at) tab reach names
+
+abbrev μ-loop : tie.MeasureT-loop
+μ-loop s tab₀ n kind at count reach₀ names₀ tab reach names = names
+
+read-count-requires : tie.Need-read-count-requires Inv-loop μ-loop
+read-count-requires c κs = search needs
+
+enum-known-count : tie.Need-enum-known-count Inv-loop μ-loop
+enum-known-count c = search needs
+
+enum-told : tie.Need-enum-told Inv-loop μ-loop
+enum-told c = search needs
+
+returns : tie.Need-returns Inv-loop μ-loop
+returns c = absurd (search no-list)
+
+loop-holds : tie.Need-loop-holds Inv-loop μ-loop
+loop-holds c = search list-begun
+
+take-item-requires : tie.Need-take-item-requires Inv-loop μ-loop
+take-item-requires c κs = (search needs, search needs, ahead-reads (c .before .before .loop .inv) (c .before .loop-test .taken))
+
+sub-names : tie.Need-sub-names Inv-loop μ-loop
+sub-names c = search needs
+
+loop-less : tie.Need-loop-less Inv-loop μ-loop
+loop-less c = search needs
+
+loop-again : tie.Need-loop-again Inv-loop μ-loop
+loop-again c = search ahead-on
+
+same-length : tie.Need-same-length Inv-loop μ-loop
+same-length c = search needs
+
+returns-2 : tie.Need-returns-2 Inv-loop μ-loop
+returns-2 c = search ahead-done
+
+pub take-list-spec : {M : Type 1} → statement M
+take-list-spec =
+    tie.close
+    (tie.spec
+    Inv-loop
+    μ-loop
+    read-count-requires
+    enum-known-count
+    enum-told
+    returns
+    loop-holds
+    take-item-requires
+    sub-names
+    loop-less
+    loop-again
+    same-length
+    returns-2)
