@@ -123,7 +123,7 @@ pub enum Next {
 }
 
 // Reads all imports and includes. It writes only what it uses: the store from its start on, and the rows.
-fn parse(
+pub fn parse(
     classes: &[u8; 128],
     s: &[u8],
     store: &mut [u8],
