@@ -1,0 +1,5 @@
+pub mod Naming
+pub mod Saving
+pub mod Single
+pub mod Visiting
+pub mod Walking

@@ -1,0 +1,301 @@
+-- The items walked one after another: the drawing of all of them is that of those still to come, from the entry, node and edges so far. The first item
+-- is an entry, so that every other one stands behind an entry; and an entry's name is a node.
+-- Assumes nothing.
+use Prim.Native.Nat.{ℕ, zero, suc, _+_, _-_, _*_, _≤_, _<_}
+use mathlib.Core.Path.{_≡_, refl, sym, ap, ap₂, _∙_, subst}
+use mathlib.Core.Bool.{Bool, true, false, cond}
+use mathlib.Core.List.{List, [], _∷_, _++_, flatMap}
+use native.Mathlib.Omega.{arith}
+use lib.ListN.{length, take, drop}
+use Rattle.text.specs.declared.Refusal.{Refusal}
+use Rattle.form.specs.Form.{Word, wordAt}
+use Rattle.form.proofs.Bounds.{part-word}
+use Rattle.image.specs.Library.{Name, Module, ImportOnly, ModuleSet, Library}
+use Rattle.items.specs.declared.Item.{Item}
+use Rattle.items.specs.Items.{ItemOf, moduleItems, importItems, setItems, itemsOf, libraryOf, itemsAt}
+use Rattle.items.specs.Table.{itemIn, itemWord, itemsIn, itemsFrom, ItemFits, Itemized}
+use Rattle.items.proofs.Through.{items-from, items-all}
+use Rattle.graph.specs.Graph.{Out, built, onOut}
+use Rattle.graph.specs.Nodes.{passOver, memb}
+use Rattle.graph.specs.Numbers.{Row, numberOf, Drawing, faulty, givenCode, walkCodes}
+use Rattle.graph.proofs.Tests.{both-bools, same-refl}
+use Rattle.graph.proofs.Entries.{known-among}
+use Rattle.edges.specs.Edges.{mostEdges, rowsIn, Spanned}
+use Rattle.nodes.specs.Adding.{isEntry, plainAt, namesAt}
+use Rattle.nodes.specs.Marks.{amongKind, knownAt, Stands}
+use Rattle.nodes.proofs.OfKind.{kind-append, known-items, or-right}
+use Rattle.nodes.proofs.Looking.{Bytes, revised-at}
+use Rattle.walk.specs.Walk.{codesHere, Ground, Tables, walkSeen, Drew, Kept}
+use Rattle.walk.specs.declared.Walked.{Walked}
+use Rattle.walk.specs.declared.Walked.the-variants.{Built, Refused}
+use Rattle.yanglib.specs.Entries.{isListed, itemNode, itemWalk, nextNode, nextEntry, drawItems, allLevels, Next, Placed, Walks}
+use Rattle.yanglib.specs.declared.Drawn.the-variants.{Built as DrawnBuilt, Refused as DrawnRefused}
+
+-- ---- the ways out of `next_entry`
+
+module _ (k entry : ℕ) {r : Bool} (e : r ≡ isEntry k) where
+  pub entry-more : r ≡ true → entry + 1 ≡ cond (isEntry k) (entry + 1) entry
+  entry-more t = ap (λ (b : Bool). cond b (entry + 1) entry) (sym t ∙ e)
+
+  pub entry-same : r ≡ false → entry ≡ cond (isEntry k) (entry + 1) entry
+  entry-same t = ap (λ (b : Bool). cond b (entry + 1) entry) (sym t ∙ e)
+
+-- ---- the ways out of `next_node`
+
+module _ {s tab : List ℕ} {n : ℕ} {x : Item} {v : ℕ} (g : Next s tab n x v) {r : Bool} (e : r ≡ isEntry (x .kind)) where
+  pub entry-stands : r ≡ true → Stands s tab n (x .place) (x .size)
+  entry-stands t = record { holding = g .holding; inside = g .fits .inside; node = g .node (sym e ∙ t) }
+
+  pub node-own : r ≡ true → {w : ℕ} → w ≡ numberOf (namesAt s) (wordAt s (x .place) (x .size) .text) → w ≡ nextNode s (itemWord s x) v
+  node-own t {w} q = q ∙ ap (λ (b : Bool). cond b (itemNode s (itemWord s x)) v) (sym t ∙ e)
+
+  pub node-kept : r ≡ false → v ≡ nextNode s (itemWord s x) v
+  node-kept t = ap (λ (b : Bool). cond b (itemNode s (itemWord s x)) v) (sym t ∙ e)
+
+  pub node-behind : r ≡ false → v < n
+  node-behind t = g .behind (sym e ∙ t)
+
+-- ---- the ways out of `walk_item`
+
+module _ (s b : List ℕ) (x : Item) (v : ℕ) (rs : List Row) where
+  abbrev asks : (entry listed : Bool) → Out Row
+  asks e l =
+      cond e (walkCodes (codesHere s b) mostEdges 8 23 (itemNode s (itemWord s x)) rs)
+      (cond l (givenCode mostEdges v (knownAt s (wordAt s (x .place) (x .size) .text)) rs) (built rs))
+
+  asked : {e l : Bool} → e ≡ isEntry (x .kind) → l ≡ isListed (x .kind) → itemWalk s b (itemWord s x) v rs ≡ asks e l
+  unfolding itemWalk
+  asked p q = ap₂ asks (sym p) (sym q)
+
+module _ (s b : List ℕ) {n : ℕ} {x : Item} {v : ℕ} (g : Placed s n x v) {edges spans : List ℕ} (count : ℕ) {e : Bool} (p : e ≡ isEntry (x .kind)) where
+  pub item-walked : e ≡ true → {w : Walked} {edges₁ spans₁ : List ℕ} → Drew (walkCodes (codesHere s b) mostEdges 8 23 v (rowsIn count edges)) edges spans w edges₁ spans₁
+      → Drew (itemWalk s b (itemWord s x) v (rowsIn count edges)) edges spans w edges₁ spans₁
+  item-walked t {w} {edges₁} {spans₁} d =
+      subst (λ (o : Out Row). Drew o edges spans w edges₁ spans₁)
+      (ap (λ (u : ℕ). walkCodes (codesHere s b) mostEdges 8 23 u (rowsIn count edges)) (g .own (sym p ∙ t))
+      ∙ sym (asked s b x v (rowsIn count edges) (sym t ∙ p) refl)) d
+
+  module _ (f : e ≡ false) {l : Bool} (q : l ≡ isListed (x .kind)) where
+    pub item-linked : l ≡ true → {w : Walked} {edges₁ spans₁ : List ℕ}
+        → Drew (givenCode mostEdges v (knownAt s (take (x .place + x .size - x .place) (drop (x .place) s))) (rowsIn count edges)) edges spans w edges₁ spans₁
+        → Drew (itemWalk s b (itemWord s x) v (rowsIn count edges)) edges spans w edges₁ spans₁
+    item-linked t {w} {edges₁} {spans₁} d =
+        subst (λ (o : Out Row). Drew o edges spans w edges₁ spans₁)
+        (ap (λ (u : Name). givenCode mostEdges v (knownAt s u) (rowsIn count edges)) (part-word s (x .place) (x .size))
+        ∙ sym (asked s b x v (rowsIn count edges) (sym f ∙ p) (sym t ∙ q))) d
+
+    pub item-silent : l ≡ false → Spanned edges spans count → Drew (itemWalk s b (itemWord s x) v (rowsIn count edges)) edges spans (Built count) edges spans
+    item-silent t h = record {
+      seen = sym (asked s b x v (rowsIn count edges) (sym f ∙ p) (sym t ∙ q));
+      spanned = h;
+      kept-edges = refl;
+      kept-spans = refl;
+    }
+
+pub kept-same : (store imports includes levels : List ℕ) → Kept allLevels store imports includes levels store imports includes levels
+kept-same store imports includes levels = record { store-long = refl; imports-long = refl; includes-long = refl; levels-long = refl; above-kept = refl }
+
+pub item-place : {s : List ℕ} {n : ℕ} {x : Item} {v : ℕ} → Placed s n x v → x .place + x .size ≤ length s
+item-place g = g .fits .inside
+
+-- ---- the first item is an entry
+
+abbrev Headed : List (ItemOf Word) → Type 0
+Headed [] = Unit {0}
+Headed (x ∷ xs) = isEntry (x .kind) ≡ true
+
+headed-append : (xs ys : List (ItemOf Word)) → Headed xs → Headed ys → Headed (xs ++ ys)
+headed-append [] ys g h = h
+headed-append (x ∷ xs) ys g h = g
+
+each-headed : {A : Type 0} (f : A → List (ItemOf Word)) → ((a : A) → Headed (f a)) → (l : List A) → Headed (flatMap f l)
+unfolding flatMap
+each-headed f h [] = tt
+each-headed f h (a ∷ l) = headed-append (f a) (flatMap f l) (h a) (each-headed f h l)
+
+items-headed : (l : Library) → Headed (itemsOf l)
+unfolding itemsOf
+items-headed l =
+    each-headed setItems
+    (λ (x : ModuleSet). headed-append (flatMap moduleItems (x .modules)) (flatMap importItems (x .importOnly))
+    (each-headed moduleItems (λ (m : Module). refl) (x .modules)) (each-headed importItems (λ (i : ImportOnly). refl) (x .importOnly))) l
+
+first-entry : {s tab : List ℕ} {n : ℕ} → Itemized s n tab → 0 < n → isEntry (itemIn tab 0 .kind) ≡ true
+unfolding itemsFrom
+first-entry {s} {tab} {n} g l =
+    let q : n ≡ suc (n - 1) = omega arith in
+    subst Headed (sym (items-all g) ∙ ap (itemsFrom s tab 0) q) (items-headed (libraryOf s))
+
+-- ---- an entry's name is a node
+
+entry-among : {s tab : List ℕ} {n : ℕ} → Itemized s n tab → (i : ℕ) → i < n → isEntry (itemIn tab i .kind) ≡ true
+    → amongKind isEntry (itemWord s (itemIn tab i) .name .text) (itemsAt s) ≡ true
+unfolding itemsFrom amongKind
+entry-among {s} {tab} {n} g i l h =
+    let u = itemWord s (itemIn tab i) .name .text in
+    let q : n ≡ i + suc (n - (i + 1)) = omega arith in
+    let own : amongKind isEntry u (itemsFrom s tab i (suc (n - (i + 1)))) ≡ true =
+    ap₂ (λ (a c : Bool). cond a (cond c true (amongKind isEntry u (itemsFrom s tab (i + 1) (n - (i + 1))))) (amongKind isEntry u (itemsFrom s tab (i + 1) (n - (i + 1))))) h (same-refl u) in
+    ap (amongKind isEntry u) (sym (g .items) ∙ ap (itemsIn s tab) q ∙ items-from s tab (suc (n - (i + 1))) i)
+    ∙ kind-append isEntry u (itemsIn s tab i) (itemsFrom s tab i (suc (n - (i + 1))))
+    ∙ or-right (amongKind isEntry u (itemsIn s tab i)) (amongKind isEntry u (itemsFrom s tab i (suc (n - (i + 1))))) own
+
+entry-node : {s tab : List ℕ} {n : ℕ} → Itemized s n tab → Bytes s → (i : ℕ) → i < n → isEntry (itemIn tab i .kind) ≡ true
+    → memb (itemWord s (itemIn tab i) .name .text) (namesAt s) ≡ true
+unfolding namesAt
+entry-node {s} {tab} g bytes i l h =
+    let u = itemWord s (itemIn tab i) .name .text in
+    known-among passOver (plainAt s) (revised-at s bytes) u (known-items u (libraryOf s) ∙ entry-among g i l h)
+
+-- ---- what the loop keeps
+
+walk-same : (s b : List ℕ) (x : ItemOf Word) (v : ℕ) (rs : List Row) → itemWalk s b x v rs ≡ itemWalk s b x (nextNode s x v) rs
+unfolding itemWalk
+walk-same s b x v rs = go (isEntry (x .kind)) (isListed (x .kind))
+  where
+    go : (e l : Bool) → cond e (walkCodes (codesHere s b) mostEdges 8 23 (itemNode s x) rs) (cond l (givenCode mostEdges v (knownAt s (x .name .text)) rs) (built rs))
+        ≡ cond e (walkCodes (codesHere s b) mostEdges 8 23 (itemNode s x) rs) (cond l (givenCode mostEdges (cond e (itemNode s x) v) (knownAt s (x .name .text)) rs) (built rs))
+    go true l = refl
+    go false l = refl
+
+pub record Going (s b : List ℕ) (n : ℕ) (table : List ℕ) (items : ℕ) (store₀ imports₀ includes₀ levels₀ edges₀ spans₀ store imports includes levels edges spans : List ℕ) (total entry v i : ℕ) : Type 0 where
+  pub rest : drawItems s b 0 0 [] (itemsAt s) ≡ drawItems s b entry v (rowsIn total edges) (itemsFrom s table i (items - i))
+  pub listed : Itemized s items table
+  pub some : i ≤ items
+  pub entries : entry ≤ i
+  pub low : 0 < i → v < n
+  pub tables : Tables b store imports includes levels edges spans 8 total
+  pub kept : Kept allLevels store₀ imports₀ includes₀ levels₀ store imports includes levels
+  pub kept-edges : length edges ≡ length edges₀
+  pub kept-spans : length spans ≡ length spans₀
+
+pub going-none : (s b : List ℕ) (n : ℕ) (table : List ℕ) (items : ℕ) (store imports includes levels edges spans : List ℕ)
+    → Tables b store imports includes levels edges spans 8 0 → Itemized s items table
+    → Going s b n table items store imports includes levels edges spans store imports includes levels edges spans 0 0 0 0
+unfolding rowsIn
+going-none s b n table items store imports includes levels edges spans t g =
+    let q : items ≡ items - 0 = omega arith in
+    record {
+      rest = ap (drawItems s b 0 0 []) (sym (items-all g) ∙ ap (itemsFrom s table 0) q);
+      listed = g;
+      some = omega arith;
+      entries = omega arith;
+      low = λ l. absurd (omega arith);
+      tables = t;
+      kept = kept-same store imports includes levels;
+      kept-edges = refl;
+      kept-spans = refl;
+    }
+
+module _ {s b : List ℕ} {n : ℕ} {table : List ℕ} {items : ℕ} {store₀ imports₀ includes₀ levels₀ edges₀ spans₀ store imports includes levels edges spans : List ℕ} {total entry v i : ℕ}
+    (g : Going s b n table items store₀ imports₀ includes₀ levels₀ edges₀ spans₀ store imports includes levels edges spans total entry v i) where
+  pub all-drawn : items ≤ i → Walks s b store₀ imports₀ includes₀ levels₀ edges₀ spans₀ (DrawnBuilt total) store imports includes levels edges spans
+  unfolding itemsFrom drawItems
+  all-drawn h =
+      let q : items - i ≡ 0 = omega arith in
+      record {
+        seen = sym (g .rest ∙ ap (λ (k : ℕ). drawItems s b entry v (rowsIn total edges) (itemsFrom s table i k)) q);
+        spanned = g .tables .edges-so-far;
+        kept-edges = g .kept-edges;
+        kept-spans = g .kept-spans;
+        kept = g .kept;
+      }
+
+  module _ (l : i < items) where
+    pub item-there : i * 2 + 2 ≤ length table
+    item-there = omega (arith, g .listed .long)
+
+    pub entry-low : entry < 32768
+    entry-low = omega (arith, g .entries, g .listed .few)
+
+    module _ {x : Item} (e : x ≡ itemIn table i) where
+      item-fits : ItemFits s x
+      item-fits = subst (ItemFits s) (sym e) (g .listed .fits i l)
+
+      behind-entry : isEntry (x .kind) ≡ false → v < n
+      behind-entry f = go i refl
+        where
+          go : (j : ℕ) → i ≡ j → v < n
+          go zero q = both-bools (ap (λ (k : ℕ). isEntry (itemIn table k .kind)) q ∙ first-entry (g .listed) (omega arith)) (ap (λ (y : Item). isEntry (y .kind)) (sym e) ∙ f)
+          go (suc j) q = g .low (omega arith)
+
+      pub next-asked : {btab : List ℕ} {texts : ℕ} {ntab marks : List ℕ} → Ground s b btab texts ntab n marks → Bytes s → Next s ntab n x v
+      next-asked d bytes = record {
+        holding = d .desk .holding;
+        fits = item-fits;
+        node = λ h. ap (λ (y : Item). memb (wordAt s (y .place) (y .size) .text) (namesAt s)) e
+            ∙ entry-node (g .listed) bytes i l (ap (λ (y : Item). isEntry (y .kind)) (sym e) ∙ h);
+        behind = behind-entry;
+      }
+
+      module _ {u : ℕ} (p : u ≡ nextNode s (itemWord s x) v) (o : u < n) where
+        pub placed : Placed s n x u
+        placed = record {
+          fits = item-fits;
+          low = o;
+          own = λ h. p ∙ ap (λ (c : Bool). cond c (itemNode s (itemWord s x)) v) h;
+        }
+
+        module _ {k : ℕ} (q : k ≡ cond (isEntry (x .kind)) (entry + 1) entry) {w : Walked} {edges₁ spans₁ : List ℕ}
+            (d : Drew (itemWalk s b (itemWord s x) u (rowsIn total edges)) edges spans w edges₁ spans₁) where
+          abbrev behind : (y : ItemOf Word) → Out Row → (k u : ℕ) → Drawing
+          behind y out k u = onOut out (λ rs. drawItems s b k u rs (itemsFrom s table (i + 1) (items - (i + 1)))) (λ number a. faulty number k a)
+
+          turn : drawItems s b 0 0 [] (itemsAt s) ≡ behind (itemWord s x) (walkSeen w edges₁) k u
+          unfolding itemsFrom drawItems
+          turn =
+              let j : items - i ≡ suc (items - (i + 1)) = omega arith in
+              g .rest
+              ∙ ap (λ (m : ℕ). drawItems s b entry v (rowsIn total edges) (itemsFrom s table i m)) j
+              ∙ ap (λ (y : Item). behind (itemWord s y) (itemWalk s b (itemWord s y) v (rowsIn total edges)) (nextEntry (itemWord s y) entry) (nextNode s (itemWord s y) v)) (sym e)
+              ∙ ap (λ (out : Out Row). behind (itemWord s x) out (nextEntry (itemWord s x) entry) (nextNode s (itemWord s x) v)) (walk-same s b (itemWord s x) v (rowsIn total edges))
+              ∙ ap₂ (λ (m z : ℕ). behind (itemWord s x) (itemWalk s b (itemWord s x) z (rowsIn total edges)) m z) (sym q) (sym p)
+              ∙ ap (λ (out : Out Row). behind (itemWord s x) out k u) (sym (d .seen))
+
+          module _ {store₁ imports₁ includes₁ levels₁ : List ℕ} (c : Kept allLevels store imports includes levels store₁ imports₁ includes₁ levels₁) where
+            kept-on : Kept allLevels store₀ imports₀ includes₀ levels₀ store₁ imports₁ includes₁ levels₁
+            kept-on = record {
+              store-long = c .store-long ∙ g .kept .store-long;
+              imports-long = c .imports-long ∙ g .kept .imports-long;
+              includes-long = c .includes-long ∙ g .kept .includes-long;
+              levels-long = c .levels-long ∙ g .kept .levels-long;
+              above-kept = c .above-kept ∙ g .kept .above-kept;
+            }
+
+            pub sent-out : {number : ℕ} {a : Refusal} → w ≡ Refused number a
+                → Walks s b store₀ imports₀ includes₀ levels₀ edges₀ spans₀ (DrawnRefused number k a) store₁ imports₁ includes₁ levels₁ edges₁ spans₁
+            sent-out y = record {
+              seen = sym (turn ∙ ap (λ (w : Walked). behind (itemWord s x) (walkSeen w edges₁) k u) y);
+              spanned = tt;
+              kept-edges = d .kept-edges ∙ g .kept-edges;
+              kept-spans = d .kept-spans ∙ g .kept-spans;
+              kept = kept-on;
+            }
+
+            entries-on : k ≤ i + 1
+            entries-on = go (isEntry (x .kind)) q
+              where
+                go : (t : Bool) → k ≡ cond t (entry + 1) entry → k ≤ i + 1
+                go true z = omega (arith, g .entries)
+                go false z = omega (arith, g .entries)
+
+            pub going-on : {m : ℕ} → w ≡ Built m → Going s b n table items store₀ imports₀ includes₀ levels₀ edges₀ spans₀ store₁ imports₁ includes₁ levels₁ edges₁ spans₁ m k u (i + 1)
+            going-on {m} y = record {
+              rest = turn ∙ ap (λ (w : Walked). behind (itemWord s x) (walkSeen w edges₁) k u) y;
+              listed = g .listed;
+              some = omega arith;
+              entries = entries-on;
+              low = λ z. o;
+              tables = record {
+                scan = record {
+                  store-room = omega (arith, g .tables .scan .store-room, c .store-long);
+                  import-room = omega (arith, g .tables .scan .import-room, c .imports-long);
+                  include-room = omega (arith, g .tables .scan .include-room, c .includes-long);
+                };
+                levels-room = omega (arith, g .tables .levels-room, c .levels-long);
+                edges-so-far = rw y at (d .spanned);
+              };
+              kept = kept-on;
+              kept-edges = d .kept-edges ∙ g .kept-edges;
+              kept-spans = d .kept-spans ∙ g .kept-spans;
+            }

@@ -1,0 +1,8 @@
+pub mod Bounds
+pub mod Drawing
+pub mod Going
+pub mod Outcome
+pub mod Short
+pub mod Tables
+pub mod Ways
+pub mod Whole

@@ -1,0 +1,95 @@
+-- The graph of an image in numbers is the drawing of its items: there are as many nodes with places as names, and every row joins two of them.
+-- Assumes nothing.
+use Prim.Native.Nat.{ℕ, _<_}
+use mathlib.Core.Path.{_≡_, refl, sym, ap, ap₂, _∙_, subst}
+use mathlib.Core.Bool.{Bool, true, false, cond}
+use mathlib.Core.List.{List, [], map, List·Memᴰ}
+use lib.ListN.{length, length-map}
+use lib.Dec.{ltb}
+use Rattle.form.specs.Form.{Word}
+use Rattle.form.specs.Writer.{AllBytes}
+use Rattle.image.specs.Library.{Name, plainName, plain}
+use Rattle.image.specs.Image.{imageAt}
+use Rattle.library.specs.Reading.{onAns}
+use Rattle.items.specs.Items.{libraryOf, itemsAt}
+use Rattle.items.specs.Table.{Reads}
+use Rattle.graph.specs.Nodes.{passOver, nodesOf}
+use Rattle.graph.specs.Graph.{nought, tooManyNodes, Edge, entries, entrySteps, world, Graph, graph, fault, walkOf, graphOf}
+use Rattle.graph.specs.Numbers.{Row, rowOf, Drawing, drawn, faulty, drawingOf, numbered}
+use Rattle.graph.specs.Meaning.{Revised}
+use Rattle.graph.proofs.WordNodes.{node-names}
+use Rattle.graph.proofs.Revised.{image-revised}
+use Rattle.graph.proofs.Runs.{walk-run}
+use Rattle.graph.proofs.Drawing.{drawing, rows-small}
+use Rattle.edges.specs.Edges.{mostEdges}
+use Rattle.nodes.specs.Adding.{mostNodes, plainAt, wordsAt, namesAt}
+use Rattle.texts.specs.Texts.{textOf}
+use Rattle.walk.specs.Walk.{worldOf}
+use Rattle.yanglib.specs.Entries.{drawItems}
+use Rattle.yanglib.specs.ToGraph.{Result, refusal, resultOf}
+use Rattle.yanglib.specs.declared.Graphed.the-variants.{Built}
+use Rattle.yanglib.proofs.Drawing.{items-drawn}
+
+-- what is answered and left for a drawing between these nodes
+abbrev pub drawingResult : List Word → Drawing → Result
+drawingResult ws (drawn rs) = record { answer = Built (length ws) (length rs); nodes = ws; rows = rs }
+drawingResult ws (faulty number entry a) = refusal number entry a 0
+
+module _ (s : List ℕ) where
+  pub nodes-named : map plainName (wordsAt s) ≡ namesAt s
+  unfolding wordsAt namesAt
+  nodes-named = node-names passOver (libraryOf s)
+
+  pub nodes-long : length (namesAt s) ≡ length (wordsAt s)
+  nodes-long = ap length (sym nodes-named) ∙ length-map (wordsAt s) plainName
+
+  pub image-here : (h : Reads (imageAt s)) → libraryOf s ≡ h .value
+  unfolding libraryOf
+  image-here h = ap (λ r. onAns r (λ l n. l) (λ p. [])) (h .read)
+
+  pub revised-here : Reads (imageAt s) → AllBytes s → Revised (plainAt s)
+  revised-here h bytes = subst (λ l. Revised (plain l)) (sym (image-here h)) (image-revised s (h .read) bytes)
+
+module _ (s b : List ℕ) (reads : Reads (imageAt s)) (bytes : AllBytes s) where
+  abbrev items : Drawing
+  items = drawItems s b 0 0 [] (itemsAt s)
+
+  abbrev walked : Graph
+  walked = walkOf passOver mostEdges (textOf b) (plainAt s)
+
+  drawing-items : drawingOf passOver mostEdges (textOf b) (plainAt s) ≡ items
+  unfolding drawingOf worldOf namesAt
+  drawing-items = sym (items-drawn s b)
+
+  walk-drawn : numbered walked ≡ items
+  walk-drawn = drawing passOver mostEdges (textOf b) (plainAt s) (revised-here s reads bytes) ∙ drawing-items
+
+  walk-nodes : (ns : List Name) (es : List Edge) → walked ≡ graph ns es → namesAt s ≡ ns
+  unfolding namesAt
+  walk-nodes ns es h =
+      walk-run (entrySteps (world passOver (textOf b) (plainAt s))) mostEdges (nodesOf passOver (plainAt s)) (entries (plainAt s)) 1 [] h .0
+
+  walk-result : (g : Graph) → walked ≡ g → resultOf (wordsAt s) g ≡ drawingResult (wordsAt s) (numbered g)
+  walk-result (graph ns es) h =
+      let p : length ns ≡ length (wordsAt s) = ap length (sym (walk-nodes ns es h)) ∙ nodes-long s in
+      let q : length es ≡ length (map (rowOf ns) es) = sym (length-map es (rowOf ns)) in
+      ap₂ (λ n e. record { answer = Built n e; nodes = wordsAt s; rows = map (rowOf ns) es }) p q
+  walk-result (fault n k a) h = refl
+
+  pub graph-result : resultOf (wordsAt s) (graphOf passOver mostNodes mostEdges (textOf b) (plainAt s))
+      ≡ cond (ltb mostNodes (length (wordsAt s))) (refusal tooManyNodes 0 nought 0) (drawingResult (wordsAt s) (drawItems s b 0 0 [] (itemsAt s)))
+  unfolding graphOf namesAt
+  graph-result =
+      go (ltb mostNodes (length (nodesOf passOver (plainAt s))))
+      ∙ ap (λ n. cond (ltb mostNodes n) (refusal tooManyNodes 0 nought 0) (drawingResult (wordsAt s) items)) (nodes-long s)
+    where
+      go : (t : Bool) → resultOf (wordsAt s) (cond t (fault tooManyNodes 0 nought) walked) ≡ cond t (refusal tooManyNodes 0 nought 0) (drawingResult (wordsAt s) items)
+      go true = refl
+      go false = walk-result walked refl ∙ ap (drawingResult (wordsAt s)) walk-drawn
+
+  pub drawn-small : (rs : List Row) → drawItems s b 0 0 [] (itemsAt s) ≡ drawn rs → (r : Row) → List·Memᴰ r rs
+      → (r .from < length (wordsAt s)) × (r .to < length (wordsAt s))
+  unfolding namesAt
+  drawn-small rs h r m =
+      subst (λ n. (r .from < n) × (r .to < n)) (nodes-long s)
+      (rows-small passOver mostEdges (textOf b) (plainAt s) (revised-here s reads bytes) rs (drawing-items ∙ h) r m)

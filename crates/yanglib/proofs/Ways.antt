@@ -1,0 +1,145 @@
+-- What the whole call promises, by what came of the readings, of what was lent and of the drawing: one law for each way out. The first test that fails
+-- decides, and where none does the graph is that of the drawing.
+-- Assumes nothing.
+use mathlib.Core.Path.{_≡_, refl, sym, ap, ap₂, _∙_}
+use mathlib.Core.Bool.{Bool, true, false, cond}
+use mathlib.Core.List.{List, []}
+use Prim.Native.Nat.{ℕ, _≤_, _<_}
+use native.Mathlib.Omega.{arith}
+use lib.ListN.{length}
+use lib.Dec.{ltb}
+use borrow.Author.Tests.{lt-ltb, le-ltb}
+use Rattle.text.specs.declared.Refusal.{Refusal}
+use Rattle.buffers.specs.Padded.{zeros, padded}
+use Rattle.form.specs.Form.{Ans, good, bad}
+use Rattle.form.specs.Writer.{AllBytes}
+use Rattle.index.proofs.Chain.{length-names}
+use Rattle.image.specs.Library.{Library}
+use Rattle.image.specs.Image.{imageBroken, imageAt}
+use Rattle.image.proofs.ImageLaws.{accepted}
+use Rattle.bundle.specs.Bundle.{Text, bundleBroken, bundleAt}
+use Rattle.bundle.specs.Reading.{counted, openedSeen, Held, OpenedAs, longestText}
+use Rattle.bundle.specs.declared.Opened.{Opened}
+use Rattle.bundle.specs.declared.Opened.the-variants.{Wrong as WrongBundle}
+use Rattle.library.specs.Reading.{done, readSeen}
+use Rattle.library.specs.declared.Read.{Read}
+use Rattle.library.specs.declared.Read.the-variants.{End, Wrong}
+use Rattle.library.proofs.Counting.{done-bad}
+use Rattle.items.specs.Items.{itemsAt}
+use Rattle.items.specs.Table.{Reads}
+use Rattle.graph.specs.Nodes.{passOver}
+use Rattle.graph.specs.Graph.{nought, tooManyNodes, graphOf}
+use Rattle.edges.specs.Edges.{mostEdges, rowsIn}
+use Rattle.edges.proofs.Spans.{rows-length}
+use Rattle.nodes.specs.Adding.{mostNodes, plainAt, wordsAt, Holding}
+use Rattle.texts.specs.Texts.{textOf}
+use Rattle.yanglib.specs.Entries.{drawItems, drawnSeen}
+use Rattle.yanglib.specs.NodeTable.{Puts, Named}
+use Rattle.yanglib.specs.ToGraph.{lentTooShort, Lengths, tooShort, Result, refusal, resultOf, onRead, graphed, nodeWords}
+use Rattle.yanglib.specs.declared.Drawn.{Drawn}
+use Rattle.yanglib.specs.declared.Drawn.the-variants.{Built as DrawnBuilt, Refused as DrawnRefused}
+use Rattle.yanglib.specs.declared.Graphed.the-variants.{Built}
+use Rattle.yanglib.proofs.Outcome.{drawingResult, graph-result}
+
+-- ---- what was read
+
+-- the image, by what its reading answered
+pub image-reads : (s : List ℕ) (r : Read) {n : ℕ} → r ≡ End n → readSeen r ≡ done (imageAt s) → Reads (imageAt s)
+image-reads s r {n} e f = go (imageAt s) refl (sym (ap readSeen e) ∙ f)
+  where
+    go : (a : Ans Library) → imageAt s ≡ a → good tt n ≡ done a → Reads (imageAt s)
+    go (good l m) h k = record { value = l; end = m; read = h }
+    go (bad q) h k = let z : _≡_ {A = ℕ} 0 1 = cc in absurd (omega arith)
+
+done-counted : (a : Ans (List Text)) → done (counted a) ≡ done a
+done-counted (good es n) = refl
+done-counted (bad p) = refl
+
+bundle-bad : (b tab : List ℕ) (r : Opened) {p : ℕ} → r ≡ WrongBundle p → OpenedAs b r tab → bundleAt b ≡ bad p
+bundle-bad b tab r {p} e o =
+    done-bad (bundleAt b) (ap (λ (a : Ans ℕ). done a) (sym (ap (openedSeen b) e) ∙ o .answer) ∙ done-counted (bundleAt b))
+
+-- ---- the ways out
+
+module _ (s b : List ℕ) (k : Lengths) where
+  abbrev behind : Ans Library → Ans (List Text) → Bool → Result
+  behind x y short =
+      onRead x (refusal imageBroken 0 nought)
+      (onRead y (refusal bundleBroken 0 nought)
+      (cond short (refusal lentTooShort 0 nought 0) (resultOf (wordsAt s) (graphOf passOver mostNodes mostEdges (textOf b) (plainAt s)))))
+
+  by-readings : {x : Ans Library} {y : Ans (List Text)} {short : Bool} → imageAt s ≡ x → bundleAt b ≡ y → tooShort (longestText b) k ≡ short
+      → graphed s b k ≡ behind x y short
+  unfolding graphed
+  by-readings {x} {y} {short} e f g =
+      ap (λ a. behind a (bundleAt b) (tooShort (longestText b) k)) e
+      ∙ (ap (λ a. behind x a (tooShort (longestText b) k)) f ∙ ap (λ t. behind x y t) g)
+
+  pub image-wrong : (r : Read) {p : ℕ} → r ≡ Wrong p → readSeen r ≡ done (imageAt s) → graphed s b k ≡ refusal imageBroken 0 nought p
+  image-wrong r e f = by-readings (done-bad (imageAt s) (sym (ap readSeen e) ∙ f)) refl refl
+
+  module _ (reads : Reads (imageAt s)) where
+    pub bundle-wrong : (r : Opened) (tab : List ℕ) {p : ℕ} → r ≡ WrongBundle p → OpenedAs b r tab → graphed s b k ≡ refusal bundleBroken 0 nought p
+    bundle-wrong r tab e o = by-readings (reads .read) (bundle-bad b tab r e o) refl
+
+    module _ (tab : List ℕ) (texts : ℕ) (held : Held b tab texts) where
+      pub too-little : {longest : ℕ} {short : Bool} → longest ≡ longestText b → short ≡ tooShort longest k → short ≡ true
+          → graphed s b k ≡ refusal lentTooShort 0 nought 0
+      too-little e f h = by-readings (reads .read) (held .read) (sym (f ∙ ap (λ (n : ℕ). tooShort n k) e) ∙ h)
+
+      pub enough : {longest : ℕ} {short : Bool} → longest ≡ longestText b → short ≡ tooShort longest k → short ≡ false
+          → graphed s b k ≡ resultOf (wordsAt s) (graphOf passOver mostNodes mostEdges (textOf b) (plainAt s))
+      enough e f h = by-readings (reads .read) (held .read) (sym (f ∙ ap (λ (n : ℕ). tooShort n k) e) ∙ h)
+
+-- ---- the graph, once all is read and enough is lent
+
+-- what is promised then
+pub record Ready (s b : List ℕ) (x : Result) : Type 0 where
+  pub reads : Reads (imageAt s)
+  pub bytes : AllBytes s
+  pub result : x ≡ resultOf (wordsAt s) (graphOf passOver mostNodes mostEdges (textOf b) (plainAt s))
+
+module _ (s b : List ℕ) (x : Result) (g : Ready s b x) where
+  by-nodes : {t : Bool} → ltb mostNodes (length (wordsAt s)) ≡ t
+      → x ≡ cond t (refusal tooManyNodes 0 nought 0) (drawingResult (wordsAt s) (drawItems s b 0 0 [] (itemsAt s)))
+  by-nodes e =
+      g .result
+      ∙ (graph-result s b (g .reads) (g .bytes)
+      ∙ ap (λ t. cond t (refusal tooManyNodes 0 nought 0) (drawingResult (wordsAt s) (drawItems s b 0 0 [] (itemsAt s)))) e)
+
+  pub too-many : mostNodes < length (wordsAt s) → x ≡ refusal tooManyNodes 0 nought 0
+  too-many h = by-nodes (lt-ltb mostNodes (length (wordsAt s)) h)
+
+  module _ (tab : List ℕ) (n : ℕ) (h : Holding s tab n (wordsAt s)) where
+    nodes-many : length (wordsAt s) ≡ n
+    nodes-many = ap length (sym (h .names)) ∙ length-names s tab n
+
+    drawn-as : x ≡ drawingResult (wordsAt s) (drawItems s b 0 0 [] (itemsAt s))
+    drawn-as = by-nodes (le-ltb mostNodes (length (wordsAt s)) (omega (arith, nodes-many, h .few)))
+
+    module _ (r : Drawn) (edges : List ℕ) where
+      pub draw-refused : {number entry : ℕ} {a : Refusal} → r ≡ DrawnRefused number entry a → drawnSeen r edges ≡ drawItems s b 0 0 [] (itemsAt s)
+          → x ≡ refusal number entry a 0
+      draw-refused e f = drawn-as ∙ ap (drawingResult (wordsAt s)) (sym f ∙ ap (λ (q : Drawn). drawnSeen q edges) e)
+
+      pub draw-built : {m : ℕ} → r ≡ DrawnBuilt m → drawnSeen r edges ≡ drawItems s b 0 0 [] (itemsAt s)
+          → x ≡ record { answer = Built n m; nodes = wordsAt s; rows = rowsIn m edges }
+      draw-built {m} e f =
+          drawn-as
+          ∙ (ap (drawingResult (wordsAt s)) (sym f ∙ ap (λ (q : Drawn). drawnSeen q edges) e)
+          ∙ ap₂ (λ (i j : ℕ). record { answer = Built i j; nodes = wordsAt s; rows = rowsIn m edges }) nodes-many (rows-length m edges))
+
+-- ---- the node table of the nodes that an index holds
+
+module _ (s tab : List ℕ) (n : ℕ) (nodes : List ℕ) (h : Holding s tab n (wordsAt s)) where
+  pub nodes-asked : Reads (imageAt s) → 2048 ≤ length nodes → nodes ≡ zeros (length nodes) → Puts tab n nodes
+  nodes-asked reads long z = record {
+    few = h .few;
+    rows = h .indexed .long;
+    small = λ i l. omega (arith, h .indexed .inside i l, accepted s (reads .read) .short);
+    room = omega (arith, h .few);
+    cleared = z;
+  }
+
+  pub nodes-laid : {after : List ℕ} → Named tab n nodes after → after ≡ padded (length nodes) (nodeWords (wordsAt s))
+  nodes-laid p = p .words s ∙ ap (λ ws. padded (length nodes) (nodeWords ws)) (h .names)

@@ -1,0 +1,232 @@
+-- From the walk of all items to the whole call: tables that are zero at first hold no edge; at the end they hold the words of the result, which the laws
+-- of Ways name; a refusal leaves them zero, and scratch is cleared whatever came of it.
+-- Assumes nothing.
+use Prim.Native.Nat.{ℕ, _-_, _≤_, _<_}
+use mathlib.Core.Path.{_≡_, refl, sym, ap, ap₂, _∙_, subst}
+use mathlib.Core.Bool.{Bool, true, false}
+use mathlib.Core.List.{List, []}
+use native.Mathlib.Omega.{arith}
+use lib.ListN.{length, getD, length-replicate}
+use Rattle.text.specs.declared.Refusal.{Refusal}
+use Rattle.buffers.specs.Padded.{zeros, padded}
+use Rattle.form.specs.Writer.{AllBytes}
+use Rattle.image.specs.Image.{imageAt}
+use Rattle.image.proofs.ImageLaws.{accepted}
+use Rattle.bundle.specs.Reading.{OpenedAs, longestText}
+use Rattle.bundle.specs.declared.Opened.{Opened}
+use Rattle.bundle.specs.declared.Opened.the-variants.{Wrong as WrongBundle, Texts}
+use Rattle.library.specs.Reading.{done, readSeen}
+use Rattle.library.specs.declared.Read.{Read}
+use Rattle.library.specs.declared.Read.the-variants.{End, Wrong}
+use Rattle.items.specs.Items.{itemsAt}
+use Rattle.items.specs.Table.{Itemized}
+use Rattle.graph.specs.Graph.{nought}
+use Rattle.edges.specs.Edges.{rowsIn, Spanned}
+use Rattle.edges.proofs.Spans.{empty-spanned}
+use Rattle.nodes.specs.Adding.{mostNodes, wordsAt, Holding, Constructed}
+use Rattle.nodes.specs.Marks.{Marked}
+use Rattle.nodes.specs.declared.Nodes.{Nodes}
+use Rattle.nodes.specs.declared.Nodes.the-variants.{Count, TooMany}
+use Rattle.nodes.proofs.Looking.{Bytes}
+use Rattle.walk.specs.Walk.{Ground, Tables}
+use Rattle.yanglib.specs.Entries.{Walks, drawnSeen}
+use Rattle.yanglib.specs.NodeTable.{Puts, Named}
+use Rattle.yanglib.specs.ToGraph.{Lengths, lengthsOf, tooShort, Result, refusal, graphed, nodeWords, rowWords, Leaves}
+use Rattle.yanglib.specs.Between.{BothRead, Prepared, Lent, LentNodes, Edged, drawResult, Holds, Zeroed}
+use Rattle.yanglib.specs.declared.Drawn.{Drawn}
+use Rattle.yanglib.specs.declared.Drawn.the-variants.{Built as DrawnBuilt, Refused as DrawnRefused}
+use Rattle.yanglib.specs.declared.Graphed.{Graphed}
+use Rattle.yanglib.specs.declared.Graphed.the-variants.{Built, Refused}
+use Rattle.yanglib.proofs.Tables.{zeros-zero, rows-table}
+use Rattle.yanglib.proofs.Short.{Enough, long-enough}
+use Rattle.yanglib.proofs.Going.{kept-same}
+use Rattle.yanglib.proofs.Ways.{image-reads, image-wrong, bundle-wrong, too-little, enough, Ready, too-many, draw-refused, draw-built, nodes-asked, nodes-laid}
+
+zero-padded : (n : ℕ) → zeros n ≡ padded n []
+unfolding padded
+zero-padded n = let e : n ≡ n - 0 = omega arith in ap zeros e
+
+no-nodes : (n : ℕ) → zeros n ≡ padded n (nodeWords [])
+unfolding nodeWords
+no-nodes n = zero-padded n
+
+no-rows : (n : ℕ) → zeros n ≡ padded n (rowWords [])
+unfolding rowWords
+no-rows n = zero-padded n
+
+all-bytes : (s : List ℕ) → Bytes s → AllBytes s
+all-bytes s b k = omega (arith, b k)
+
+-- ---- `draw_edges`
+
+module _ {s b btab : List ℕ} {texts : ℕ} {ntab : List ℕ} {n : ℕ} {table : List ℕ} {count : ℕ} (p : Prepared s b btab texts ntab n table count) where
+  pub grounded : {marks : List ℕ} → Marked s ntab n (itemsAt s) marks → Ground s b btab texts ntab n marks
+  grounded m = record { desk = record { reads = p .opened .reads; holding = p .holding; marked = m }; held = p .opened .held }
+
+pub no-edges : {b store imports includes levels edges : List ℕ} → Lent b store imports includes levels edges → Tables b store imports includes levels edges (zeros 2048) 8 0
+no-edges {edges = edges} g = record {
+  scan = g .scan;
+  levels-room = g .levels-room;
+  edges-so-far = empty-spanned edges (zeros 2048) (record {
+    long = g .edges-room;
+    wide = let e : length (zeros 2048) ≡ 2048 = length-replicate {A = ℕ} 2048 0 in omega (arith, e);
+    no-edges = λ j. ap (λ (w : List ℕ). getD w j 0) (g .edges-zero) ∙ zeros-zero (length edges) j;
+    no-spans = λ j. zeros-zero 2048 j;
+  });
+}
+
+module _ {s b store imports includes levels edges spans : List ℕ} {r : Drawn} {store₁ imports₁ includes₁ levels₁ edges₁ spans₁ : List ℕ}
+    (g : Walks s b store imports includes levels edges spans r store₁ imports₁ includes₁ levels₁ edges₁ spans₁) where
+  pub edges-refused : {number entry : ℕ} {a : Refusal} → r ≡ DrawnRefused number entry a → {edges₂ : List ℕ} → edges₂ ≡ zeros (length edges₁)
+      → Edged s b store imports includes levels edges r store₁ imports₁ includes₁ levels₁ edges₂
+  edges-refused {number} {entry} {a} e {edges₂} z = record {
+    seen = ap (λ (q : Drawn). drawnSeen q edges₂) e ∙ sym (ap (λ (q : Drawn). drawnSeen q edges₁) e) ∙ g .seen;
+    table = rw e (z ∙ ap zeros (g .kept-edges) ∙ no-rows (length edges));
+    kept = g .kept;
+  }
+
+  pub edges-built : {m : ℕ} → r ≡ DrawnBuilt m → Edged s b store imports includes levels edges (DrawnBuilt m) store₁ imports₁ includes₁ levels₁ edges₁
+  edges-built {m} e =
+      let h : Spanned edges₁ spans₁ m = rw e at (g .spanned) in
+      record {
+        seen = sym (ap (λ (q : Drawn). drawnSeen q edges₁) e) ∙ g .seen;
+        table = rows-table edges₁ spans₁ m h ∙ ap (λ (k : ℕ). padded k (rowWords (rowsIn m edges₁))) (g .kept-edges);
+        kept = g .kept;
+      }
+
+-- ---- `draw`
+
+pub image-short : {s b btab : List ℕ} {texts : ℕ} → BothRead s b btab texts → length s ≤ 65536
+image-short {s} p = accepted s (p .reads .read) .short
+
+module _ {s b btab : List ℕ} {texts : ℕ} (p : BothRead s b btab texts) {tab : List ℕ} {r : Nodes} {ntab : List ℕ} (c : Constructed s tab r ntab) where
+  pub nodes-held : {n : ℕ} → r ≡ Count n → Holding s ntab n (wordsAt s)
+  nodes-held e = rw e at (c .answer)
+
+  pub prepared : {n : ℕ} → r ≡ Count n → {table : List ℕ} {count : ℕ} → Itemized s count table → Prepared s b btab texts ntab n table count
+  prepared e i = record { opened = p; holding = nodes-held e; itemized = i }
+
+  module _ (bytes : Bytes s) where
+    ready : Ready s b (drawResult s b)
+    ready = record { reads = p .reads; bytes = all-bytes s bytes; result = refl }
+
+    module _ {store imports includes levels edges nodes : List ℕ} (f : Lent b store imports includes levels edges) (h : LentNodes nodes) where
+      pub nodes-many : r ≡ TooMany → {a : Refusal} → a ≡ nought
+          → Holds (drawResult s b) nodes edges store imports includes levels (Refused 30 0 a 0) nodes edges store imports includes levels
+      nodes-many e {a} z =
+          let many : mostNodes < length (wordsAt s) = rw e at (c .answer) in
+          let x = too-many s b (drawResult s b) ready many in
+          record {
+            answer = ap (λ (a : Refusal). Refused 30 0 a 0) z ∙ sym (ap (λ (y : Result). y .answer) x);
+            nodes = h .zero ∙ no-nodes (length nodes) ∙ sym (ap (λ (y : Result). padded (length nodes) (nodeWords (y .nodes))) x);
+            edges = f .edges-zero ∙ no-rows (length edges) ∙ sym (ap (λ (y : Result). padded (length edges) (rowWords (y .rows))) x);
+            kept = kept-same store imports includes levels;
+          }
+
+      module _ {n : ℕ} (e : r ≡ Count n) {d : Drawn} {store₁ imports₁ includes₁ levels₁ edges₁ : List ℕ}
+          (g : Edged s b store imports includes levels edges d store₁ imports₁ includes₁ levels₁ edges₁) where
+        pub nodes-room : Puts ntab n nodes
+        nodes-room = nodes-asked s ntab n nodes (nodes-held e) (p .reads) (h .room) (h .zero)
+
+        pub held-refused : {number entry : ℕ} {a : Refusal} → d ≡ DrawnRefused number entry a
+            → Holds (drawResult s b) nodes edges store imports includes levels (Refused number entry a 0) nodes edges₁ store₁ imports₁ includes₁ levels₁
+        held-refused {number} {entry} {a} q =
+            let x = draw-refused s b (drawResult s b) ready ntab n (nodes-held e) d edges₁ q (g .seen) in
+            record {
+              answer = sym (ap (λ (y : Result). y .answer) x);
+              nodes = h .zero ∙ no-nodes (length nodes) ∙ sym (ap (λ (y : Result). padded (length nodes) (nodeWords (y .nodes))) x);
+              edges = (rw q at (g .table)) ∙ sym (ap (λ (y : Result). padded (length edges) (rowWords (y .rows))) x);
+              kept = g .kept;
+            }
+
+        pub held-built : {m : ℕ} → d ≡ DrawnBuilt m → {nodes₁ : List ℕ} → Named ntab n nodes nodes₁
+            → Holds (drawResult s b) nodes edges store imports includes levels (Built n m) nodes₁ edges₁ store₁ imports₁ includes₁ levels₁
+        held-built {m} q t =
+            let x = draw-built s b (drawResult s b) ready ntab n (nodes-held e) d edges₁ q (g .seen) in
+            record {
+              answer = sym (ap (λ (y : Result). y .answer) x);
+              nodes = nodes-laid s ntab n nodes (nodes-held e) t ∙ sym (ap (λ (y : Result). padded (length nodes) (nodeWords (y .nodes))) x);
+              edges = (rw q at (g .table)) ∙ sym (ap (λ (y : Result). padded (length edges) (rowWords (y .rows))) x);
+              kept = g .kept;
+            }
+
+-- ---- `read_and_draw`
+
+pub both-read : (s b tab : List ℕ) (texts : ℕ) {r : Read} {j : ℕ} {o : Opened} → r ≡ End j → readSeen r ≡ done (imageAt s) → OpenedAs b o tab → o ≡ Texts texts
+    → BothRead s b tab texts
+both-read s b tab texts {r} e q h f = record { reads = image-reads s r e q; held = h .held texts f }
+
+pub lent : (b store imports includes levels edges : List ℕ) (longest : ℕ) (k : Lengths) {short : Bool} → longest ≡ longestText b → short ≡ tooShort longest k → short ≡ false
+    → k .store ≡ length store → k .imports ≡ length imports → k .includes ≡ length includes → k .levels ≡ length levels → k .edges ≡ length edges
+    → edges ≡ zeros (length edges) → Lent b store imports includes levels edges
+lent b store imports includes levels edges longest k l t u d f g v e z =
+    let w : Enough longest k = long-enough longest k (sym t ∙ u) in
+    record {
+      scan = record { store-room = omega (arith, w .store, l, d); import-room = omega (arith, w .imports, f); include-room = omega (arith, w .includes, g) };
+      levels-room = omega (arith, w .levels, v);
+      edges-room = omega (arith, w .edges, e);
+      edges-zero = z;
+    }
+
+pub lent-nodes : (nodes : List ℕ) (longest : ℕ) (k : Lengths) {short : Bool} → short ≡ tooShort longest k → short ≡ false → k .nodes ≡ length nodes
+    → nodes ≡ zeros (length nodes) → LentNodes nodes
+lent-nodes nodes longest k t u n z = let w : Enough longest k = long-enough longest k (sym t ∙ u) in record { room = omega (arith, w .nodes, n); zero = z }
+
+module _ (s b nodes edges store imports includes levels : List ℕ) (zn : nodes ≡ zeros (length nodes)) (ze : edges ≡ zeros (length edges)) where
+  abbrev k : Lengths
+  k = lengthsOf nodes edges store imports includes levels
+
+  refusing : {number place : ℕ} {a : Refusal} → a ≡ nought → graphed s b k ≡ refusal number 0 nought place
+      → Holds (graphed s b k) nodes edges store imports includes levels (Refused number 0 a place) nodes edges store imports includes levels
+  refusing {number} {place} z x = record {
+    answer = ap (λ (a : Refusal). Refused number 0 a place) z ∙ sym (ap (λ (y : Result). y .answer) x);
+    nodes = zn ∙ no-nodes (length nodes) ∙ sym (ap (λ (y : Result). padded (length nodes) (nodeWords (y .nodes))) x);
+    edges = ze ∙ no-rows (length edges) ∙ sym (ap (λ (y : Result). padded (length edges) (rowWords (y .rows))) x);
+    kept = kept-same store imports includes levels;
+  }
+
+  pub no-image : {r : Read} {p : ℕ} {a : Refusal} → r ≡ Wrong p → readSeen r ≡ done (imageAt s) → a ≡ nought
+      → Holds (graphed s b k) nodes edges store imports includes levels (Refused 20 0 a p) nodes edges store imports includes levels
+  no-image {r} e q z = refusing z (image-wrong s b k r e q)
+
+  pub no-bundle : {r : Read} {j : ℕ} {o : Opened} {tab : List ℕ} {p : ℕ} {a : Refusal} → r ≡ End j → readSeen r ≡ done (imageAt s) → OpenedAs b o tab → o ≡ WrongBundle p → a ≡ nought
+      → Holds (graphed s b k) nodes edges store imports includes levels (Refused 21 0 a p) nodes edges store imports includes levels
+  no-bundle {r} {o = o} {tab = tab} e q h f z = refusing z (bundle-wrong s b k (image-reads s r e q) o tab f h)
+
+  pub not-enough : {tab : List ℕ} {texts : ℕ} {longest : ℕ} {short : Bool} {a : Refusal} → BothRead s b tab texts → longest ≡ longestText b → short ≡ tooShort longest k → short ≡ true → a ≡ nought
+      → Holds (graphed s b k) nodes edges store imports includes levels (Refused 22 0 a 0) nodes edges store imports includes levels
+  not-enough {tab} {texts} o l t u z = refusing z (too-little s b k (o .reads) tab texts (o .held) l t u)
+
+  pub all-held : {tab : List ℕ} {texts : ℕ} {longest : ℕ} {short : Bool} → BothRead s b tab texts → longest ≡ longestText b → short ≡ tooShort longest k → short ≡ false
+      → {y : Graphed} {n₁ e₁ d₁ f₁ g₁ l₁ : List ℕ} → Holds (drawResult s b) nodes edges store imports includes levels y n₁ e₁ d₁ f₁ g₁ l₁
+      → Holds (graphed s b k) nodes edges store imports includes levels y n₁ e₁ d₁ f₁ g₁ l₁
+  all-held {tab} {texts} o l t u {y} {n₁} {e₁} {d₁} {f₁} {g₁} {l₁} w =
+      subst (λ (x : Result). Holds x nodes edges store imports includes levels y n₁ e₁ d₁ f₁ g₁ l₁) (sym (enough s b k (o .reads) tab texts (o .held) l t u)) w
+
+-- ---- `to_graph`
+
+same-long : (w v : List ℕ) → w ≡ zeros (length v) → length w ≡ length v
+same-long w v h = ap length h ∙ length-replicate {A = ℕ} (length v) 0
+
+pub now-zero : {v w : List ℕ} → Zeroed v w → w ≡ zeros (length w)
+now-zero {v} {w} h = h .zeroed ∙ ap zeros (sym (same-long w v (h .zeroed)))
+
+module _ (s b n e d f g l n₀ e₀ : List ℕ) (p : Zeroed n n₀) (q : Zeroed e e₀) where
+  abbrev lengths : ℕ → ℕ → Lengths
+  lengths i j = record { nodes = i; edges = j; store = length d; imports = length f; includes = length g; levels = length l }
+
+  pub all-left : {r : Graphed} {n₁ e₁ d₁ f₁ g₁ l₁ d₂ f₂ g₂ l₂ : List ℕ} → Holds (graphed s b (lengthsOf n₀ e₀ d f g l)) n₀ e₀ d f g l r n₁ e₁ d₁ f₁ g₁ l₁
+      → d₂ ≡ zeros (length d₁) → f₂ ≡ zeros (length f₁) → g₂ ≡ zeros (length g₁) → l₂ ≡ zeros (length l₁)
+      → Leaves (graphed s b (lengthsOf n e d f g l)) n e d f g l r n₁ e₁ d₂ f₂ g₂ l₂
+  all-left h zd zf zg zl =
+      let x : graphed s b (lengths (length n₀) (length e₀)) ≡ graphed s b (lengths (length n) (length e)) =
+      ap₂ (λ (i j : ℕ). graphed s b (lengths i j)) (same-long n₀ n (p .zeroed)) (same-long e₀ e (q .zeroed)) in
+      record {
+        answer = h .answer ∙ ap (λ (y : Result). y .answer) x;
+        nodes = h .nodes ∙ ap₂ (λ (i : ℕ) (y : Result). padded i (nodeWords (y .nodes))) (same-long n₀ n (p .zeroed)) x;
+        edges = h .edges ∙ ap₂ (λ (i : ℕ) (y : Result). padded i (rowWords (y .rows))) (same-long e₀ e (q .zeroed)) x;
+        store = zd ∙ ap zeros (h .kept .store-long);
+        imports = zf ∙ ap zeros (h .kept .imports-long);
+        includes = zg ∙ ap zeros (h .kept .includes-long);
+        levels = zl ∙ ap zeros (h .kept .levels-long);
+      }

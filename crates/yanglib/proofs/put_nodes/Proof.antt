@@ -1,0 +1,88 @@
+-- `yanglib::put_nodes`. Each turn lays two words; each fact is one law of Tables.
+-- Assumes nothing.
+use Prim.Native.Nat.{_-_}
+use borrow.Author.Needs.{needs}
+use Rattle.yanglib.proofs.Tables.{Naming, naming-none, naming-all, naming-more, name-row, first-word, second-set, place-fits, size-fits}
+use Rattle.yanglib.proofs.put_nodes.Statement.{statement}
+use Rattle.yanglib.proofs.put_nodes.Tie as tie
+
+abbrev Inv-loop : tie.InvT-loop
+Inv-loop ntab n nodes₀ i₀ nodes i = Naming ntab n nodes₀ nodes i
+
+abbrev μ-loop : tie.MeasureT-loop
+μ-loop ntab n nodes₀ i₀ nodes i = n - i
+
+loop-holds : tie.Need-loop-holds Inv-loop μ-loop
+loop-holds c = search naming-none
+
+place-of-requires : tie.Need-place-of-requires Inv-loop μ-loop
+place-of-requires c κs = search name-row
+
+cast-nodes : tie.Need-cast-nodes Inv-loop μ-loop
+cast-nodes c = search place-fits
+
+mul-nodes : tie.Need-mul-nodes Inv-loop μ-loop
+mul-nodes c = search needs
+
+mul-nodes-2 : tie.Need-mul-nodes-2 Inv-loop μ-loop
+mul-nodes-2 c = search needs
+
+slice-write-nodes : tie.Need-slice-write-nodes Inv-loop μ-loop
+slice-write-nodes c = search first-word
+
+length-of-requires : tie.Need-length-of-requires Inv-loop μ-loop
+length-of-requires c κs = search name-row
+
+cast-nodes-2 : tie.Need-cast-nodes-2 Inv-loop μ-loop
+cast-nodes-2 c = search size-fits
+
+mul-nodes-3 : tie.Need-mul-nodes-3 Inv-loop μ-loop
+mul-nodes-3 c = search needs
+
+add-nodes : tie.Need-add-nodes Inv-loop μ-loop
+add-nodes c = search needs
+
+mul-nodes-4 : tie.Need-mul-nodes-4 Inv-loop μ-loop
+mul-nodes-4 c = search needs
+
+slice-write-nodes-2 : tie.Need-slice-write-nodes-2 Inv-loop μ-loop
+slice-write-nodes-2 c = search second-set
+
+add-i : tie.Need-add-i Inv-loop μ-loop
+add-i c = search needs
+
+loop-less : tie.Need-loop-less Inv-loop μ-loop
+loop-less c = search needs
+
+loop-again : tie.Need-loop-again Inv-loop μ-loop
+loop-again c = search naming-more
+
+same-length : tie.Need-same-length Inv-loop μ-loop
+same-length c = search needs
+
+returns : tie.Need-returns Inv-loop μ-loop
+returns c = search naming-all
+
+pub put-nodes-spec : {M : Type 1} → statement M
+put-nodes-spec =
+    tie.close
+    (tie.spec
+    Inv-loop
+    μ-loop
+    loop-holds
+    place-of-requires
+    cast-nodes
+    mul-nodes
+    mul-nodes-2
+    slice-write-nodes
+    length-of-requires
+    cast-nodes-2
+    mul-nodes-3
+    add-nodes
+    mul-nodes-4
+    slice-write-nodes-2
+    add-i
+    loop-less
+    loop-again
+    same-length
+    returns)

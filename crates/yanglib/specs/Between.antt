@@ -1,0 +1,71 @@
+-- What the functions below the call ask and leave: the tables zero at first, and at the end the nodes and edges of a result; scratch as long as before.
+-- Assumes nothing.
+use Prim.Native.Nat.{ℕ, _≤_}
+use mathlib.Core.Path.{_≡_}
+use mathlib.Core.List.{List, []}
+use lib.ListN.{length}
+use Rattle.buffers.specs.Padded.{zeros, padded}
+use Rattle.image.specs.Image.{imageAt}
+use Rattle.bundle.specs.Reading.{Held, longestText}
+use Rattle.items.specs.Items.{itemsAt}
+use Rattle.items.specs.Table.{Reads, Itemized}
+use Rattle.graph.specs.Nodes.{passOver}
+use Rattle.graph.specs.Graph.{graphOf}
+use Rattle.graph.specs.Numbers.{Row}
+use Rattle.edges.specs.Edges.{edgeTable, mostEdges, rowsIn}
+use Rattle.nodes.specs.Adding.{mostNodes, plainAt, wordsAt, Holding}
+use Rattle.texts.specs.Texts.{textOf, ScanRoom}
+use Rattle.walk.specs.Walk.{Kept}
+use Rattle.yanglib.specs.Entries.{drawItems, drawnSeen, allLevels}
+use Rattle.yanglib.specs.ToGraph.{Result, resultOf, nodeWords, rowWords}
+use Rattle.yanglib.specs.declared.Drawn.{Drawn}
+use Rattle.yanglib.specs.declared.Drawn.the-variants.{Built, Refused}
+use Rattle.yanglib.specs.declared.Graphed.{Graphed}
+
+-- an image and a bundle that were read
+pub record BothRead (s b btab : List ℕ) (texts : ℕ) : Type 0 where
+  pub reads : Reads (imageAt s)
+  pub held : Held b btab texts
+
+-- and the nodes and items of the image
+pub record Prepared (s b btab : List ℕ) (texts : ℕ) (ntab : List ℕ) (n : ℕ) (table : List ℕ) (count : ℕ) : Type 0 where
+  pub opened : BothRead s b btab texts
+  pub holding : Holding s ntab n (wordsAt s)
+  pub itemized : Itemized s count table
+
+-- enough is lent for the edges, whose table is zero
+pub record Lent (b store imports includes levels edges : List ℕ) : Type 0 where
+  pub scan : ScanRoom (longestText b) store imports includes
+  pub levels-room : allLevels ≤ length levels
+  pub edges-room : edgeTable ≤ length edges
+  pub edges-zero : edges ≡ zeros (length edges)
+
+-- and for the nodes
+pub record LentNodes (nodes : List ℕ) : Type 0 where
+  pub room : 2048 ≤ length nodes
+  pub zero : nodes ≡ zeros (length nodes)
+
+-- the edges that there are; a refusal leaves none
+abbrev pub rowsLeft : Drawn → List ℕ → List Row
+rowsLeft (Built m) edges = rowsIn m edges
+rowsLeft (Refused number entry a) edges = []
+
+pub record Edged (s b store imports includes levels edges : List ℕ) (r : Drawn) (store₁ imports₁ includes₁ levels₁ edges₁ : List ℕ) : Type 0 where
+  pub seen : drawnSeen r edges₁ ≡ drawItems s b 0 0 [] (itemsAt s)
+  pub table : edges₁ ≡ padded (length edges) (rowWords (rowsLeft r edges₁))
+  pub kept : Kept allLevels store imports includes levels store₁ imports₁ includes₁ levels₁
+
+-- the result of what was read, if enough is lent
+abbrev pub drawResult : (image bundle : List ℕ) → Result
+drawResult s b = resultOf (wordsAt s) (graphOf passOver mostNodes mostEdges (textOf b) (plainAt s))
+
+-- the tables hold a result, scratch is not yet cleared
+pub record Holds (x : Result) (n e d f g l : List ℕ) (r : Graphed) (n₁ e₁ d₁ f₁ g₁ l₁ : List ℕ) : Type 0 where
+  pub answer : r ≡ x .answer
+  pub nodes : n₁ ≡ padded (length n) (nodeWords (x .nodes))
+  pub edges : e₁ ≡ padded (length e) (rowWords (x .rows))
+  pub kept : Kept allLevels d f g l d₁ f₁ g₁ l₁
+
+-- a table cleared
+pub record Zeroed (before after : List ℕ) : Type 0 where
+  pub zeroed : after ≡ zeros (length before)

@@ -1,0 +1,82 @@
+-- The walk of the entries, going through the items of an image: a module or an import-only module is an entry, whose text is walked; then what a module
+-- lists is linked. Entries are numbered from 1.
+-- Assumes nothing.
+use Prim.Native.Nat.{ℕ, _+_, _<_}
+use mathlib.Core.Path.{_≡_}
+use mathlib.Core.Bool.{Bool, true, false, cond, _||_}
+use mathlib.Core.List.{List, [], _∷_}
+use lib.ListN.{length}
+use lib.Dec.{eqb}
+use Rattle.form.specs.Form.{Word, wordAt}
+use Rattle.items.specs.declared.Item.{Item}
+use Rattle.items.specs.Table.{itemWord, ItemFits}
+use Rattle.items.specs.Items.{augmentingKind, deviationKind, ItemOf, itemsAt}
+use Rattle.graph.specs.Graph.{noEntryText, deepest, Out, built, onOut}
+use Rattle.graph.specs.Nodes.{memb}
+use Rattle.graph.specs.Numbers.{Row, numberOf, givenCode, walkCodes, Drawing, drawn, faulty}
+use Rattle.edges.specs.Edges.{mostEdges, rowsIn, Spanned}
+use Rattle.nodes.specs.Adding.{isEntry, wordsAt, namesAt, Holding}
+use Rattle.nodes.specs.Marks.{knownAt}
+use Rattle.walk.specs.Walk.{codesHere, Kept}
+use Rattle.yanglib.specs.declared.Drawn.{Drawn}
+use Rattle.yanglib.specs.declared.Drawn.the-variants.{Built, Refused}
+
+abbrev pub isListed : ℕ → Bool
+isListed k = eqb k augmentingKind || eqb k deviationKind
+
+-- the node of an item's name
+abbrev pub itemNode : List ℕ → ItemOf Word → ℕ
+itemNode s x = numberOf (namesAt s) (x .name .text)
+
+-- what one item asks; v: the node of the entry that it belongs to
+unfoldable pub itemWalk : (image bundle : List ℕ) → ItemOf Word → (v : ℕ) → List Row → Out Row
+itemWalk s b x v rs =
+    cond (isEntry (x .kind)) (walkCodes (codesHere s b) mostEdges deepest noEntryText (itemNode s x) rs)
+    (cond (isListed (x .kind)) (givenCode mostEdges v (knownAt s (x .name .text)) rs) (built rs))
+
+abbrev pub nextNode : List ℕ → ItemOf Word → ℕ → ℕ
+nextNode s x v = cond (isEntry (x .kind)) (itemNode s x) v
+
+abbrev pub nextEntry : ItemOf Word → ℕ → ℕ
+nextEntry x k = cond (isEntry (x .kind)) (k + 1) k
+
+-- k: the entries so far
+unfoldable pub drawItems : (image bundle : List ℕ) → (k v : ℕ) → List Row → List (ItemOf Word) → Drawing
+drawItems s b k v rs [] = drawn rs
+drawItems s b k v rs (x ∷ xs) =
+    onOut (itemWalk s b x v rs) (λ rs₁. drawItems s b (nextEntry x k) (nextNode s x v) rs₁ xs) (λ n a. faulty n (nextEntry x k) a)
+
+abbrev pub drawnSeen : Drawn → List ℕ → Drawing
+drawnSeen (Built n) edges = drawn (rowsIn n edges)
+drawnSeen (Refused number entry a) edges = faulty number entry a
+
+abbrev pub DrawnSpanned : Drawn → List ℕ → List ℕ → Type 0
+DrawnSpanned (Built n) edges spans = Spanned edges spans n
+DrawnSpanned (Refused number entry a) edges spans = Unit {0}
+
+-- ---- what the code asks and does
+
+-- the words of all levels
+abbrev pub allLevels : ℕ
+allLevels = 2304
+
+-- an item and the node before it: an entry's name is a node, and what is no entry stands behind one
+pub record Next (s tab : List ℕ) (n : ℕ) (x : Item) (v : ℕ) : Type 0 where
+  pub holding : Holding s tab n (wordsAt s)
+  pub fits : ItemFits s x
+  pub node : isEntry (x .kind) ≡ true → memb (wordAt s (x .place) (x .size) .text) (namesAt s) ≡ true
+  pub behind : isEntry (x .kind) ≡ false → v < n
+
+-- an item with the node of its entry
+pub record Placed (s : List ℕ) (n : ℕ) (x : Item) (v : ℕ) : Type 0 where
+  pub fits : ItemFits s x
+  pub low : v < n
+  pub own : isEntry (x .kind) ≡ true → v ≡ itemNode s (itemWord s x)
+
+-- all items were walked, or up to the first refusal; the tables are as long as before
+pub record Walks (s b store imports includes levels edges spans : List ℕ) (r : Drawn) (store₁ imports₁ includes₁ levels₁ edges₁ spans₁ : List ℕ) : Type 0 where
+  pub seen : drawnSeen r edges₁ ≡ drawItems s b 0 0 [] (itemsAt s)
+  pub spanned : DrawnSpanned r edges₁ spans₁
+  pub kept-edges : length edges₁ ≡ length edges
+  pub kept-spans : length spans₁ ≡ length spans
+  pub kept : Kept allLevels store imports includes levels store₁ imports₁ includes₁ levels₁

@@ -1,0 +1,4 @@
+pub mod Between
+pub mod Entries
+pub mod NodeTable
+pub mod ToGraph

@@ -1,0 +1,101 @@
+-- The graph of an image and a bundle, in the order of refusals: first 20, 21, 22, 30, then walk order. Output: node table, 2,048 words (place of the
+-- name's first byte, length), edge table, 16,384 words (from, to), in order of adding; rest zero. A refusal leaves all tables and counts zero. Scratch:
+-- a value store as long as the longest text, one pair of scan tables, 2,304 words; zero after every call.
+-- Assumes nothing.
+use Prim.Native.Nat.{ℕ, _*_, _≤_}
+use mathlib.Core.Path.{_≡_}
+use mathlib.Core.Bool.{Bool, cond, _||_}
+use mathlib.Core.List.{List, [], _∷_, map}
+use lib.ListN.{length}
+use lib.Dec.{ltb}
+use Rattle.text.specs.declared.Refusal.{Refusal}
+use Rattle.buffers.specs.Padded.{zeros, padded}
+use Rattle.form.specs.Form.{Ans, good, bad, Word}
+use Rattle.image.specs.Image.{imageBroken, imageAt}
+use Rattle.bundle.specs.Bundle.{bundleBroken, bundleAt}
+use Rattle.bundle.specs.Reading.{longestText}
+use Rattle.graph.specs.Nodes.{passOver}
+use Rattle.graph.specs.Graph.{nought, Graph, graph, fault, graphOf}
+use Rattle.graph.specs.Numbers.{Row, rowOf}
+use Rattle.edges.specs.Edges.{mostEdges}
+use Rattle.nodes.specs.Adding.{mostNodes, plainAt, wordsAt}
+use Rattle.texts.specs.Texts.{textOf}
+use Rattle.yanglib.specs.declared.Graphed.{Graphed}
+use Rattle.yanglib.specs.declared.Graphed.the-variants.{Built, Refused}
+
+-- a table or scratch too short
+abbrev pub lentTooShort : ℕ
+lentTooShort = 22
+
+-- the lengths lent: node table, edge table, value store, import table, include table, levels
+pub record Lengths : Type 0 where
+  pub nodes : ℕ
+  pub edges : ℕ
+  pub store : ℕ
+  pub imports : ℕ
+  pub includes : ℕ
+  pub levels : ℕ
+
+abbrev pub lengthsOf : List ℕ → List ℕ → List ℕ → List ℕ → List ℕ → List ℕ → Lengths
+lengthsOf n e d f g l =
+    record { nodes = length n; edges = length e; store = length d; imports = length f; includes = length g; levels = length l }
+
+unfoldable pub tooShort : (longest : ℕ) → Lengths → Bool
+tooShort longest k =
+    ltb (k .nodes) 2048 || ltb (k .edges) 16384 || ltb (k .store) longest || ltb (k .imports) 1792 || ltb (k .includes) 1280 || ltb (k .levels) 2304
+
+-- ---- the answer, the nodes and the edges
+
+pub record Result : Type 0 where
+  pub answer : Graphed
+  pub nodes : List Word
+  pub rows : List Row
+
+-- a refusal with its number, entry, scan answer and place
+abbrev pub refusal : ℕ → ℕ → Refusal → ℕ → Result
+refusal number entry scan place = record { answer = Refused number entry scan place; nodes = []; rows = [] }
+
+-- a graph between names: its nodes with their places, its edges in numbers
+abbrev pub resultOf : List Word → Graph → Result
+resultOf ws (graph ns es) = record { answer = Built (length ns) (length es); nodes = ws; rows = map (rowOf ns) es }
+resultOf ws (fault number entry a) = refusal number entry a 0
+
+abbrev pub onRead : {A B : Type 0} → Ans A → (ℕ → B) → B → B
+onRead (good a n) f b = b
+onRead (bad p) f b = f p
+
+-- for an image s, a bundle b and the lengths lent
+unfoldable pub graphed : (image bundle : List ℕ) → Lengths → Result
+graphed s b k =
+    onRead (imageAt s) (refusal imageBroken 0 nought)
+    (onRead (bundleAt b) (refusal bundleBroken 0 nought)
+    (cond (tooShort (longestText b) k) (refusal lentTooShort 0 nought 0)
+    (resultOf (wordsAt s) (graphOf passOver mostNodes mostEdges (textOf b) (plainAt s)))))
+
+-- how large an answer is at the most
+unfoldable pub AnswerFits : Graphed → Type 0
+AnswerFits (Built n m) = (n ≤ 1024) × (m ≤ 8192)
+AnswerFits (Refused number entry a place) = (entry ≤ 65536) × (a .at ≤ 16777216) × (place ≤ 16777216)
+
+-- ---- the tables
+
+unfoldable pub nodeWords : List Word → List ℕ
+nodeWords [] = []
+nodeWords (w ∷ ws) = w .place ∷ w .size ∷ nodeWords ws
+
+unfoldable pub rowWords : List Row → List ℕ
+rowWords [] = []
+rowWords (r ∷ rs) = r .from ∷ r .to ∷ rowWords rs
+
+-- what a call answers and leaves: n, e, d, f, g, l are the tables and scratch at entry, n₁ .. l₁ at exit
+pub record Leaves (x : Result) (n e d f g l : List ℕ) (r : Graphed) (n₁ e₁ d₁ f₁ g₁ l₁ : List ℕ) : Type 0 where
+  pub answer : r ≡ x .answer
+  pub nodes : n₁ ≡ padded (length n) (nodeWords (x .nodes))
+  pub edges : e₁ ≡ padded (length e) (rowWords (x .rows))
+  pub store : d₁ ≡ zeros (length d)
+  pub imports : f₁ ≡ zeros (length f)
+  pub includes : g₁ ≡ zeros (length g)
+  pub levels : l₁ ≡ zeros (length l)
+
+abbrev pub Graphs : (image bundle n e d f g l : List ℕ) → Graphed → (n₁ e₁ d₁ f₁ g₁ l₁ : List ℕ) → Type 0
+Graphs s b n e d f g l r n₁ e₁ d₁ f₁ g₁ l₁ = Leaves (graphed s b (lengthsOf n e d f g l)) n e d f g l r n₁ e₁ d₁ f₁ g₁ l₁
