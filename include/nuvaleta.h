@@ -4,6 +4,8 @@
  * written must not overlap with another slice of the same call, and nobody else may write what is lent before the call returns. A slice of length 0
  * may have any pointer but a null one.
  *
+ * Stack: a find takes some 16 KiB, nuvaleta_text some 34 KiB, a scan less than 4 KiB.
+ *
  * Every function returns its answer's number: 0, or the number of a refusal. On a refusal all that was lent to be written is zero, but for `answer`.
  */
 #ifndef NUVALETA_H
@@ -89,6 +91,65 @@ enum nuvaleta_value {
  *
  * answer[4]: number, keyword, position, stored bytes. */
 uint32_t nuvaleta_metadata(const uint8_t *text, size_t text_len, uint8_t *store, size_t store_len, uint32_t *record, uint32_t *answer);
+
+/* The longest library image and the longest bundle, in bytes, and the longest name that they hold. */
+#define NUVALETA_IMAGE_MOST 65536u
+#define NUVALETA_BUNDLE_MOST 16777216u
+#define NUVALETA_NAME_MOST 128u
+
+/* Refusals of what breaks its form. The place is the start of the first wrong number or name, or the first byte too many; 0 for what is too long. */
+enum nuvaleta_form_refusal {
+    NUVALETA_IMAGE_BROKEN = 20,
+    NUVALETA_BUNDLE_BROKEN = 21
+};
+
+/* A module, a submodule of a module, or an import-only module of an image by its name: the first in the order of the image. A name that no image can
+ * hold is not found. Submodules of import-only modules are not looked through.
+ *
+ * answer[5]: number, place of the fault, 1 or 0 for whether it is found, place in the image of the hit's first name byte, revisions of the import-only
+ * module. */
+uint32_t nuvaleta_find_module(const uint8_t *image, size_t image_len, const uint8_t *name, size_t name_len, uint32_t *answer);
+uint32_t nuvaleta_find_submodule(const uint8_t *image, size_t image_len, const uint8_t *name, size_t name_len, uint32_t *answer);
+uint32_t nuvaleta_find_import_module(const uint8_t *image, size_t image_len, const uint8_t *name, size_t name_len, uint32_t *answer);
+
+/* The text under a name in a bundle: its bytes are those of the bundle from start on. An empty text is found too.
+ *
+ * answer[5]: number, place of the fault, 1 or 0 for whether it is found, start, length. */
+uint32_t nuvaleta_text(const uint8_t *bundle, size_t bundle_len, const uint8_t *name, size_t name_len, uint32_t *answer);
+
+/* How long what a graph is lent must be, in words: node table, edge table, levels; beside them the two scan tables above, and a store as long as the
+ * longest text of the bundle. */
+#define NUVALETA_NODE_WORDS 2048u
+#define NUVALETA_EDGE_WORDS 16384u
+#define NUVALETA_LEVEL_WORDS 2304u
+
+/* The most nodes and edges of a graph. */
+#define NUVALETA_NODES_MOST 1024u
+#define NUVALETA_EDGES_MOST 8192u
+
+/* Refusals of a graph, beside 20 and 21. The entry is the number of the module or import-only module in whose walk the refusal came, from 1 on; 0 before
+ * the walk. */
+enum nuvaleta_graph_refusal {
+    NUVALETA_GRAPH_LENT_TOO_SHORT = 22, /* a table or scratch too short */
+    NUVALETA_NO_ENTRY_TEXT = 23,        /* no text for an entry */
+    NUVALETA_NO_INCLUDED_TEXT = 24,     /* no text for an included submodule */
+    NUVALETA_SCAN_REFUSED = 25,         /* a scan refused: its answer is carried */
+    NUVALETA_UNKNOWN_MODULE = 26,       /* import, augmenting module or deviation that is no module or import-only name */
+    NUVALETA_UNKNOWN_SUBMODULE = 27,    /* an include that is no submodule of a module */
+    NUVALETA_NO_NODE = 28,              /* one that is, but not a node */
+    NUVALETA_TOO_DEEP = 29,             /* a text due at depth 9 */
+    NUVALETA_TOO_MANY_NODES = 30,       /* a 1,025th node */
+    NUVALETA_TOO_MANY_EDGES = 31        /* an 8,193rd edge */
+};
+
+/* The graph of an image and a bundle: an edge from u to v says that u must be registered before v. Node table: place of the name's first byte in the
+ * image, its length; edge table: from, to, the numbers of two nodes; both in order of adding, and zero behind what is used. Store, imports, includes and
+ * levels are scratch, zero after every call. The call takes about 400 KiB of stack.
+ *
+ * answer[8]: number, entry, the scan's number, keyword and position (0 but at 25), place of the fault (0 but at 20 and 21), nodes, edges. */
+uint32_t nuvaleta_graph(const uint8_t *image, size_t image_len, const uint8_t *bundle, size_t bundle_len, uint32_t *nodes, size_t nodes_len,
+                        uint32_t *edges, size_t edges_len, uint8_t *store, size_t store_len, uint32_t *imports, size_t imports_len, uint32_t *includes,
+                        size_t includes_len, uint32_t *levels, size_t levels_len, uint32_t *answer);
 
 #ifdef __cplusplus
 }

@@ -1,4 +1,4 @@
-/* A C host: the dependencies of a text, their printed form and its metadata, through include/nuvaleta.h alone. */
+/* A C host: the dependencies of a text, their printed form and its metadata, the finds in an image and a bundle, through include/nuvaleta.h alone. */
 #include <stdio.h>
 #include <string.h>
 
@@ -35,6 +35,64 @@ static int metadata(void) {
     return 0;
 }
 
+static int told(const uint32_t *answer, uint32_t a, uint32_t b, uint32_t c, uint32_t d, uint32_t e) {
+    return answer[0] == a && answer[1] == b && answer[2] == c && answer[3] == d && answer[4] == e;
+}
+
+/* An image of one set, module m with submodule s, import-only i of two revisions, the first with submodule t; and a bundle with an empty text. */
+static int finds(void) {
+    static const uint8_t image[] = {1, 1, 1, 'm', 1, 1, 's', 0, 0, 1, 1, 'i', 2, 1, 1, 't', 0};
+    static const uint8_t bundle[] = {2, 1, 'm', 3, 'a', 'b', 'c', 1, 's', 0};
+    const uint8_t *m = (const uint8_t *)"m", *s = (const uint8_t *)"s", *i = (const uint8_t *)"i", *t = (const uint8_t *)"t";
+    uint32_t answer[5];
+
+    if (nuvaleta_find_module(image, sizeof image, m, 1, answer) != 0 || !told(answer, 0, 0, 1, 3, 0))
+        return wrong("another module");
+    if (nuvaleta_find_module(image, sizeof image, s, 1, answer) != 0 || !told(answer, 0, 0, 0, 0, 0))
+        return wrong("a module that is none");
+    if (nuvaleta_find_submodule(image, sizeof image, s, 1, answer) != 0 || !told(answer, 0, 0, 1, 6, 0))
+        return wrong("another submodule");
+    if (nuvaleta_find_submodule(image, sizeof image, t, 1, answer) != 0 || !told(answer, 0, 0, 0, 0, 0))
+        return wrong("a submodule of an import-only module");
+    if (nuvaleta_find_import_module(image, sizeof image, i, 1, answer) != 0 || !told(answer, 0, 0, 1, 11, 2))
+        return wrong("another import-only module");
+    if (nuvaleta_find_module(image, sizeof image - 1, m, 1, answer) != NUVALETA_IMAGE_BROKEN || !told(answer, NUVALETA_IMAGE_BROKEN, 16, 0, 0, 0))
+        return wrong("an image cut short taken");
+    if (nuvaleta_text(bundle, sizeof bundle, m, 1, answer) != 0 || !told(answer, 0, 0, 1, 4, 3))
+        return wrong("another text");
+    if (nuvaleta_text(bundle, sizeof bundle, s, 1, answer) != 0 || !told(answer, 0, 0, 1, 10, 0))
+        return wrong("an empty text not found");
+    if (nuvaleta_text(bundle, sizeof bundle, t, 1, answer) != 0 || !told(answer, 0, 0, 0, 0, 0))
+        return wrong("a text that is not there");
+    if (nuvaleta_text(bundle, 5, m, 1, answer) != NUVALETA_BUNDLE_BROKEN || !told(answer, NUVALETA_BUNDLE_BROKEN, 3, 0, 0, 0))
+        return wrong("a bundle cut short taken");
+    return 0;
+}
+
+/* Document 01's first example of a graph, and its second, which is refused. */
+static int graphs(void) {
+    static const uint8_t image[] = {1, 2, 1, 'm', 1, 1, 's', 0, 0, 1, 'b', 0, 0, 0, 0};
+    static const char texts[] = "\3\1m\35include s;import b{prefix b;}\1s\23import b{prefix b;}\1b";
+    static const uint8_t twice[] = {2, 1, 1, 'm', 0, 0, 0, 0, 1, 1, 'm', 1, 1, 's', 0, 0, 0};
+    static const uint8_t included[] = {1, 1, 'm', 10, 'i', 'n', 'c', 'l', 'u', 'd', 'e', ' ', 's', ';'};
+    static const uint32_t expected_nodes[] = {3, 1, 6, 1, 10, 1}, expected_edges[] = {2, 0, 1, 0, 2, 1};
+    static uint32_t nodes[NUVALETA_NODE_WORDS], edges[NUVALETA_EDGE_WORDS], levels[NUVALETA_LEVEL_WORDS];
+    static uint8_t scratch[29];
+    uint32_t answer[8];
+
+    if (nuvaleta_graph(image, sizeof image, (const uint8_t *)texts, sizeof texts, nodes, NUVALETA_NODE_WORDS, edges, NUVALETA_EDGE_WORDS, scratch, sizeof scratch,
+                       imports, NUVALETA_IMPORT_WORDS, includes, NUVALETA_INCLUDE_WORDS, levels, NUVALETA_LEVEL_WORDS, answer) != 0)
+        return wrong("a graph refused");
+    if (answer[6] != 3 || answer[7] != 3 || memcmp(nodes, expected_nodes, sizeof expected_nodes) != 0 || memcmp(edges, expected_edges, sizeof expected_edges) != 0)
+        return wrong("another graph");
+    if (nuvaleta_graph(twice, sizeof twice, included, sizeof included, nodes, NUVALETA_NODE_WORDS, edges, NUVALETA_EDGE_WORDS, scratch, sizeof scratch, imports,
+                       NUVALETA_IMPORT_WORDS, includes, NUVALETA_INCLUDE_WORDS, levels, NUVALETA_LEVEL_WORDS, answer) != NUVALETA_NO_NODE)
+        return wrong("a submodule that is no node taken");
+    if (answer[0] != NUVALETA_NO_NODE || answer[1] != 1 || answer[6] != 0 || nodes[0] != 0 || edges[0] != 0 || levels[0] != 0)
+        return wrong("a refused graph left something");
+    return 0;
+}
+
 int main(void) {
     const uint8_t *bytes = (const uint8_t *)text;
     const size_t length = sizeof text - 1;
@@ -63,7 +121,7 @@ int main(void) {
                               answer) != NUVALETA_OTHER_BYTE ||
         answer[1] != NUVALETA_IMPORT || answer[2] != 9)
         return wrong("another refusal");
-    if (metadata() != 0)
+    if (metadata() != 0 || finds() != 0 || graphs() != 0)
         return 1;
     printf("c: a C program is answered as the header says\n");
     return 0;

@@ -4,6 +4,7 @@ use Prim.Native.Nat.{ℕ}
 use mathlib.Core.Path.{_≡_, refl, sym, ap, _∙_}
 use mathlib.Core.Bool.{Bool, false}
 use mathlib.Core.List.{List, [], _∷_, _++_}
+use native.Mathlib.Omega.{arith}
 use lib.Dec.{ltb}
 use lib.ListN.{length}
 use Rattle.buffers.specs.Padded.{padded}
@@ -14,6 +15,10 @@ use Rattle.page.specs.Page.{pageOf}
 use Rattle.metadata.specs.Metadata as Metadata
 use Rattle.nuvaleta.specs.Host.{numberOf, answerWords}
 use Rattle.nuvaleta.specs.Record.{recordWords}
+use Rattle.nuvaleta.specs.Finds.{Told}
+use Rattle.library.specs.Reading.{readSeen}
+use Rattle.library.specs.declared.Read.{Read}
+use Rattle.library.specs.declared.Read.the-variants.{End, Wrong}
 use Rattle.demands.specs.OneOutcome.{OneOutcome}
 
 -- ---- dependencies
@@ -54,6 +59,17 @@ pageScans s d t u p d′ t′ u′ p′ ds ts us ps = scans s d t u d′ t′ u�
 records : (s d d′ : List ℕ) → length d ≡ length d′ → Metadata.metadata s (ltb (length d) (length s)) ≡ Metadata.metadata s (ltb (length d′) (length s))
 records s d d′ ds = ap (λ n. Metadata.metadata s (ltb n (length s))) ds
 
+-- ---- images and bundles
+
+seen-one : (r r′ : Read) → readSeen r ≡ readSeen r′ → r ≡ r′
+seen-one (End n) (End m) e = let k : n ≡ m = cc in ap End k
+seen-one (End n) (Wrong q) e = let z : _≡_ {A = ℕ} 0 1 = cc in absurd (omega arith)
+seen-one (Wrong p) (End m) e = let z : _≡_ {A = ℕ} 0 1 = cc in absurd (omega arith)
+seen-one (Wrong p) (Wrong q) e = let k : p ≡ q = cc in ap Wrong k
+
+told-one : {w : List ℕ} {n n′ : ℕ} {a a′ : List ℕ} → Told w n a → Told w n′ a′ → (n ≡ n′) × (a ≡ a′)
+told-one x y = (x .number ∙ sym (y .number), x .answered ∙ sym (y .answered))
+
 pub one-outcome : OneOutcome
 one-outcome = record {
   dependencies = λ s short d t u d′ t′ u′ ds ts us a b. leaves-one (scans s d t u d′ t′ u′ refl ds ts us) ds ts us a b;
@@ -85,4 +101,14 @@ one-outcome = record {
         equals (λ x. recordWords (Metadata.answerOf x .values)) xe (a .words) (b .words),
         equals (λ x. Metadata.answerOf x .answer .number ∷ Metadata.answerOf x .answer .keyword ∷ Metadata.answerOf x .answer .at ∷ Metadata.answerOf x .used ∷ []) xe (a .answer) (b .answer),
       );
+  image = λ s {r} {r′} a b. seen-one r r′ (a ∙ sym b);
+  module-found = λ s t a b. a ∙ sym b;
+  submodule-found = λ s t a b. a ∙ sym b;
+  import-found = λ s t a b. a ∙ sym b;
+  text-found = λ s t a b. a ∙ sym b;
+  text-under = λ s t a b. a ∙ sym b;
+  host-module = λ s t a b. told-one a b;
+  host-submodule = λ s t a b. told-one a b;
+  host-import = λ s t a b. told-one a b;
+  host-text = λ s t a b. told-one a b;
 }

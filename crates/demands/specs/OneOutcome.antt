@@ -6,6 +6,12 @@ use mathlib.Core.Path.{_≡_}
 use mathlib.Core.Bool.{Bool}
 use mathlib.Core.List.{List}
 use lib.ListN.{length}
+use Rattle.form.specs.declared.LookUp.{LookUp}
+use Rattle.image.specs.Image.{imageBroken, imageAt}
+use Rattle.library.specs.Reading.{done, readSeen}
+use Rattle.library.specs.declared.Read.{Read}
+use Rattle.find.specs.Find.{findModule, findSubmodule, findImportModule}
+use Rattle.bundle.specs.Bundle.{bundleBroken, lookUp, textUnder}
 use Rattle.yangparser.specs.Promises as Dependencies
 use Rattle.yangparser.specs.declared.Parsed.{Parsed}
 use Rattle.page.specs.Page.{Prints}
@@ -14,6 +20,7 @@ use Rattle.metadata.specs.Promises as Metadata
 use Rattle.metadata.specs.declared.YangModuleMetadata.{YangModuleMetadata}
 use Rattle.nuvaleta.specs.Host.{DependenciesAnswered, PrintedAnswered}
 use Rattle.nuvaleta.specs.Record.{MetadataAnswered}
+use Rattle.nuvaleta.specs.Finds.{toldWords, Told}
 
 -- d, t, u, p: store, tables and page at entry; e, f, g, q: at exit; the second outcome has an accent
 pub record OneOutcome : Type 0 where
@@ -37,3 +44,16 @@ pub record OneOutcome : Type 0 where
       → (n ≡ n′) × (e ≡ e′) × (f ≡ f′) × (g ≡ g′) × (q ≡ q′) × (a ≡ a′)
   pub host-metadata : (s d d′ : List ℕ) → length d ≡ length d′
       → {n n′ : ℕ} {e w a e′ w′ a′ : List ℕ} → MetadataAnswered s d n e w a → MetadataAnswered s d′ n′ e′ w′ a′ → (n ≡ n′) × (e ≡ e′) × (w ≡ w′) × (a ≡ a′)
+  -- read_image
+  pub image : (s : List ℕ) {r r′ : Read} → readSeen r ≡ done (imageAt s) → readSeen r′ ≡ done (imageAt s) → r ≡ r′
+  -- find_module, find_submodule, find_import_module, find_text, text_under; s: the image or the bundle, t: the name
+  pub module-found : (s t : List ℕ) {r r′ : LookUp} → r ≡ findModule s t → r′ ≡ findModule s t → r ≡ r′
+  pub submodule-found : (s t : List ℕ) {r r′ : LookUp} → r ≡ findSubmodule s t → r′ ≡ findSubmodule s t → r ≡ r′
+  pub import-found : (s t : List ℕ) {r r′ : LookUp} → r ≡ findImportModule s t → r′ ≡ findImportModule s t → r ≡ r′
+  pub text-found : (s t : List ℕ) {r r′ : LookUp} → r ≡ lookUp s t → r′ ≡ lookUp s t → r ≡ r′
+  pub text-under : (s t : List ℕ) {r r′ : List ℕ} → r ≡ textUnder s t → r′ ≡ textUnder s t → r ≡ r′
+  -- nuvaleta_find_module, nuvaleta_find_submodule, nuvaleta_find_import_module, nuvaleta_text
+  pub host-module : (s t : List ℕ) {n n′ : ℕ} {a a′ : List ℕ} → let w = toldWords imageBroken (findModule s t) in Told w n a → Told w n′ a′ → (n ≡ n′) × (a ≡ a′)
+  pub host-submodule : (s t : List ℕ) {n n′ : ℕ} {a a′ : List ℕ} → let w = toldWords imageBroken (findSubmodule s t) in Told w n a → Told w n′ a′ → (n ≡ n′) × (a ≡ a′)
+  pub host-import : (s t : List ℕ) {n n′ : ℕ} {a a′ : List ℕ} → let w = toldWords imageBroken (findImportModule s t) in Told w n a → Told w n′ a′ → (n ≡ n′) × (a ≡ a′)
+  pub host-text : (s t : List ℕ) {n n′ : ℕ} {a a′ : List ℕ} → let w = toldWords bundleBroken (lookUp s t) in Told w n a → Told w n′ a′ → (n ≡ n′) × (a ≡ a′)

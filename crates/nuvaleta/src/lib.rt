@@ -1,6 +1,8 @@
 // What a C or Rust host calls, as include/nuvaleta.h declares it: one function a call, with the promises of the function that it calls.
+use form::LookUp;
 use rows::Span;
 use text::Refusal;
+use yanglib::Graphed;
 use yangparser::Parsed;
 ghost use mathlib.Core.Path.{_≡_};
 ghost use mathlib.Core.List.{[], _∷_, _++_};
@@ -9,6 +11,11 @@ ghost use lib.ListN.{length};
 ghost use Rattle.rows.specs.Rows.{Each};
 ghost use Rattle.rows.specs.Span.{Fits};
 ghost use Rattle.nuvaleta.specs.Host.{numberOf, answerWords, WordsFit, DependenciesAnswered, PrintedAnswered};
+ghost use Rattle.image.specs.Image.{imageBroken};
+ghost use Rattle.bundle.specs.Bundle.{bundleBroken, lookUp};
+ghost use Rattle.find.specs.Find.{findModule, findSubmodule, findImportModule};
+ghost use Rattle.nuvaleta.specs.Finds.{toldWords, ToldFits, Told};
+ghost use Rattle.nuvaleta.specs.Graphs.{graphWords, GraphFits, GraphAnswered};
 ghost use Rattle.nuvaleta.specs.Record.{recordWords, MetadataAnswered};
 
 // The imports and includes of a text.
@@ -63,6 +70,112 @@ pub extern "C" fn nuvaleta_metadata(
     *words = record_of(values);
     *answer = metadata_answer_of(told, used);
     told.number
+}
+
+// A module of an image by its name.
+#[no_mangle]
+pub extern "C" fn nuvaleta_find_module(image: &[u8], name: &[u8], answer: &mut [u32; 5]) -> u32
+    ensures { λ r. ⌜ Told (toldWords imageBroken (findModule (now (image .entry)) (now (name .entry)))) r (now (answer .exit)) ⌝ }
+{
+    let words = told_words(library::IMAGE_BROKEN, find::find_module(image, name));
+    *answer = words;
+    words[0]
+}
+
+// A submodule of an image's modules by its name.
+#[no_mangle]
+pub extern "C" fn nuvaleta_find_submodule(image: &[u8], name: &[u8], answer: &mut [u32; 5]) -> u32
+    ensures { λ r. ⌜ Told (toldWords imageBroken (findSubmodule (now (image .entry)) (now (name .entry)))) r (now (answer .exit)) ⌝ }
+{
+    let words = told_words(library::IMAGE_BROKEN, find::find_submodule(image, name));
+    *answer = words;
+    words[0]
+}
+
+// An import-only module of an image by its name, and how many revisions it has.
+#[no_mangle]
+pub extern "C" fn nuvaleta_find_import_module(
+    image: &[u8],
+    name: &[u8],
+    answer: &mut [u32; 5],
+) -> u32
+    ensures { λ r. ⌜ Told (toldWords imageBroken (findImportModule (now (image .entry)) (now (name .entry)))) r (now (answer .exit)) ⌝ }
+{
+    let words = told_words(library::IMAGE_BROKEN, find::find_import_module(image, name));
+    *answer = words;
+    words[0]
+}
+
+// Where the text under a name stands in a bundle.
+#[no_mangle]
+pub extern "C" fn nuvaleta_text(bundle: &[u8], name: &[u8], answer: &mut [u32; 5]) -> u32
+    ensures { λ r. ⌜ Told (toldWords bundleBroken (lookUp (now (bundle .entry)) (now (name .entry)))) r (now (answer .exit)) ⌝ }
+{
+    let words = told_words(bundle::BUNDLE_BROKEN, bundle::find_text(bundle, name));
+    *answer = words;
+    words[0]
+}
+
+// The graph of an image and a bundle.
+#[no_mangle]
+pub extern "C" fn nuvaleta_graph(
+    image: &[u8],
+    bundle: &[u8],
+    nodes: &mut [u32],
+    edges: &mut [u32],
+    store: &mut [u8],
+    imports: &mut [u32],
+    includes: &mut [u32],
+    levels: &mut [u32],
+    answer: &mut [u32; 8],
+) -> u32
+    ensures { λ r. ⌜ GraphAnswered (now (image .entry)) (now (bundle .entry)) (now (nodes .entry)) (now (edges .entry)) (now (store .entry)) (now (imports .entry)) (now (includes .entry)) (now (levels .entry)) r (now (nodes .exit)) (now (edges .exit)) (now (store .exit)) (now (imports .exit)) (now (includes .exit)) (now (levels .exit)) (now (answer .exit)) ⌝ }
+{
+    let graphed = yanglib::to_graph(
+        image,
+        bundle,
+        nodes,
+        edges,
+        store,
+        imports,
+        includes,
+        levels,
+    );
+    let words = graph_words(graphed);
+    *answer = words;
+    words[0]
+}
+
+// The eight words of a graph's answer.
+fn graph_words(graphed: Graphed) -> [u32; 8]
+    requires { ⌜ GraphFits graphed ⌝ }
+    ensures { λ r. ⌜ r ≡ graphWords graphed ⌝ }
+{
+    match graphed {
+        Graphed::Built(n, m) => [0, 0, 0, 0, 0, 0, n as u32, m as u32],
+        Graphed::Refused(number, entry, scan, place) => [
+            number,
+            entry as u32,
+            scan.number,
+            scan.keyword,
+            scan.at as u32,
+            place as u32,
+            0,
+            0,
+        ],
+    }
+}
+
+// The five words of the answer to a name, with the number of the refusal of what is broken.
+fn told_words(number: u32, told: LookUp) -> [u32; 5]
+    requires { ⌜ ToldFits told ⌝ }
+    ensures { λ r. ⌜ r ≡ toldWords number told ⌝ }
+{
+    match told {
+        LookUp::Broken(p) => [number, p as u32, 0, 0, 0],
+        LookUp::Nothing => [0, 0, 0, 0, 0],
+        LookUp::At(a, b) => [0, 0, 1, a as u32, b as u32],
+    }
 }
 
 // The 18 words of a record.
