@@ -25,3 +25,6 @@ compare=$here/compare/build/release/compare
 "$compare" texts 7 10000
 # shellcheck disable=SC2046
 "$compare" files 3 3 $("$here/vectors/real.sh")
+"$compare" changes 3 24
+"$compare" finds 5 2000
+"$compare" graphs 9 2000

@@ -16,7 +16,7 @@ registry=$(dpkg -L librust-petgraph-dev | sed -n 's|/petgraph-[0-9.]*/Cargo.toml
 
 mkdir -p "$here/build/src"
 cp "$here/Cargo.toml" "$here/build/"
-cp "$here/src/main.rs" "$here/src/house.rs" "$here/src/read.rs" "$src/yangparser.rs" "$here/build/src/"
+cp "$here/src/main.rs" "$here/src/house.rs" "$here/src/read.rs" "$here/../vectors/src/form.rs" "$src/yangparser.rs" "$here/build/src/"
 python3 "$here/cut.py" "$src/yanglib.rs" "$here/build/src/yanglib.rs"
 cd "$here/build"
 cargo build --release --offline --quiet \

@@ -1,7 +1,8 @@
 //! The port beside the original Rust, on the same inputs in one run: bench FILE.. (real modules).
 //!
 //! The Rust makes its strings and lists anew in each call; the port is lent buffers that were made once and clears them in each call, all of what
-//! it is lent: a store as long as the text and, for dependencies, both tables.
+//! it is lent: a store as long as the text and, for dependencies, both tables. Images and bundles are a form that the Rust does not have: there
+//! the port stands alone.
 
 use std::hint::black_box;
 use std::time::Instant;
@@ -68,6 +69,10 @@ fn main() {
     }
     metadata("1 MiB of skipped statements", &[format!("revision 1 {{ {statements} }}")], 10);
     metadata("1 MiB of revisions", &[repeated("revision 2024-05-01;")], 10);
+    println!("| a name that is not there | bytes | port, us |");
+    println!("|---|---|---|");
+    look_up("a bundle of 2,048 texts, nuvaleta_text", port::TEXT, &bundle(), 50);
+    look_up("an image of 2,250 modules in five sets, nuvaleta_find_module", port::FINDS[0], &image(), 500);
 }
 
 fn head(scan: &str) {
@@ -78,6 +83,52 @@ fn head(scan: &str) {
 fn row(name: &str, texts: &[String], rust: f64, port: f64) {
     let bytes: usize = texts.iter().map(|t| t.len()).sum();
     println!("| {name} | {bytes} | {:.1} | {:.1} | {:.1} |", rust / 1e3, port / 1e3, rust / port);
+}
+
+/// A name of 25 bytes behind its length.
+fn name(i: usize) -> Vec<u8> {
+    format!("\x19ietf-example-module-{i:05}").into_bytes()
+}
+
+/// A number from 128 to 16,383.
+fn two(n: usize) -> [u8; 2] {
+    [(n % 128 + 128) as u8, (n / 128) as u8]
+}
+
+/// 2,048 texts in 16,777,216 bytes; the last fills the rest.
+fn bundle() -> Vec<u8> {
+    let mut form = two(2_048).to_vec();
+    for i in 0..2_048 {
+        let size = if i < 2_047 { 8_163 } else { 16_777_216 - form.len() - 28 };
+        form.extend([&name(i)[..], &two(size), &vec![b' '; size]].concat());
+    }
+    assert_eq!(form.len(), 16_777_216);
+    form
+}
+
+/// 2,250 modules with no lists in 65,536 bytes, 450 a set; some of them have a submodule of one byte, which fills the rest.
+fn image() -> Vec<u8> {
+    let mut form = vec![5];
+    for set in 0..5 {
+        form.extend(two(450));
+        for i in 450 * set..450 * (set + 1) {
+            form.extend(name(i));
+            form.extend(if i < 135 { &[1, 1, b's', 0, 0][..] } else { &[0, 0, 0] });
+        }
+        form.push(0);
+    }
+    assert_eq!(form.len(), 65_536);
+    form
+}
+
+/// The whole form is read, and nothing is found in it.
+fn look_up(what: &str, call: port::LookUp, form: &[u8], runs: usize) {
+    let absent = &name(99_999)[1..];
+    assert_eq!(port::look_up(call, form, absent), [0; 5]);
+    let port = best(runs, || {
+        black_box(port::look_up(call, black_box(form), absent));
+    });
+    println!("| {what} | {} | {:.1} |", form.len(), port / 1e3);
 }
 
 fn longest(texts: &[String]) -> usize {

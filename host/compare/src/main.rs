@@ -2,6 +2,9 @@
 //!
 //! compare texts SEED COUNT: COUNT generated texts, and every short string over the generator's alphabet.
 //! compare files SEED COUNT FILE..: real modules, and COUNT damaged copies of each.
+//! compare changes SEED COUNT: COUNT small images and COUNT small bundles, with every beginning and every change of one byte.
+//! compare finds SEED COUNT: COUNT generated libraries: the Rust's finds, and damaged copies.
+//! compare graphs SEED COUNT: COUNT generated libraries: nodes, edges in order, which refusal.
 //! compare edges: lengths around each boundary, which the Rust does not have.
 
 use std::path::PathBuf;
@@ -11,6 +14,8 @@ use vectors::rng::Rng;
 use vectors::texts;
 
 mod edges;
+mod graph;
+mod library;
 mod metadata;
 mod port;
 
@@ -35,12 +40,16 @@ fn main() {
                 }
             }
         }
+        ["changes", seed, count] => library::changes(&mut run, number(seed), number(count) as usize),
+        ["finds", seed, count] => library::finds(&mut run, number(seed), number(count)),
+        ["graphs", seed, count] => graph::graphs(&mut run, number(seed), number(count)),
         ["edges"] => {
             edges::run(&mut run);
             metadata::edges(&mut run);
+            library::edges(&mut run);
         }
         _ => {
-            eprintln!("compare: texts SEED COUNT | files SEED COUNT FILE.. | edges");
+            eprintln!("compare: texts SEED COUNT | files SEED COUNT FILE.. | changes SEED COUNT | finds SEED COUNT | graphs SEED COUNT | edges");
             std::process::exit(2);
         }
     }

@@ -25,6 +25,29 @@ unsafe extern "C" {
         includes_len: usize, page: *mut u8, page_len: usize, answer: *mut u32,
     ) -> u32;
     fn nuvaleta_metadata(text: *const u8, text_len: usize, store: *mut u8, store_len: usize, record: *mut u32, answer: *mut u32) -> u32;
+    fn nuvaleta_find_module(image: *const u8, image_len: usize, name: *const u8, name_len: usize, answer: *mut u32) -> u32;
+    fn nuvaleta_find_submodule(image: *const u8, image_len: usize, name: *const u8, name_len: usize, answer: *mut u32) -> u32;
+    fn nuvaleta_find_import_module(image: *const u8, image_len: usize, name: *const u8, name_len: usize, answer: *mut u32) -> u32;
+    fn nuvaleta_graph(
+        image: *const u8, image_len: usize, bundle: *const u8, bundle_len: usize, nodes: *mut u32, nodes_len: usize, edges: *mut u32,
+        edges_len: usize, store: *mut u8, store_len: usize, imports: *mut u32, imports_len: usize, includes: *mut u32, includes_len: usize,
+        levels: *mut u32, levels_len: usize, answer: *mut u32,
+    ) -> u32;
+    fn nuvaleta_text(bundle: *const u8, bundle_len: usize, name: *const u8, name_len: usize, answer: *mut u32) -> u32;
+}
+
+pub type LookUp = unsafe extern "C" fn(*const u8, usize, *const u8, usize, *mut u32) -> u32;
+
+/// The finds, in the order of document 01, and the text under a name.
+pub const FINDS: [LookUp; 3] = [nuvaleta_find_module, nuvaleta_find_submodule, nuvaleta_find_import_module];
+pub const TEXT: LookUp = nuvaleta_text;
+
+/// Number, place of the fault, found, and two words of the hit; the call's result must be the number.
+pub fn look_up(call: LookUp, form: &[u8], name: &[u8]) -> [u32; 5] {
+    let mut answer = [0xa5a5_a5a5; 5];
+    let number = unsafe { call(form.as_ptr(), form.len(), name.as_ptr(), name.len(), answer.as_mut_ptr()) };
+    assert_eq!(number, answer[0], "the call's result");
+    answer
 }
 
 #[derive(Debug, PartialEq)]
@@ -133,5 +156,59 @@ impl Scanned {
             && self.imports[7 * imports..].iter().all(|w| *w == 0)
             && self.includes[5 * includes..].iter().all(|w| *w == 0)
             && self.page[length..].iter().all(|b| *b == 0)
+    }
+}
+
+/// A graph's answer, tables and scratch.
+#[derive(Debug)]
+pub struct Graphed {
+    /// Number, entry, the scan's number, keyword and position, place, nodes, edges.
+    pub answer: [u32; 8],
+    pub nodes: Vec<u32>,
+    pub edges: Vec<u32>,
+    pub store: Vec<u8>,
+    pub imports: Vec<u32>,
+    pub includes: Vec<u32>,
+    pub levels: Vec<u32>,
+}
+
+/// The graph, with a store of this length and tables that are so much longer than they must be, all of which held something else.
+pub fn graph(image: &[u8], bundle: &[u8], store: usize, more: usize) -> Graphed {
+    let words = |n: usize| vec![0xa5a5_a5a5_u32; n + more];
+    let mut g = Graphed {
+        answer: [0xa5a5_a5a5; 8],
+        nodes: words(2_048),
+        edges: words(16_384),
+        store: vec![0xa5; store],
+        imports: words(IMPORT_WORDS),
+        includes: words(INCLUDE_WORDS),
+        levels: words(2_304),
+    };
+    let number = g.redraw(image, bundle);
+    assert_eq!(number, g.answer[0], "the call's result");
+    g
+}
+
+impl Graphed {
+    /// The graph of these into the same tables.
+    pub fn redraw(&mut self, image: &[u8], bundle: &[u8]) -> u32 {
+        unsafe {
+            nuvaleta_graph(
+                image.as_ptr(), image.len(), bundle.as_ptr(), bundle.len(), self.nodes.as_mut_ptr(), self.nodes.len(), self.edges.as_mut_ptr(),
+                self.edges.len(), self.store.as_mut_ptr(), self.store.len(), self.imports.as_mut_ptr(), self.imports.len(),
+                self.includes.as_mut_ptr(), self.includes.len(), self.levels.as_mut_ptr(), self.levels.len(), self.answer.as_mut_ptr(),
+            )
+        }
+    }
+
+    /// All behind what is used is zero, and all scratch.
+    pub fn is_clean(&self) -> bool {
+        let zero = |words: &[u32]| words.iter().all(|w| *w == 0);
+        zero(&self.nodes[2 * self.answer[6] as usize..])
+            && zero(&self.edges[2 * self.answer[7] as usize..])
+            && self.store.iter().all(|b| *b == 0)
+            && zero(&self.imports)
+            && zero(&self.includes)
+            && zero(&self.levels)
     }
 }

@@ -11,6 +11,8 @@ use std::io::{BufRead, BufReader, BufWriter, Write};
 use std::os::unix::process::ExitStatusExt;
 use std::process::{Child, ChildStdin, ChildStdout, Command, Stdio};
 
+#[allow(dead_code)] // where a text stands is asked by the comparison alone
+mod form;
 mod house;
 #[allow(dead_code)]
 mod read;
@@ -19,7 +21,8 @@ mod yanglib;
 #[allow(dead_code)]
 mod yangparser;
 
-use house::{Image, read_bundle, read_image};
+use form::read_bundle;
+use house::{Image, read_image};
 
 fn main() {
     if std::env::args().nth(1).as_deref() == Some("worker") {
@@ -227,11 +230,11 @@ fn graph(image: &[u8], bundle: &[u8]) -> String {
         Err(place) => return format!("bundle {place}"),
     };
     let mut schemas: HashMap<Box<str>, Box<str>> = HashMap::new();
-    for (name, text) in texts {
-        let Ok(text) = std::str::from_utf8(text) else {
+    for text in texts {
+        let Ok(bytes) = std::str::from_utf8(text.bytes) else {
             return "utf8".to_string();
         };
-        schemas.insert(name.into(), text.into());
+        schemas.insert(text.name.text.into(), bytes.into());
     }
     graph_limit(bundle);
     let graph = match image.library.to_graph(&schemas) {

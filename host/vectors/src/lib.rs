@@ -1,6 +1,7 @@
 //! Generated inputs, the oracle's answers to them, and the files in which they are recorded.
 
 pub mod answers;
+pub mod form;
 pub mod libraries;
 pub mod oracle;
 pub mod records;
