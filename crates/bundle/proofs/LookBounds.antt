@@ -12,8 +12,8 @@ use borrow.Author.Tests.{ltb-true, ltb-false}
 use Rattle.form.specs.Form.{Ans, good, bad, bind, Word, numberAt, nameAt, many}
 use Rattle.form.specs.declared.LookUp.the-variants.{Broken, At as Stands}
 use Rattle.form.proofs.Bounds.{number-place, number-end, name-place, name-end}
-use Rattle.index.specs.Names.{memb, newName}
-use Rattle.index.proofs.Taking.{new-read}
+use Rattle.index.specs.Names.{newName}
+use Rattle.index.proofs.Taking.{new-read, new-place}
 use Rattle.bundle.specs.Bundle.{mostBytes, mostTexts, Text, textOf, bodyAt, filedAt, words, newText, ended, textsAt, bundleAt, placeOf, looked, lookIn, lookUp}
 use Rattle.bundle.specs.declared.Place.{Place}
 use Rattle.bundle.specs.declared.Place.the-variants.{At, Nothing}
@@ -22,18 +22,6 @@ use Rattle.bundle.proofs.Looking.{place-in, is-at}
 use Rattle.bundle.proofs.Parts.{bundle-parted, texts-sized}
 
 -- ---- where a bundle is wrong
-
-new-place : (s : List ℕ) (ws : List Word) (at : ℕ) {p : ℕ} → newName s ws at ≡ bad p → p ≡ at
-unfolding newName
-new-place s ws at {p} e = go (nameAt s at) refl e
-  where
-    new : (w : Word) (n : ℕ) (b : Bool) → cond b (bad at) (good w n) ≡ bad p → p ≡ at
-    new w n true k = cc
-    new w n false k = cc
-
-    go : (a : Ans Word) → nameAt s at ≡ a → bind a (λ w n. cond (memb (w .text) ws) (bad at) (good w n)) ≡ bad p → p ≡ at
-    go (good w n) h k = new w n (memb (w .text) ws) k
-    go (bad q) h k = let z : q ≡ p = cc in sym z ∙ name-place s at h
 
 body-place : (s : List ℕ) (w : Word) (start size from : ℕ) {p : ℕ} → bodyAt s w start size from ≡ bad p → p ≡ start
 unfolding bodyAt

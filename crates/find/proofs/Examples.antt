@@ -5,7 +5,7 @@ use mathlib.Core.List.{List, [], _∷_}
 use Prim.Native.Nat.{ℕ}
 use Rattle.text.specs.Keyword.{same}
 use Rattle.form.specs.Form.{groups, numberAt, printableAt, nameBody, nameAt, many}
-use Rattle.index.specs.Names.{newName}
+use Rattle.index.specs.Names.{among, newName}
 use Rattle.image.specs.Library.{modulesOf, submodulesOf, importOnlyOf}
 use Rattle.image.specs.Image.{countAt, counted, moduleAt, importOnlyAt, setAt, libraryAt, imageAt}
 use Rattle.find.specs.Find.{findModule, findSubmodule, findImportModule}
@@ -35,43 +35,43 @@ two =
 -- ---- the first hit wins
 
 first-module : findModule two m ≡ At 3 0
-unfolding findModule imageAt libraryAt counted countAt numberAt groups many setAt moduleAt importOnlyAt newName nameAt nameBody printableAt same modulesOf
+unfolding findModule imageAt libraryAt counted countAt numberAt groups many setAt moduleAt importOnlyAt newName among nameAt nameBody printableAt same modulesOf
 first-module = refl
 
 first-submodule : findSubmodule two a ≡ At 6 0
-unfolding findSubmodule imageAt libraryAt counted countAt numberAt groups many setAt moduleAt importOnlyAt newName nameAt nameBody printableAt same modulesOf submodulesOf
+unfolding findSubmodule imageAt libraryAt counted countAt numberAt groups many setAt moduleAt importOnlyAt newName among nameAt nameBody printableAt same modulesOf submodulesOf
 first-submodule = refl
 
 -- ---- of any set
 
 later-submodule : findSubmodule two b ≡ At 15 0
-unfolding findSubmodule imageAt libraryAt counted countAt numberAt groups many setAt moduleAt importOnlyAt newName nameAt nameBody printableAt same modulesOf submodulesOf
+unfolding findSubmodule imageAt libraryAt counted countAt numberAt groups many setAt moduleAt importOnlyAt newName among nameAt nameBody printableAt same modulesOf submodulesOf
 later-submodule = refl
 
 -- an import-only module, with its revisions
 import-only : findImportModule two b ≡ At 22 2
-unfolding findImportModule imageAt libraryAt counted countAt numberAt groups many setAt moduleAt importOnlyAt newName nameAt nameBody printableAt same importOnlyOf
+unfolding findImportModule imageAt libraryAt counted countAt numberAt groups many setAt moduleAt importOnlyAt newName among nameAt nameBody printableAt same importOnlyOf
 import-only = refl
 
 -- ---- each find looks for its own
 
 -- an import-only module is no module, and a module no import-only module
 no-module : findModule two b ≡ Nothing
-unfolding findModule imageAt libraryAt counted countAt numberAt groups many setAt moduleAt importOnlyAt newName nameAt nameBody printableAt same modulesOf
+unfolding findModule imageAt libraryAt counted countAt numberAt groups many setAt moduleAt importOnlyAt newName among nameAt nameBody printableAt same modulesOf
 no-module = refl
 
 no-import-only : findImportModule two m ≡ Nothing
-unfolding findImportModule imageAt libraryAt counted countAt numberAt groups many setAt moduleAt importOnlyAt newName nameAt nameBody printableAt same importOnlyOf
+unfolding findImportModule imageAt libraryAt counted countAt numberAt groups many setAt moduleAt importOnlyAt newName among nameAt nameBody printableAt same importOnlyOf
 no-import-only = refl
 
 -- a submodule of an import-only module does not count
 no-submodule : findSubmodule two c ≡ Nothing
-unfolding findSubmodule imageAt libraryAt counted countAt numberAt groups many setAt moduleAt importOnlyAt newName nameAt nameBody printableAt same modulesOf submodulesOf
+unfolding findSubmodule imageAt libraryAt counted countAt numberAt groups many setAt moduleAt importOnlyAt newName among nameAt nameBody printableAt same modulesOf submodulesOf
 no-submodule = refl
 
 -- no name is empty
 no-name : findModule two [] ≡ Nothing
-unfolding findModule imageAt libraryAt counted countAt numberAt groups many setAt moduleAt importOnlyAt newName nameAt nameBody printableAt same modulesOf
+unfolding findModule imageAt libraryAt counted countAt numberAt groups many setAt moduleAt importOnlyAt newName among nameAt nameBody printableAt same modulesOf
 no-name = refl
 
 no-sets : findModule (0 ∷ []) m ≡ Nothing
@@ -81,11 +81,11 @@ no-sets = refl
 -- ---- a broken image is told, though what is sought stands before the fault: here a byte too many, and then no import-only modules
 
 extra : findModule (1 ∷ 1 ∷ 1 ∷ 109 ∷ 0 ∷ 0 ∷ 0 ∷ 0 ∷ 7 ∷ []) m ≡ Broken 8
-unfolding findModule imageAt libraryAt counted countAt numberAt groups many setAt moduleAt newName nameAt nameBody printableAt
+unfolding findModule imageAt libraryAt counted countAt numberAt groups many setAt moduleAt newName among nameAt nameBody printableAt
 extra = refl
 
 cut-short : findSubmodule (1 ∷ 1 ∷ 1 ∷ 109 ∷ 1 ∷ 1 ∷ 97 ∷ 0 ∷ 0 ∷ []) a ≡ Broken 9
-unfolding findSubmodule imageAt libraryAt counted countAt numberAt groups many setAt moduleAt newName nameAt nameBody printableAt
+unfolding findSubmodule imageAt libraryAt counted countAt numberAt groups many setAt moduleAt newName among nameAt nameBody printableAt
 cut-short = refl
 
 empty-image : findImportModule [] b ≡ Broken 0

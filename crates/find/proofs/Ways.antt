@@ -6,15 +6,13 @@ use mathlib.Core.Bool.{Bool, true, false}
 use Prim.Native.Nat.{ℕ, _+_, _-_}
 use lib.ListN.{take, drop}
 use Rattle.text.specs.Keyword.{same}
-use Rattle.text.proofs.KeywordLaws.{same-yes, same-no}
-use Rattle.text.proofs.Here.{never}
 use Rattle.form.specs.Form.{Ans, good, bad, wordAt, numberAt, numberSeen, nameAt, nameSeen}
 use Rattle.form.specs.declared.Cursor.{Cursor}
 use Rattle.form.specs.declared.Number.{Number}
 use Rattle.form.specs.declared.Number.the-variants.{Value, Wrong as WrongNumber}
 use Rattle.form.specs.declared.Name.{Name}
 use Rattle.form.specs.declared.Name.the-variants.{Bytes, Wrong as WrongName}
-use Rattle.form.proofs.Bounds.{spanned, missed, part-word}
+use Rattle.form.proofs.Bounds.{spanned, missed, compared}
 use Rattle.image.specs.Image.{mostNames, countAt}
 use Rattle.library.specs.Reading.{done, readSeen, listAt, restAt}
 use Rattle.library.specs.declared.Read.{Read}
@@ -72,26 +70,22 @@ module _ (s t : List ℕ) (at : ℕ) (r : Name) where
     unwanted importOnly wanted g u = g ∙ rw (read, u)
 
     module _ {b : Bool} (k : (b ≡ true → take (first + len - first) (drop first s) ≡ t) × (take (first + len - first) (drop first s) ≡ t → b ≡ true)) where
-      compared : (x : Bool) → b ≡ x → same (wordAt s first len .text) t ≡ x
-      compared true y = same-yes _ _ (sym (part-word s first len) ∙ k .0 y)
-      compared false y = same-no _ _ (λ z. never y (k .1 (part-word s first len ∙ z)))
-
       pub entry-hit : (importOnly wanted : Bool) {x : Tried} → x ≡ hitAt s importOnly first (first + len) → wanted ≡ true → b ≡ true → x ≡ entryTried s t importOnly wanted at
       unfolding entryTried
-      entry-hit importOnly wanted g u y = g ∙ rw (read, u, compared true y)
+      entry-hit importOnly wanted g u y = g ∙ rw (read, u, compared s t first len k true y)
 
       pub entry-other : (importOnly wanted : Bool) {x : Tried} → x ≡ past (restAt importOnly s (first + len)) → wanted ≡ true → b ≡ false
           → x ≡ entryTried s t importOnly wanted at
       unfolding entryTried
-      entry-other importOnly wanted g u y = g ∙ rw (read, u, compared false y)
+      entry-other importOnly wanted g u y = g ∙ rw (read, u, compared s t first len k false y)
 
       pub word-hit : b ≡ true → Hit first 0 ≡ wordTried s t at
       unfolding wordTried
-      word-hit y = rw (read, compared true y)
+      word-hit y = rw (read, compared s t first len k true y)
 
       pub word-other : b ≡ false → Next (first + len) ≡ wordTried s t at
       unfolding wordTried
-      word-other y = rw (read, compared false y)
+      word-other y = rw (read, compared s t first len k false y)
 
 -- ---- `enter_module` and `leave_module`
 

@@ -11,6 +11,9 @@ use lib.Dec.{ltb, eqb}
 use mir.Syntax.{w64}
 use mir.Val.{Fits}
 use borrow.Author.Tests.{ltb-true, ltb-false}
+use Rattle.text.specs.Keyword.{same}
+use Rattle.text.proofs.Here.{never}
+use Rattle.text.proofs.KeywordLaws.{same-yes, same-no}
 use Rattle.form.specs.Form.{Ans, good, bad, bind, groups, numberAt, printableAt, Word, wordAt, nameBody, nameAt, nameSeen}
 use Rattle.form.specs.declared.Name.{Name}
 use Rattle.form.specs.declared.Name.the-variants.{Bytes, Wrong}
@@ -152,3 +155,10 @@ module _ (s : List ℕ) (r : Name) (at first len : ℕ) (e : r ≡ Bytes first l
 
 pub part-word : (s : List ℕ) (first len : ℕ) → take (first + len - first) (drop first s) ≡ wordAt s first len .text
 part-word s first len = let e : first + len - first ≡ len = omega arith in rw e
+
+-- a name that was compared with t
+pub compared : (s t : List ℕ) (first len : ℕ) {b : Bool}
+    → (b ≡ true → take (first + len - first) (drop first s) ≡ t) × (take (first + len - first) (drop first s) ≡ t → b ≡ true)
+    → (x : Bool) → b ≡ x → same (wordAt s first len .text) t ≡ x
+compared s t first len k true y = same-yes _ _ (sym (part-word s first len) ∙ k .0 y)
+compared s t first len k false y = same-no _ _ (λ z. never y (k .1 (part-word s first len ∙ z)))

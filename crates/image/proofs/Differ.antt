@@ -7,16 +7,16 @@ use Rattle.text.specs.Keyword.{same}
 use Rattle.text.proofs.Here.{never, neither}
 use Rattle.text.proofs.KeywordLaws.{same-yes, same-no}
 use Rattle.form.specs.Form.{Word}
-use Rattle.index.specs.Names.{memb}
+use Rattle.index.specs.Names.{among, memb}
 use Rattle.image.specs.Library.{Name, plainName}
 use Rattle.image.specs.ImageWriter.{NoneOf}
 
 pub none-of : (t : Name) (ws : List Word) → memb t ws ≡ false → NoneOf t (map plainName ws)
-unfolding NoneOf
+unfolding NoneOf among
 none-of t [] e = tt
 none-of t (w ∷ ws) e = let q = neither (same (w .text) t) (memb t ws) e in (λ h. never (q .0) (same-yes (w .text) t h), none-of t ws (q .1))
 
 pub not-among : (t : Name) (ws : List Word) → NoneOf t (map plainName ws) → memb t ws ≡ false
-unfolding NoneOf
+unfolding NoneOf among
 not-among t [] h = refl
 not-among t (w ∷ ws) h = rw (same-no (w .text) t (h .0)) (not-among t ws (h .1))

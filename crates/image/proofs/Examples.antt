@@ -9,7 +9,7 @@ use lib.ListN.{length}
 use Rattle.text.specs.Keyword.{same}
 use Rattle.form.specs.Form.{Ans, good, bad, groups, numberAt, printableAt, nameBody, nameAt, Word, many}
 use Rattle.form.specs.Writer.{writeNumber, writeName}
-use Rattle.index.specs.Names.{newName}
+use Rattle.index.specs.Names.{among, newName}
 use Rattle.image.specs.Library.{Library, plain}
 use Rattle.image.specs.Image.{countAt, counted, moduleAt, importOnlyAt, setAt, libraryAt, imageAt}
 use Rattle.image.specs.ImageWriter.{writeEach, writeList, writeModule, writeImportOnly, writeSet, writeImage}
@@ -31,7 +31,7 @@ twoRead =
     } ∷ []
 
 two-modules : imageAt two ≡ good twoRead 15
-unfolding two twoRead letter imageAt libraryAt setAt importOnlyAt moduleAt newName same counted countAt many nameAt nameBody printableAt numberAt groups
+unfolding two twoRead letter imageAt libraryAt setAt importOnlyAt moduleAt newName among same counted countAt many nameAt nameBody printableAt numberAt groups
 two-modules = refl
 
 two-written : writeImage (plain twoRead) ≡ two
@@ -85,5 +85,5 @@ examples =
     ∷ []
 
 right : T (all examples)
-unfolding examples all holds isFine isWrong imageAt libraryAt setAt importOnlyAt moduleAt newName same counted countAt many nameAt nameBody printableAt numberAt groups
+unfolding examples all holds isFine isWrong imageAt libraryAt setAt importOnlyAt moduleAt newName among same counted countAt many nameAt nameBody printableAt numberAt groups
 right = tt

@@ -17,7 +17,8 @@ use Rattle.index.specs.Names.{memb, newName}
 use Rattle.image.specs.Library.{Module, ImportOnly, ModuleSet, Library, Name, PlainModule, PlainImportOnly, PlainSet, PlainLibrary, plainName, plainModule, plainImportOnly, plainSet, plain}
 use Rattle.image.specs.Image.{mostImage, mostSets, mostModules, mostNames, leastRevisions, mostRevisions, counted, anyWord, newWord, moduleAt, revisionAt, importOnlyAt, setAt, libraryAt, imageAt}
 use Rattle.image.specs.ImageWriter.{writeList, writeModule, writeImportOnly, writeSet, writeImage, Listed, AnyName, NewName, FormedModule, FormedRevision, FormedImportOnly, FormedSet, Formed}
-use Rattle.image.proofs.Steps.{on-good, bind-good, passed, carry, wrote-join, name-wrote, Stands, stands-left, stands-right, name-stands}
+use Rattle.form.proofs.Standing.{wrote-join, name-wrote, Stands, stands-left, stands-right, name-stands}
+use Rattle.image.proofs.Steps.{on-good, bind-good, passed, carry}
 use Rattle.image.proofs.Differ.{none-of, not-among}
 use Rattle.image.proofs.Lawful.{Forth, Back, Lawful, counted-lawful}
 

@@ -11,7 +11,8 @@ use Rattle.form.specs.Form.{good, mostNumber, many}
 use Rattle.form.specs.Writer.{writeNumber, AllBytes}
 use Rattle.image.specs.Image.{Reader, countAt, counted}
 use Rattle.image.specs.ImageWriter.{writeEach, writeList, EachOf, Listed}
-use Rattle.image.proofs.Steps.{on-good, bind-good, carry, count-good, good-count, Wrote, wrote-none, wrote-join, number-wrote, Stands, stands-left, stands-right, number-stands}
+use Rattle.form.proofs.Standing.{Wrote, wrote-none, wrote-join, number-wrote, Stands, stands-left, stands-right, number-stands}
+use Rattle.image.proofs.Steps.{on-good, bind-good, carry, count-good, good-count}
 
 -- what was read from `at` to n is a rightly formed b, written
 pub record Forth {B : Type 0} (w : B → List ℕ) (Right : List B → B → Type 0) (s : List ℕ) (before : List B) (at : ℕ) (b : B) (n : ℕ) : Type 0 where

@@ -6,7 +6,7 @@ use Prim.Native.Nat.{ℕ}
 use Rattle.text.specs.Keyword.{same}
 use Rattle.form.specs.Form.{Word, wordAt}
 use Rattle.index.specs.declared.Found.the-variants.{At, Nothing}
-use Rattle.index.specs.Names.{firstFrom, firstOf, firstBy, addAll, hashFrom, hashOf}
+use Rattle.index.specs.Names.{firstFrom, firstOf, firstBy, among, addAll, hashFrom, hashOf}
 
 -- abacab: the names ab, ac and ab again
 abbrev bytes : List ℕ
@@ -38,8 +38,8 @@ unfolding same
 nowhere = refl
 
 -- a repeated name is left out
-repeated : addAll [] words ≡ wordAt bytes 0 2 ∷ wordAt bytes 2 2 ∷ []
-unfolding same
+repeated : addAll (λ (w : Word). w .text) [] words ≡ wordAt bytes 0 2 ∷ wordAt bytes 2 2 ∷ []
+unfolding same among addAll
 repeated = refl
 
 -- 97 * 131 + 98 is 12,805, and 6 * 2,048 less is 517

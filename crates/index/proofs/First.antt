@@ -2,7 +2,7 @@
 -- Assumes nothing.
 use mathlib.Core.Path.{_≡_, refl, sym, ap, _∙_}
 use mathlib.Core.Logic.{⊎-elim}
-use mathlib.Core.List.{List, [], _∷_, _++_, append-nil}
+use mathlib.Core.List.{List, [], _∷_, _++_, append-nil, map}
 use mathlib.Core.Bool.{Bool, true, false, cond, _||_}
 use Prim.Native.Nat.{ℕ, zero, suc, _+_, _<_}
 use native.Mathlib.Omega.{arith}
@@ -14,7 +14,7 @@ use Rattle.text.specs.Keyword.{same}
 use Rattle.text.proofs.KeywordLaws.{same-no}
 use Rattle.text.proofs.Here.{by-test, never}
 use Rattle.index.specs.declared.Found.the-variants.{At, Nothing}
-use Rattle.index.specs.Names.{firstFrom, firstOf, firstBy, memb, addNew, addAll, nameIn, namesIn}
+use Rattle.index.specs.Names.{firstFrom, firstOf, firstBy, among, addNew, addAll, memb, nameIn, namesIn}
 use Rattle.index.proofs.Chain.{length-names}
 
 none : Word
@@ -27,7 +27,7 @@ word w = w
 -- ---- a name is among the words where the search finds it
 
 pub not-among : (k : ℕ) (t : List ℕ) (ws : List Word) → firstFrom k t ws ≡ Nothing → memb t ws ≡ false
-unfolding firstFrom
+unfolding firstFrom among
 not-among k t [] e = refl
 not-among k t (w ∷ ws) e = go (same (w .text) t) (not-among (suc k) t ws) e
   where
@@ -37,7 +37,7 @@ not-among k t (w ∷ ws) e = go (same (w .text) t) (not-among (suc k) t ws) e
     go false ih e = ih e
 
 pub is-among : (k : ℕ) (t : List ℕ) (ws : List Word) {i : ℕ} → firstFrom k t ws ≡ At i → memb t ws ≡ true
-unfolding firstFrom
+unfolding firstFrom among
 is-among k t [] e = cc
 is-among k t (w ∷ ws) {i} e = go (same (w .text) t) (is-among (suc k) t ws) e
   where
@@ -45,6 +45,23 @@ is-among k t (w ∷ ws) {i} e = go (same (w .text) t) (is-among (suc k) t ws) e
         → cond b (At k) (firstFrom (suc k) t ws) ≡ At i → (b || memb t ws) ≡ true
     go true ih e = refl
     go false ih e = ih e
+
+-- ---- one list behind another, and names of what is made of each
+
+pub among-append : {A : Type 0} (name : A → List ℕ) (t : List ℕ) (l more : List A) → among name t (l ++ more) ≡ (among name t l || among name t more)
+unfolding among
+among-append name t [] more = refl
+among-append name t (a ∷ l) more = go (same (name a) t) (among-append name t l more)
+  where
+    go : (b : Bool) → among name t (l ++ more) ≡ (among name t l || among name t more)
+        → (b || among name t (l ++ more)) ≡ ((b || among name t l) || among name t more)
+    go true ih = refl
+    go false ih = ih
+
+pub among-map : {A B : Type 0} (name : B → List ℕ) (f : A → B) (t : List ℕ) (l : List A) → among name t (map f l) ≡ among (λ a. name (f a)) t l
+unfolding among
+among-map name f t [] = refl
+among-map name f t (a ∷ l) = ap (λ b. same (name (f a)) t || b) (among-map name f t l)
 
 -- ---- the i-th name of the table
 
@@ -108,6 +125,7 @@ by-append f t (w ∷ ws) vs d = ap (cond (same (w .text) t) (f w)) (by-append f 
 
 -- where there is a hit, what comes behind does not matter
 by-hit : {A : Type 0} (f : Word → A) (t : List ℕ) (ws : List Word) (d e : A) → memb t ws ≡ true → firstBy word f t ws d ≡ firstBy word f t ws e
+unfolding among
 by-hit f t [] d e m = cc
 by-hit {A} f t (w ∷ ws) d e m = go (same (w .text) t) (by-hit f t ws d e) m
   where
@@ -122,7 +140,7 @@ memb-same a b ws e m =
     by-test (memb b ws) (λ y. y) (λ n. absurd (never (same-no a b (λ p. never n (ap (λ (x : List ℕ). memb x ws) (sym p) ∙ m))) e))
 
 add-new : {A : Type 0} (f : Word → A) (t : List ℕ) (ws : List Word) (w : Word) (d : A)
-    → firstBy word f t (addNew ws w) d ≡ firstBy word f t ws (cond (same (w .text) t) (f w) d)
+    → firstBy word f t (addNew (λ (w : Word). w .text) ws w) d ≡ firstBy word f t ws (cond (same (w .text) t) (f w) d)
 add-new {A} f t ws w d = go (memb (w .text) ws) refl (same (w .text) t) refl
   where
     go : (b : Bool) → memb (w .text) ws ≡ b → (c : Bool) → same (w .text) t ≡ c
@@ -132,7 +150,8 @@ add-new {A} f t ws w d = go (memb (w .text) ws) refl (same (w .text) t) refl
     go false h c k = by-append f t ws (w ∷ []) d ∙ ap (λ (c : Bool). firstBy word f t ws (cond c (f w) d)) k
 
 -- a search through all words, repeated ones too, is the search through those that were new
-pub once : {A : Type 0} (f : Word → A) (t : List ℕ) (ws vs : List Word) (d : A) → firstBy word f t (addAll ws vs) d ≡ firstBy word f t (ws ++ vs) d
+pub once : {A : Type 0} (f : Word → A) (t : List ℕ) (ws vs : List Word) (d : A) → firstBy word f t (addAll (λ (w : Word). w .text) ws vs) d ≡ firstBy word f t (ws ++ vs) d
+unfolding addAll
 once f t ws [] d = ap (λ (l : List Word). firstBy word f t l d) (sym (append-nil ws))
 once f t ws (v ∷ vs) d =
-    once f t (addNew ws v) vs d ∙ by-append f t (addNew ws v) vs d ∙ add-new f t ws v (firstBy word f t vs d) ∙ sym (by-append f t ws (v ∷ vs) d)
+    once f t (addNew (λ (w : Word). w .text) ws v) vs d ∙ by-append f t (addNew (λ (w : Word). w .text) ws v) vs d ∙ add-new f t ws v (firstBy word f t vs d) ∙ sym (by-append f t ws (v ∷ vs) d)

@@ -8,7 +8,7 @@ use native.Mathlib.Omega.{arith}
 use Rattle.form.specs.Form.{Ans, good, bad, bind, Word, wordAt, nameAt, nameSeen}
 use Rattle.form.specs.declared.Name.{Name}
 use Rattle.form.specs.declared.Name.the-variants.{Bytes, Wrong}
-use Rattle.form.proofs.Bounds.{spanned, missed}
+use Rattle.form.proofs.Bounds.{spanned, missed, name-place}
 use Rattle.index.specs.declared.Found.{Found}
 use Rattle.index.specs.declared.Found.the-variants.{At, Nothing}
 use Rattle.index.specs.Names.{memb, newName, namesIn, Room, Added, Space, Taken}
@@ -28,6 +28,19 @@ new-read s ws at {w} {n} e = go (nameAt s at) refl e
         → (nameAt s at ≡ good w n) × (memb (w .text) ws ≡ false)
     go (good v m) h e = new v m h (memb (v .text) ws) refl e
     go (bad p) h e = let z : _≡_ {A = ℕ} 0 1 = cc in absurd (omega arith)
+
+-- a new name is wrong where it starts
+pub new-place : (s : List ℕ) (ws : List Word) (at : ℕ) {p : ℕ} → newName s ws at ≡ bad p → p ≡ at
+unfolding newName
+new-place s ws at {p} e = go (nameAt s at) refl e
+  where
+    new : (w : Word) (n : ℕ) (b : Bool) → cond b (bad at) (good w n) ≡ bad p → p ≡ at
+    new w n true k = cc
+    new w n false k = cc
+
+    go : (a : Ans Word) → nameAt s at ≡ a → bind a (λ w n. cond (memb (w .text) ws) (bad at) (good w n)) ≡ bad p → p ≡ at
+    go (good w n) h k = new w n (memb (w .text) ws) k
+    go (bad q) h k = let z : q ≡ p = cc in sym z ∙ name-place s at h
 
 -- a name that is wrong was not read
 not-bytes : (r : Name) {p first len : ℕ} {X : Type 0} → r ≡ Wrong p → r ≡ Bytes first len → X

@@ -30,22 +30,26 @@ abbrev pub firstBy : {A B : Type 0} → (name : A → Word) → (f : A → B) �
 firstBy name f t [] d = d
 firstBy name f t (a ∷ l) d = cond (same (name a .text) t) (f a) (firstBy name f t l d)
 
--- a name is among the words
+-- a name is among the names of a list; one more, unless its name is there; and so one after another
+module _ {A : Type 0} (name : A → List ℕ) where
+  unfoldable pub among : List ℕ → List A → Bool
+  among t [] = false
+  among t (a ∷ l) = same (name a) t || among t l
+
+  abbrev pub addNew : List A → A → List A
+  addNew l a = cond (among (name a) l) l (l ++ (a ∷ []))
+
+  unfoldable pub addAll : List A → List A → List A
+  addAll l [] = l
+  addAll l (a ∷ more) = addAll (addNew l a) more
+
+-- the same of words
 abbrev pub memb : List ℕ → List Word → Bool
-memb t [] = false
-memb t (w ∷ ws) = same (w .text) t || memb t ws
+memb t ws = among (λ (w : Word). w .text) t ws
 
 -- a name that is none of those before it; a repeated one is wrong where it comes again
 unfoldable pub newName : List ℕ → (before : List Word) → ℕ → Ans Word
 newName s before at = bind (nameAt s at) (λ w n. cond (memb (w .text) before) (bad at) (good w n))
-
--- a word more, unless its bytes are there; and so one after another
-abbrev pub addNew : List Word → Word → List Word
-addNew ws w = cond (memb (w .text) ws) ws (ws ++ (w ∷ []))
-
-abbrev pub addAll : List Word → List Word → List Word
-addAll ws [] = ws
-addAll ws (v ∷ vs) = addAll (addNew ws v) vs
 
 -- ---- the table
 

@@ -16,8 +16,8 @@ use Rattle.form.specs.declared.Number.the-variants.{Value, Wrong as WrongNumber
 use Rattle.form.specs.declared.Name.{Name}
 use Rattle.form.specs.declared.Name.the-variants.{Bytes, Wrong as WrongName}
 use Rattle.form.proofs.Bounds.{name-end, name-place}
-use Rattle.index.proofs.Taking.{new-read}
-use Rattle.index.specs.Names.{memb, newName, namesIn, Indexed, Cleared, Space, Taken}
+use Rattle.index.proofs.Taking.{new-read, new-place}
+use Rattle.index.specs.Names.{newName, namesIn, Indexed, Cleared, Space, Taken}
 use Rattle.index.proofs.Insert.{none-yet}
 use Rattle.image.specs.Library.{Module, ImportOnly}
 use Rattle.image.specs.Image.{mostModules, mostNames, leastRevisions, mostRevisions, Reader, countAt, counted, anyWord, revisionAt, moduleAt, importOnlyAt}
@@ -108,20 +108,6 @@ modules-entries s at = counted-same (λ (m : Module). m .name) moduleAt (entryAt
 pub import-only-entries : (s : List ℕ) (at : ℕ) → done (counted 0 mostModules importOnlyAt s at) ≡ done (entriesAt true s at)
 unfolding entriesAt
 import-only-entries s at = counted-same (λ (m : ImportOnly). m .name) importOnlyAt (entryAt true) s (import-only-entry s) 0 mostModules at
-
--- ---- a new name is a name, wrong where it starts
-
-new-place : (s : List ℕ) (ws : List Word) (at : ℕ) {p : ℕ} → newName s ws at ≡ bad p → p ≡ at
-unfolding newName
-new-place s ws at {p} e = go (nameAt s at) refl e
-  where
-    test : (b : Bool) (v : Word) (m : ℕ) → cond b (bad at) (good v m) ≡ bad p → p ≡ at
-    test true v m e = cc
-    test false v m e = cc
-
-    go : (r : Ans Word) → nameAt s at ≡ r → bind r (λ v m. cond (memb (v .text) ws) (bad at) (good v m)) ≡ bad p → p ≡ at
-    go (good v m) h e = test (memb (v .text) ws) v m e
-    go (bad q) h e = let z : q ≡ p = cc in sym z ∙ name-place s at h
 
 -- ---- the ways out of `take_entry`
 

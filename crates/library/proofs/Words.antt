@@ -9,16 +9,16 @@ use lib.ListN.{length, take, drop}
 use mir.Syntax.{w64}
 use mir.Val.{Fits}
 use Rattle.text.specs.Keyword.{same}
-use Rattle.text.proofs.KeywordLaws.{same-yes, same-no}
-use Rattle.text.proofs.Here.{never}
+use Rattle.text.proofs.Here.{or-none}
 use Rattle.form.specs.Form.{Ans, good, bad, bind, Word, wordAt, numberSeen, nameAt, nameSeen, many}
 use Rattle.form.specs.declared.Cursor.{Cursor}
 use Rattle.form.specs.declared.Number.{Number}
 use Rattle.form.specs.declared.Number.the-variants.{Value, Wrong as WrongNumber}
 use Rattle.form.specs.declared.Name.{Name}
 use Rattle.form.specs.declared.Name.the-variants.{Bytes, Wrong}
-use Rattle.form.proofs.Bounds.{spanned, missed, name-end, name-place, part-word}
-use Rattle.index.specs.Names.{memb, newName}
+use Rattle.form.proofs.Bounds.{spanned, missed, name-end, name-place, part-word, compared}
+use Rattle.index.specs.Names.{among, memb, newName}
+use Rattle.index.proofs.First.{among-append}
 use Rattle.image.specs.Image.{mostNames, countAt}
 use Rattle.image.proofs.Steps.{on-good, passed}
 use Rattle.library.specs.Reading.{done, onAns, wordOf, listAt, amongAt, wordBehind}
@@ -41,19 +41,15 @@ module _ (s t : List ℕ) where
 
   module _ (count from left at : ℕ) (r : Name) (first len : ℕ) {b : Bool} (e : Same count from left at) (q : r ≡ Bytes first len) (f : nameSeen s r ≡ nameAt s at)
       (k : (b ≡ true → take (first + len - first) (drop first s) ≡ t) × (take (first + len - first) (drop first s) ≡ t → b ≡ true)) where
-    compared : (x : Bool) → b ≡ x → same (wordAt s first len .text) t ≡ x
-    compared true y = same-yes _ _ (sym (part-word s first len) ∙ k .0 y)
-    compared false y = same-no _ _ (λ z. never y (k .1 (part-word s first len ∙ z)))
-
     one : 0 < left → amongAt left s at t ≡ cond (same (wordAt s first len .text) t) true (amongAt (left - 1) s (first + len) t)
     unfolding amongAt
     one h = let d : left ≡ suc (left - 1) = omega arith in ap (λ (k : ℕ). amongAt k s at t) d ∙ rw (spanned s r at first len q f .read)
 
     pub is-it : b ≡ true → 0 < left → true ≡ amongAt count s from t
-    is-it y h = sym (e ∙ one h ∙ rw (compared true y))
+    is-it y h = sym (e ∙ one h ∙ rw (compared s t first len k true y))
 
     pub not-it : b ≡ false → 0 < left → Same count from (left - 1) (first + len)
-    not-it y h = e ∙ one h ∙ rw (compared false y)
+    not-it y h = e ∙ one h ∙ rw (compared s t first len k false y)
 
 -- ---- the ways out of `read_word`
 
@@ -84,24 +80,10 @@ module _ (s : List ℕ) (differ : Bool) (from i at : ℕ) (r : Name) where
 
 -- ---- the words that were read
 
--- a word more
-memb-snoc : (t : List ℕ) (ws : List Word) (w : Word) → memb t (ws ++ (w ∷ [])) ≡ (memb t ws || (same (w .text) t || false))
-memb-snoc t [] w = refl
-memb-snoc t (v ∷ ws) w = go (same (v .text) t) (memb-snoc t ws w)
-  where
-    go : (b : Bool) → memb t (ws ++ (w ∷ [])) ≡ (memb t ws || (same (w .text) t || false))
-        → (b || memb t (ws ++ (w ∷ []))) ≡ ((b || memb t ws) || (same (w .text) t || false))
-    go true ih = refl
-    go false ih = ih
-
 -- the search over the bytes is the search in the words that were read from them
 among-seen : (s t : List ℕ) (k : ℕ) (seen : List Word) (at : ℕ) {ws : List Word} {n : ℕ} → many (wordOf true s) k seen at ≡ good ws n → memb t ws ≡ (memb t seen || amongAt k s at t)
-unfolding many amongAt newName
-among-seen s t zero seen at {ws} e = let q : seen ≡ ws = cc in rw (← q) (bool (memb t seen))
-  where
-    bool : (b : Bool) → b ≡ (b || false)
-    bool true = refl
-    bool false = refl
+unfolding many amongAt newName among
+among-seen s t zero seen at {ws} e = let q : seen ≡ ws = cc in rw (← q) (sym (or-none (memb t seen)))
 among-seen s t (suc k) seen at {ws} {n} e = go (nameAt s at) refl (λ w m. among-seen s t k (seen ++ (w ∷ [])) m) e
   where
     Ih : Type 0
@@ -115,7 +97,7 @@ among-seen s t (suc k) seen at {ws} {n} e = go (nameAt s at) refl (λ w m. among
     new : (w : Word) (m : ℕ) (b : Bool) → Ih → bind (cond b (bad at) (good w m)) (λ a n. many (wordOf true s) k (seen ++ (a ∷ [])) n) ≡ good ws n
         → memb t ws ≡ (memb t seen || cond (same (w .text) t) true (amongAt k s m t))
     new w m true ih e = let z : _≡_ {A = ℕ} 0 1 = cc in absurd (omega arith)
-    new w m false ih e = ih w m e ∙ rw (memb-snoc t seen w) (bool (memb t seen) (same (w .text) t) (amongAt k s m t))
+    new w m false ih e = ih w m e ∙ rw (among-append (λ (w : Word). w .text) t seen (w ∷ [])) (bool (memb t seen) (same (w .text) t) (amongAt k s m t))
 
     go : (r : Ans Word) → nameAt s at ≡ r → Ih → bind (bind r (λ w n. cond (memb (w .text) seen) (bad at) (good w n))) (λ a n. many (wordOf true s) k (seen ++ (a ∷ [])) n) ≡ good ws n
         → memb t ws ≡ (memb t seen || onAns r (λ w n. cond (same (w .text) t) true (amongAt k s n t)) (λ p. false))
@@ -124,7 +106,7 @@ among-seen s t (suc k) seen at {ws} {n} e = go (nameAt s at) refl (λ w m. among
 
 -- so what the code reads is the next of the list
 next-word : (differ : Bool) (s : List ℕ) {count from i at : ℕ} (g : Going (wordOf differ s) count from i at) → wordBehind differ s from i at ≡ wordOf differ s (g .seen) at
-unfolding wordBehind newName
+unfolding wordBehind newName among
 next-word true s {count} {from} {i} {at} g = go (nameAt s at)
   where
     go : (r : Ans Word) → bind r (λ w n. cond (amongAt i s from (w .text)) (bad at) (good w n)) ≡ bind r (λ w n. cond (memb (w .text) (g .seen)) (bad at) (good w n))

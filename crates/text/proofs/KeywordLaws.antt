@@ -22,7 +22,7 @@ use Rattle.text.specs.declared.Match.the-variants.{After, Not}
 use Rattle.text.specs.declared.Run.the-variants.{Ident}
 use Rattle.text.proofs.ClassLaws.{class-high}
 use Rattle.text.proofs.Table.{at}
-use Rattle.text.proofs.Here.{by-test, here, past, rest, inside, never}
+use Rattle.text.proofs.Here.{by-test, here, past, rest, inside, never, both}
 use Rattle.text.proofs.Laws.{span-most, in-ident, run-more, run-from, run-within}
 
 -- a `match` on a number hands its keys over in their order as numbers
@@ -57,7 +57,7 @@ same-refl (x ∷ xs) = simp (eq-eqb x x refl, same-refl xs)
 pub same-yes : (xs ys : List ℕ) → xs ≡ ys → same xs ys ≡ true
 same-yes xs ys e = rw e (same-refl ys)
 
-same-eq : (xs ys : List ℕ) → same xs ys ≡ true → xs ≡ ys
+pub same-eq : (xs ys : List ℕ) → same xs ys ≡ true → xs ≡ ys
 unfolding same
 same-eq [] [] h = refl
 same-eq [] (y ∷ ys) h = cc
@@ -144,10 +144,6 @@ not-both : (p q : Bool) → (p ≡ true → q ≡ true → ⊥) → (p && q) ≡
 not-both true true h = absurd (h refl refl)
 not-both true false h = refl
 not-both false q h = refl
-
-both : (p q : Bool) → (p && q) ≡ true → (p ≡ true) × (q ≡ true)
-both true q h = (refl, h)
-both false q h = (h, absurd (never refl h))
 
 begins-room : (ws xs : List ℕ) → begins ws xs ≡ true → length ws ≤ length xs
 unfolding begins

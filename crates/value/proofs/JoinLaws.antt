@@ -36,7 +36,7 @@ use Rattle.value.proofs.ValueLaws.{part-length, more-plain, more-bare, 
 abbrev pub Size : List ℕ → ℕ → ℕ → ℕ → Type 0
 Size bs at e n = (at + length bs < e) × (e ≤ at + n)
 
-at-is : {k : Close} (a b : ℕ) → k ≡ At a → k ≡ At b → a ≡ b
+pub at-is : {k : Close} (a b : ℕ) → k ≡ At a → k ≡ At b → a ≡ b
 at-is a b e f = cc
 
 open-not : {k : Close} (a : ℕ) → k ≡ Open → k ≡ At a → ⊥
@@ -54,7 +54,7 @@ str-size q false (b ∷ xs) at e h =
     (λ u. let m = str-size q true xs (at + 1) e (rw u at k) in rw t (rw u (omega arith)))
     (λ u. let m = str-size q false xs (at + 1) e (rw u at k) in rw t (rw u (omega arith))))
 
-closed-end : (bs : List ℕ) (k : Close) (cs : List ℕ) (e : ℕ) → closedBy bs k ≡ whole cs e → (k ≡ At e) × (bs ≡ cs)
+pub closed-end : (bs : List ℕ) (k : Close) (cs : List ℕ) (e : ℕ) → closedBy bs k ≡ whole cs e → (k ≡ At e) × (bs ≡ cs)
 unfolding closedBy
 closed-end bs (At a) cs e h = (cc, cc)
 closed-end bs Open cs e h = (cc, cc)
