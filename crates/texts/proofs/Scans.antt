@@ -4,27 +4,24 @@
 use mathlib.Core.Path.{_≡_, refl, sym, ap, ap₂, subst, _∙_}
 use mathlib.Core.Bool.{false}
 use mathlib.Core.List.{List, [], _∷_}
-use Prim.Native.Nat.{ℕ, _<_, _≤_}
+use Prim.Native.Nat.{ℕ, _*_, _≤_}
 use native.Mathlib.Omega.{arith}
 use lib.ListN.{length}
 use lib.Seq.{sets}
+use borrow.Author.Tests.{le-ltb}
 use Rattle.text.specs.declared.Refusal.{Refusal}
-use Rattle.buffers.specs.Lent.{lentAt}
-use Rattle.buffers.specs.declared.Lent.{Lent}
-use Rattle.buffers.specs.declared.Lent.the-variants.{Fit, Unfit}
-use Rattle.buffers.proofs.LentLaws.{fit-said}
 use Rattle.rows.specs.Rows.{importsIn, includesIn, Each}
 use Rattle.rows.specs.declared.YangImport.{YangImport}
 use Rattle.rows.specs.declared.YangInclude.{YangInclude}
 use Rattle.rows.proofs.Values.{value-stored}
-use Rattle.yangparser.specs.Dependencies.{Dependencies, scanned, ifFit, dependencies, readOf}
-use Rattle.yangparser.specs.Promises.{Holds, Parses}
+use Rattle.yangparser.specs.Dependencies.{Dependencies, tooShort, dependencies, readOf}
+use Rattle.yangparser.specs.Promises.{Holds, lentScan, Scans}
 use Rattle.yangparser.specs.declared.Parsed.{Parsed}
 use Rattle.yangparser.specs.declared.Parsed.the-variants.{Good, Refused as RefusedScan}
-use Rattle.yangparser.proofs.KeptLaws.{parsed-good, parsed-refused, held-imports, held-includes}
+use Rattle.yangparser.proofs.KeptLaws.{entry-good, parsed-good, parsed-refused, held-imports, held-includes}
 use Rattle.yangparser.proofs.Placed.{ImportIn, IncludeIn}
 use Rattle.yangparser.proofs.ScanLaws.{Sound, scan-sound}
-use Rattle.graph.specs.Graph.{refusing, deps}
+use Rattle.graph.specs.Graph.{deps}
 use Rattle.texts.specs.Texts.{importNames, includeNames, scanSeen, scanText, SeenAs, ScanRoom}
 use Rattle.texts.specs.declared.Seen.the-variants.{Refused, Rows}
 
@@ -56,40 +53,39 @@ module _ {s : List ℕ} (x : Dependencies) (k : Sound s x) {d t u e f g : List �
 
 -- ---- the ways out of `scan_text`
 
-module _ (s : List ℕ) {lent : Lent} (a : lent ≡ lentAt s false) where
-  fit-text : lent ≡ Fit → scanText s ≡ scanSeen (scanned s)
-  unfolding scanText dependencies ifFit
-  fit-text e = ap (λ l. scanSeen (ifFit l (scanned s))) (sym a ∙ e)
+-- with room, nothing is too short
+module _ (s : List ℕ) {d t u : List ℕ} (m : ScanRoom (length s) d t u) where
+  enough : tooShort false (length s) (length d) (length t) (length u) ≡ false
+  unfolding tooShort
+  enough =
+      rw (le-ltb (length d) (length s) (m .store-room))
+      (rw (le-ltb (length t) (256 * 7) (m .import-room)) (rw (le-ltb (length u) (256 * 5) (m .include-room)) refl))
 
-  unfit-text : {r : Refusal} → lent ≡ Unfit r → scanText s ≡ refusing r
-  unfolding scanText dependencies ifFit
-  unfit-text e = ap (λ l. scanSeen (ifFit l (scanned s))) (sym a ∙ e)
+  text-is : scanText s ≡ scanSeen (lentScan s false d t u)
+  unfolding scanText
+  text-is = ap (λ b. scanSeen (dependencies s b)) (sym enough)
 
-  pub scan-unfit : (d t u : List ℕ) {r : Refusal} → lent ≡ Unfit r → SeenAs (scanText s) d t u (Refused r) d t u
-  scan-unfit d t u e = record { seen = sym (unfit-text e); few = tt; kept-store = refl; kept-imports = refl; kept-includes = refl }
-
-  pub words-fit : lent ≡ Fit → length s < 4294967296
-  words-fit e = omega (arith, fit-said s false (sym a ∙ e) .0)
-
-  module _ (fits : lent ≡ Fit) {d t u : List ℕ} {r : Parsed} {e f g : List ℕ} (p : Parses s d t u r e f g) (m : ScanRoom (length s) d t u)
+  module _ {r : Parsed} {e f g : List ℕ} (p : Scans s false d t u r e f g)
       (el : length e ≡ length d) (fl : length f ≡ length t) (gl : length g ≡ length u) where
     pub scan-refused : {q : Refusal} → r ≡ RefusedScan q → SeenAs (scanText s) d t u (Refused q) e f g
     scan-refused {q} h =
-        let k = parsed-refused (scanned s) q (sym (p .answer) ∙ h) in
-        record { seen = sym (fit-text fits ∙ ap scanSeen (k .1)); few = tt; kept-store = el; kept-imports = fl; kept-includes = gl }
+        let k = parsed-refused (lentScan s false d t u) q (sym (p .answer) ∙ h) in
+        record { seen = sym (text-is ∙ ap scanSeen (k .1)); few = tt; kept-store = el; kept-imports = fl; kept-includes = gl }
 
     pub scan-read : {i j n : ℕ} → r ≡ Good i j n → SeenAs (scanText s) d t u (Rows i j) e f g
     unfolding readOf
     scan-read {i} {j} {n} h =
-        let k = parsed-good (scanned s) i j n (sym (p .answer) ∙ h) in
+        let y = lentScan s false d t u in
+        let k = parsed-good y i j n (sym (p .answer) ∙ h) in
         let x = k .0 in
-        let w : Sound s x = subst (λ y. Sound s (readOf y)) (k .1) (scan-sound s) in
+        let good = entry-good s (tooShort false (length s) (length d) (length t) (length u)) x (k .1) in
+        let w : Sound s x = subst (λ y. Sound s (readOf y)) (good .0) (scan-sound s) in
         let o : Holds x d t u e f g = subst (λ y. Holds (readOf y) d t u e f g) (k .1) (p .holds) in
         record {
           seen =
               ap₂ (λ a b. deps (importNames e (importsIn f a)) (includeNames e (includesIn g b))) (k .2) (k .3)
               ∙ names-back x w o m
-              ∙ sym (fit-text fits ∙ ap scanSeen (k .1));
+              ∙ sym (text-is ∙ ap scanSeen (k .1));
           few = (omega (arith, k .2, w .few-imports), omega (arith, k .3, w .few-includes));
           kept-store = el;
           kept-imports = fl;

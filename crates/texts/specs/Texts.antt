@@ -6,7 +6,6 @@ use mathlib.Core.Path.{_≡_}
 use mathlib.Core.Bool.{false}
 use mathlib.Core.List.{List, map}
 use lib.ListN.{length, take, drop}
-use Rattle.text.specs.declared.Refusal.{Refusal}
 use Rattle.rows.specs.Span.{valueIn}
 use Rattle.rows.specs.Rows.{importSize, includeSize, mostRows, importsIn, includesIn}
 use Rattle.rows.specs.declared.YangImport.{YangImport}

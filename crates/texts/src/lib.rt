@@ -1,5 +1,4 @@
 // The text under a name, found in the bundle and scanned over whatever the lent tables hold.
-use buffers::Lent;
 use bundle::Place;
 use text::Refusal;
 use yangparser::Parsed;
@@ -19,20 +18,14 @@ fn scan_text(s: &[u8], store: &mut [u8], imports: &mut [u32], includes: &mut [u3
     requires { ⌜ ScanRoom (length (now s)) (now store) (now imports) (now includes) ⌝ }
     ensures { λ r. ⌜ SeenAs (scanText (now (s .entry))) (now (store .entry)) (now (imports .entry)) (now (includes .entry)) r (now (store .exit)) (now (imports .exit)) (now (includes .exit)) ⌝ }
 {
-    let classes = text::classes();
-    match buffers::check_lent(&classes, s, false) {
-        Lent::Unfit(r) => Seen::Refused(r),
-        Lent::Fit => {
-            let parsed = yangparser::parse(&classes, s, store, imports, includes);
-            match parsed {
-                Parsed::Good {
-                    imports: m,
-                    includes: n,
-                    used: _,
-                } => Seen::Rows(m, n),
-                Parsed::Refused(r) => Seen::Refused(r),
-            }
-        }
+    let parsed = yangparser::scan_over(s, false, store, imports, includes);
+    match parsed {
+        Parsed::Good {
+            imports: m,
+            includes: n,
+            used: _,
+        } => Seen::Rows(m, n),
+        Parsed::Refused(r) => Seen::Refused(r),
     }
 }
 

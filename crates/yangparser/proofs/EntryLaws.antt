@@ -1,12 +1,11 @@
--- The entry: what a scan writes into zeros is what it read and zeros behind it, and a refusal leaves zeros, whatever was written before it.
+-- The entries: what a scan writes into zeros is what it read and zeros behind it, and a refusal leaves zeros, whatever was written before it.
 -- Assumes nothing.
 use mathlib.Core.Path.{_≡_, refl, sym, ap, subst, _∙_}
 use mathlib.Core.Bool.{Bool}
 use mathlib.Core.List.{List}
-use Prim.Native.Nat.{ℕ}
+use Prim.Native.Nat.{ℕ, _*_, _<_, _≤_}
 use native.Mathlib.Omega.{arith}
 use lib.ListN.{length}
-use Rattle.text.specs.Class.{classTable}
 use Rattle.text.specs.declared.Refusal.{Refusal}
 use Rattle.buffers.specs.Lent.{lentAt}
 use Rattle.buffers.specs.Padded.{zeros, padded}
@@ -16,19 +15,15 @@ use Rattle.buffers.proofs.Clears.{written-zero, padded-none}
 use Rattle.buffers.proofs.LentLaws.{fit-said}
 use Rattle.rows.specs.Rows.{importTable, includeTable, table}
 use Rattle.yangparser.specs.Dependencies.{Dependencies, none, importWordsOf, includeWordsOf, Scan, good, bad, scanned, tooShort, ifFit, dependencies, parsedOf, readOf, keptOf}
-use Rattle.yangparser.specs.Promises.{Parses, Cleared, Leaves, Extracts}
+use Rattle.yangparser.specs.Promises.{Holds, Parses, Leaves, lentScan, Scans, Extracts}
 use Rattle.yangparser.specs.declared.Parsed.{Parsed}
 use Rattle.yangparser.specs.declared.Parsed.the-variants.{Good, Refused}
 use Rattle.yangparser.proofs.ShortLaws.{long-enough}
 use Rattle.yangparser.proofs.LoopLaws.{import-words-count, include-words-count}
-use Rattle.yangparser.proofs.ScanLaws.{scan-sound}
+use Rattle.yangparser.proofs.ScanLaws.{Sound, scan-sound}
+use Rattle.yangparser.proofs.KeptLaws.{parsed-good, entry-good}
 
 -- ---- what is kept
-
-kept-good : (x : Scan) (i j n : ℕ) → parsedOf x ≡ Good i j n → keptOf x ≡ readOf x
-unfolding parsedOf keptOf readOf
-kept-good (good d) i j n h = refl
-kept-good (bad r d) i j n h = let z : _≡_ {A = ℕ} 0 1 = cc in absurd (omega arith)
 
 kept-bad : (x : Scan) (r : Refusal) → parsedOf x ≡ Refused r → keptOf x ≡ none
 unfolding parsedOf keptOf
@@ -52,62 +47,59 @@ unfolding importWordsOf includeWordsOf importTable includeTable table
 leaves-zero x d t u k a p q w =
     leaves-is x none d t u k a (p ∙ padded-none (length d)) (q ∙ padded-none (length t)) (w ∙ padded-none (length u))
 
--- ---- the scan over zeros; e, f and g: after it
+-- ---- the scan over what was lent, d, t and u
 
-module _ {classes s d t u : List ℕ} (c : Cleared classes s d t u) {p : Parsed} {e f g : List ℕ} (w : Parses s d t u p e f g) where
-  pub leaves-good : (i j n : ℕ) → p ≡ Good i j n → Leaves (scanned s) d t u p e f g
-  leaves-good i j n h =
-      let x = readOf (scanned s) in
-      let k = scan-sound s in
-      leaves-is (scanned s) x d t u (kept-good (scanned s) i j n (sym (w .answer) ∙ h)) (w .answer)
-      (written-zero d (x .bytes) (c .store) (w .holds .stored) (omega (arith, k .short, c .room)))
-      (written-zero t (importWordsOf x) (c .imports) (w .holds .imports) (omega (arith, k .few-imports, import-words-count x, c .importRoom)))
-      (written-zero u (includeWordsOf x) (c .includes) (w .holds .includes) (omega (arith, k .few-includes, include-words-count x, c .includeRoom)))
+module _ (s : List ℕ) (else : Bool) (d t u : List ℕ) {short : Bool} (se : short ≡ tooShort else (length s) (length d) (length t) (length u))
+    {lent : Lent} (le : lent ≡ lentAt s short) where
+  scan-is : {x : Lent} → lent ≡ x → lentScan s else d t u ≡ ifFit x (scanned s)
+  unfolding dependencies
+  scan-is h = ap (λ b. ifFit (lentAt s b) (scanned s)) (sym se) ∙ ap (λ l. ifFit l (scanned s)) (sym le ∙ h)
 
-  pub leaves-refused : (r : Refusal) → p ≡ Refused r → length e ≡ length d → length f ≡ length t → length g ≡ length u
-      → {e′ f′ g′ : List ℕ} → e′ ≡ zeros (length e) → f′ ≡ zeros (length f) → g′ ≡ zeros (length g) → Leaves (scanned s) d t u p e′ f′ g′
-  leaves-refused r h l m n a b q =
-      leaves-zero (scanned s) d t u (kept-bad (scanned s) r (sym (w .answer) ∙ h)) (w .answer) (a ∙ ap zeros l) (b ∙ ap zeros m) (q ∙ ap zeros n)
+  pub over-fits : lent ≡ Fit
+      → (length s ≤ length d) × (length s < 4294967296) × (256 * 7 ≤ length t) × (256 * 5 ≤ length u)
+  over-fits h =
+      let k = fit-said s short (sym le ∙ h) in
+      let l = long-enough else (length s) (length d) (length t) (length u) (sym se ∙ k .1) in
+      (l .0, omega (arith, k .0), l .1, l .2)
 
--- ---- the entry; d, t and u: what was lent, e, f and g: the same cleared
+  pub over-scanned : lent ≡ Fit → {r : Parsed} {e f g : List ℕ} → Parses (scanned s) d t u r e f g → Scans s else d t u r e f g
+  unfolding ifFit
+  over-scanned h {r} {e} {f} {g} w = subst (λ x. Parses x d t u r e f g) (sym (scan-is h)) w
+
+  pub over-refused : (r : Refusal) → lent ≡ Unfit r → Scans s else d t u (Refused r) d t u
+  unfolding ifFit readOf parsedOf importWordsOf includeWordsOf importTable includeTable table
+  over-refused r h =
+      subst (λ x. Parses x d t u (Refused r) d t u) (sym (scan-is h))
+      (record { answer = refl; holds = record { stored = refl; imports = refl; includes = refl } })
+
+-- ---- the entry; d, t and u: what was lent, e, f and g: the same cleared, after the scan e′, f′ and g′
 
 module _ (s : List ℕ) (else : Bool) (d t u : List ℕ) {e f g : List ℕ} (ee : e ≡ zeros (length d)) (fe : f ≡ zeros (length t)) (ge : g ≡ zeros (length u))
     (el : length e ≡ length d) (fl : length f ≡ length t) (gl : length g ≡ length u)
-    {short : Bool} (se : short ≡ tooShort else (length s) (length e) (length f) (length g)) {lent : Lent} (le : lent ≡ lentAt s short) where
-  short-is : short ≡ tooShort else (length s) (length d) (length t) (length u)
-  short-is = se ∙ rw el (rw fl (rw gl refl))
+    {p : Parsed} {e′ f′ g′ : List ℕ} (w : Scans s else e f g p e′ f′ g′) where
+  lent-is : lentScan s else e f g ≡ lentScan s else d t u
+  lent-is = rw el (rw fl (rw gl refl))
 
-  scan-is : {x : Lent} → lent ≡ x → dependencies s (tooShort else (length s) (length d) (length t) (length u)) ≡ ifFit x (scanned s)
-  unfolding dependencies
-  scan-is h = ap (λ b. ifFit (lentAt s b) (scanned s)) (sym short-is) ∙ ap (λ l. ifFit l (scanned s)) (sym le ∙ h)
+  pub entry-scanned : (i j n : ℕ) → p ≡ Good i j n → Extracts s else d t u p e′ f′ g′
+  unfolding readOf keptOf
+  entry-scanned i j n h =
+      let k = parsed-good (lentScan s else e f g) i j n (sym (w .answer) ∙ h) in
+      let x = k .0 in
+      let good = entry-good s (tooShort else (length s) (length e) (length f) (length g)) x (k .1) in
+      let l = long-enough else (length s) (length e) (length f) (length g) (good .2) in
+      let read : Sound s x = subst (λ y. Sound s (readOf y)) (good .0) (scan-sound s) in
+      let v : Holds x e f g e′ f′ g′ = subst (λ y. Holds (readOf y) e f g e′ f′ g′) (k .1) (w .holds) in
+      let y = lentScan s else d t u in
+      leaves-is y x d t u (ap keptOf (sym lent-is ∙ k .1)) (w .answer ∙ ap parsedOf lent-is)
+      (written-zero e (x .bytes) (ee ∙ ap zeros (sym el)) (v .stored) (omega (arith, read .short, l .0)) ∙ ap (λ n. padded n (x .bytes)) el)
+      (written-zero f (importWordsOf x) (fe ∙ ap zeros (sym fl)) (v .imports) (omega (arith, read .few-imports, import-words-count x, l .1))
+      ∙ ap (λ n. padded n (importWordsOf x)) fl)
+      (written-zero g (includeWordsOf x) (ge ∙ ap zeros (sym gl)) (v .includes) (omega (arith, read .few-includes, include-words-count x, l .2))
+      ∙ ap (λ n. padded n (includeWordsOf x)) gl)
 
-  pub entry-cleared : lent ≡ Fit → {classes : List ℕ} → classes ≡ classTable → Cleared classes s e f g
-  entry-cleared h ce =
-      let k = fit-said s short (sym le ∙ h) in
-      let l = long-enough else (length s) (length e) (length f) (length g) (sym se ∙ k .1) in
-      record {
-        table = ce;
-        store = ee ∙ ap zeros (sym el);
-        imports = fe ∙ ap zeros (sym fl);
-        includes = ge ∙ ap zeros (sym gl);
-        room = l .0;
-        words = omega (arith, k .0);
-        importRoom = l .1;
-        includeRoom = l .2;
-      }
-
-  pub entry-scanned : lent ≡ Fit → {r : Parsed} {e′ f′ g′ : List ℕ} → Leaves (scanned s) e f g r e′ f′ g′ → Extracts s else d t u r e′ f′ g′
-  unfolding ifFit
-  entry-scanned h {r} {e′} {f′} {g′} w =
-      subst (λ x. Leaves x d t u r e′ f′ g′) (sym (scan-is h))
-      (record {
-        answer = w .answer;
-        stored = w .stored ∙ ap (λ n. padded n (keptOf (scanned s) .bytes)) el;
-        imports = w .imports ∙ ap (λ n. padded n (importWordsOf (keptOf (scanned s)))) fl;
-        includes = w .includes ∙ ap (λ n. padded n (includeWordsOf (keptOf (scanned s)))) gl;
-      })
-
-  pub entry-refused : (r : Refusal) → lent ≡ Unfit r → Extracts s else d t u (Refused r) e f g
-  unfolding ifFit keptOf parsedOf
-  entry-refused r h =
-      subst (λ x. Leaves x d t u (Refused r) e f g) (sym (scan-is h)) (leaves-zero (bad r none) d t u refl refl ee fe ge)
+  pub entry-refused : (r : Refusal) → p ≡ Refused r → length e′ ≡ length e → length f′ ≡ length f → length g′ ≡ length g
+      → {e″ f″ g″ : List ℕ} → e″ ≡ zeros (length e′) → f″ ≡ zeros (length f′) → g″ ≡ zeros (length g′) → Extracts s else d t u p e″ f″ g″
+  entry-refused r h l m n {e″} {f″} {g″} a b q =
+      let x = lentScan s else e f g in
+      subst (λ y. Leaves y d t u p e″ f″ g″) lent-is
+      (leaves-zero x d t u (kept-bad x r (sym (w .answer) ∙ h)) (w .answer) (a ∙ ap zeros (l ∙ el)) (b ∙ ap zeros (m ∙ fl)) (q ∙ ap zeros (n ∙ gl)))

@@ -106,12 +106,12 @@ module _ {s d t u : List ℕ} where
           }
 
       -- x: the scan from here
-      read-ends : (x : Scan) → scanFrom s (record { far = far; read = j .read }) ≡ x → {p : Parsed} → p ≡ parsedOf x → Holds (readOf x) d t u e′ f′ g′ → Parses s d t u p e′ f′ g′
+      read-ends : (x : Scan) → scanFrom s (record { far = far; read = j .read }) ≡ x → {p : Parsed} → p ≡ parsedOf x → Holds (readOf x) d t u e′ f′ g′ → Parses (scanned s) d t u p e′ f′ g′
       read-ends x q a h =
           let k : scanned s ≡ x = sym (j .same) ∙ q in
           record { answer = a ∙ ap parsedOf (sym k); holds = subst (λ y. Holds (readOf y) d t u e′ f′ g′) (sym k) h }
 
-      pub read-done : r ≡ Done → Parses s d t u (Good (far .imports) (far .includes) (far .used)) e′ f′ g′
+      pub read-done : r ≡ Done → Parses (scanned s) d t u (Good (far .imports) (far .includes) (far .used)) e′ f′ g′
       unfolding parsedOf readOf joined
       read-done h =
           let k = sym (w .answer) ∙ h in
@@ -124,7 +124,7 @@ module _ {s d t u : List ℕ} where
           let b : far .used ≡ length (x .bytes ++ y .bytes) = omega (arith, c .used, length-append (x .bytes) (y .bytes), ap (λ z. length (z .bytes)) n) in
           read-ends (good (joined x y)) (scan-done s (record { far = far; read = x }) k) (good-is i l b) read-holds
 
-      pub read-refused : (q : Refusal) → r ≡ Stop q → Parses s d t u (Refused q) e′ f′ g′
+      pub read-refused : (q : Refusal) → r ≡ Stop q → Parses (scanned s) d t u (Refused q) e′ f′ g′
       unfolding parsedOf readOf
       read-refused q h =
           let k = sym (w .answer) ∙ h in

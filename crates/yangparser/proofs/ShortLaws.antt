@@ -5,7 +5,7 @@ use mathlib.Core.Bool.{Bool, true, false, _||_}
 use Prim.Native.Nat.{ℕ, _*_, _<_, _≤_}
 use lib.Dec.{ltb}
 use borrow.Author.Tests.{lt-ltb, le-ltb, ltb-false}
-use Rattle.text.proofs.Here.{never}
+use Rattle.text.proofs.Here.{neither}
 use Rattle.yangparser.specs.Dependencies.{tooShort}
 
 module _ (short : Bool) (text store imports includes : ℕ) where
@@ -35,7 +35,3 @@ module _ (short : Bool) (text store imports includes : ℕ) where
       let q = neither (short || ltb store text) (ltb imports (256 * 7)) (p .0) in
       let o = neither short (ltb store text) (q .0) in
       (ltb-false store text (o .1), ltb-false imports (256 * 7) (q .1), ltb-false includes (256 * 5) (p .1))
-    where
-      neither : (a b : Bool) → (a || b) ≡ false → (a ≡ false) × (b ≡ false)
-      neither true b h = absurd (never h refl)
-      neither false b h = (refl, h)

@@ -1,15 +1,14 @@
 -- What the functions answer and leave. d, t and u: the store, the import table and the include table at entry; e, f and g: at exit.
 -- Assumes nothing.
-use Prim.Native.Nat.{ℕ, _*_, _≤_, _<_}
+use Prim.Native.Nat.{ℕ, _*_}
 use mathlib.Core.Path.{_≡_}
 use mathlib.Core.Bool.{Bool}
 use mathlib.Core.List.{List}
 use lib.ListN.{length}
 use lib.Seq.{sets}
-use Rattle.text.specs.Class.{classTable}
-use Rattle.buffers.specs.Padded.{zeros, padded}
-use Rattle.rows.specs.Rows.{importSize, includeSize, mostRows}
-use Rattle.yangparser.specs.Dependencies.{Dependencies, importWordsOf, includeWordsOf, Step, importHere, includeHere, Scan, scanned, tooShort, dependencies, parsedOf, readOf, keptOf}
+use Rattle.buffers.specs.Padded.{padded}
+use Rattle.rows.specs.Rows.{importSize, includeSize}
+use Rattle.yangparser.specs.Dependencies.{Dependencies, importWordsOf, includeWordsOf, Step, importHere, includeHere, Scan, tooShort, dependencies, parsedOf, readOf, keptOf}
 use Rattle.yangparser.specs.declared.Next.{Next}
 use Rattle.yangparser.specs.declared.Parsed.{Parsed}
 use Rattle.yangparser.specs.declared.Sofar.{Sofar}
@@ -39,21 +38,10 @@ pub record Holds (x : Dependencies) (d t u e f g : List ℕ) : Type 0 where
   pub imports : f ≡ sets t 0 (importWordsOf x)
   pub includes : g ≡ sets u 0 (includeWordsOf x)
 
--- the inner scan, on a refusal too
-pub record Parses (s d t u : List ℕ) (r : Parsed) (e f g : List ℕ) : Type 0 where
-  pub answer : r ≡ parsedOf (scanned s)
-  pub holds : Holds (readOf (scanned s)) d t u e f g
-
--- the lent slices are zero and long enough
-pub record Cleared (classes s d t u : List ℕ) : Type 0 where
-  pub table : classes ≡ classTable
-  pub store : d ≡ zeros (length d)
-  pub imports : t ≡ zeros (length t)
-  pub includes : u ≡ zeros (length u)
-  pub room : length s ≤ length d
-  pub words : length s < 4294967296
-  pub importRoom : mostRows * importSize ≤ length t
-  pub includeRoom : mostRows * includeSize ≤ length u
+-- a scan x over whatever was lent holds, on a refusal too
+pub record Parses (x : Scan) (d t u : List ℕ) (r : Parsed) (e f g : List ℕ) : Type 0 where
+  pub answer : r ≡ parsedOf x
+  pub holds : Holds (readOf x) d t u e f g
 
 -- what an entry leaves of a scan x: all beyond what is used is zero, and on a refusal all
 pub record Leaves (x : Scan) (d t u : List ℕ) (r : Parsed) (e f g : List ℕ) : Type 0 where
@@ -63,5 +51,13 @@ pub record Leaves (x : Scan) (d t u : List ℕ) (r : Parsed) (e f g : List ℕ) 
   pub includes : g ≡ padded (length u) (includeWordsOf (keptOf x))
 
 -- the lengths lent are part of the input
+abbrev pub lentScan : List ℕ → Bool → List ℕ → List ℕ → List ℕ → Scan
+lentScan s short d t u = dependencies s (tooShort short (length s) (length d) (length t) (length u))
+
+-- scan_over
+abbrev pub Scans : List ℕ → Bool → List ℕ → List ℕ → List ℕ → Parsed → List ℕ → List ℕ → List ℕ → Type 0
+Scans s short d t u r e f g = Parses (lentScan s short d t u) d t u r e f g
+
+-- scan_lent, and with false extract_yang_dependencies
 abbrev pub Extracts : List ℕ → Bool → List ℕ → List ℕ → List ℕ → Parsed → List ℕ → List ℕ → List ℕ → Type 0
-Extracts s short d t u r e f g = Leaves (dependencies s (tooShort short (length s) (length d) (length t) (length u))) d t u r e f g
+Extracts s short d t u r e f g = Leaves (lentScan s short d t u) d t u r e f g

@@ -15,7 +15,7 @@ ghost use Rattle.text.specs.Words.{importWord, includeWord, organizationWord, c
 ghost use Rattle.rows.specs.Rows.{importSize, includeSize, mostRows};
 ghost use Rattle.yangparser.specs.Word.{lastAt, wordAt};
 ghost use Rattle.yangparser.specs.Dependencies.{tooShort, stepAt, scanned};
-ghost use Rattle.yangparser.specs.Promises.{AddsImport, AddsInclude, Steps, Parses, Cleared, Leaves, Extracts};
+ghost use Rattle.yangparser.specs.Promises.{AddsImport, AddsInclude, Steps, Parses, Scans, Extracts};
 
 // The refusal of this layer.
 pub const TOO_MANY: u32 = 10;
@@ -55,11 +55,37 @@ pub fn scan_lent(
     buffers::clear_bytes(store);
     buffers::clear_words(imports);
     buffers::clear_words(includes);
+    let parsed = scan_over(s, short, store, imports, includes);
+    match parsed {
+        Parsed::Good {
+            imports: _,
+            includes: _,
+            used: _,
+        } => parsed,
+        Parsed::Refused(_) => {
+            buffers::clear_bytes(store);
+            buffers::clear_words(imports);
+            buffers::clear_words(includes);
+            parsed
+        }
+    }
+}
+
+// The same over whatever was lent holds: it writes only what it uses, and clears nothing.
+pub fn scan_over(
+    s: &[u8],
+    short: bool,
+    store: &mut [u8],
+    imports: &mut [u32],
+    includes: &mut [u32],
+) -> Parsed
+    ensures { λ r. ⌜ Scans (now (s .entry)) short (now (store .entry)) (now (imports .entry)) (now (includes .entry)) r (now (store .exit)) (now (imports .exit)) (now (includes .exit)) ⌝ }
+{
     let classes = text::classes();
     let unfit = too_short(short, s.len(), store.len(), imports.len(), includes.len());
     let lent = buffers::check_lent(&classes, s, unfit);
     match lent {
-        Lent::Fit => parse_cleared(&classes, s, store, imports, includes),
+        Lent::Fit => parse(&classes, s, store, imports, includes),
         Lent::Unfit(r) => Parsed::Refused(r),
     }
 }
@@ -80,33 +106,6 @@ fn too_short(short: bool, text: usize, store: usize, imports: usize, includes: u
     includes < rows::MOST_ROWS * rows::INCLUDE_SIZE
 }
 
-// The scan over zeros. A refusal clears what it wrote.
-fn parse_cleared(
-    classes: &[u8; 128],
-    s: &[u8],
-    store: &mut [u8],
-    imports: &mut [u32],
-    includes: &mut [u32],
-) -> Parsed
-    requires { ⌜ Cleared (now classes) (now s) (now store) (now imports) (now includes) ⌝ }
-    ensures { λ r. ⌜ Leaves (scanned (now (s .entry))) (now (store .entry)) (now (imports .entry)) (now (includes .entry)) r (now (store .exit)) (now (imports .exit)) (now (includes .exit)) ⌝ }
-{
-    let parsed = parse(classes, s, store, imports, includes);
-    match parsed {
-        Parsed::Good {
-            imports: _,
-            includes: _,
-            used: _,
-        } => parsed,
-        Parsed::Refused(_) => {
-            buffers::clear_bytes(store);
-            buffers::clear_words(imports);
-            buffers::clear_words(includes);
-            parsed
-        }
-    }
-}
-
 // Where the scan stands, the store's next place, and the rows so far.
 pub struct Sofar {
     pub at: usize,
@@ -123,7 +122,7 @@ pub enum Next {
 }
 
 // Reads all imports and includes. It writes only what it uses: the store from its start on, and the rows.
-pub fn parse(
+fn parse(
     classes: &[u8; 128],
     s: &[u8],
     store: &mut [u8],
@@ -131,7 +130,7 @@ pub fn parse(
     includes: &mut [u32],
 ) -> Parsed
     requires { ⌜ (now classes ≡ classTable) × (length (now s) ≤ length (now store)) × (length (now s) < 4294967296) × (mostRows * importSize ≤ length (now imports)) × (mostRows * includeSize ≤ length (now includes)) ⌝ }
-    ensures { λ r. ⌜ Parses (now (s .entry)) (now (store .entry)) (now (imports .entry)) (now (includes .entry)) r (now (store .exit)) (now (imports .exit)) (now (includes .exit)) ⌝ }
+    ensures { λ r. ⌜ Parses (scanned (now (s .entry))) (now (store .entry)) (now (imports .entry)) (now (includes .entry)) r (now (store .exit)) (now (imports .exit)) (now (includes .exit)) ⌝ }
 {
     let mut far = Sofar {
         at: 0,

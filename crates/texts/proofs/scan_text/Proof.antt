@@ -1,33 +1,18 @@
 -- `texts::scan_text`. Each way out is one law of Scans.
 -- Assumes nothing.
+use Rattle.texts.proofs.Scans.{scan-read, scan-refused}
 use borrow.Author.Needs.{needs}
-use Rattle.texts.proofs.Scans.{words-fit, scan-unfit, scan-refused, scan-read}
 use Rattle.texts.proofs.scan_text.Statement.{statement}
 use Rattle.texts.proofs.scan_text.Tie as tie
 
-classes-requires : tie.Need-classes-requires
-classes-requires c κs = search needs
-
-check-lent-requires : tie.Need-check-lent-requires
-check-lent-requires c κs = search needs
-
-enum-known-r : tie.Need-enum-known-r
-enum-known-r c = search needs
-
-enum-told : tie.Need-enum-told
-enum-told c = search needs
-
-parse-requires : tie.Need-parse-requires
-parse-requires c κs = search (needs, words-fit)
+scan-over-requires : tie.Need-scan-over-requires
+scan-over-requires c κs = search needs
 
 enum-known-parsed : tie.Need-enum-known-parsed
 enum-known-parsed c = search needs
 
 enum-known-parsed-2 : tie.Need-enum-known-parsed-2
 enum-known-parsed-2 c = search needs
-
-returns : tie.Need-returns
-returns c = search scan-unfit
 
 same-length : tie.Need-same-length
 same-length c = search needs
@@ -38,8 +23,8 @@ same-length-2 c = search needs
 same-length-3 : tie.Need-same-length-3
 same-length-3 c = search needs
 
-returns-2 : tie.Need-returns-2
-returns-2 c = search scan-read
+returns : tie.Need-returns
+returns c = search scan-read
 
 same-length-4 : tie.Need-same-length-4
 same-length-4 c = search needs
@@ -50,26 +35,21 @@ same-length-5 c = search needs
 same-length-6 : tie.Need-same-length-6
 same-length-6 c = search needs
 
-returns-3 : tie.Need-returns-3
-returns-3 c = search scan-refused
+returns-2 : tie.Need-returns-2
+returns-2 c = search scan-refused
 
 pub scan-text-spec : {M : Type 1} → statement M
 scan-text-spec =
     tie.close
     (tie.spec
-    classes-requires
-    check-lent-requires
-    enum-known-r
-    enum-told
-    parse-requires
+    scan-over-requires
     enum-known-parsed
     enum-known-parsed-2
-    returns
     same-length
     same-length-2
     same-length-3
-    returns-2
+    returns
     same-length-4
     same-length-5
     same-length-6
-    returns-3)
+    returns-2)

@@ -1,6 +1,6 @@
--- `yangparser::scan_lent` meets its contract.
+-- `yangparser::scan_lent`. A good scan wrote into zeros what it read; a refused one is cleared again.
 -- Assumes nothing.
-use Rattle.yangparser.proofs.EntryLaws.{entry-cleared, entry-scanned, entry-refused}
+use Rattle.yangparser.proofs.EntryLaws.{entry-scanned, entry-refused}
 use borrow.Author.Needs.{needs}
 use Rattle.yangparser.proofs.scan_lent.Statement.{statement}
 use Rattle.yangparser.proofs.scan_lent.Tie as tie
@@ -14,35 +14,23 @@ clear-words-requires c κs = search needs
 clear-words-requires-2 : tie.Need-clear-words-requires-2
 clear-words-requires-2 c κs = search needs
 
-classes-requires : tie.Need-classes-requires
-classes-requires c κs = search needs
-
-too-short-requires : tie.Need-too-short-requires
-too-short-requires c κs = search needs
-
-check-lent-requires : tie.Need-check-lent-requires
-check-lent-requires c κs = search needs
+scan-over-requires : tie.Need-scan-over-requires
+scan-over-requires c κs = search needs
 
 enum-told : tie.Need-enum-told
 enum-told c = search needs
 
-parse-cleared-requires : tie.Need-parse-cleared-requires
-parse-cleared-requires c κs =
-    let told = c .before .before .before .before in
-    let check = told .before .before in
-    let short = check .before .before in
-    let classes = short .before in
-    let includes = classes .before .before .before in
-    let imports = includes .before .before .before .before in
-    let store = imports .before .before .before .before in
-    let a = store .before .before .before .before .before .before .args in
-    entry-cleared (a .s .now) (a .short) (a .store .now) (a .imports .now) (a .includes .now)
-    (store .clear-bytes .ensures) (imports .clear-words .ensures) (includes .clear-words2 .ensures)
-    (store .clear-bytes .kept .0) (imports .clear-words .kept .0) (includes .clear-words2 .kept .0)
-    (short .too-short .ensures) (check .check-lent .ensures) (told .enum-told .given .1) (classes .classes .ensures)
+enum-told-2 : tie.Need-enum-told-2
+enum-told-2 c = search needs
 
-enum-known-lent : tie.Need-enum-known-lent
-enum-known-lent c = search needs
+clear-bytes-requires-2 : tie.Need-clear-bytes-requires-2
+clear-bytes-requires-2 c κs = search needs
+
+clear-words-requires-3 : tie.Need-clear-words-requires-3
+clear-words-requires-3 c κs = search needs
+
+clear-words-requires-4 : tie.Need-clear-words-requires-4
+clear-words-requires-4 c κs = search needs
 
 same-length : tie.Need-same-length
 same-length c = search needs
@@ -66,7 +54,22 @@ same-length-6 : tie.Need-same-length-6
 same-length-6 c = search needs
 
 returns-2 : tie.Need-returns-2
-returns-2 c = search entry-refused
+returns-2 c =
+    let includes = c .before .before in
+    let imports = includes .before .before .before .before in
+    let store = imports .before .before .before .before in
+    let told = store .before .before in
+    let scan = told .before .before .before .before .before .before .before .before in
+    let clear-includes = scan .before .before .before .before .before .before in
+    let clear-imports = clear-includes .before .before .before .before in
+    let clear-store = clear-imports .before .before .before .before in
+    let a = clear-store .before .before .before .before .before .before .args in
+    let kept = scan .scan-over .kept in
+    entry-refused (a .s .now) (a .short) (a .store .now) (a .imports .now) (a .includes .now)
+    (clear-store .clear-bytes .ensures) (clear-imports .clear-words .ensures) (clear-includes .clear-words2 .ensures)
+    (clear-store .clear-bytes .kept .0) (clear-imports .clear-words .kept .0) (clear-includes .clear-words2 .kept .0)
+    (scan .scan-over .ensures) (told .enum-told2 .given .0 .0) (told .enum-told2 .given .1) (kept .1 .1 .0) (kept .1 .1 .1 .0) (kept .1 .1 .1 .1 .0)
+    (store .clear-bytes2 .ensures) (imports .clear-words3 .ensures) (includes .clear-words4 .ensures)
 
 pub scan-lent-spec : {M : Type 1} → statement M
 scan-lent-spec =
@@ -75,12 +78,12 @@ scan-lent-spec =
     clear-bytes-requires
     clear-words-requires
     clear-words-requires-2
-    classes-requires
-    too-short-requires
-    check-lent-requires
+    scan-over-requires
     enum-told
-    parse-cleared-requires
-    enum-known-lent
+    enum-told-2
+    clear-bytes-requires-2
+    clear-words-requires-3
+    clear-words-requires-4
     same-length
     same-length-2
     same-length-3
