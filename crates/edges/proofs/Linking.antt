@@ -105,16 +105,16 @@ module _ (edges spans edges₁ spans₁ : List ℕ) (count from to : ℕ) (g : S
         (decide v to);
   }
 
--- ---- the ways through `add_edge`
+-- ---- the ways through `add_edge`; i: the row of the node that the edge leads to
 
-module _ (edges spans : List ℕ) (count from to span : ℕ) (g : Spanned edges spans count) (q : span ≡ to * 2) where
-  pub look-in : to < mostNodes → getD spans (span + 1) 0 * 2 ≤ length edges
+module _ (edges spans : List ℕ) (count from to i : ℕ) (g : Spanned edges spans count) (q : i ≡ to) where
+  pub look-in : to < mostNodes → getD spans (i * 2 + 1) 0 * 2 ≤ length edges
   look-in t = rw q (span-in edges spans count g from to t)
 
-  pub look-up : to < mostNodes → getD spans span 0 ≤ getD spans (span + 1) 0
+  pub look-up : to < mostNodes → getD spans (i * 2) 0 ≤ getD spans (i * 2 + 1) 0
   look-up t = rw q (span-up edges spans count g from to t)
 
-  module _ {b : Bool} (k : b ≡ memFrom edges (row from to) (getD spans span 0) (getD spans (span + 1) 0 - getD spans span 0)) where
+  module _ {b : Bool} (k : b ≡ memFrom edges (row from to) (getD spans (i * 2) 0) (getD spans (i * 2 + 1) 0 - getD spans (i * 2) 0)) where
     looked : to < mostNodes → memR (row from to) (rowsIn count edges) ≡ b
     looked t =
         let k′ : b ≡ memFrom edges (row from to) (firstTo spans to) (lastTo spans to - firstTo spans to) = rw q at k in
@@ -128,7 +128,7 @@ module _ (edges spans : List ℕ) (count from to span : ℕ) (g : Spanned edges 
     unfolding addBy
     full z t l = record { seen = rw (looked t, z, rows-length, le-leb _ _ l); spanned = tt; kept-edges = refl; kept-spans = refl }
 
-    pub linked : {edges₁ spans₁ : List ℕ} → Laid edges spans count span from to edges₁ spans₁ → b ≡ false → from < mostNodes → to < mostNodes
+    pub linked : {edges₁ spans₁ : List ℕ} → Laid edges spans count (i * 2) from to edges₁ spans₁ → b ≡ false → from < mostNodes → to < mostNodes
         → count < mostEdges → Linked (rowsIn count edges) (row from to) edges spans (Count (count + 1)) edges₁ spans₁
     unfolding addBy
     linked {edges₁} {spans₁} p z f t l =

@@ -15,12 +15,11 @@ pub const SPAN_TABLE: usize = 2048;
 // A node's number. It is no place in the image and no index of a word.
 pub struct NodeIndex(pub u32);
 
-// Where the two words of a node start in a table that has two for each.
+// Which row is a node's, in a table with one for each. No other function makes a place of a NodeIndex; tables in the index's order go by its rows.
 pub fn node_row(v: NodeIndex) -> usize
-    ensures { λ r. ⌜ r ≡ v .0 * 2 ⌝ }
+    ensures { λ r. ⌜ r ≡ v .0 ⌝ }
 {
-    let n = v.0 as usize;
-    n * 2
+    v.0 as usize
 }
 
 // How many edges there are now; or there is no room for one more.
@@ -91,7 +90,7 @@ pub fn add_edge(
     requires { ⌜ Spanned (now edges) (now spans) count × (from .0 < mostNodes) × (to .0 < mostNodes) ⌝ }
     ensures { λ r. ⌜ Linked (rowsIn count (now (edges .entry))) (row (from .0) (to .0)) (now (edges .entry)) (now (spans .entry)) r (now (edges .exit)) (now (spans .exit)) ⌝ }
 {
-    let span = node_row(to);
+    let span = node_row(to) * 2;
     let first = spans[span] as usize;
     let last = spans[span + 1] as usize;
     let f = from.0;

@@ -6,7 +6,8 @@ use mathlib.Core.Bool.{cond}
 use Prim.Native.Nat.{ℕ}
 use Rattle.text.specs.Keyword.{same}
 use Rattle.image.specs.Library.{Name, PlainModule, PlainImportOnly, PlainSet, PlainLibrary, modulesOf, importOnlyOf, submodulesOf}
-use Rattle.graph.specs.Nodes.{passOver, among, addNodes, addGroups, nodesBy}
+use Rattle.index.specs.Names.{among, addAll}
+use Rattle.graph.specs.Nodes.{passOver, addGroups, nodesBy}
 use Rattle.graph.specs.Graph.{ScanAnswer, nought, Text, missing, refusing, deps, noEntryText, noIncludedText, scanRefused, unknownModule, unknownSubmodule, noNode, tooDeep, tooManyNodes, tooManyEdges, textSteps, edge, memE, addBy, run, Graph, graph, fault, walkFrom, graphOf}
 use Rattle.graph.specs.Numbers.{numberOf, row, memR, eachO, walkCodes, walkEntryCodes, drawn, drawFrom, codesAt, drawingIn, drawingOf}
 
@@ -107,10 +108,10 @@ examples =
     []
 
 all-right : map (λ (x : Example). graphOf passOver (x .nodeLimit) (x .edgeLimit) (find (x .bundle)) (x .library)) examples ≡ map (λ (x : Example). x .answer) examples
-unfolding examples find flatMap modulesOf importOnlyOf submodulesOf same among addNodes addGroups nodesBy textSteps memE addBy run walkFrom graphOf
+unfolding examples find flatMap modulesOf importOnlyOf submodulesOf same among addAll addGroups nodesBy textSteps memE addBy run walkFrom graphOf
 all-right = refl
 
 -- the first of them in numbers
 drawn-first : drawingOf passOver 8192 (find texts) two ≡ drawn (row 2 0 ∷ row 1 0 ∷ row 2 1 ∷ [])
-unfolding find flatMap modulesOf importOnlyOf submodulesOf same among addNodes addGroups nodesBy numberOf memR addBy eachO walkCodes walkEntryCodes drawFrom codesAt drawingIn drawingOf
+unfolding find flatMap modulesOf importOnlyOf submodulesOf same among addAll addGroups nodesBy numberOf memR addBy eachO walkCodes walkEntryCodes drawFrom codesAt drawingIn drawingOf
 drawn-first = refl

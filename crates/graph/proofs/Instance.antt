@@ -8,7 +8,8 @@ use mathlib.Core.Bool.{Bool, true, false, cond}
 use mathlib.Mathlib.Data.List.Nodup.{cons as nodup-cons}
 use Rattle.text.specs.Keyword.{same}
 use Rattle.image.specs.Library.{Name, PlainModule, PlainImportOnly, PlainLibrary, modulesOf, importOnlyOf, submodulesOf}
-use Rattle.graph.specs.Nodes.{passOver, among, addNodes, addGroups, nodesBy, memb}
+use Rattle.index.specs.Names.{among, addAll}
+use Rattle.graph.specs.Nodes.{passOver, addGroups, nodesBy, memb}
 use Rattle.graph.specs.Graph.{Text, deps, textSteps, edge, memE, addBy, run, graph, walkFrom, graphOf}
 use Rattle.graph.specs.Demand3.{allNames, Once, Permuted, Agree}
 use Rattle.graph.proofs.Tests.{both-bools, mem-memb}
@@ -58,9 +59,9 @@ agree : Agree (graphOf passOver 1024 8192 text one-set) (graphOf passOver 1024 8
 agree = demand3 passOver 1024 8192 text .permuted one-set two-sets permuted once
 
 first : graphOf passOver 1024 8192 text one-set ≡ graph ((109 ∷ []) ∷ (115 ∷ []) ∷ (98 ∷ []) ∷ (116 ∷ []) ∷ []) (edge (98 ∷ []) (109 ∷ []) ∷ edge (115 ∷ []) (109 ∷ []) ∷ edge (109 ∷ []) (98 ∷ []) ∷ [])
-unfolding text flatMap modulesOf importOnlyOf submodulesOf same among addNodes addGroups nodesBy textSteps memE addBy run walkFrom graphOf
+unfolding text flatMap modulesOf importOnlyOf submodulesOf same among addAll addGroups nodesBy textSteps memE addBy run walkFrom graphOf
 first = refl
 
 second : graphOf passOver 1024 8192 text two-sets ≡ graph ((98 ∷ []) ∷ (116 ∷ []) ∷ (109 ∷ []) ∷ (115 ∷ []) ∷ []) (edge (98 ∷ []) (109 ∷ []) ∷ edge (115 ∷ []) (109 ∷ []) ∷ edge (109 ∷ []) (98 ∷ []) ∷ [])
-unfolding text flatMap modulesOf importOnlyOf submodulesOf same among addNodes addGroups nodesBy textSteps memE addBy run walkFrom graphOf
+unfolding text flatMap modulesOf importOnlyOf submodulesOf same among addAll addGroups nodesBy textSteps memE addBy run walkFrom graphOf
 second = refl

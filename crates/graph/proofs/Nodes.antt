@@ -11,7 +11,8 @@ use Prim.Native.Nat.{_≤_}
 use native.Mathlib.Omega.{arith}
 use lib.ListN.{length, length-append}
 use Rattle.image.specs.Library.{Name, PlainModule, PlainImportOnly, PlainSet, PlainLibrary, modulesOf, importOnlyOf}
-use Rattle.graph.specs.Nodes.{Mode, passOver, Group, moduleGroup, revisionGroups, setGroups, groups, among, addNode, addNodes, addGroup, addGroups, nodesBy, itself, nodesOf, memb}
+use Rattle.index.specs.Names.{among, addNew, addAll}
+use Rattle.graph.specs.Nodes.{Mode, passOver, Group, moduleGroup, revisionGroups, setGroups, groups, addGroup, addGroups, nodesBy, itself, nodesOf, memb}
 use Rattle.graph.specs.Graph.{entryNames}
 use Rattle.graph.specs.Meaning.{Revised}
 use Rattle.graph.specs.Demand3.{groupNames, allNames}
@@ -26,28 +27,28 @@ snoc-nodup ns w q d = subst (λ l. List·Nodup l) (concat-eq-append ns w) (nodup
 snoc-only : (ns : List Name) (w v : Name) → List·Memᴰ v (ns ++ (w ∷ [])) → List·Memᴰ v ns ⊎ (v ≡ w)
 snoc-only ns w v m = ⊎-elim (λ o. inl o) (λ n. inr (List·Memᴰ·eq-of-singleton n)) (List·Memᴰ·append-cases ns m)
 
-add-nodup : (ns : List Name) (w : Name) → List·Nodup ns → List·Nodup (addNode itself ns w)
+add-nodup : (ns : List Name) (w : Name) → List·Nodup ns → List·Nodup (addNew itself ns w)
 add-nodup ns w d = go (memb w ns) refl
   where
     go : (t : Bool) → memb w ns ≡ t → List·Nodup (cond t ns (ns ++ (w ∷ [])))
     go true q = d
     go false q = snoc-nodup ns w q d
 
-add-kept : (ns : List Name) (w v : Name) → List·Memᴰ v ns → List·Memᴰ v (addNode itself ns w)
+add-kept : (ns : List Name) (w v : Name) → List·Memᴰ v ns → List·Memᴰ v (addNew itself ns w)
 add-kept ns w v m = go (memb w ns)
   where
     go : (t : Bool) → List·Memᴰ v (cond t ns (ns ++ (w ∷ [])))
     go true = m
     go false = Memᴰ·append-left (w ∷ []) m
 
-add-new : (ns : List Name) (w : Name) → List·Memᴰ w (addNode itself ns w)
+add-new : (ns : List Name) (w : Name) → List·Memᴰ w (addNew itself ns w)
 add-new ns w = go (memb w ns) refl
   where
     go : (t : Bool) → memb w ns ≡ t → List·Memᴰ w (cond t ns (ns ++ (w ∷ [])))
     go true q = memb-mem w ns q
     go false q = Memᴰ·append-right ns (List·Memᴰ·head refl)
 
-add-only : (ns : List Name) (w v : Name) → List·Memᴰ v (addNode itself ns w) → List·Memᴰ v ns ⊎ (v ≡ w)
+add-only : (ns : List Name) (w v : Name) → List·Memᴰ v (addNew itself ns w) → List·Memᴰ v ns ⊎ (v ≡ w)
 add-only ns w v m = go (memb w ns) m
   where
     go : (t : Bool) → List·Memᴰ v (cond t ns (ns ++ (w ∷ []))) → List·Memᴰ v ns ⊎ (v ≡ w)
@@ -56,51 +57,51 @@ add-only ns w v m = go (memb w ns) m
 
 -- ---- a list of names
 
-names-nodup : (ws ns : List Name) → List·Nodup ns → List·Nodup (addNodes itself ns ws)
-unfolding addNodes
+names-nodup : (ws ns : List Name) → List·Nodup ns → List·Nodup (addAll itself ns ws)
+unfolding addAll
 names-nodup [] ns d = d
-names-nodup (w ∷ ws) ns d = names-nodup ws (addNode itself ns w) (add-nodup ns w d)
+names-nodup (w ∷ ws) ns d = names-nodup ws (addNew itself ns w) (add-nodup ns w d)
 
-names-kept : (ws ns : List Name) (v : Name) → List·Memᴰ v ns → List·Memᴰ v (addNodes itself ns ws)
-unfolding addNodes
+names-kept : (ws ns : List Name) (v : Name) → List·Memᴰ v ns → List·Memᴰ v (addAll itself ns ws)
+unfolding addAll
 names-kept [] ns v m = m
-names-kept (w ∷ ws) ns v m = names-kept ws (addNode itself ns w) v (add-kept ns w v m)
+names-kept (w ∷ ws) ns v m = names-kept ws (addNew itself ns w) v (add-kept ns w v m)
 
-names-new : (ws ns : List Name) (v : Name) → List·Memᴰ v ws → List·Memᴰ v (addNodes itself ns ws)
-unfolding addNodes
+names-new : (ws ns : List Name) (v : Name) → List·Memᴰ v ws → List·Memᴰ v (addAll itself ns ws)
+unfolding addAll
 names-new [] ns v m = absurd (List·Memᴰ·not-nil m)
 names-new (w ∷ ws) ns v m =
-    ⊎-elim (λ p. names-kept ws (addNode itself ns w) v (Memᴰ·cast p (add-new ns w))) (λ n. names-new ws (addNode itself ns w) v n) (List·Memᴰ·cases-cons m)
+    ⊎-elim (λ p. names-kept ws (addNew itself ns w) v (Memᴰ·cast p (add-new ns w))) (λ n. names-new ws (addNew itself ns w) v n) (List·Memᴰ·cases-cons m)
 
-names-only : (ws ns : List Name) (v : Name) → List·Memᴰ v (addNodes itself ns ws) → List·Memᴰ v ns ⊎ List·Memᴰ v ws
-unfolding addNodes
+names-only : (ws ns : List Name) (v : Name) → List·Memᴰ v (addAll itself ns ws) → List·Memᴰ v ns ⊎ List·Memᴰ v ws
+unfolding addAll
 names-only [] ns v m = inl m
 names-only (w ∷ ws) ns v m =
     ⊎-elim
     (λ o. ⊎-elim (λ k. inl k) (λ p. inr (List·Memᴰ·head p)) (add-only ns w v o))
     (λ n. inr (List·Memᴰ·tail n))
-    (names-only ws (addNode itself ns w) v m)
+    (names-only ws (addNew itself ns w) v m)
 
 -- ---- a group
 
 group-nodup : (mode : Mode) (ns : List Name) (g : Group Name) → List·Nodup ns → List·Nodup (addGroup itself mode ns g)
 group-nodup passOver ns g d = go (memb (g .head) ns) refl
   where
-    go : (t : Bool) → memb (g .head) ns ≡ t → List·Nodup (cond t ns (addNodes itself (ns ++ (g .head ∷ [])) (g .subs)))
+    go : (t : Bool) → memb (g .head) ns ≡ t → List·Nodup (cond t ns (addAll itself (ns ++ (g .head ∷ [])) (g .subs)))
     go true q = d
     go false q = names-nodup (g .subs) (ns ++ (g .head ∷ [])) (snoc-nodup ns (g .head) q d)
 
 group-kept : (mode : Mode) (ns : List Name) (g : Group Name) (v : Name) → List·Memᴰ v ns → List·Memᴰ v (addGroup itself mode ns g)
 group-kept passOver ns g v m = go (memb (g .head) ns)
   where
-    go : (t : Bool) → List·Memᴰ v (cond t ns (addNodes itself (ns ++ (g .head ∷ [])) (g .subs)))
+    go : (t : Bool) → List·Memᴰ v (cond t ns (addAll itself (ns ++ (g .head ∷ [])) (g .subs)))
     go true = m
     go false = names-kept (g .subs) (ns ++ (g .head ∷ [])) v (Memᴰ·append-left (g .head ∷ []) m)
 
 group-head : (mode : Mode) (ns : List Name) (g : Group Name) → List·Memᴰ (g .head) (addGroup itself mode ns g)
 group-head passOver ns g = go (memb (g .head) ns) refl
   where
-    go : (t : Bool) → memb (g .head) ns ≡ t → List·Memᴰ (g .head) (cond t ns (addNodes itself (ns ++ (g .head ∷ [])) (g .subs)))
+    go : (t : Bool) → memb (g .head) ns ≡ t → List·Memᴰ (g .head) (cond t ns (addAll itself (ns ++ (g .head ∷ [])) (g .subs)))
     go true q = memb-mem (g .head) ns q
     go false q = names-kept (g .subs) (ns ++ (g .head ∷ [])) (g .head) (Memᴰ·append-right ns (List·Memᴰ·head refl))
 
@@ -108,7 +109,7 @@ group-only : (mode : Mode) (ns : List Name) (g : Group Name) (v : Name) → List
     → List·Memᴰ v ns ⊎ List·Memᴰ v (groupNames g)
 group-only passOver ns g v m = go (memb (g .head) ns) m
   where
-    go : (t : Bool) → List·Memᴰ v (cond t ns (addNodes itself (ns ++ (g .head ∷ [])) (g .subs))) → List·Memᴰ v ns ⊎ List·Memᴰ v (groupNames g)
+    go : (t : Bool) → List·Memᴰ v (cond t ns (addAll itself (ns ++ (g .head ∷ [])) (g .subs))) → List·Memᴰ v ns ⊎ List·Memᴰ v (groupNames g)
     go true m = inl m
     go false m =
         ⊎-elim
@@ -121,7 +122,7 @@ group-whole : (mode : Mode) (ns : List Name) (g : Group Name) (v : Name) → (Li
     → List·Memᴰ v (addGroup itself mode ns g)
 group-whole passOver ns g v f m = go (memb (g .head) ns) refl
   where
-    go : (t : Bool) → memb (g .head) ns ≡ t → List·Memᴰ v (cond t ns (addNodes itself (ns ++ (g .head ∷ [])) (g .subs)))
+    go : (t : Bool) → memb (g .head) ns ≡ t → List·Memᴰ v (cond t ns (addAll itself (ns ++ (g .head ∷ [])) (g .subs)))
     go true q = absurd (f (memb-mem (g .head) ns q))
     go false q =
         ⊎-elim
@@ -177,22 +178,22 @@ groups-whole mode (g ∷ gs) ns f d v m =
 -- ---- the list only grows: a name that is one too many on the way is one too many in the end
 
 module _ {A : Type 0} (name : A → Name) where
-  add-grows : (ns : List A) (w : A) → length ns ≤ length (addNode name ns w)
+  add-grows : (ns : List A) (w : A) → length ns ≤ length (addNew name ns w)
   add-grows ns w = go (among name (name w) ns)
     where
       go : (b : Bool) → length ns ≤ length (cond b ns (ns ++ (w ∷ [])))
       go true = omega arith
       go false = omega (arith, length-append ns (w ∷ []))
 
-  pub names-grow : (ws ns : List A) → length ns ≤ length (addNodes name ns ws)
-  unfolding addNodes
+  pub names-grow : (ws ns : List A) → length ns ≤ length (addAll name ns ws)
+  unfolding addAll
   names-grow [] ns = omega arith
-  names-grow (w ∷ ws) ns = omega (arith, add-grows ns w, names-grow ws (addNode name ns w))
+  names-grow (w ∷ ws) ns = omega (arith, add-grows ns w, names-grow ws (addNew name ns w))
 
   group-grows : (mode : Mode) (ns : List A) (g : Group A) → length ns ≤ length (addGroup name mode ns g)
   group-grows passOver ns g = go (among name (name (g .head)) ns)
     where
-      go : (b : Bool) → length ns ≤ length (cond b ns (addNodes name (ns ++ (g .head ∷ [])) (g .subs)))
+      go : (b : Bool) → length ns ≤ length (cond b ns (addAll name (ns ++ (g .head ∷ [])) (g .subs)))
       go true = omega arith
       go false = omega (arith, length-append ns (g .head ∷ []), names-grow (g .subs) (ns ++ (g .head ∷ [])))
 

@@ -12,10 +12,11 @@ use lib.ListN.{length, getD}
 use lib.Dec.{eqb}
 use borrow.Author.Tests.{eqb-true, eq-eqb}
 use Rattle.text.specs.Keyword.{same}
+use Rattle.text.proofs.KeywordLaws.{same-eq}
 use Rattle.image.specs.Library.{Name}
 use Rattle.graph.specs.Graph.{Edge, edge, memE}
 use Rattle.graph.specs.Numbers.{numberOf, Row, row, rowOf, eqR, memR}
-use Rattle.graph.proofs.Tests.{both-bools, same-eq, same-refl, memE-mem, mem-memE, edgeᴰ}
+use Rattle.graph.proofs.Tests.{both-bools, same-refl, memE-mem, mem-memE, edgeᴰ}
 
 -- ---- a node and its number
 
@@ -44,7 +45,7 @@ number-at (w ∷ ws) u d m = go (same w u) refl (number-at ws u d)
 pub number-inj : (ns : List Name) (u v : Name) → List·Memᴰ u ns → List·Memᴰ v ns → numberOf ns u ≡ numberOf ns v → u ≡ v
 number-inj ns u v m n h = sym (number-at ns u [] m) ∙ (ap (λ k. getD ns k []) h ∙ number-at ns v [] n)
 
-at-mem : (ns : List Name) (k : ℕ) (d : Name) → k < length ns → List·Memᴰ (getD ns k d) ns
+pub at-mem : (ns : List Name) (k : ℕ) (d : Name) → k < length ns → List·Memᴰ (getD ns k d) ns
 at-mem [] k d h = absurd (omega arith)
 at-mem (w ∷ ws) zero d h = List·Memᴰ·head refl
 at-mem (w ∷ ws) (suc k) d h = List·Memᴰ·tail (at-mem ws k d (le-of-suc-le-suc h))

@@ -6,7 +6,9 @@ use mathlib.Core.List.{List, [], _∷_, _++_, map, map-append, flatMap}
 use Rattle.text.specs.Keyword.{same}
 use Rattle.form.specs.Form.{Word}
 use Rattle.image.specs.Library.{Name, Module, ImportOnly, PlainModule, PlainImportOnly, Library, plainName, plainModule, plainImportOnly, plain, modulesOf, importOnlyOf, submodulesOf}
-use Rattle.graph.specs.Nodes.{Mode, among, memb, wordNodes, nodesOf}
+use Rattle.index.specs.Names.{among}
+use Rattle.index.proofs.First.{among-append, among-map}
+use Rattle.graph.specs.Nodes.{Mode, itself, memb, wordNodes, nodesOf}
 use Rattle.graph.specs.Graph.{EntryOf, Entry, moduleEntry, importEntry, setEntries, entries, entryNames, submoduleNames}
 use Rattle.graph.proofs.WordNodes.{among-names, node-names}
 
@@ -33,33 +35,16 @@ plain-submodules l = ap submodulesOf (plain-modules l) ∙ submodules-plain (mod
 
 -- ---- a name is among them
 
-among-append : (u : Name) (s t : List Name) → memb u (s ++ t) ≡ (memb u s || memb u t)
-unfolding among
-among-append u [] t = refl
-among-append u (w ∷ s) t = go (same w u) (among-append u s t)
-  where
-    go : (b : Bool) → memb u (s ++ t) ≡ (memb u s || memb u t) → (b || memb u (s ++ t)) ≡ ((b || memb u s) || memb u t)
-    go true ih = refl
-    go false ih = ih
-
-among-modules : (u : Name) (ms : List Module) → memb u (map (λ (m : PlainModule). m .name) (map plainModule ms)) ≡ among (λ (m : Module). plainName (m .name)) u ms
-unfolding among
-among-modules u [] = refl
-among-modules u (m ∷ ms) = ap (λ b. same (plainName (m .name)) u || b) (among-modules u ms)
-
-among-importOnly : (u : Name) (is : List ImportOnly)
-    → memb u (map (λ (i : PlainImportOnly). i .name) (map plainImportOnly is)) ≡ among (λ (i : ImportOnly). plainName (i .name)) u is
-unfolding among
-among-importOnly u [] = refl
-among-importOnly u (i ∷ is) = ap (λ b. same (plainName (i .name)) u || b) (among-importOnly u is)
+among-of : {A B : Type 0} (name : B → Name) (f : A → B) (u : Name) (l : List A) → memb u (map name (map f l)) ≡ among (λ a. name (f a)) u l
+among-of name f u l = among-map itself name u (map f l) ∙ among-map name f u l
 
 pub known-words : (u : Name) (l : Library)
     → memb u (entryNames (plain l)) ≡ (among (λ (m : Module). plainName (m .name)) u (modulesOf l) || among (λ (i : ImportOnly). plainName (i .name)) u (importOnlyOf l))
 known-words u l =
-    among-append u (map (λ (m : PlainModule). m .name) (modulesOf (plain l))) (map (λ (i : PlainImportOnly). i .name) (importOnlyOf (plain l)))
+    among-append itself u (map (λ (m : PlainModule). m .name) (modulesOf (plain l))) (map (λ (i : PlainImportOnly). i .name) (importOnlyOf (plain l)))
     ∙ ap₂ _||_
-    (ap (λ t. memb u (map (λ (m : PlainModule). m .name) t)) (plain-modules l) ∙ among-modules u (modulesOf l))
-    (ap (λ t. memb u (map (λ (i : PlainImportOnly). i .name) t)) (plain-importOnly l) ∙ among-importOnly u (importOnlyOf l))
+    (ap (λ t. memb u (map (λ (m : PlainModule). m .name) t)) (plain-modules l) ∙ among-of (λ (m : PlainModule). m .name) plainModule u (modulesOf l))
+    (ap (λ t. memb u (map (λ (i : PlainImportOnly). i .name) t)) (plain-importOnly l) ∙ among-of (λ (i : PlainImportOnly). i .name) plainImportOnly u (importOnlyOf l))
 
 pub listed-words : (u : Name) (l : Library) → memb u (submoduleNames (plain l)) ≡ among plainName u (submodulesOf (modulesOf l))
 listed-words u l = ap (memb u) (plain-submodules l) ∙ sym (among-names u (submodulesOf (modulesOf l)))

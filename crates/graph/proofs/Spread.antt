@@ -30,7 +30,7 @@ perm-lengthᴰ (List·Permᴰ·cons e d) = ap suc (perm-lengthᴰ d)
 perm-lengthᴰ (List·Permᴰ·swap e f) = refl
 perm-lengthᴰ (List·Permᴰ·trans d f) = perm-lengthᴰ d ∙ perm-lengthᴰ f
 
-perm-length : {A : Type 0} {l l₁ : List A} → Perm l l₁ → length l ≡ length l₁
+pub perm-length : {A : Type 0} {l l₁ : List A} → Perm l l₁ → length l ≡ length l₁
 perm-length {l = l} {l₁ = l₁} p = ∥∥₁-elim p (ℕ-set (length l) (length l₁)) perm-lengthᴰ
 
 perm-memᴰ : {ws xs : List Name} {v : Name} → Perm ws xs → List·Memᴰ v ws → List·Memᴰ v xs

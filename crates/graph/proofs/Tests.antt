@@ -4,29 +4,17 @@ use mathlib.Core.Path.{_≡_, refl, sym, ap, ap₂, _∙_, subst}
 use mathlib.Core.Logic.{⊎-elim, ∥∥₁-elim}
 use mathlib.Core.Bool.{Bool, true, false, cond, _&&_, _||_, true≢false, Bool-set}
 use mathlib.Core.List.{List, [], _∷_, _++_, append-assoc, flatMap, List·Mem, List·Memᴰ, List·Memᴰ·head, List·Memᴰ·tail, List·Memᴰ·append-cases, List·Memᴰ·not-nil, Memᴰ·append-left, Memᴰ·append-right}
-use lib.Dec.{eqb}
-use borrow.Author.Tests.{eqb-true}
 use Rattle.text.specs.Keyword.{same}
-use Rattle.text.proofs.KeywordLaws.{same-yes}
+use Rattle.text.proofs.KeywordLaws.{same-eq, same-yes}
 use Rattle.image.specs.Library.{Name}
-use Rattle.graph.specs.Nodes.{among, memb}
+use Rattle.index.specs.Names.{among}
+use Rattle.graph.specs.Nodes.{memb}
 use Rattle.graph.specs.Graph.{Edge, eqE, memE}
 
 pub both-bools : {b : Bool} {A : Type 0} → b ≡ true → b ≡ false → A
 both-bools p q = absurd (true≢false (sym p ∙ q))
 
 -- ---- names and edges
-
-pub same-eq : (u v : Name) → same u v ≡ true → u ≡ v
-unfolding same
-same-eq [] [] h = refl
-same-eq [] (b ∷ w) h = both-bools h refl
-same-eq (a ∷ v) [] h = both-bools h refl
-same-eq (a ∷ v) (b ∷ w) h = go (eqb a b) refl (same-eq v w) h
-  where
-    go : (t : Bool) → eqb a b ≡ t → (same v w ≡ true → v ≡ w) → (t && same v w) ≡ true → (a ∷ v) ≡ (b ∷ w)
-    go true q ih h = ap₂ _∷_ (eqb-true a b q) (ih h)
-    go false q ih h = both-bools h refl
 
 pub same-refl : (u : Name) → same u u ≡ true
 same-refl u = same-yes u u refl

@@ -1,12 +1,14 @@
 -- The names of the nodes with their places are the nodes of the library without places: whether a name is added hangs on names alone.
 -- Assumes nothing.
-use mathlib.Core.Path.{_≡_, refl, ap, ap₂, _∙_}
+use mathlib.Core.Path.{_≡_, refl, sym, ap, ap₂, _∙_}
 use mathlib.Core.Bool.{Bool, true, false, cond, _||_}
 use mathlib.Core.List.{List, [], _∷_, _++_, map, map-append, flatMap}
 use Rattle.text.specs.Keyword.{same}
 use Rattle.form.specs.Form.{Word}
 use Rattle.image.specs.Library.{Name, Module, ImportOnly, Library, plainName, plainModule, plainImportOnly, plain}
-use Rattle.graph.specs.Nodes.{Mode, passOver, Group, moduleGroup, revisionGroups, setGroups, groups, among, addNode, addNodes, addGroup, addGroups, nodesBy, itself, memb, wordNodes, nodesOf}
+use Rattle.index.specs.Names.{among, addNew, addAll}
+use Rattle.index.proofs.First.{among-map}
+use Rattle.graph.specs.Nodes.{Mode, passOver, Group, moduleGroup, revisionGroups, setGroups, groups, addGroup, addGroups, nodesBy, itself, memb, wordNodes, nodesOf}
 
 abbrev texts : List Word → List Name
 texts ws = map plainName ws
@@ -17,34 +19,32 @@ plainGroup g = record { head = plainName (g .head); subs = texts (g .subs) }
 -- ---- one after another
 
 pub among-names : (u : Name) (ws : List Word) → among plainName u ws ≡ memb u (map plainName ws)
-unfolding among
-among-names u [] = refl
-among-names u (w ∷ ws) = ap (λ b. same (plainName w) u || b) (among-names u ws)
+among-names u ws = sym (among-map itself plainName u ws)
 
 snoc-names : (ns : List Word) (w : Word) → texts (ns ++ (w ∷ [])) ≡ texts ns ++ (plainName w ∷ [])
 snoc-names ns w = map-append plainName ns (w ∷ [])
 
-node-added : (ns : List Word) (w : Word) → texts (addNode plainName ns w) ≡ addNode itself (texts ns) (plainName w)
+node-added : (ns : List Word) (w : Word) → texts (addNew plainName ns w) ≡ addNew itself (texts ns) (plainName w)
 node-added ns w = go (among plainName (plainName w) ns) ∙ ap (λ b. cond b (texts ns) (texts ns ++ (plainName w ∷ []))) (among-names (plainName w) ns)
   where
     go : (b : Bool) → texts (cond b ns (ns ++ (w ∷ []))) ≡ cond b (texts ns) (texts ns ++ (plainName w ∷ []))
     go true = refl
     go false = snoc-names ns w
 
-pub nodes-added : (ws ns : List Word) → map plainName (addNodes plainName ns ws) ≡ addNodes itself (map plainName ns) (map plainName ws)
-unfolding addNodes
+pub nodes-added : (ws ns : List Word) → map plainName (addAll plainName ns ws) ≡ addAll itself (map plainName ns) (map plainName ws)
+unfolding addAll
 nodes-added [] ns = refl
-nodes-added (w ∷ ws) ns = nodes-added ws (addNode plainName ns w) ∙ ap (λ l. addNodes itself l (texts ws)) (node-added ns w)
+nodes-added (w ∷ ws) ns = nodes-added ws (addNew plainName ns w) ∙ ap (λ l. addAll itself l (texts ws)) (node-added ns w)
 
 group-added : (mode : Mode) (ns : List Word) (g : Group Word) → texts (addGroup plainName mode ns g) ≡ addGroup itself mode (texts ns) (plainGroup g)
 group-added passOver ns g =
     go (among plainName (plainName (g .head)) ns)
-    ∙ ap (λ b. cond b (texts ns) (addNodes itself (texts ns ++ (plainName (g .head) ∷ [])) (texts (g .subs)))) (among-names (plainName (g .head)) ns)
+    ∙ ap (λ b. cond b (texts ns) (addAll itself (texts ns ++ (plainName (g .head) ∷ [])) (texts (g .subs)))) (among-names (plainName (g .head)) ns)
   where
     go : (b : Bool)
-        → texts (cond b ns (addNodes plainName (ns ++ (g .head ∷ [])) (g .subs))) ≡ cond b (texts ns) (addNodes itself (texts ns ++ (plainName (g .head) ∷ [])) (texts (g .subs)))
+        → texts (cond b ns (addAll plainName (ns ++ (g .head ∷ [])) (g .subs))) ≡ cond b (texts ns) (addAll itself (texts ns ++ (plainName (g .head) ∷ [])) (texts (g .subs)))
     go true = refl
-    go false = nodes-added (g .subs) (ns ++ (g .head ∷ [])) ∙ ap (λ l. addNodes itself l (texts (g .subs))) (snoc-names ns (g .head))
+    go false = nodes-added (g .subs) (ns ++ (g .head ∷ [])) ∙ ap (λ l. addAll itself l (texts (g .subs))) (snoc-names ns (g .head))
 
 groups-added : (mode : Mode) (gs : List (Group Word)) (ns : List Word)
     → texts (addGroups plainName mode ns gs) ≡ addGroups itself mode (texts ns) (map plainGroup gs)

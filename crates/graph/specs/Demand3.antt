@@ -21,7 +21,8 @@ allNames l = flatMap groupNames (groups l)
 
 -- ---- two spreads of one library
 
--- each name is a module, an import-only module or a submodule only once, and each import-only module has one revision
+-- each name is a module, an import-only module or a submodule only once, and each import-only module has one revision (differ counts an import-only name
+-- once for each revision; single says that there is one)
 pub record Once (l : PlainLibrary) : Type 0 where
   pub differ : List·Nodup (allNames l)
   pub single : (i : PlainImportOnly) → List·Memᴰ i (importOnlyOf l) → (subs : List Name) × (i .revisions ≡ (subs ∷ []))
@@ -33,11 +34,12 @@ pub record AlikeModule (m n : PlainModule) : Type 0 where
   pub augmenting : Perm (m .augmenting) (n .augmenting)
   pub deviations : Perm (m .deviations) (n .deviations)
 
+-- the same import-only module but for the order of its submodules; revisions are run together, since Once has one of them
 pub record AlikeImport (i j : PlainImportOnly) : Type 0 where
   pub name : i .name ≡ j .name
   pub submodules : Perm (flatten (i .revisions)) (flatten (j .revisions))
 
--- each entry of the one has its like in the other
+-- each entry of the one has its like in the other; ∥ .. ∥₁: there is one, whichever it is
 pub record Within (l l₁ : PlainLibrary) : Type 0 where
   pub modules : (m : PlainModule) → List·Memᴰ m (modulesOf l)
       → ∥ ((n : PlainModule) × List·Memᴰ n (modulesOf l₁) × AlikeModule m n) ∥₁

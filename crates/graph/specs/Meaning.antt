@@ -1,4 +1,4 @@
--- What the edges and the refusals of a graph mean: no order and no fuel in it, and a depth only where the rules have one.
+-- What is read and what is an edge, with no order, depth or fuel in it; and what a refusal means, with the depth and the order of entries that the rules have.
 -- Assumes nothing.
 use Prim.Native.Nat.{ℕ, zero, suc, _+_, _≤_, _<_}
 use mathlib.Core.Path.{_≡_}
@@ -6,7 +6,7 @@ use mathlib.Core.List.{List, _∷_, _++_, List·Memᴰ, List·Nodup}
 use lib.ListN.{length}
 use Rattle.image.specs.Library.{Name, PlainModule, PlainImportOnly, PlainLibrary, modulesOf, importOnlyOf}
 use Rattle.graph.specs.Nodes.{Mode, nodesOf}
-use Rattle.graph.specs.Graph.{ScanAnswer, nought, Text, missing, refusing, deps, noEntryText, noIncludedText, scanRefused, unknownModule, unknownSubmodule, noNode, tooDeep, tooManyNodes, tooManyEdges, deepest, Edge, Entry, entries, entryNames, submoduleNames}
+use Rattle.graph.specs.Graph.{ScanAnswer, nought, Text, missing, refusing, deps, noEntryText, noIncludedText, scanRefused, unknownModule, unknownSubmodule, noNode, tooDeep, tooManyNodes, tooManyEdges, Edge, Entry, entries, entryNames, submoduleNames}
 
 -- as in every image: no import-only module is without a revision
 abbrev pub Revised : PlainLibrary → Type 0
@@ -51,9 +51,9 @@ module _ (mode : Mode) (text : Name → Text) (l : PlainLibrary) where
     pub listed : List·Memᴰ u (submoduleNames l)
     pub node : List·Memᴰ u (nodesOf mode l)
 
-  -- for the entry x the text of v is read with so much depth left: all of it for its own, one less for each include on the way
+  -- for the entry x the text of v is read with so much depth left: 8 for its own, one less for each include on the way
   pub data ReadAt (x : Entry) : ℕ → Name → Type 0 where
-    entry : {v : Name} → v ≡ x .name → ReadAt x deepest v
+    entry : {v : Name} → v ≡ x .name → ReadAt x 8 v
     included : {left : ℕ} {v u : Name} → ReadAt x (suc left) v → Follows v u → ReadAt x left u
 
   -- what the walk of the entry x may be refused for

@@ -1,10 +1,10 @@
 -- Nodes, in order: per set, each module and then its submodules, then each import-only revision and its submodules. A name already a node adds nothing.
 -- A module or import-only revision whose name is already a node is passed over with its submodules.
 -- Assumes nothing.
-use mathlib.Core.Bool.{Bool, false, cond, _||_}
+use mathlib.Core.Bool.{Bool, cond}
 use mathlib.Core.List.{List, [], _∷_, _++_, map, flatMap}
-use Rattle.text.specs.Keyword.{same}
 use Rattle.form.specs.Form.{Word}
+use Rattle.index.specs.Names.{among, addAll}
 use Rattle.image.specs.Library.{ModuleOf, ImportOnlyOf, SetOf, LibraryOf, Name, PlainLibrary, Library, plainName}
 
 -- what becomes of a module whose name is already a node: it is passed over, as the Rust does
@@ -30,23 +30,11 @@ module _ {A : Type 0} where
   abbrev pub groups : LibraryOf A → List (Group A)
   groups l = flatMap setGroups l
 
--- a name is among the names of a list
+-- ---- one after another; a name already a node adds nothing (addAll)
+
 module _ {A : Type 0} (name : A → Name) where
-  unfoldable pub among : Name → List A → Bool
-  among u [] = false
-  among u (a ∷ l) = same (name a) u || among u l
-
-  -- ---- one after another
-
-  abbrev pub addNode : List A → A → List A
-  addNode ns a = cond (among (name a) ns) ns (ns ++ (a ∷ []))
-
-  unfoldable pub addNodes : List A → List A → List A
-  addNodes ns [] = ns
-  addNodes ns (a ∷ l) = addNodes (addNode ns a) l
-
   abbrev pub addGroup : Mode → List A → Group A → List A
-  addGroup passOver ns g = cond (among (name (g .head)) ns) ns (addNodes (ns ++ (g .head ∷ [])) (g .subs))
+  addGroup passOver ns g = cond (among name (name (g .head)) ns) ns (addAll name (ns ++ (g .head ∷ [])) (g .subs))
 
   unfoldable pub addGroups : Mode → List A → List (Group A) → List A
   addGroups mode ns [] = ns

@@ -11,11 +11,13 @@ use Rattle.text.specs.Keyword.{same}
 use Rattle.form.specs.Form.{Word}
 use Rattle.image.specs.Library.{Name, Module, ImportOnly, ModuleSet, Library, plainName, plainImportOnly, plainSet, plain}
 use Rattle.items.specs.Items.{submoduleKind, augmentingKind, deviationKind, firstSubKind, laterSubKind, ItemOf, item, moduleItems, laterItems, importItems, setItems, itemsOf}
-use Rattle.graph.specs.Nodes.{passOver, Group, moduleGroup, revisionGroups, setGroups, among, addNode, addNodes, addGroup, addGroups, nodesBy, wordNodes}
+use Rattle.index.specs.Names.{among, addNew, addAll}
+use Rattle.index.proofs.First.{among-append}
+use Rattle.graph.specs.Nodes.{passOver, Group, moduleGroup, revisionGroups, setGroups, addGroup, addGroups, nodesBy, wordNodes}
 use Rattle.graph.specs.Meaning.{Revised}
 use Rattle.graph.proofs.Tests.{same-refl, both-bools}
 use Rattle.graph.proofs.Sets.{importOnly-in}
-use Rattle.nodes.proofs.OfKind.{or-left, or-right, among-append}
+use Rattle.nodes.proofs.OfKind.{or-left, or-right}
 use Rattle.nodes.specs.Adding.{isEntry, isSub, Adding, so, addName, addItem, addItems}
 
 -- ---- one list of items behind another
@@ -75,12 +77,12 @@ subs-passed k e (w ∷ ws) ns = ap (λ (c : Adding). addItems c (map (item k) ws
 
 -- submodules of an entry that was added
 subs-added : (k : ℕ) → isEntry k ≡ false → isSub k ≡ true → (ws : List Word) (ns : List Word)
-    → addItems (so ns true) (map (item k) ws) ≡ so (addNodes plainName ns ws) true
-unfolding addItems addItem addNodes addName
+    → addItems (so ns true) (map (item k) ws) ≡ so (addAll plainName ns ws) true
+unfolding addItems addItem addAll addName
 subs-added k e q [] ns = refl
 subs-added k e q (w ∷ ws) ns =
     ap (λ (c : Adding). addItems c (map (item k) ws)) (go (isEntry k) (isSub k) e q ∙ named (among plainName (w .text) ns))
-    ∙ subs-added k e q ws (addNode plainName ns w)
+    ∙ subs-added k e q ws (addNew plainName ns w)
   where
     go : (b c : Bool) → b ≡ false → c ≡ true → cond b (addName (so ns true) false w) (cond c (addName (so ns true) true w) (so ns true)) ≡ addName (so ns true) true w
     go true c p q = both-bools refl p
@@ -114,16 +116,16 @@ module-added m a = ap (λ (c : Adding). c .nodes) (items-append (map (item submo
         ∙ none-added deviationKind refl refl (m .deviations) c
 
     go : (b : Bool)
-        → addItems (addItems (headed b) (map (item submoduleKind) (m .submodules))) lists .nodes ≡ cond b (a .nodes) (addNodes plainName (a .nodes ++ (m .name ∷ [])) (m .submodules))
+        → addItems (addItems (headed b) (map (item submoduleKind) (m .submodules))) lists .nodes ≡ cond b (a .nodes) (addAll plainName (a .nodes ++ (m .name ∷ [])) (m .submodules))
     go true = ap (λ (c : Adding). c .nodes) (unlisted _ ∙ subs-passed submoduleKind refl (m .submodules) (a .nodes))
     go false = ap (λ (c : Adding). c .nodes) (unlisted _ ∙ subs-added submoduleKind refl refl (m .submodules) (a .nodes ++ (m .name ∷ [])))
 
 -- an import-only module, of which the later revisions find its name among the nodes
 
-kept : (u : Name) (ws ns : List Word) → among plainName u ns ≡ true → among plainName u (addNodes plainName ns ws) ≡ true
-unfolding addNodes
+kept : (u : Name) (ws ns : List Word) → among plainName u ns ≡ true → among plainName u (addAll plainName ns ws) ≡ true
+unfolding addAll
 kept u [] ns h = h
-kept u (w ∷ ws) ns h = kept u ws (addNode plainName ns w) (go (among plainName (w .text) ns))
+kept u (w ∷ ws) ns h = kept u ws (addNew plainName ns w) (go (among plainName (w .text) ns))
   where
     go : (b : Bool) → among plainName u (cond b ns (ns ++ (w ∷ []))) ≡ true
     go true = h
@@ -137,7 +139,7 @@ last-among w ns =
 head-among : (w : Word) (ws ns : List Word) → among plainName (w .text) (addGroup plainName passOver ns (record { head = w; subs = ws })) ≡ true
 head-among w ws ns = go (among plainName (w .text) ns) refl
   where
-    go : (b : Bool) → among plainName (w .text) ns ≡ b → among plainName (w .text) (cond b ns (addNodes plainName (ns ++ (w ∷ [])) ws)) ≡ true
+    go : (b : Bool) → among plainName (w .text) ns ≡ b → among plainName (w .text) (cond b ns (addAll plainName (ns ++ (w ∷ [])) ws)) ≡ true
     go true h = h
     go false h = kept (w .text) ws (ns ++ (w ∷ [])) (last-among w ns)
 
@@ -150,7 +152,7 @@ unfolding addGroups
 later-passed w [] ns h = refl
 later-passed w (r ∷ rs) ns h = ap (λ (l : List Word). addGroups plainName passOver l (map (revisionGroup w) rs)) (go (among plainName (w .text) ns) h) ∙ later-passed w rs ns h
   where
-    go : (b : Bool) → b ≡ true → cond b ns (addNodes plainName (ns ++ (w ∷ [])) r) ≡ ns
+    go : (b : Bool) → b ≡ true → cond b ns (addAll plainName (ns ++ (w ∷ [])) r) ≡ ns
     go true h = refl
     go false h = both-bools h refl
 
@@ -177,7 +179,7 @@ import-added w r rs a =
     headed b = cond b (so (a .nodes) false) (so (a .nodes ++ (w ∷ [])) true)
 
     go : (b : Bool)
-        → addItems (addItems (headed b) (map (item firstSubKind) r)) (laterItems rs) .nodes ≡ cond b (a .nodes) (addNodes plainName (a .nodes ++ (w ∷ [])) r)
+        → addItems (addItems (headed b) (map (item firstSubKind) r)) (laterItems rs) .nodes ≡ cond b (a .nodes) (addAll plainName (a .nodes ++ (w ∷ [])) r)
     go true = ap (λ (c : Adding). c .nodes) (later-added rs _ ∙ subs-passed firstSubKind refl r (a .nodes))
     go false = ap (λ (c : Adding). c .nodes) (later-added rs _ ∙ subs-added firstSubKind refl refl r (a .nodes ++ (w ∷ [])))
 

@@ -12,7 +12,7 @@ use lib.ListN.{length, length-append}
 use borrow.Author.Tests.{ne-eqb}
 use Rattle.form.specs.Form.{Word, wordAt}
 use Rattle.image.specs.Library.{plainName}
-use Rattle.index.specs.Names.{namesIn, Cleared, Added}
+use Rattle.index.specs.Names.{among, namesIn, Cleared, Added}
 use Rattle.index.specs.declared.Found.{Found}
 use Rattle.index.specs.declared.Found.the-variants.{At, Nothing}
 use Rattle.index.proofs.First.{not-among, is-among}
@@ -22,13 +22,12 @@ use Rattle.items.specs.Items.{ItemOf, libraryOf}
 use Rattle.items.specs.Table.{itemIn, itemWord, itemsIn, itemsFrom, Itemized}
 use Rattle.items.specs.declared.Item.{Item}
 use Rattle.items.proofs.Through.{items-from}
-use Rattle.graph.specs.Nodes.{among}
 use Rattle.nodes.specs.Adding.{mostNodes, isEntry, isSub, Adding, so, addName, addItem, addItems, wordsAt, Holding, Adds, AddsItem, GrownAs, Grew, Constructed}
 use Rattle.nodes.specs.declared.Grown.{Grown}
 use Rattle.nodes.specs.declared.Grown.the-variants.{On, Full}
 use Rattle.nodes.specs.declared.Nodes.the-variants.{Count, TooMany}
 use Rattle.nodes.proofs.Gathering.{items-append, items-grow, added}
-use Rattle.nodes.proofs.Looking.{among-joined, Bytes, revised-at}
+use Rattle.nodes.proofs.Looking.{Bytes, revised-at}
 
 -- ---- what an item is
 
@@ -62,14 +61,14 @@ module _ (s tab after : List ℕ) (n place size : ℕ) (there : Bool) where
 
   pub name-there : {r : Found} {i : ℕ} → r ≡ At i → Added s tab n place size r after → Adds s tab n place size → Grew s tab grown (On n there) after
   name-there {r} {i} q a h =
-      let e : grown ≡ so nodes there = is-there (sym (among-joined (name .text) nodes) ∙ is-among 0 (name .text) nodes (sym (a .answer) ∙ q)) in
+      let e : grown ≡ so nodes there = is-there (is-among 0 (name .text) nodes (sym (a .answer) ∙ q)) in
       record {
         answer = subst (λ (x : Adding). GrownAs (On n there) s after x) (sym e) (subst (λ (t : List ℕ). Holding s t n nodes) (sym (a .there i q)) (h .holding), refl);
         kept = a .kept;
       }
 
   is-new : {r : Found} → r ≡ Nothing → Added s tab n place size r after → grown ≡ so (nodes ++ (name ∷ [])) true
-  is-new q a = is-there (sym (among-joined (name .text) nodes) ∙ not-among 0 (name .text) nodes (sym (a .answer) ∙ q))
+  is-new q a = is-there (not-among 0 (name .text) nodes (sym (a .answer) ∙ q))
 
   pub name-full : {r : Found} → r ≡ Nothing → Added s tab n place size r after → 1024 ≤ n → Grew s tab grown Full after
   name-full q a l =

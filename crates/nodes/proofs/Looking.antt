@@ -13,11 +13,12 @@ use lib.Seq.{getD-at}
 use mir.Syntax.{w8, w32, w64}
 use mir.Val.{Fits}
 use Rattle.text.specs.Keyword.{same}
+use Rattle.text.proofs.KeywordLaws.{same-eq}
 use Rattle.form.specs.Form.{Ans, good, bad, Word, wordAt}
 use Rattle.form.proofs.Bounds.{part-word}
 use Rattle.form.specs.declared.LookUp.{LookUp}
 use Rattle.form.specs.declared.LookUp.the-variants.{Broken, Nothing as NotThere, At as There}
-use Rattle.index.specs.Names.{firstFrom, firstOf, firstBy, memb as membIn, rowOf, nameIn, namesIn}
+use Rattle.index.specs.Names.{firstFrom, firstOf, firstBy, among, rowOf, nameIn, namesIn}
 use Rattle.index.specs.declared.Found.{Found}
 use Rattle.index.specs.declared.Found.the-variants.{At, Nothing}
 use Rattle.index.proofs.First.{not-among, is-among, the-hit, hit-low}
@@ -28,11 +29,11 @@ use Rattle.library.specs.Reading.{onAns}
 use Rattle.find.specs.Find.{wordFound, findSubmodule}
 use Rattle.items.specs.Items.{libraryOf, itemsAt}
 use Rattle.items.specs.Table.{Reads}
-use Rattle.graph.specs.Nodes.{passOver, among, nodesOf, memb}
+use Rattle.graph.specs.Nodes.{passOver, nodesOf, memb}
 use Rattle.graph.specs.Graph.{entryNames, submoduleNames}
 use Rattle.graph.specs.Numbers.{numberOf}
 use Rattle.graph.specs.Meaning.{Revised}
-use Rattle.graph.proofs.Tests.{same-eq, both-bools}
+use Rattle.graph.proofs.Tests.{both-bools}
 use Rattle.graph.proofs.WordNodes.{among-names, node-names}
 use Rattle.graph.proofs.Plain.{listed-words}
 use Rattle.graph.proofs.Entries.{known-among}
@@ -44,11 +45,6 @@ use Rattle.nodes.specs.declared.Included.the-variants.{NotFound, NotNode
 use Rattle.nodes.proofs.OfKind.{known-items, listed-items}
 
 -- ---- the answer of a search through words
-
-pub among-joined : (t : Name) (ws : List Word) → membIn t ws ≡ among plainName t ws
-unfolding among
-among-joined t [] = refl
-among-joined t (w ∷ ws) = ap (λ (b : Bool). same (w .text) t || b) (among-joined t ws)
 
 number-first : (ws : List Word) (t : Name) (j : ℕ) {i : ℕ} → firstFrom j t ws ≡ At i → i ≡ j + numberOf (map plainName ws) t
 unfolding firstFrom numberOf
@@ -83,8 +79,8 @@ module _ {s tab : List ℕ} {n : ℕ} (h : Holding s tab n (wordsAt s)) where
   held-names = ap (map plainName) (h .names) ∙ node-names passOver (libraryOf s)
 
   module _ (t : Name) where
-    held-among : memb t (namesAt s) ≡ membIn t (namesIn s tab n)
-    held-among = ap (memb t) (sym held-names) ∙ sym (among-names t (namesIn s tab n)) ∙ sym (among-joined t (namesIn s tab n))
+    held-among : memb t (namesAt s) ≡ among plainName t (namesIn s tab n)
+    held-among = ap (memb t) (sym held-names) ∙ sym (among-names t (namesIn s tab n))
 
     pub node-number : {k : ℕ} → firstOf t (namesIn s tab n) ≡ At k → numberOf (namesAt s) t ≡ k
     node-number e =
@@ -302,9 +298,16 @@ name-nth s tab (suc n) i l =
     names-long : (m : ℕ) → length (map plainName (namesIn s tab m)) ≡ m
     names-long m = length-map (namesIn s tab m) plainName ∙ length-names s tab m
 
-module _ (s tab : List ℕ) (v place size : ℕ) (h : Numbered s tab v) (p : place ≡ getD tab (rowOf v) 0) (q : size ≡ getD tab (rowOf v + 1) 0) where
+-- i: the node's row
+module _ (s tab : List ℕ) (v i place size : ℕ) (h : Numbered s tab v) (e : i ≡ v) (p : place ≡ getD tab (rowOf i) 0) (q : size ≡ getD tab (rowOf i + 1) 0) where
+  place-is : place ≡ getD tab (rowOf v) 0
+  place-is = rw e at p
+
+  size-is : size ≡ getD tab (rowOf v + 1) 0
+  size-is = rw e at q
+
   pub name-in : place + size ≤ length s
-  name-in = omega (arith, p, q, h .holding .indexed .inside v (h .low))
+  name-in = omega (arith, place-is, size-is, h .holding .indexed .inside v (h .low))
 
   pub name-fits : length s < 2 ^ 64 → Fits w64 (place + size)
   name-fits l = record { fits = omega (arith, name-in) }
@@ -312,6 +315,6 @@ module _ (s tab : List ℕ) (v place size : ℕ) (h : Numbered s tab v) (p : pla
   pub name-text : take (place + size - place) (drop place s) ≡ getD (namesAt s) v []
   name-text =
       part-word s place size
-      ∙ ap₂ (λ (a b : ℕ). wordAt s a b .text) p q
+      ∙ ap₂ (λ (a b : ℕ). wordAt s a b .text) place-is size-is
       ∙ sym (name-nth s tab (h .count) v (h .low))
       ∙ ap (λ (ns : List Name). getD ns v []) (held-names (h .holding))

@@ -6,10 +6,13 @@ use mathlib.Core.Path.{_≡_, refl, sym, ap, ap₂, _∙_}
 use mathlib.Core.Bool.{Bool, true, false, cond, _||_}
 use mathlib.Core.List.{List, [], _∷_, _++_, append-assoc, map, flatMap}
 use Rattle.text.specs.Keyword.{same}
+use Rattle.text.proofs.Here.{or-none}
 use Rattle.form.specs.Form.{Word}
 use Rattle.image.specs.Library.{Name, Module, ImportOnly, Library, plainName, plain, modulesOf, importOnlyOf, submodulesOf}
 use Rattle.items.specs.Items.{submoduleKind, augmentingKind, deviationKind, firstSubKind, laterSubKind, ItemOf, item, moduleItems, laterItems, revisionItems, importItems, setItems, itemsOf}
-use Rattle.graph.specs.Nodes.{among, memb}
+use Rattle.index.specs.Names.{among}
+use Rattle.index.proofs.First.{among-append}
+use Rattle.graph.specs.Nodes.{memb}
 use Rattle.graph.specs.Graph.{entryNames, submoduleNames}
 use Rattle.graph.proofs.Tests.{both-bools}
 use Rattle.graph.proofs.Plain.{known-words, listed-words}
@@ -26,25 +29,11 @@ pub or-right : (b c : Bool) → c ≡ true → (b || c) ≡ true
 or-right true c h = refl
 or-right false c h = h
 
-pub or-end : (b : Bool) → (b || false) ≡ b
-or-end true = refl
-or-end false = refl
-
 as-is : (b : Bool) → cond b true false ≡ b
 as-is true = refl
 as-is false = refl
 
 -- ---- one list behind another
-
-module _ {A : Type 0} (name : A → Name) (u : Name) where
-  pub among-append : (s t : List A) → among name u (s ++ t) ≡ (among name u s || among name u t)
-  unfolding among
-  among-append [] t = refl
-  among-append (w ∷ s) t = go (same (name w) u) (among-append s t)
-    where
-      go : (b : Bool) → among name u (s ++ t) ≡ (among name u s || among name u t) → (b || among name u (s ++ t)) ≡ ((b || among name u s) || among name u t)
-      go true ih = refl
-      go false ih = ih
 
 module _ (kind : ℕ → Bool) (u : Name) where
   pub kind-append : (xs ys : List (ItemOf Word)) → amongKind kind u (xs ++ ys) ≡ (amongKind kind u xs || amongKind kind u ys)
@@ -164,7 +153,7 @@ module _ (u : Name) where
       ∙ ap₂ _||_ (these isSubmodule u submoduleKind refl (m .submodules))
       (kind-append isSubmodule u (map (item augmentingKind) (m .augmenting)) (map (item deviationKind) (m .deviations))
       ∙ ap₂ _||_ (others isSubmodule u augmentingKind refl (m .augmenting)) (others isSubmodule u deviationKind refl (m .deviations)))
-      ∙ or-end (among plainName u (m .submodules))
+      ∙ or-none (among plainName u (m .submodules))
 
   modules-sub : (ms : List Module) → sub (flatMap moduleItems ms) ≡ among plainName u (submodulesOf ms)
   unfolding flatMap amongKind among submodulesOf
@@ -188,7 +177,7 @@ module _ (u : Name) where
       ∙ ap₂ _||_
       (kind-append isSubmodule u (flatMap moduleItems (s .modules)) (flatMap importItems (s .importOnly))
       ∙ ap₂ _||_ (modules-sub (s .modules)) (imports-sub (s .importOnly))
-      ∙ or-end (among plainName u (submodulesOf (s .modules))))
+      ∙ or-none (among plainName u (submodulesOf (s .modules))))
       (submodules-listed l)
       ∙ sym (among-append plainName u (submodulesOf (s .modules)) (submodulesOf (modulesOf l)))
       ∙ ap (among plainName u) (sym (submodules-append (s .modules) (modulesOf l)))

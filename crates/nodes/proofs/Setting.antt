@@ -17,10 +17,12 @@ use lib.ListN.{length, getD, take, drop, set, replicate, length-set, length-repl
 use lib.Seq.{getD-set-same, getD-set-other}
 use borrow.Author.Tests.{eqb-true, ne-eqb}
 use Rattle.text.specs.Keyword.{same}
+use Rattle.text.proofs.Here.{or-none}
+use Rattle.text.proofs.KeywordLaws.{same-eq}
 use Rattle.form.specs.Form.{Word, wordAt}
 use Rattle.form.proofs.Bounds.{part-word}
 use Rattle.image.specs.Library.{Name, plainName}
-use Rattle.index.specs.Names.{firstOf, nameIn, namesIn, Indexed}
+use Rattle.index.specs.Names.{firstOf, among, nameIn, namesIn, Indexed}
 use Rattle.index.specs.declared.Found.{Found}
 use Rattle.index.specs.declared.Found.the-variants.{At, Nothing}
 use Rattle.index.proofs.First.{not-among, hit-low}
@@ -28,12 +30,12 @@ use Rattle.index.proofs.Stores.{decide}
 use Rattle.items.specs.Items.{ItemOf, itemsAt}
 use Rattle.items.specs.Table.{itemIn, itemWord, itemsIn, Itemized}
 use Rattle.items.specs.declared.Item.{Item}
-use Rattle.graph.specs.Nodes.{among}
-use Rattle.graph.proofs.Tests.{same-eq, same-refl, both-bools}
+use Rattle.index.proofs.First.{among-append}
+use Rattle.graph.proofs.Tests.{same-refl, both-bools}
 use Rattle.nodes.specs.Adding.{isEntry, wordsAt, Holding}
 use Rattle.nodes.specs.Marks.{isSubmodule, amongKind, bit, Marked, Marking}
-use Rattle.nodes.proofs.OfKind.{or-left, or-right, or-end, among-append, kind-append}
-use Rattle.nodes.proofs.Looking.{among-joined, hit-text}
+use Rattle.nodes.proofs.OfKind.{or-left, or-right, kind-append}
+use Rattle.nodes.proofs.Looking.{hit-text}
 
 -- ---- names differ
 
@@ -52,7 +54,7 @@ apart : (s tab : List ℕ) (n i j : ℕ) → Indexed s tab n → i < n → j < i
 apart s tab n i j x l k e =
     both-bools
     (ap (λ (t : Name). among plainName t (namesIn s tab i)) (sym e) ∙ name-among s tab i j k)
-    (sym (among-joined (nameIn s tab i .text) (namesIn s tab i)) ∙ not-among 0 (nameIn s tab i .text) (namesIn s tab i) (x .differ i l))
+    (not-among 0 (nameIn s tab i .text) (namesIn s tab i) (x .differ i l))
 
 -- ---- an item more
 
@@ -88,7 +90,7 @@ module _ (kind : ℕ → Bool) (u : Name) where
 
   -- a mark that stays, and one that is set
   stays : (xs : List (ItemOf Word)) (x : ItemOf Word) {m : ℕ} → m ≡ bit (amongKind kind u xs) → hits x ≡ false → m ≡ bit (amongKind kind u (xs ++ (x ∷ [])))
-  stays xs x e h = e ∙ ap (λ (b : Bool). bit b) (sym (with-item xs x ∙ ap (λ (b : Bool). amongKind kind u xs || b) h ∙ or-end (amongKind kind u xs)))
+  stays xs x e h = e ∙ ap (λ (b : Bool). bit b) (sym (with-item xs x ∙ ap (λ (b : Bool). amongKind kind u xs || b) h ∙ or-none (amongKind kind u xs)))
 
   is-set : (xs : List (ItemOf Word)) (x : ItemOf Word) {m : ℕ} → m ≡ 1 → hits x ≡ true → m ≡ bit (amongKind kind u (xs ++ (x ∷ [])))
   is-set xs x e h = e ∙ ap (λ (b : Bool). bit b) (sym (with-item xs x ∙ ap (λ (b : Bool). amongKind kind u xs || b) h ∙ or-right (amongKind kind u xs) true refl))
@@ -147,7 +149,7 @@ module _ (s table tab marks : List ℕ) (i n : ℕ) (m : Marking s table i tab n
       go true h =
           both-bools
           (ap (λ (t : Name). among plainName t (namesIn s tab n)) (same-eq (it .name .text) (nameIn s tab j .text) h) ∙ name-among s tab n j l)
-          (sym (among-joined (it .name .text) (namesIn s tab n)) ∙ not-among 0 (it .name .text) (namesIn s tab n) (ap (λ (t : Name). firstOf t (namesIn s tab n)) (sym sought) ∙ sym f ∙ q))
+          (not-among 0 (it .name .text) (namesIn s tab n) (ap (λ (t : Name). firstOf t (namesIn s tab n)) (sym sought) ∙ sym f ∙ q))
       go false h = h
 
   pub mark-nowhere : {r : Found} → r ≡ Nothing → r ≡ firstOf (take (x .place + x .size - x .place) (drop (x .place) s)) (namesIn s tab n) → After marks

@@ -10,10 +10,10 @@ use lib.Dec.{eqb}
 use Rattle.form.specs.Form.{Word}
 use Rattle.image.specs.Library.{Name, PlainLibrary, plainName, plain}
 use Rattle.image.specs.Image.{mostImage}
-use Rattle.index.specs.Names.{namesIn, Indexed}
+use Rattle.index.specs.Names.{among, namesIn, Indexed}
 use Rattle.items.specs.Items.{moduleKind, submoduleKind, importOnlyKind, firstSubKind, ItemOf, libraryOf}
 use Rattle.items.specs.Table.{itemIn, ItemFits}
-use Rattle.graph.specs.Nodes.{passOver, among, wordNodes, nodesOf}
+use Rattle.graph.specs.Nodes.{passOver, wordNodes, nodesOf}
 use Rattle.nodes.specs.declared.Grown.{Grown}
 use Rattle.nodes.specs.declared.Grown.the-variants.{On, Full}
 use Rattle.nodes.specs.declared.Nodes.{Nodes}

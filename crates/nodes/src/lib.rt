@@ -221,7 +221,7 @@ pub fn name_of<'a>(s: &'a [u8], tab: &[u32], v: NodeIndex) -> &'a [u8]
     requires { ⌜ Numbered (now s) (now tab) (v .0) ⌝ }
     ensures { λ r. ⌜ now r ≡ getD (namesAt (now (s .entry))) (v .0) [] ⌝ }
 {
-    let i = v.0 as usize;
+    let i = edges::node_row(v);
     let place = index::place_of(tab, i);
     let end = place + index::length_of(tab, i);
     &s[place..end]

@@ -9,6 +9,9 @@ use Rattle.edges.proofs.add_edge.Tie as tie
 node-row-requires : tie.Need-node-row-requires
 node-row-requires c κs = search needs
 
+mul-span : tie.Need-mul-span
+mul-span c = search needs
+
 mul-first : tie.Need-mul-first
 mul-first c = search needs
 
@@ -65,6 +68,7 @@ add-edge-spec =
     tie.close
     (tie.spec
     node-row-requires
+    mul-span
     mul-first
     slice-read-first
     cast-first

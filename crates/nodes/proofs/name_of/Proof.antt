@@ -5,8 +5,8 @@ use Rattle.nodes.proofs.Looking.{name-in, name-fits, name-text}
 use Rattle.nodes.proofs.name_of.Statement.{statement}
 use Rattle.nodes.proofs.name_of.Tie as tie
 
-cast-i : tie.Need-cast-i
-cast-i c = search needs
+node-row-requires : tie.Need-node-row-requires
+node-row-requires c κs = search needs
 
 place-of-requires : tie.Need-place-of-requires
 place-of-requires c κs = search needs
@@ -33,7 +33,7 @@ pub name-of-spec : {M : Type 1} → statement M
 name-of-spec =
     tie.close
     (tie.spec
-    cast-i
+    node-row-requires
     place-of-requires
     length-of-requires
     add-end
