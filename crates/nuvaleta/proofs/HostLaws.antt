@@ -7,7 +7,7 @@ use mathlib.Core.List.{List, [], _∷_, _++_}
 use Prim.Native.Nat.{ℕ, _+_, _<_, _≤_}
 use native.Mathlib.Omega.{arith}
 use lib.Dec.{ltb}
-use lib.ListN.{length, getD}
+use lib.ListN.{length}
 use borrow.Author.Tests.{ltb-true, ltb-false}
 use Rattle.text.specs.declared.Refusal.{Refusal}
 use Rattle.text.proofs.Here.{by-test}
@@ -18,9 +18,9 @@ use Rattle.page.proofs.PageLaws.{good-sound, page-fits}
 use Rattle.yangparser.specs.Dependencies.{Dependencies, none, Scan, good, bad, scanned, ifFit, dependencies, parsedOf}
 use Rattle.yangparser.specs.Promises.{Leaves}
 use Rattle.yangparser.specs.declared.Parsed.{Parsed}
-use Rattle.yangparser.specs.declared.Parsed.the-variants.{Good, Refused}
 use Rattle.yangparser.proofs.KeptLaws.{entry-good, entry-refusal}
-use Rattle.nuvaleta.specs.Host.{numberOf, answerWords, WordsFit, Answered, AnsweredPage}
+use Rattle.words.specs.Words.{numberOf, answerWords, WordsFit}
+use Rattle.nuvaleta.specs.Host.{Answered, AnsweredPage}
 
 -- ---- a word for each count and place
 
@@ -65,41 +65,3 @@ module _ (s : List ℕ) (z : Bool) (d t u p : List ℕ) (r : Page) {e f g q : Li
     number = ne ∙ ap numberOf (w .scan .answer);
     answer = ae ∙ ap (λ x. answerWords x ++ (r .length ∷ [])) (w .scan .answer) ∙ ap (λ n. answerWords (parsedOf (dependencies s z)) ++ (n ∷ [])) (w .length-is);
   }
-
--- ---- the words of each answer
-
-module _ {r : Parsed} (m n k : ℕ) (h : r ≡ Good m n k) where
-  pub good-fits : WordsFit r → (m < 4294967296) × (n < 4294967296) × (k < 4294967296)
-  unfolding WordsFit
-  good-fits w = subst WordsFit h w
-
-  pub good-words : 0 ∷ 0 ∷ 0 ∷ m ∷ n ∷ k ∷ [] ≡ answerWords r
-  unfolding answerWords
-  good-words = sym (ap answerWords h)
-
-  pub good-number : 0 ≡ numberOf r
-  unfolding numberOf
-  good-number = sym (ap numberOf h)
-
-module _ {r : Parsed} (y : Refusal) (h : r ≡ Refused y) where
-  pub refused-fits : WordsFit r → y .at < 4294967296
-  unfolding WordsFit
-  refused-fits w = subst WordsFit h w
-
-  pub refused-words : y .number ∷ y .keyword ∷ y .at ∷ 0 ∷ 0 ∷ 0 ∷ [] ≡ answerWords r
-  unfolding answerWords
-  refused-words = sym (ap answerWords h)
-
-  pub refused-number : y .number ≡ numberOf r
-  unfolding numberOf
-  refused-number = sym (ap numberOf h)
-
--- six words and one more
-pub seven : (r : Parsed) (n : ℕ) {w : List ℕ} → w ≡ answerWords r
-    → getD w 0 0 ∷ getD w 1 0 ∷ getD w 2 0 ∷ getD w 3 0 ∷ getD w 4 0 ∷ getD w 5 0 ∷ n ∷ [] ≡ answerWords r ++ (n ∷ [])
-unfolding answerWords
-seven r n e = rw e (by-answer r)
-  where
-    by-answer : (r : Parsed) → getD (answerWords r) 0 0 ∷ getD (answerWords r) 1 0 ∷ getD (answerWords r) 2 0 ∷ getD (answerWords r) 3 0 ∷ getD (answerWords r) 4 0 ∷ getD (answerWords r) 5 0 ∷ n ∷ [] ≡ answerWords r ++ (n ∷ [])
-    by-answer (Good i j k) = refl
-    by-answer (Refused y) = refl

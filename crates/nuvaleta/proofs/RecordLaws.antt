@@ -3,10 +3,10 @@
 use mathlib.Core.Path.{_≡_, refl, sym, ap, subst, _∙_}
 use mathlib.Core.Bool.{Bool}
 use mathlib.Core.List.{List, [], _∷_}
-use Prim.Native.Nat.{ℕ, zero, suc, _<_, _≤_}
+use Prim.Native.Nat.{ℕ, _<_, _≤_}
 use native.Mathlib.Omega.{arith}
 use lib.Dec.{ltb}
-use lib.ListN.{length, getD}
+use lib.ListN.{length}
 use borrow.Author.Tests.{ltb-true, ltb-false}
 use Rattle.text.specs.declared.Refusal.{Refusal}
 use Rattle.text.proofs.Here.{by-test}
@@ -15,7 +15,7 @@ use Rattle.buffers.specs.declared.Lent.{Lent}
 use Rattle.buffers.specs.declared.Lent.the-variants.{Fit, Unfit}
 use Rattle.buffers.proofs.LentLaws.{lent-long, lent-within, fit-said}
 use Rattle.rows.specs.Rows.{Each}
-use Rattle.rows.specs.Span.{missing, markOf, Fits, Within}
+use Rattle.rows.specs.Span.{missing, Fits, Within}
 use Rattle.rows.specs.declared.Span.{Span}
 use Rattle.rows.proofs.Laws.{each-of}
 use Rattle.metadata.specs.Metadata.{valuesOf, Scan, good, bad, scanned, ifFit, metadata, refusedWith, answerOf}
@@ -23,41 +23,8 @@ use Rattle.metadata.specs.Promises.{Leaves}
 use Rattle.metadata.specs.declared.YangModuleMetadata.{YangModuleMetadata}
 use Rattle.metadata.proofs.ScanLaws.{scan-good, scan-bad}
 use Rattle.metadata.proofs.ValuesLaws.{values-six}
-use Rattle.nuvaleta.specs.Record.{recordWords, Described}
-
--- ---- six values in 18 words
-
-pub fits-at : (vs : List Span) (i : ℕ) → Each Fits vs → Fits (getD vs i missing)
-unfolding Each
-fits-at [] i h = (omega arith, omega arith)
-fits-at (x ∷ vs) zero h = h .0
-fits-at (x ∷ vs) (suc i) h = fits-at vs i (h .1)
-
-pub start-fits : (vs : List Span) (i : ℕ) → Each Fits vs → getD vs i missing .start < 4294967296
-start-fits vs i h = fits-at vs i h .0
-
-pub size-fits : (vs : List Span) (i : ℕ) → Each Fits vs → getD vs i missing .size < 4294967296
-size-fits vs i h = fits-at vs i h .1
-
-six : (vs : List Span) → length vs ≡ 6
-    → vs ≡ getD vs 0 missing ∷ getD vs 1 missing ∷ getD vs 2 missing ∷ getD vs 3 missing ∷ getD vs 4 missing ∷ getD vs 5 missing ∷ []
-six [] h = absurd (omega (arith, h))
-six (a ∷ []) h = absurd (omega (arith, h))
-six (a ∷ b ∷ []) h = absurd (omega (arith, h))
-six (a ∷ b ∷ c ∷ []) h = absurd (omega (arith, h))
-six (a ∷ b ∷ c ∷ d ∷ []) h = absurd (omega (arith, h))
-six (a ∷ b ∷ c ∷ d ∷ e ∷ []) h = absurd (omega (arith, h))
-six (a ∷ b ∷ c ∷ d ∷ e ∷ f ∷ []) h = refl
-six (a ∷ b ∷ c ∷ d ∷ e ∷ f ∷ g ∷ vs) h = absurd (omega (arith, h))
-
-pub record-is : (vs : List Span) → length vs ≡ 6 → {a b c d e f : ℕ} → a ≡ markOf (getD vs 0 missing) → b ≡ markOf (getD vs 1 missing) → c ≡ markOf (getD vs 2 missing)
-    → d ≡ markOf (getD vs 3 missing) → e ≡ markOf (getD vs 4 missing) → f ≡ markOf (getD vs 5 missing)
-    → a ∷ getD vs 0 missing .start ∷ getD vs 0 missing .size ∷ b ∷ getD vs 1 missing .start ∷ getD vs 1 missing .size
-    ∷ c ∷ getD vs 2 missing .start ∷ getD vs 2 missing .size ∷ d ∷ getD vs 3 missing .start ∷ getD vs 3 missing .size
-    ∷ e ∷ getD vs 4 missing .start ∷ getD vs 4 missing .size ∷ f ∷ getD vs 5 missing .start ∷ getD vs 5 missing .size ∷ []
-    ≡ recordWords vs
-unfolding recordWords
-record-is vs h ae be ce de ee fe = rw (ae, be, ce, de, ee, fe) (sym (ap recordWords (six vs h)))
+use Rattle.words.specs.Words.{recordWords}
+use Rattle.nuvaleta.specs.Record.{Described}
 
 -- ---- what an answer tells
 

@@ -1,19 +1,18 @@
 -- What is told of a name, in words: a find tells places of at most 65,536 and at most 8 revisions, a look-up in a bundle places of at most 16,777,216.
 -- Assumes nothing.
 use mathlib.Core.Path.{_≡_, refl, sym, ap, subst, _∙_}
-use mathlib.Core.List.{List, [], _∷_}
-use Prim.Native.Nat.{ℕ, _<_}
+use mathlib.Core.List.{List}
+use Prim.Native.Nat.{ℕ}
 use native.Mathlib.Omega.{arith}
 use lib.ListN.{getD}
-use mir.Syntax.{w32}
-use mir.Val.{Fits}
 use Rattle.form.specs.declared.LookUp.{LookUp}
 use Rattle.form.specs.declared.LookUp.the-variants.{Broken, Nothing, At}
 use Rattle.find.specs.Find.{findModule, findSubmodule, findImportModule}
 use Rattle.find.proofs.FindBounds.{PlacesIn, module-in, submodule-in, import-in}
 use Rattle.bundle.specs.Bundle.{lookUp}
 use Rattle.bundle.proofs.LookBounds.{broken-in, stands-in}
-use Rattle.nuvaleta.specs.Finds.{toldWords, ToldFits, Told}
+use Rattle.words.specs.Words.{toldWords, ToldFits}
+use Rattle.nuvaleta.specs.Finds.{Told}
 
 -- ---- what is told fits its words
 
@@ -41,34 +40,6 @@ module _ (s t : List ℕ) {x : LookUp} where
 
   pub text-fits : x ≡ lookUp s t → ToldFits x
   text-fits e = look-fit s t x (sym e)
-
--- ---- the words of each answer
-
-module _ (n : ℕ) {x : LookUp} where
-  pub broken-words : (p : ℕ) → x ≡ Broken p → n ∷ p ∷ 0 ∷ 0 ∷ 0 ∷ [] ≡ toldWords n x
-  unfolding toldWords
-  broken-words p h = sym (ap (toldWords n) h)
-
-  pub nothing-words : x ≡ Nothing → 0 ∷ 0 ∷ 0 ∷ 0 ∷ 0 ∷ [] ≡ toldWords n x
-  unfolding toldWords
-  nothing-words h = sym (ap (toldWords n) h)
-
-  pub hit-words : (a b : ℕ) → x ≡ At a b → 0 ∷ 0 ∷ 1 ∷ a ∷ b ∷ [] ≡ toldWords n x
-  unfolding toldWords
-  hit-words a b h = sym (ap (toldWords n) h)
-
-module _ {x : LookUp} where
-  pub broken-word : (p : ℕ) → x ≡ Broken p → ToldFits x → Fits w32 p
-  unfolding ToldFits
-  broken-word p h w = let k : p < 4294967296 = subst ToldFits h w in record { fits = omega arith }
-
-  pub hit-word : (a b : ℕ) → x ≡ At a b → ToldFits x → Fits w32 a
-  unfolding ToldFits
-  hit-word a b h w = let k : (a < 4294967296) × (b < 4294967296) = subst ToldFits h w in record { fits = omega arith }
-
-  pub second-word : (a b : ℕ) → x ≡ At a b → ToldFits x → Fits w32 b
-  unfolding ToldFits
-  second-word a b h w = let k : (a < 4294967296) × (b < 4294967296) = subst ToldFits h w in record { fits = omega arith }
 
 -- the words are answered, and the first is returned
 pub told-as : (n : ℕ) {x y : LookUp} {w : List ℕ} → x ≡ y → w ≡ toldWords n x → Told (toldWords n y) (getD w 0 0) w

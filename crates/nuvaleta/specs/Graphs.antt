@@ -1,22 +1,11 @@
 -- What a host is answered for a graph. answer[8]: number, entry, scan number, scan keyword, scan position, place, nodes, edges. The call returns the
 -- number.
 -- Assumes nothing.
-use Prim.Native.Nat.{ℕ, _<_}
-use mathlib.Core.Path.{_≡_}
-use mathlib.Core.List.{List, [], _∷_}
+use Prim.Native.Nat.{ℕ}
+use mathlib.Core.List.{List}
 use Rattle.nuvaleta.specs.Finds.{Told}
 use Rattle.yanglib.specs.ToGraph.{Result, Leaves, lengthsOf, graphed}
-use Rattle.yanglib.specs.declared.Graphed.{Graphed}
-use Rattle.yanglib.specs.declared.Graphed.the-variants.{Built, Refused}
-
-unfoldable pub graphWords : Graphed → List ℕ
-graphWords (Built n m) = 0 ∷ 0 ∷ 0 ∷ 0 ∷ 0 ∷ 0 ∷ n ∷ m ∷ []
-graphWords (Refused number entry a place) = number ∷ entry ∷ a .number ∷ a .keyword ∷ a .at ∷ place ∷ 0 ∷ 0 ∷ []
-
--- counts and places are words
-unfoldable pub GraphFits : Graphed → Type 0
-GraphFits (Built n m) = (n < 4294967296) × (m < 4294967296)
-GraphFits (Refused number entry a place) = (entry < 4294967296) × (a .at < 4294967296) × (place < 4294967296)
+use Rattle.words.specs.Words.{graphWords}
 
 -- the answer to a graph x, beside what it leaves
 pub record Drawn (x : Result) (n e d f g l : List ℕ) (r : ℕ) (n₁ e₁ d₁ f₁ g₁ l₁ a : List ℕ) : Type 0 where

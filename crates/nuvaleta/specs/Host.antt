@@ -1,7 +1,7 @@
 -- What a host is answered. answer[6]: number, keyword, position, import rows, include rows, stored bytes; with a page its length is the seventh word.
 -- A good scan answers 0, 0, 0 and its counts. Each call returns the number.
 -- Assumes nothing.
-use Prim.Native.Nat.{ℕ, _<_}
+use Prim.Native.Nat.{ℕ}
 use mathlib.Core.Bool.{false}
 use mathlib.Core.Path.{_≡_}
 use mathlib.Core.List.{List, [], _∷_, _++_}
@@ -10,21 +10,7 @@ use Rattle.buffers.specs.Padded.{padded}
 use Rattle.page.specs.Page.{pageOf}
 use Rattle.yangparser.specs.Dependencies.{Scan, tooShort, pageShort, dependencies, parsedOf}
 use Rattle.yangparser.specs.Promises.{Leaves}
-use Rattle.yangparser.specs.declared.Parsed.{Parsed}
-use Rattle.yangparser.specs.declared.Parsed.the-variants.{Good, Refused}
-
-unfoldable pub numberOf : Parsed → ℕ
-numberOf (Good m n u) = 0
-numberOf (Refused r) = r .number
-
-unfoldable pub answerWords : Parsed → List ℕ
-answerWords (Good m n u) = 0 ∷ 0 ∷ 0 ∷ m ∷ n ∷ u ∷ []
-answerWords (Refused r) = r .number ∷ r .keyword ∷ r .at ∷ 0 ∷ 0 ∷ 0 ∷ []
-
--- counts and place are words
-unfoldable pub WordsFit : Parsed → Type 0
-WordsFit (Good m n u) = (m < 4294967296) × (n < 4294967296) × (u < 4294967296)
-WordsFit (Refused r) = r .at < 4294967296
+use Rattle.words.specs.Words.{numberOf, answerWords}
 
 -- the answer to a scan x, beside what it leaves
 pub record Answered (x : Scan) (d t u : List ℕ) (r : ℕ) (e f g a : List ℕ) : Type 0 where

@@ -7,13 +7,8 @@ use mathlib.Core.List.{List, [], _∷_}
 use lib.Dec.{ltb}
 use lib.ListN.{length}
 use Rattle.buffers.specs.Padded.{padded}
-use Rattle.rows.specs.Span.{markOf}
-use Rattle.rows.specs.declared.Span.{Span}
+use Rattle.words.specs.Words.{recordWords}
 use Rattle.metadata.specs.Metadata.{Scan, metadata, answerOf, keptOf}
-
-unfoldable pub recordWords : List Span → List ℕ
-recordWords [] = []
-recordWords (x ∷ xs) = markOf x ∷ x .start ∷ x .size ∷ recordWords xs
 
 -- the answer to a scan x; d and e: the store at entry and exit, w: the record, a: the answer
 pub record Described (x : Scan) (d : List ℕ) (r : ℕ) (e w a : List ℕ) : Type 0 where

@@ -5,7 +5,7 @@ use mathlib.Core.Bool.{Bool, true, false, _||_}
 use Prim.Native.Nat.{ℕ, _*_, _<_, _≤_}
 use lib.Dec.{eqb, ltb}
 use borrow.Author.Tests.{lt-ltb, le-ltb, ltb-false, ne-eqb}
-use Rattle.text.proofs.Here.{never}
+use Rattle.text.proofs.Here.{neither}
 use Rattle.yanglib.specs.Entries.{isListed}
 use Rattle.yanglib.specs.ToGraph.{Lengths, tooShort}
 
@@ -82,7 +82,3 @@ long-enough longest k h =
       includes = ltb-false (k .includes) 1280 (q .1);
       levels = ltb-false (k .levels) 2304 (p .1);
     }
-  where
-    neither : (a b : Bool) → (a || b) ≡ false → (a ≡ false) × (b ≡ false)
-    neither true b h = absurd (never h refl)
-    neither false b h = (refl, h)

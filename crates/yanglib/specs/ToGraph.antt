@@ -2,7 +2,7 @@
 -- name's first byte, length), edge table, 16,384 words (from, to), in order of adding; rest zero. A refusal leaves all tables and counts zero. Scratch:
 -- a value store as long as the longest text, one pair of scan tables, 2,304 words; zero after every call.
 -- Assumes nothing.
-use Prim.Native.Nat.{ℕ, _*_, _≤_}
+use Prim.Native.Nat.{ℕ, _≤_}
 use mathlib.Core.Path.{_≡_}
 use mathlib.Core.Bool.{Bool, cond, _||_}
 use mathlib.Core.List.{List, [], _∷_, map}
@@ -60,6 +60,7 @@ abbrev pub resultOf : List Word → Graph → Result
 resultOf ws (graph ns es) = record { answer = Built (length ns) (length es); nodes = ws; rows = map (rowOf ns) es }
 resultOf ws (fault number entry a) = refusal number entry a 0
 
+-- f of the place where a reading is wrong, else b
 abbrev pub onRead : {A B : Type 0} → Ans A → (ℕ → B) → B → B
 onRead (good a n) f b = b
 onRead (bad p) f b = f p

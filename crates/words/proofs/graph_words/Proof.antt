@@ -1,9 +1,9 @@
--- `nuvaleta::graph_words`. Each answer is one clause of the definition, and its numbers are words.
+-- `words::graph_words`. Each answer is one clause of the definition, and its numbers are words.
 -- Assumes nothing.
 use borrow.Author.Needs.{needs}
-use Rattle.nuvaleta.proofs.GraphLaws.{nodes-word, edges-word, entry-word, scan-word, place-word, built-words, refused-words}
-use Rattle.nuvaleta.proofs.graph_words.Statement.{statement}
-use Rattle.nuvaleta.proofs.graph_words.Tie as tie
+use Rattle.words.proofs.WordsLaws.{nodes-word, edges-word, entry-word, scan-word, place-word, built-words, refused-graph}
+use Rattle.words.proofs.graph_words.Statement.{statement}
+use Rattle.words.proofs.graph_words.Tie as tie
 
 enum-known-graphed : tie.Need-enum-known-graphed
 enum-known-graphed c = search needs
@@ -30,7 +30,7 @@ returns : tie.Need-returns
 returns c = search built-words
 
 returns-2 : tie.Need-returns-2
-returns-2 c = search refused-words
+returns-2 c = search refused-graph
 
 pub graph-words-spec : {M : Type 1} → statement M
 graph-words-spec =

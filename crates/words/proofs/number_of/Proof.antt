@@ -1,9 +1,9 @@
--- `nuvaleta::number_of`. Each answer is one clause of the definition.
+-- `words::number_of`. Each answer is one clause of the definition.
 -- Assumes nothing.
 use borrow.Author.Needs.{needs}
-use Rattle.nuvaleta.proofs.HostLaws.{good-number, refused-number}
-use Rattle.nuvaleta.proofs.number_of.Tie as tie
-use Rattle.nuvaleta.proofs.number_of.Statement.{statement}
+use Rattle.words.proofs.WordsLaws.{good-number, refused-number}
+use Rattle.words.proofs.number_of.Tie as tie
+use Rattle.words.proofs.number_of.Statement.{statement}
 
 enum-told : tie.Need-enum-told
 enum-told c = search needs

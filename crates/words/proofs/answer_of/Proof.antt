@@ -1,10 +1,10 @@
--- `nuvaleta::answer_of`. Each answer is one clause of the definition, and its numbers are words.
+-- `words::answer_of`. Each answer is one clause of the definition, and its numbers are words.
 -- Assumes nothing.
 use native.Mathlib.Omega.{arith}
 use borrow.Author.Needs.{needs}
-use Rattle.nuvaleta.proofs.HostLaws.{good-fits, good-words, refused-fits, refused-words}
-use Rattle.nuvaleta.proofs.answer_of.Tie as tie
-use Rattle.nuvaleta.proofs.answer_of.Statement.{statement}
+use Rattle.words.proofs.WordsLaws.{good-fits, good-words, refused-fits, refused-words}
+use Rattle.words.proofs.answer_of.Tie as tie
+use Rattle.words.proofs.answer_of.Statement.{statement}
 
 enum-known-parsed : tie.Need-enum-known-parsed
 enum-known-parsed c = search needs

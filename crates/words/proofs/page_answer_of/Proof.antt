@@ -1,9 +1,9 @@
--- `nuvaleta::page_answer_of`. The words of the answer, and one more.
+-- `words::page_answer_of`. The words of the answer, and one more.
 -- Assumes nothing.
 use borrow.Author.Needs.{needs}
-use Rattle.nuvaleta.proofs.HostLaws.{seven}
-use Rattle.nuvaleta.proofs.page_answer_of.Tie as tie
-use Rattle.nuvaleta.proofs.page_answer_of.Statement.{statement}
+use Rattle.words.proofs.WordsLaws.{seven}
+use Rattle.words.proofs.page_answer_of.Tie as tie
+use Rattle.words.proofs.page_answer_of.Statement.{statement}
 
 answer-of-requires : tie.Need-answer-of-requires
 answer-of-requires c κs = search needs

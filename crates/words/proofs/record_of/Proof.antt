@@ -1,9 +1,9 @@
--- `nuvaleta::record_of`. Three words for each value, in order.
+-- `words::record_of`. Three words for each value, in order.
 -- Assumes nothing.
 use borrow.Author.Needs.{needs}
-use Rattle.nuvaleta.proofs.RecordLaws.{start-fits, size-fits, record-is}
-use Rattle.nuvaleta.proofs.record_of.Statement.{statement}
-use Rattle.nuvaleta.proofs.record_of.Tie as tie
+use Rattle.words.proofs.WordsLaws.{start-fits, size-fits, record-is}
+use Rattle.words.proofs.record_of.Statement.{statement}
+use Rattle.words.proofs.record_of.Tie as tie
 
 array-copy-out-name : tie.Need-array-copy-out-name
 array-copy-out-name c = search needs

@@ -1,9 +1,9 @@
--- `nuvaleta::told_words`. Each answer is one clause of the definition, and its numbers are words.
+-- `words::told_words`. Each answer is one clause of the definition, and its numbers are words.
 -- Assumes nothing.
 use borrow.Author.Needs.{needs}
-use Rattle.nuvaleta.proofs.ToldLaws.{broken-words, nothing-words, hit-words, broken-word, hit-word, second-word}
-use Rattle.nuvaleta.proofs.told_words.Statement.{statement}
-use Rattle.nuvaleta.proofs.told_words.Tie as tie
+use Rattle.words.proofs.WordsLaws.{broken-words, nothing-words, hit-words, broken-word, hit-word, second-word}
+use Rattle.words.proofs.told_words.Statement.{statement}
+use Rattle.words.proofs.told_words.Tie as tie
 
 enum-known-told : tie.Need-enum-known-told
 enum-known-told c = search needs
