@@ -1,4 +1,8 @@
+pub mod Graphing
+pub mod MetadataNumbers
+pub mod Needs
 pub mod NewestRight
+pub mod Numbers
 pub mod Outcomes
 pub mod RfcCounts
 pub mod RfcCovers
@@ -12,4 +16,7 @@ pub mod RfcSame
 pub mod RfcStrings
 pub mod RfcTrim
 pub mod RfcTrimming
+pub mod ScanNumbers
+pub mod Standing
 pub mod Starred
+pub mod TablesRead

@@ -2,20 +2,22 @@
 -- Assumes nothing.
 use Prim.Native.Nat.{ℕ}
 use mathlib.Core.Path.{_≡_, refl, sym, ap, _∙_}
-use mathlib.Core.Bool.{Bool, false}
+use mathlib.Core.Bool.{Bool}
 use mathlib.Core.List.{List, [], _∷_, _++_}
 use native.Mathlib.Omega.{arith}
 use lib.Dec.{ltb}
-use lib.ListN.{length}
-use Rattle.buffers.specs.Padded.{padded}
+use lib.ListN.{length, getD}
+use Rattle.buffers.specs.Padded.{zeros, padded}
 use Rattle.yangparser.specs.Dependencies.{Scan, importWordsOf, includeWordsOf, tooShort, pageShort, dependencies, parsedOf, keptOf}
 use Rattle.yangparser.specs.Promises.{Leaves}
 use Rattle.yangparser.specs.declared.Parsed.{Parsed}
 use Rattle.page.specs.Page.{pageOf}
 use Rattle.metadata.specs.Metadata as Metadata
-use Rattle.nuvaleta.specs.Host.{numberOf, answerWords}
-use Rattle.nuvaleta.specs.Record.{recordWords}
+use Rattle.words.specs.Words.{numberOf, answerWords, recordWords, graphWords}
 use Rattle.nuvaleta.specs.Finds.{Told}
+use Rattle.nuvaleta.specs.Graphs.{Drawn}
+use Rattle.yanglib.specs.ToGraph.{Lengths, lengthsOf, Result, graphed, nodeWords, rowWords, Leaves as GraphLeft}
+use Rattle.yanglib.specs.declared.Graphed.{Graphed}
 use Rattle.library.specs.Reading.{readSeen}
 use Rattle.library.specs.declared.Read.{Read}
 use Rattle.library.specs.declared.Read.the-variants.{End, Wrong}
@@ -70,9 +72,50 @@ seen-one (Wrong p) (Wrong q) e = let k : p ≡ q = cc in ap Wrong k
 told-one : {w : List ℕ} {n n′ : ℕ} {a a′ : List ℕ} → Told w n a → Told w n′ a′ → (n ≡ n′) × (a ≡ a′)
 told-one x y = (x .number ∙ sym (y .number), x .answered ∙ sym (y .answered))
 
+-- ---- graphs
+
+-- scratch that is zero, as long as it was
+cleared : {m n : ℕ} → m ≡ n → {y y′ : List ℕ} → y ≡ zeros m → y′ ≡ zeros n → y ≡ y′
+cleared e h h′ = h ∙ ap zeros e ∙ sym h′
+
+module _ {x x′ : Result} (xe : x ≡ x′) {n e d f g l n′ e′ d′ f′ g′ l′ : List ℕ} (ks : lengthsOf n e d f g l ≡ lengthsOf n′ e′ d′ f′ g′ l′) where
+  graph-one : {r r′ : Graphed} {n₁ e₁ d₁ f₁ g₁ l₁ n₁′ e₁′ d₁′ f₁′ g₁′ l₁′ : List ℕ}
+      → GraphLeft x n e d f g l r n₁ e₁ d₁ f₁ g₁ l₁ → GraphLeft x′ n′ e′ d′ f′ g′ l′ r′ n₁′ e₁′ d₁′ f₁′ g₁′ l₁′
+      → (r ≡ r′) × (n₁ ≡ n₁′) × (e₁ ≡ e₁′) × (d₁ ≡ d₁′) × (f₁ ≡ f₁′) × (g₁ ≡ g₁′) × (l₁ ≡ l₁′)
+  graph-one a b = (
+    equals (λ x. x .answer) xe (a .answer) (b .answer),
+    filled (λ x. nodeWords (x .nodes)) xe (ap (λ (k : Lengths). k .nodes) ks) (a .nodes) (b .nodes),
+    filled (λ x. rowWords (x .rows)) xe (ap (λ (k : Lengths). k .edges) ks) (a .edges) (b .edges),
+    cleared (ap (λ (k : Lengths). k .store) ks) (a .store) (b .store),
+    cleared (ap (λ (k : Lengths). k .imports) ks) (a .imports) (b .imports),
+    cleared (ap (λ (k : Lengths). k .includes) ks) (a .includes) (b .includes),
+    cleared (ap (λ (k : Lengths). k .levels) ks) (a .levels) (b .levels),
+  )
+
+  drawn-one : {r r′ : ℕ} {n₁ e₁ d₁ f₁ g₁ l₁ a n₁′ e₁′ d₁′ f₁′ g₁′ l₁′ a′ : List ℕ}
+      → Drawn x n e d f g l r n₁ e₁ d₁ f₁ g₁ l₁ a → Drawn x′ n′ e′ d′ f′ g′ l′ r′ n₁′ e₁′ d₁′ f₁′ g₁′ l₁′ a′
+      → (r ≡ r′) × (n₁ ≡ n₁′) × (e₁ ≡ e₁′) × (d₁ ≡ d₁′) × (f₁ ≡ f₁′) × (g₁ ≡ g₁′) × (l₁ ≡ l₁′) × (a ≡ a′)
+  drawn-one a b =
+      let k = graph-one (a .graph) (b .graph) in (
+        equals (λ x. getD (graphWords (x .answer)) 0 0) xe (a .told .number) (b .told .number),
+        k .1,
+        k .2,
+        k .3,
+        k .4,
+        k .5,
+        k .6,
+        equals (λ x. graphWords (x .answer)) xe (a .told .answered) (b .told .answered),
+      )
+
 pub one-outcome : OneOutcome
 one-outcome = record {
   dependencies = λ s short d t u d′ t′ u′ ds ts us a b. leaves-one (scans s d t u d′ t′ u′ refl ds ts us) ds ts us a b;
+  over = λ s short d t u a b. (
+    a .answer ∙ sym (b .answer),
+    a .holds .stored ∙ sym (b .holds .stored),
+    a .holds .imports ∙ sym (b .holds .imports),
+    a .holds .includes ∙ sym (b .holds .includes),
+  );
   printed = λ s d t u p d′ t′ u′ p′ ds ts us ps a b.
       let xe = pageScans s d t u p d′ t′ u′ p′ ds ts us ps in
       let k = leaves-one xe ds ts us (a .scan) (b .scan) in
@@ -111,4 +154,6 @@ one-outcome = record {
   host-submodule = λ s t a b. told-one a b;
   host-import = λ s t a b. told-one a b;
   host-text = λ s t a b. told-one a b;
+  graph = λ s b n e d f g l n′ e′ d′ f′ g′ l′ ks h k. graph-one (ap (graphed s b) ks) ks h k;
+  host-graph = λ s b n e d f g l n′ e′ d′ f′ g′ l′ ks h k. drawn-one (ap (graphed s b) ks) ks h k;
 }

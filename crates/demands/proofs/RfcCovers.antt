@@ -21,7 +21,7 @@ use Rattle.text.proofs.Here.{by-test, never, both}
 use Rattle.text.proofs.Laws.{run-from, block-from, comment-line, comment-block, gap-stop, gap-more, gap-on}
 use Rattle.value.specs.Str.{escapes, strEnd, strBytes, whole, closedBy, strAt}
 use Rattle.value.specs.Value.{isQuote}
-use Rattle.value.proofs.JoinLaws.{str-size}
+use Rattle.value.proofs.JoinLaws.{at-is, closed-end, str-size}
 use Rattle.value.specs.declared.Close.{Close}
 use Rattle.value.specs.declared.Close.the-variants.{At, Open}
 use Rattle.demands.specs.Rfc.{isBlank, areAt, toLineEnd, commentClose, pastComment, separator, pastGap, Read, reads, with, first, Piece, double, single, gap, singleBody, doubleBody, columnOf, stringAt, gapTo, gapAt, gapAndString, plusAndString, moreStrings, piecesAt}
@@ -159,19 +159,12 @@ gap-passes s at f =
 
 -- ---- a string
 
-closed-end : (bs cs : List ℕ) (k : Close) (end : ℕ) → closedBy bs k ≡ whole cs end → k ≡ At end
-unfolding closedBy
-closed-end bs cs (At e) end h = cc
-closed-end bs cs Open end h = cc
-
 whole-close : (s : List ℕ) (at q end : ℕ) (bs : List ℕ) → getD s at 256 ≡ q → strAt s at ≡ whole bs end → strEnd q false (drop (at + 1) s) (at + 1) ≡ At end
 unfolding strAt
 whole-close s at q end bs e h =
-    closed-end (strBytes q false (drop (at + 1) s)) bs (strEnd q false (drop (at + 1) s) (at + 1)) end
+    closed-end (strBytes q false (drop (at + 1) s)) (strEnd q false (drop (at + 1) s) (at + 1)) bs end
     (ap (λ c. closedBy (strBytes c false (drop (at + 1) s)) (strEnd c false (drop (at + 1) s) (at + 1))) (sym e) ∙ h)
-
-at-is : {k : Close} (a b : ℕ) → k ≡ At a → k ≡ At b → a ≡ b
-at-is a b e f = cc
+    .0
 
 open-not : {k : Close} {a : ℕ} → k ≡ Open → k ≡ At a → ⊥
 open-not e f = let z : _≡_ {A = ℕ} 0 1 = cc in omega arith

@@ -4,3 +4,6 @@ pub mod RfcDomain
 pub mod RfcQuoted
 pub mod RfcEquality
 pub mod OneOutcome
+pub mod Demand3
+pub mod Demand3Needs
+pub mod Demand1

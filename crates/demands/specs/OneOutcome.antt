@@ -1,5 +1,5 @@
--- Every public function promises what it returns and every word it leaves, on refusals too; any two outcomes allowed by it are equal. What the lent buffers
--- held enters no promise, only their lengths do: equal lengths, equal outcomes.
+-- The functions below promise what they return and every word they leave, on refusals too; any two outcomes allowed are equal. What the lent buffers held
+-- enters no promise but that of scan_over, only their lengths do: equal lengths, equal outcomes.
 -- Assumes nothing.
 use Prim.Native.Nat.{ℕ}
 use mathlib.Core.Path.{_≡_}
@@ -20,7 +20,11 @@ use Rattle.metadata.specs.Promises as Metadata
 use Rattle.metadata.specs.declared.YangModuleMetadata.{YangModuleMetadata}
 use Rattle.nuvaleta.specs.Host.{DependenciesAnswered, PrintedAnswered}
 use Rattle.nuvaleta.specs.Record.{MetadataAnswered}
-use Rattle.nuvaleta.specs.Finds.{toldWords, Told}
+use Rattle.words.specs.Words.{toldWords}
+use Rattle.nuvaleta.specs.Finds.{Told}
+use Rattle.nuvaleta.specs.Graphs.{GraphAnswered}
+use Rattle.yanglib.specs.ToGraph.{lengthsOf, Graphs}
+use Rattle.yanglib.specs.declared.Graphed.{Graphed}
 
 -- d, t, u, p: store, tables and page at entry; e, f, g, q: at exit; the second outcome has an accent
 pub record OneOutcome : Type 0 where
@@ -28,6 +32,9 @@ pub record OneOutcome : Type 0 where
   pub dependencies : (s : List ℕ) (short : Bool) (d t u d′ t′ u′ : List ℕ) → length d ≡ length d′ → length t ≡ length t′ → length u ≡ length u′
       → {r r′ : Parsed} {e f g e′ f′ g′ : List ℕ} → Dependencies.Extracts s short d t u r e f g → Dependencies.Extracts s short d′ t′ u′ r′ e′ f′ g′
       → (r ≡ r′) × (e ≡ e′) × (f ≡ f′) × (g ≡ g′)
+  -- scan_over, which clears nothing: what it leaves depends on what was there
+  pub over : (s : List ℕ) (short : Bool) (d t u : List ℕ) {r r′ : Parsed} {e f g e′ f′ g′ : List ℕ}
+      → Dependencies.Scans s short d t u r e f g → Dependencies.Scans s short d t u r′ e′ f′ g′ → (r ≡ r′) × (e ≡ e′) × (f ≡ f′) × (g ≡ g′)
   -- print_yang_dependencies
   pub printed : (s d t u p d′ t′ u′ p′ : List ℕ) → length d ≡ length d′ → length t ≡ length t′ → length u ≡ length u′ → length p ≡ length p′
       → {r r′ : Page} {e f g q e′ f′ g′ q′ : List ℕ} → Prints s d t u p r e f g q → Prints s d′ t′ u′ p′ r′ e′ f′ g′ q′
@@ -57,3 +64,12 @@ pub record OneOutcome : Type 0 where
   pub host-submodule : (s t : List ℕ) {n n′ : ℕ} {a a′ : List ℕ} → let w = toldWords imageBroken (findSubmodule s t) in Told w n a → Told w n′ a′ → (n ≡ n′) × (a ≡ a′)
   pub host-import : (s t : List ℕ) {n n′ : ℕ} {a a′ : List ℕ} → let w = toldWords imageBroken (findImportModule s t) in Told w n a → Told w n′ a′ → (n ≡ n′) × (a ≡ a′)
   pub host-text : (s t : List ℕ) {n n′ : ℕ} {a a′ : List ℕ} → let w = toldWords bundleBroken (lookUp s t) in Told w n a → Told w n′ a′ → (n ≡ n′) × (a ≡ a′)
+  -- to_graph and nuvaleta_graph; s: image, b: bundle; x₁ to x₆: node table, edge table, value store, import table, include table, levels; y: at exit
+  pub graph : (s b : List ℕ) (x₁ x₂ x₃ x₄ x₅ x₆ x₁′ x₂′ x₃′ x₄′ x₅′ x₆′ : List ℕ) → lengthsOf x₁ x₂ x₃ x₄ x₅ x₆ ≡ lengthsOf x₁′ x₂′ x₃′ x₄′ x₅′ x₆′
+      → {r r′ : Graphed} {y₁ y₂ y₃ y₄ y₅ y₆ y₁′ y₂′ y₃′ y₄′ y₅′ y₆′ : List ℕ}
+      → Graphs s b x₁ x₂ x₃ x₄ x₅ x₆ r y₁ y₂ y₃ y₄ y₅ y₆ → Graphs s b x₁′ x₂′ x₃′ x₄′ x₅′ x₆′ r′ y₁′ y₂′ y₃′ y₄′ y₅′ y₆′
+      → (r ≡ r′) × (y₁ ≡ y₁′) × (y₂ ≡ y₂′) × (y₃ ≡ y₃′) × (y₄ ≡ y₄′) × (y₅ ≡ y₅′) × (y₆ ≡ y₆′)
+  pub host-graph : (s b : List ℕ) (x₁ x₂ x₃ x₄ x₅ x₆ x₁′ x₂′ x₃′ x₄′ x₅′ x₆′ : List ℕ) → lengthsOf x₁ x₂ x₃ x₄ x₅ x₆ ≡ lengthsOf x₁′ x₂′ x₃′ x₄′ x₅′ x₆′
+      → {n n′ : ℕ} {y₁ y₂ y₃ y₄ y₅ y₆ a y₁′ y₂′ y₃′ y₄′ y₅′ y₆′ a′ : List ℕ}
+      → GraphAnswered s b x₁ x₂ x₃ x₄ x₅ x₆ n y₁ y₂ y₃ y₄ y₅ y₆ a → GraphAnswered s b x₁′ x₂′ x₃′ x₄′ x₅′ x₆′ n′ y₁′ y₂′ y₃′ y₄′ y₅′ y₆′ a′
+      → (n ≡ n′) × (y₁ ≡ y₁′) × (y₂ ≡ y₂′) × (y₃ ≡ y₃′) × (y₄ ≡ y₄′) × (y₅ ≡ y₅′) × (y₆ ≡ y₆′) × (a ≡ a′)

@@ -1,0 +1,191 @@
+-- Demand 3 from bytes to names: a built answer is the graph of the image's library, whose names are read from the bytes, and its rows are its edges in
+-- numbers, which lead back to the names. What comes before the graph (21, 22) hangs on the bundle and the lengths lent alone.
+-- Assumes nothing.
+use Prim.Native.Nat.{ℕ}
+use mathlib.Core.Path.{_≡_, refl, sym, ap, ap₂, _∙_, subst, subst₂}
+use mathlib.Core.Logic.{_↔_}
+use mathlib.Core.Bool.{Bool, true, false, cond}
+use mathlib.Core.List.{List, [], _∷_, map, List·Memᴰ, List·Memᴰ·head, List·Memᴰ·tail, Perm}
+use native.Mathlib.Omega.{arith}
+use lib.ListN.{length, length-map}
+use Rattle.form.specs.Form.{Ans, good, bad}
+use Rattle.form.specs.Writer.{AllBytes}
+use Rattle.image.specs.Image.{imageBroken, imageAt}
+use Rattle.image.specs.Library.{Name, Library}
+use Rattle.bundle.specs.Bundle.{Text as BundleText, bundleBroken, bundleAt}
+use Rattle.bundle.specs.Reading.{longestText}
+use Rattle.items.specs.Table.{Reads}
+use Rattle.graph.specs.Nodes.{passOver}
+use Rattle.graph.specs.Graph.{nought, Edge, edge, Graph, graph, fault, graphOf}
+use Rattle.graph.specs.Numbers.{row, rowOf}
+use Rattle.graph.specs.Meaning.{Revised, IsEdge}
+use Rattle.graph.specs.Demand3.{Right, Agree, both-refused as graphs-refused, both-built as graphs-built}
+use Rattle.graph.proofs.Numbers.{at-mem, number-at, number-of-at}
+use Rattle.graph.proofs.Nodes.{nodes-only}
+use Rattle.graph.proofs.Spread.{perm-length}
+use Rattle.graph.proofs.Demand.{demand3}
+use Rattle.edges.specs.Edges.{mostEdges, rowsIn}
+use Rattle.nodes.specs.Adding.{mostNodes, plainAt, wordsAt, namesAt}
+use Rattle.texts.specs.Texts.{textOf}
+use Rattle.yanglib.specs.ToGraph.{lentTooShort, Lengths, tooShort, Result, refusal, resultOf, onRead, graphed, lengthsOf, Graphs}
+use Rattle.yanglib.specs.declared.Graphed.the-variants.{Built}
+use Rattle.yanglib.proofs.Outcome.{revised-here}
+use Rattle.demands.specs.Demand3.{nameOf, names, tableNames, named, between, edges, RightGraph, WellFormed, Alike, both-refused, both-built, BytesDemand3}
+use Rattle.demands.proofs.Standing.{names-read}
+use Rattle.demands.proofs.TablesRead.{edges-read, nodes-read}
+
+abbrev pub graphHere : (image bundle : List ℕ) → Graph
+graphHere s b = graphOf passOver mostNodes mostEdges (textOf b) (plainAt s)
+
+abbrev pub resultHere : (image bundle : List ℕ) → Result
+resultHere s b = resultOf (wordsAt s) (graphHere s b)
+
+-- ---- the ways to an answer
+
+-- what comes before the graph, by the readings of bundle and image and whether too little is lent
+abbrev unlessShort : Ans (List BundleText) → Bool → Result → Result
+unlessShort y short r = onRead y (refusal bundleBroken 0 nought) (cond short (refusal lentTooShort 0 nought 0) r)
+
+abbrev pub before : Ans Library → Ans (List BundleText) → Bool → Result → Result
+before x y short r = onRead x (refusal imageBroken 0 nought) (unlessShort y short r)
+
+module _ (s b : List ℕ) (k : Lengths) where
+  well-formed : Reads (imageAt s) → graphed s b k ≡ unlessShort (bundleAt b) (tooShort (longestText b) k) (resultHere s b)
+  unfolding graphed
+  well-formed reads = ap (λ x. before x (bundleAt b) (tooShort (longestText b) k) (resultHere s b)) (reads .read)
+
+  pub graph-reached : Reads (imageAt s) → Reads (bundleAt b) → tooShort (longestText b) k ≡ false → graphed s b k ≡ resultHere s b
+  graph-reached reads o t =
+      well-formed reads
+      ∙ ap (λ y. unlessShort y (tooShort (longestText b) k) (resultHere s b)) (o .read)
+      ∙ ap (λ f. cond f (refusal lentTooShort 0 nought 0) (resultHere s b)) t
+
+  -- a graph is built only where all is read and enough is lent, and then it is the graph of the image's library
+  pub record Drawn : Type 0 where
+    pub reads : Reads (imageAt s)
+    pub bundle : Reads (bundleAt b)
+    pub long : tooShort (longestText b) k ≡ false
+    pub ns : List Name
+    pub es : List Edge
+    pub graphIs : graphHere s b ≡ graph ns es
+
+  pub drawn : (n m : ℕ) → graphed s b k .answer ≡ Built n m → Drawn
+  unfolding graphed
+  drawn n m h = go (imageAt s) (bundleAt b) (tooShort (longestText b) k) (graphHere s b) refl refl refl refl h
+    where
+      go : (x : Ans Library) (y : Ans (List BundleText)) (short : Bool) (g : Graph) → imageAt s ≡ x → bundleAt b ≡ y → tooShort (longestText b) k ≡ short
+          → graphHere s b ≡ g → before x y short (resultOf (wordsAt s) g) .answer ≡ Built n m → Drawn
+      go (bad p) y short g e f t q h = let z : _≡_ {A = ℕ} 0 1 = cc in absurd (omega arith)
+      go (good l i) (bad p) short g e f t q h = let z : _≡_ {A = ℕ} 0 1 = cc in absurd (omega arith)
+      go (good l i) (good o j) true g e f t q h = let z : _≡_ {A = ℕ} 0 1 = cc in absurd (omega arith)
+      go (good l i) (good o j) false (fault c d a) e f t q h = let z : _≡_ {A = ℕ} 0 1 = cc in absurd (omega arith)
+      go (good l i) (good o j) false (graph ns es) e f t q h = record {
+        reads = record { value = l; end = i; read = e };
+        bundle = record { value = o; end = j; read = f };
+        long = t;
+        ns = ns;
+        es = es;
+        graphIs = q;
+      }
+
+-- ---- names and edges of a result
+
+module _ (s b : List ℕ) (bytes : AllBytes s) (reads : Reads (imageAt s)) {ns : List Name} {es : List Edge} (e : graphHere s b ≡ graph ns es) where
+  right : Right passOver (textOf b) (plainAt s) ns es
+  right = demand3 passOver mostNodes mostEdges (textOf b) .right (plainAt s) ns es e
+
+  revised : Revised (plainAt s)
+  revised = revised-here s reads bytes
+
+  abbrev result : Result
+  result = resultOf (wordsAt s) (graph ns es)
+
+  names-are : names s result ≡ ns
+  unfolding namesAt
+  names-are = names-read s bytes reads ∙ sym (right .nodes)
+
+  edge-back : (d : Edge) → List·Memᴰ d es → between ns (rowOf ns d) ≡ d
+  edge-back d m =
+      let k = right .ends revised (d .from) (d .to) m in
+      ap₂ edge (number-at ns (d .from) [] (k .0)) (number-at ns (d .to) [] (k .1))
+
+  edges-back : (ds : List Edge) → ((d : Edge) → List·Memᴰ d ds → List·Memᴰ d es) → map (between ns) (map (rowOf ns) ds) ≡ ds
+  edges-back [] f = refl
+  edges-back (d ∷ ds) f = ap₂ _∷_ (edge-back d (f d (List·Memᴰ·head refl))) (edges-back ds (λ c m. f c (List·Memᴰ·tail m)))
+
+  edges-are : edges s result ≡ es
+  edges-are = ap (λ l. map (between l) (map (rowOf ns) es)) names-are ∙ edges-back es (λ d m. m)
+
+  right-here : RightGraph (textOf b) (plainAt s) (length ns) (length es) ns (map (rowOf ns) es)
+  right-here = record {
+    nodes = right .nodes;
+    node-count = refl;
+    edge-count = sym (length-map es (rowOf ns));
+    names-differ = right .names-differ;
+    names-only = λ v m. nodes-only passOver (plainAt s) v (subst (λ l. List·Memᴰ v l) (right .nodes) m);
+    names-all = λ o v m. right .names-all o v .1 m;
+    rows-small = right .rows revised .small;
+    rows-differ = right .rows revised .differ;
+    exact = λ i j h k.
+        let p = number-of-at ns i [] (right .names-differ) h in
+        let q = number-of-at ns j [] (right .names-differ) k in
+        subst₂ (λ x y. List·Memᴰ (row x y) (map (rowOf ns) es) ↔ IsEdge (textOf b) (plainAt s) (named ns i) (named ns j)) p q
+        (right .rows revised .exact (named ns i) (named ns j) (at-mem ns i [] h) (at-mem ns j [] k));
+    ends = λ u v h. right .ends revised u v (right .exact u v .1 h);
+  }
+
+-- ---- first part
+
+right-graph : (s b : List ℕ) (k : Lengths) (n m : ℕ) → AllBytes s → graphed s b k .answer ≡ Built n m
+    → RightGraph (textOf b) (plainAt s) n m (names s (graphed s b k)) (graphed s b k .rows)
+right-graph s b k n m bytes h =
+    let d = drawn s b k n m h in
+    let q : graphed s b k ≡ resultOf (wordsAt s) (graph (d .ns) (d .es))
+    = graph-reached s b k (d .reads) (d .bundle) (d .long) ∙ ap (resultOf (wordsAt s)) (d .graphIs) in
+    let a : Built (length (d .ns)) (length (d .es)) ≡ Built n m = sym (ap (λ (x : Result). x .answer) q) ∙ h in
+    let i : length (d .ns) ≡ n = cc in
+    let j : length (d .es) ≡ m = cc in
+    let e = names-are s b bytes (d .reads) (d .graphIs) in
+    subst (λ (x : Result). RightGraph (textOf b) (plainAt s) n m (names s x) (x .rows)) (sym q)
+    (subst (λ l. RightGraph (textOf b) (plainAt s) n m l (map (rowOf (d .ns)) (d .es))) (sym e)
+    (subst₂ (λ x y. RightGraph (textOf b) (plainAt s) x y (d .ns) (map (rowOf (d .ns)) (d .es))) i j (right-here s b bytes (d .reads) (d .graphIs))))
+
+-- and of what a call leaves
+right-tables : (s b n e d f g l : List ℕ) (i j : ℕ) {n₁ e₁ d₁ f₁ g₁ l₁ : List ℕ} → AllBytes s → Graphs s b n e d f g l (Built i j) n₁ e₁ d₁ f₁ g₁ l₁
+    → RightGraph (textOf b) (plainAt s) i j (tableNames s i n₁) (rowsIn j e₁)
+right-tables s b n e d f g l i j {n₁} {e₁} bytes h =
+    let x = graphed s b (lengthsOf n e d f g l) in
+    let r = right-graph s b (lengthsOf n e d f g l) i j bytes (sym (h .answer)) in
+    let p : i ≡ length (x .nodes) = r .node-count ∙ length-map (x .nodes) (nameOf s) in
+    let u : tableNames s i n₁ ≡ names s x = ap₂ (tableNames s) p (h .nodes) ∙ nodes-read s (length n) (x .nodes) in
+    let v : rowsIn j e₁ ≡ x .rows = ap₂ rowsIn (r .edge-count) (h .edges) ∙ edges-read (length e) (x .rows) in
+    subst₂ (λ ns rs. RightGraph (textOf b) (plainAt s) i j ns rs) (sym u) (sym v) r
+
+-- ---- second part
+
+module _ (s s₁ b : List ℕ) (k : Lengths) (f : WellFormed s) (f₁ : WellFormed s₁) where
+  graphs-alike : (g g₁ : Graph) → graphHere s b ≡ g → graphHere s₁ b ≡ g₁ → Agree g g₁ → Alike s s₁ (resultOf (wordsAt s) g) (resultOf (wordsAt s₁) g₁)
+  graphs-alike (graph ns es) (graph ns₁ es₁) e e₁ (graphs-built p q) =
+      both-built refl (ap₂ Built (sym (perm-length p)) (sym (perm-length q)))
+      (subst₂ Perm (sym (names-are s b (f .bytes) (f .reads) e)) (sym (names-are s₁ b (f₁ .bytes) (f₁ .reads) e₁)) p)
+      (subst₂ Perm (sym (edges-are s b (f .bytes) (f .reads) e)) (sym (edges-are s₁ b (f₁ .bytes) (f₁ .reads) e₁)) q)
+  graphs-alike (fault n j a) (fault n₁ j₁ a₁) e e₁ graphs-refused = both-refused refl refl
+
+  alike-behind : (y : Ans (List BundleText)) (short : Bool) → Alike s s₁ (resultHere s b) (resultHere s₁ b)
+      → Alike s s₁ (unlessShort y short (resultHere s b)) (unlessShort y short (resultHere s₁ b))
+  alike-behind (good es n) true h = both-refused refl refl
+  alike-behind (good es n) false h = h
+  alike-behind (bad p) short h = both-refused refl refl
+
+  alike : Agree (graphHere s b) (graphHere s₁ b) → Alike s s₁ (graphed s b k) (graphed s₁ b k)
+  alike h =
+      subst₂ (Alike s s₁) (sym (well-formed s b k (f .reads))) (sym (well-formed s₁ b k (f₁ .reads)))
+      (alike-behind (bundleAt b) (tooShort (longestText b) k) (graphs-alike (graphHere s b) (graphHere s₁ b) refl refl h))
+
+pub bytes-demand3 : BytesDemand3
+bytes-demand3 = record {
+  right = right-graph;
+  called = right-tables;
+  permuted = λ s s₁ b k f f₁ p o. alike s s₁ b k f f₁ (demand3 passOver mostNodes mostEdges (textOf b) .permuted (plainAt s) (plainAt s₁) p o);
+  spread = λ s s₁ b k f f₁ p o o₁. alike s s₁ b k f f₁ (demand3 passOver mostNodes mostEdges (textOf b) .spread (plainAt s) (plainAt s₁) p o o₁);
+}

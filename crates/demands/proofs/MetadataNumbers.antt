@@ -1,0 +1,168 @@
+-- The refusals of the metadata scan, by number and keyword: a value that is missing has 4, a byte that is due 5 or 6, each with the statement's keyword;
+-- yang-version needs no value, and after belongs-to no byte is due.
+-- Assumes nothing.
+use Prim.Native.Nat.{ℕ, suc}
+use mathlib.Core.Path.{_≡_, refl, ap, subst}
+use mathlib.Core.Bool.{Bool, true, false}
+use mathlib.Core.List.{List, [], _∷_, _++_}
+use native.Mathlib.Omega.{arith}
+use lib.Dec.{eqb, leb}
+use lib.ListN.{length}
+use Rattle.text.specs.Bytes.{look}
+use Rattle.text.specs.Due.{dueAt}
+use Rattle.text.specs.Scan.{gapEnd}
+use Rattle.text.specs.Turns.{stop}
+use Rattle.text.specs.declared.Due.{Due}
+use Rattle.text.specs.declared.Due.the-variants.{After, Not}
+use Rattle.text.specs.declared.Match.{Match}
+use Rattle.text.specs.declared.Match.the-variants.{After as Matched, Not as Unmatched}
+use Rattle.text.specs.declared.Refusal.{Refusal}
+use Rattle.text.specs.declared.Cursor.{Cursor}
+use Rattle.text.proofs.Here.{by-test, never}
+use Rattle.value.specs.Argument.{argumentAt}
+use Rattle.value.specs.Value.{valueAt, placeOf}
+use Rattle.value.specs.declared.Argument.{Argument}
+use Rattle.value.specs.declared.Argument.the-variants.{Read, Refused as NoArgument}
+use Rattle.buffers.specs.Lent.{lentAt}
+use Rattle.buffers.specs.declared.Lent.{Lent}
+use Rattle.buffers.specs.declared.Lent.the-variants.{Fit, Unfit}
+use Rattle.header.specs.Header.{dueFor, pastStatement, afterRevision, afterValue, passed, kept, withRest, fieldAt, laterPrefix, statementSaid, tagSaid, saidHere, saidAt}
+use Rattle.header.specs.Tag.{lastTag, orTag, dataAt, tagAt}
+use Rattle.header.specs.declared.Heard.{Heard}
+use Rattle.header.specs.declared.Heard.the-variants.{Value, Passed, Done, Refused}
+use Rattle.header.specs.declared.Tag.{Tag}
+use Rattle.header.specs.declared.Tag.the-variants.{Statement}
+use Rattle.metadata.specs.Metadata.{Metadata, nothing, Scan, good, bad, ended, afterHeard, metadataTurn, scanFrom, scanned, ifFit, metadata}
+use Rattle.demands.specs.Demand1.{FirstRefusal, Fits, RefusedAs, first, read, MetadataRefusal, no-value, no-byte, no-name}
+use Rattle.demands.proofs.ScanNumbers.{isOne, refusal, of, DueIs, ArgumentIs, due-is, value-is, turns-all, LentIs, lent-is, first-unfit}
+
+abbrev M : Refusal → Type 0
+M r = MetadataRefusal r
+
+-- ---- what follows a value
+
+byte-is : (k : ℕ) → isOne k (1 ∷ 2 ∷ 4 ∷ 5 ∷ 6 ∷ 7 ∷ []) ≡ true → (s : List ℕ) (at b : ℕ) → DueIs M (dueAt s at b k)
+unfolding isOne
+byte-is k h =
+    let of-number : (n : ℕ) → isOne n (5 ∷ 6 ∷ []) ≡ true → (at : ℕ) → M (refusal n k at)
+    = λ n i at. no-byte (of (5 ∷ 6 ∷ []) (1 ∷ 2 ∷ 4 ∷ 5 ∷ 6 ∷ 7 ∷ []) n k at i h) in
+    due-is M k (of-number 5 refl) (of-number 6 refl)
+
+revision-is : (s : List ℕ) (at : ℕ) → DueIs M (afterRevision s at)
+unfolding afterRevision pastStatement isOne
+revision-is s at = by-test (eqb (look s at) 123) (λ t. rw t tt) (λ t. rw t (byte-is 7 refl s at 59))
+
+rest-is : (s : List ℕ) (at k : ℕ) → (eqb k 3 ≡ false → isOne k (1 ∷ 2 ∷ 4 ∷ 5 ∷ 6 ∷ 7 ∷ []) ≡ true) → DueIs M (afterValue s at k)
+unfolding afterValue pastStatement
+rest-is s at k h =
+    by-test (eqb k 3) (λ t. rw t tt)
+    (λ t. rw t (by-test (eqb k 7) (λ v. rw v (revision-is s (gapEnd s at))) (λ v. rw v (byte-is k (h t) s at (dueFor k)))))
+
+-- ---- a statement
+
+abbrev HeardIs : Heard → Type 0
+HeardIs (Value k x c n) = Unit {0}
+HeardIs (Passed c) = Unit {0}
+HeardIs (Done c) = Unit {0}
+HeardIs (Refused r) = M r
+
+passed-is : (d : Due) → DueIs M d → HeardIs (passed d)
+unfolding passed
+passed-is (After c) h = tt
+passed-is (Not r) h = h
+
+kept-is : (k u n : ℕ) (d : Due) → DueIs M d → HeardIs (kept k u n d)
+unfolding kept
+kept-is k u n (After c) h = tt
+kept-is k u n (Not r) h = h
+
+module _ (s : List ℕ) (k : ℕ) (after : eqb k 3 ≡ false → isOne k (1 ∷ 2 ∷ 4 ∷ 5 ∷ 6 ∷ 7 ∷ []) ≡ true) where
+  with-is : (u : ℕ) (a : Argument) → ArgumentIs M a → HeardIs (withRest s k u a)
+  unfolding withRest
+  with-is u (Read c n) h = kept-is k u n (afterValue s (c .at) k) (rest-is s (c .at) k after)
+  with-is u (NoArgument r) h = h
+
+  statement-is : (eqb k 6 ≡ false → isOne k (1 ∷ 2 ∷ 3 ∷ 4 ∷ 5 ∷ 7 ∷ []) ≡ true) → (at u : ℕ) (p : Bool) → HeardIs (statementSaid s at k u p .answer)
+  unfolding statementSaid fieldAt pastStatement passed isOne
+  statement-is own at u p =
+      by-test (eqb k 6) (λ t. rw t (passed-is (afterValue s (placeOf (valueAt s at)) k) (rest-is s (placeOf (valueAt s at)) k after)))
+      (λ t. rw t (by-test (laterPrefix k p) (λ v. rw v tt)
+      (λ v. rw v (with-is u (argumentAt s at u k) (value-is M k (λ e. no-value (of (4 ∷ []) (1 ∷ 2 ∷ 3 ∷ 4 ∷ 5 ∷ 7 ∷ []) 4 k e refl (own t))) s at u)))))
+
+-- ---- which statement it is
+
+module _ (s : List ℕ) (at u : ℕ) (p : Bool) where
+  abbrev TagIs : Tag → Type 0
+  TagIs t = HeardIs (tagSaid s at u p t .answer)
+
+  or-is : (k : ℕ) → ((c : Cursor) → TagIs (Statement k c)) → (m : Match) (t : Tag) → TagIs t → TagIs (orTag k m t)
+  unfolding orTag
+  or-is k f (Matched c) t h = f c
+  or-is k f Unmatched t h = h
+
+  last-is : (m : Match) → TagIs (lastTag m)
+  unfolding lastTag tagSaid
+  last-is (Matched c) = tt
+  last-is Unmatched = tt
+
+  tag-is : TagIs (tagAt s at)
+  unfolding tagAt tagSaid isOne
+  tag-is =
+      or-is 1 (λ c. statement-is s 1 (λ h. refl) (λ h. refl) (c .at) u p) _ _
+      (or-is 2 (λ c. statement-is s 2 (λ h. refl) (λ h. refl) (c .at) u p) _ _
+      (or-is 3 (λ c. statement-is s 3 (λ h. absurd (never h refl)) (λ h. refl) (c .at) u p) _ _
+      (or-is 4 (λ c. statement-is s 4 (λ h. refl) (λ h. refl) (c .at) u p) _ _
+      (or-is 5 (λ c. statement-is s 5 (λ h. refl) (λ h. refl) (c .at) u p) _ _
+      (or-is 6 (λ c. statement-is s 6 (λ h. refl) (λ h. absurd (never h refl)) (c .at) u p) _ _
+      (or-is 7 (λ c. statement-is s 7 (λ h. refl) (λ h. refl) (c .at) u p) _ _ (last-is (dataAt s at))))))))
+
+said-is : (s : List ℕ) (at u : ℕ) (p : Bool) → HeardIs (saidAt s at u p .answer)
+unfolding saidAt saidHere
+said-is s at u p = let g = gapEnd s at in by-test (leb (length s) g) (λ t. rw t tt) (λ t. rw t (tag-is s g u p))
+
+-- ---- all of them
+
+abbrev ScanIs : Scan → Type 0
+ScanIs (good m) = Unit {0}
+ScanIs (bad r bs) = M r
+
+ended-is : (m : Metadata) (at : ℕ) → ScanIs (ended m at)
+unfolding ended isOne
+ended-is m at = by-test (m .name .present) (λ t. rw t tt) (λ t. rw t (no-name (of (9 ∷ []) (0 ∷ []) 9 0 at refl refl)))
+
+turn-is : (m : Metadata) (bs : List ℕ) (x : Heard) (r : Scan) → HeardIs x → afterHeard m bs x ≡ stop r → ScanIs r
+unfolding afterHeard
+turn-is m bs (Value k y c n) r h e = let z : _≡_ {A = ℕ} 0 1 = cc in absurd (omega arith)
+turn-is m bs (Passed c) r h e = let z : _≡_ {A = ℕ} 0 1 = cc in absurd (omega arith)
+turn-is m bs (Done c) r h e = let q : ended m (c .at) ≡ r = cc in subst ScanIs q (ended-is m (c .at))
+turn-is m bs (Refused x) r h e = let q : bad x (m .bytes ++ bs) ≡ r = cc in subst ScanIs q h
+
+scanned-is : (s : List ℕ) → ScanIs (scanned s)
+unfolding scanned scanFrom metadataTurn
+scanned-is s =
+    turns-all (metadataTurn s) (good nothing) ScanIs
+    (λ a r e. let x = length (a .read .bytes) in
+    let p = a .read .prefix .present in
+    turn-is (a .read) _ (saidAt s (a .at) x p .answer) r (said-is s (a .at) x p) e)
+    tt (suc (length s)) _
+
+module _ (s : List ℕ) (short : Bool) where
+  WholeIs : Scan → Type 0
+  WholeIs (good m) = Unit {0}
+  WholeIs (bad r bs) = RefusedAs MetadataRefusal s short r
+
+  pub metadata-refused : (r : Refusal) (bs : List ℕ) → metadata s short ≡ bad r bs → RefusedAs MetadataRefusal s short r
+  unfolding metadata ifFit WholeIs
+  metadata-refused r bs e = subst WholeIs e (go (lentAt s short) (lent-is s short))
+    where
+      scan : (x : Scan) → Fits s short → ScanIs x → WholeIs x
+      scan (good m) f h = tt
+      scan (bad q bs) f h = read f h
+
+      go : (x : Lent) → LentIs s short x → WholeIs (ifFit x (scanned s))
+      go Fit h = scan (scanned s) h (scanned-is s)
+      go (Unfit q) h = first h
+
+  pub metadata-first : (r : Refusal) → FirstRefusal s short r → metadata s short ≡ bad r []
+  unfolding metadata ifFit
+  metadata-first r f = ap (λ x. ifFit x (scanned s)) (first-unfit s short r f)

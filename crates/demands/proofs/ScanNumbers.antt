@@ -1,0 +1,343 @@
+-- The refusals of a scan, by number and keyword: each comes from a place in the definitions that has both, and nothing on the way changes them. A block
+-- ends before its turns do.
+-- Assumes nothing.
+use Prim.Native.Nat.{ℕ, zero, suc, _+_, _-_}
+use mathlib.Core.Path.{_≡_, refl, sym, ap, _∙_, subst}
+use mathlib.Core.Bool.{Bool, true, false, cond}
+use mathlib.Core.List.{List, [], _∷_, _++_, List·Memᴰ, List·Memᴰ·head, List·Memᴰ·tail}
+use native.Mathlib.Omega.{arith}
+use lib.Dec.{eqb, leb, ltb}
+use lib.ListN.{length}
+use borrow.Author.Tests.{eqb-true, eq-eqb, ltb-true, ltb-false}
+use Rattle.text.specs.Bytes.{look}
+use Rattle.text.specs.Due.{dueNumber, dueHere, dueAt}
+use Rattle.text.specs.Scan.{gapEnd, runEnd}
+use Rattle.text.specs.Turns.{Turn, stop, on, after, turns}
+use Rattle.text.specs.declared.Due.{Due}
+use Rattle.text.specs.declared.Due.the-variants.{After, Not}
+use Rattle.text.specs.declared.Refusal.{Refusal}
+use Rattle.text.specs.declared.Run.the-variants.{Low}
+use Rattle.text.proofs.Here.{by-test}
+use Rattle.text.proofs.Turns.{turns-rule}
+use Rattle.value.specs.Argument.{argumentOf, argumentAt, afterDue, afterArgument, lineAt}
+use Rattle.value.specs.Value.{Val, value, none, valueAt}
+use Rattle.value.specs.declared.Argument.{Argument}
+use Rattle.value.specs.declared.Argument.the-variants.{Read, Refused as NoArgument}
+use Rattle.buffers.specs.Lent.{lentAt}
+use Rattle.buffers.proofs.LentLaws.{lent-long, lent-short, lent-high, lent-fit}
+use Rattle.buffers.specs.declared.Lent.{Lent}
+use Rattle.buffers.specs.declared.Lent.the-variants.{Fit, Unfit}
+use Rattle.rows.specs.declared.Span.{Span}
+use Rattle.imports.specs.Left.{Left, nothing}
+use Rattle.imports.specs.Block.{lineKind, withPrefix, withRevision, afterKind, insideHere, insideAt, afterInside, blockTurn, blockFrom, begun, blockAt}
+use Rattle.imports.specs.Statement.{ofBody, importOf, withName, afterName, importAt, includeOf, plainOf, blockOf, openOrPlain, afterValue, includeAt}
+use Rattle.imports.specs.declared.Block.{Block}
+use Rattle.imports.specs.declared.Block.the-variants.{Whole, Broken}
+use Rattle.imports.specs.declared.Body.{Body}
+use Rattle.imports.specs.declared.Inside.{Inside}
+use Rattle.imports.specs.declared.Inside.the-variants.{On as OnInside, Closed, Refused as RefusedInside}
+use Rattle.imports.specs.declared.Line.{Line}
+use Rattle.imports.specs.declared.Line.the-variants.{Prefix, Revision, Other as OtherLine}
+use Rattle.imports.specs.declared.Imported.{Imported}
+use Rattle.imports.specs.declared.Imported.the-variants.{Import as ReadImport, NoImport}
+use Rattle.imports.specs.declared.Included.{Included}
+use Rattle.imports.specs.declared.Included.the-variants.{Include as ReadInclude, NoInclude}
+use Rattle.imports.proofs.BlockLaws.{block-falls}
+use Rattle.yangparser.specs.Dependencies as Deps
+use Rattle.yangparser.specs.Dependencies.{Step, importStep, includeStep, unlessFull, importHere, includeHere, wordStep, stepHere, stepAt, afterStep, scanTurn}
+use Rattle.yangparser.specs.Word.{wordAt}
+use Rattle.yangparser.specs.declared.Next.{Next}
+use Rattle.yangparser.specs.declared.Next.the-variants.{On, Done, Stop}
+use Rattle.yangparser.specs.declared.Sofar.{Sofar}
+use Rattle.yangparser.specs.declared.Word.{Word}
+use Rattle.yangparser.specs.declared.Word.the-variants.{Import, Include, Last, Other}
+use Rattle.demands.specs.Demand1.{OneOf, FirstRefusal, too-long, too-little, high, Fits, RefusedAs, first, read, DependenciesRefusal, argument, no-prefix, block-or-rows}
+
+-- ---- membership of numerals, by test
+
+unfoldable pub isOne : ℕ → List ℕ → Bool
+isOne n [] = false
+isOne n (k ∷ ks) = cond (eqb n k) true (isOne n ks)
+
+pub one-of : (n : ℕ) (ks : List ℕ) → isOne n ks ≡ true → List·Memᴰ n ks
+unfolding isOne
+one-of n [] h = let z : _≡_ {A = ℕ} 0 1 = cc in absurd (omega arith)
+one-of n (k ∷ ks) h = go (eqb n k) refl (one-of n ks) h
+  where
+    go : (t : Bool) → eqb n k ≡ t → (isOne n ks ≡ true → List·Memᴰ n ks) → cond t true (isOne n ks) ≡ true → List·Memᴰ n (k ∷ ks)
+    go true q f h = List·Memᴰ·head (eqb-true n k q)
+    go false q f h = List·Memᴰ·tail (f h)
+
+pub is-one : {n : ℕ} {ks : List ℕ} → List·Memᴰ n ks → isOne n ks ≡ true
+unfolding isOne
+is-one {n} (List·Memᴰ·head {x = k} e) = rw (eq-eqb n k e)
+is-one {n} (List·Memᴰ·tail {x = k} m) = go (eqb n k) (is-one m)
+  where
+    go : (t : Bool) {c : Bool} → c ≡ true → cond t true c ≡ true
+    go true h = refl
+    go false h = h
+
+abbrev pub refusal : ℕ → ℕ → ℕ → Refusal
+refusal n k at = record { number = n; keyword = k; at = at }
+
+pub of : (numbers keywords : List ℕ) (n k at : ℕ) → isOne n numbers ≡ true → isOne k keywords ≡ true → OneOf numbers keywords (refusal n k at)
+of numbers keywords n k at h i = record { number = one-of n numbers h; keyword = one-of k keywords i }
+
+-- ---- what is refused for a value and the byte due after it has the keyword, and 4, 5 or 6
+
+module _ (P : Refusal → Type 0) where
+  abbrev pub DueIs : Due → Type 0
+  DueIs (After c) = Unit {0}
+  DueIs (Not r) = P r
+
+  abbrev pub ArgumentIs : Argument → Type 0
+  ArgumentIs (Read c n) = Unit {0}
+  ArgumentIs (NoArgument r) = P r
+
+  module _ (k : ℕ) where
+    module _ (five : (at : ℕ) → P (refusal 5 k at)) (six : (at : ℕ) → P (refusal 6 k at)) where
+      pub due-here-is : (s : List ℕ) (at b : ℕ) → DueIs (dueHere s at b k)
+      unfolding dueHere dueNumber
+      due-here-is s at b =
+          by-test (eqb (look s at) b) (λ t. rw t tt)
+          (λ t. rw t (by-test (eqb (look s at) 256) (λ v. rw v (six at)) (λ v. rw v (five at))))
+
+      pub due-is : (s : List ℕ) (at b : ℕ) → DueIs (dueAt s at b k)
+      unfolding dueAt
+      due-is s at b = due-here-is s (gapEnd s at) b
+
+      pub line-is : (four : (at : ℕ) → P (refusal 4 k at)) → (s : List ℕ) (at u b : ℕ) → ArgumentIs (lineAt s at u k b)
+      unfolding lineAt argumentAt afterDue afterArgument argumentOf
+      line-is four s at u b = go (valueAt s at)
+        where
+          behind : (n : ℕ) (d : Due) → DueIs d → ArgumentIs (afterDue n d)
+          behind n (After c) h = tt
+          behind n (Not r) h = h
+
+          go : (v : Val) → ArgumentIs (afterArgument s k b (argumentOf u k v))
+          go (value bs e) = behind (u + length bs) (dueAt s e b k) (due-is s e b)
+          go (none e) = four e
+
+    pub value-is : (four : (at : ℕ) → P (refusal 4 k at)) → (s : List ℕ) (at u : ℕ) → ArgumentIs (argumentAt s at u k)
+    unfolding argumentAt argumentOf
+    value-is four s at u = go (valueAt s at)
+      where
+        go : (v : Val) → ArgumentIs (argumentOf u k v)
+        go (value bs e) = tt
+        go (none e) = four e
+
+-- ---- dependencies
+
+abbrev D : Refusal → Type 0
+D r = DependenciesRefusal r
+
+D-number : (k : ℕ) → isOne k (5 ∷ 8 ∷ 9 ∷ 10 ∷ []) ≡ true → (n : ℕ) → isOne n (4 ∷ 5 ∷ 6 ∷ []) ≡ true → (at : ℕ) → D (refusal n k at)
+D-number k h n i at = argument (of (4 ∷ 5 ∷ 6 ∷ []) (5 ∷ 8 ∷ 9 ∷ 10 ∷ []) n k at i h)
+
+D-line : (k : ℕ) → isOne k (5 ∷ 8 ∷ 9 ∷ 10 ∷ []) ≡ true → (s : List ℕ) (at u b : ℕ) → ArgumentIs D (lineAt s at u k b)
+unfolding isOne
+D-line k h = line-is D k (D-number k h 5 refl) (D-number k h 6 refl) (D-number k h 4 refl)
+
+abbrev InsideIs : Inside → Type 0
+InsideIs (OnInside b) = Unit {0}
+InsideIs (Closed b) = Unit {0}
+InsideIs (RefusedInside r) = D r
+
+abbrev BlockIs : Block → Type 0
+BlockIs (Whole b) = Unit {0}
+BlockIs (Broken r) = D r
+
+module _ (s : List ℕ) (k : ℕ) (own : isOne k (8 ∷ 9 ∷ []) ≡ true) where
+  prefix-is : (b : Body) (a : Argument) → ArgumentIs D a → InsideIs (withPrefix b a)
+  unfolding withPrefix
+  prefix-is b (Read c n) h = tt
+  prefix-is b (NoArgument r) h = h
+
+  revision-is : (b : Body) (a : Argument) → ArgumentIs D a → InsideIs (withRevision b a)
+  unfolding withRevision
+  revision-is b (Read c n) h = tt
+  revision-is b (NoArgument r) h = h
+
+  kind-is : (at : ℕ) (b : Body) (x : Line) → InsideIs (afterKind s at b x .answer)
+  unfolding afterKind isOne
+  kind-is at b (Prefix c) = prefix-is b (lineAt s (c .at) (b .used) 5 59) (D-line 5 refl s (c .at) (b .used) 59)
+  kind-is at b (Revision c) = revision-is b (lineAt s (c .at) (b .used) 10 59) (D-line 10 refl s (c .at) (b .used) 59)
+  kind-is at b OtherLine = tt
+
+  inside-is : (b : Body) → InsideIs (insideAt s k b .answer)
+  unfolding insideAt insideHere isOne
+  inside-is b =
+      let g = gapEnd s (b .at) in
+      by-test (eqb (look s g) 256) (λ t. rw t (block-or-rows (of (8 ∷ 10 ∷ []) (8 ∷ 9 ∷ []) 8 k g refl own)))
+      (λ t. rw t (by-test (eqb (look s g) 125) (λ v. rw v tt) (λ v. rw v (kind-is g b (lineKind s g k)))))
+
+  stop-is : (bs : List ℕ) (i : Inside) (r : Left Block) → InsideIs i → afterInside bs i ≡ stop r → BlockIs (r .answer)
+  unfolding afterInside
+  stop-is bs (OnInside b) r h e = let z : _≡_ {A = ℕ} 0 1 = cc in absurd (omega arith)
+  stop-is bs (Closed b) r h e =
+      let q : _≡_ {A = Left Block} (record { answer = Whole b; bytes = bs }) r = cc in subst (λ (x : Left Block). BlockIs (x .answer)) q tt
+  stop-is bs (RefusedInside d) r h e =
+      let q : _≡_ {A = Left Block} (record { answer = Broken d; bytes = bs }) r = cc in subst (λ (x : Left Block). BlockIs (x .answer)) q h
+
+  block-is : (at u : ℕ) → BlockIs (blockAt s at u k .answer)
+  unfolding blockAt blockFrom blockTurn
+  block-is at u =
+      turns-rule (blockTurn s k) (nothing (Broken (refusal 0 0 0))) (λ b. length s - b .body .at) (block-falls s k)
+      (λ a r. BlockIs (r .answer))
+      (λ a r e. stop-is (a .bytes ++ insideAt s k (a .body) .bytes) (insideAt s k (a .body) .answer) r (inside-is (a .body)) e)
+      (λ a b r e h. h) (suc (length s)) (record { body = begun at u; bytes = [] }) (omega arith)
+
+abbrev ImportedIs : Imported → Type 0
+ImportedIs (ReadImport c n i) = Unit {0}
+ImportedIs (NoImport r) = D r
+
+abbrev IncludedIs : Included → Type 0
+IncludedIs (ReadInclude c n i) = Unit {0}
+IncludedIs (NoInclude r) = D r
+
+body-is : (name : Span) (b : Block) → BlockIs b → ImportedIs (importOf name b)
+unfolding importOf ofBody isOne
+body-is name (Whole b) h =
+    by-test (b .prefix .present) (λ t. rw t tt) (λ t. rw t (no-prefix (of (7 ∷ []) (8 ∷ []) 7 8 (b .at) refl refl)))
+body-is name (Broken r) h = h
+
+included-is : (name : Span) (b : Block) → BlockIs b → IncludedIs (includeOf name b)
+unfolding includeOf
+included-is name (Whole b) h = tt
+included-is name (Broken r) h = h
+
+plain-is : (name : Span) (n : ℕ) (d : Due) → DueIs D d → IncludedIs (plainOf name n d)
+unfolding plainOf
+plain-is name n (After c) h = tt
+plain-is name n (Not r) h = h
+
+module _ (s : List ℕ) where
+  name-is : (u : ℕ) (bytes : List ℕ) (a : Argument) → ArgumentIs D a → ImportedIs (afterName s u bytes a .answer)
+  unfolding afterName withName isOne
+  name-is u bytes (Read c n) h = body-is _ (blockAt s (c .at) n 8 .answer) (block-is s 8 refl (c .at) n)
+  name-is u bytes (NoArgument r) h = h
+
+  import-is : (at u : ℕ) → ImportedIs (importAt s at u .answer)
+  unfolding importAt isOne
+  import-is at u = name-is u _ (lineAt s at u 8 123) (D-line 8 refl s at u 123)
+
+  rest-is : (at n : ℕ) (name : Span) (bytes : List ℕ) → IncludedIs (openOrPlain s at n name bytes .answer)
+  unfolding openOrPlain blockOf isOne
+  rest-is at n name bytes =
+      by-test (eqb (look s at) 123) (λ t. rw t (included-is name (blockAt s (at + 1) n 9 .answer) (block-is s 9 refl (at + 1) n)))
+      (λ t. rw t (plain-is name n (dueHere s at 59 9) (due-here-is D 9 (D-number 9 refl 5 refl) (D-number 9 refl 6 refl) s at 59)))
+
+  value-read-is : (u : ℕ) (bytes : List ℕ) (a : Argument) → ArgumentIs D a → IncludedIs (afterValue s u bytes a .answer)
+  unfolding afterValue
+  value-read-is u bytes (Read c n) h = rest-is (gapEnd s (c .at)) n _ bytes
+  value-read-is u bytes (NoArgument r) h = h
+
+  include-is : (at u : ℕ) → IncludedIs (includeAt s at u .answer)
+  unfolding includeAt isOne
+  include-is at u = value-read-is u _ (argumentAt s at u 9) (value-is D 9 (D-number 9 refl 4 refl) s at u)
+
+-- ---- a step, and all of them
+
+abbrev NextIs : Next → Type 0
+NextIs (On far) = Unit {0}
+NextIs Done = Unit {0}
+NextIs (Stop r) = D r
+
+full-is : (rows k at : ℕ) (x : Step) → isOne k (8 ∷ 9 ∷ []) ≡ true → NextIs (x .answer) → NextIs (unlessFull rows k at x .answer)
+unfolding unlessFull isOne
+full-is rows k at x own h =
+    by-test (leb 256 rows) (λ t. rw t (block-or-rows (of (8 ∷ 10 ∷ []) (8 ∷ 9 ∷ []) 10 k at refl own))) (λ t. rw t h)
+
+import-step-is : (far : Sofar) (bs : List ℕ) (i : Imported) → ImportedIs i → NextIs (importStep far bs i .answer)
+unfolding importStep
+import-step-is far bs (ReadImport c n i) h = tt
+import-step-is far bs (NoImport r) h = h
+
+include-step-is : (far : Sofar) (bs : List ℕ) (i : Included) → IncludedIs i → NextIs (includeStep far bs i .answer)
+unfolding includeStep
+include-step-is far bs (ReadInclude c n i) h = tt
+include-step-is far bs (NoInclude r) h = h
+
+word-is : (s : List ℕ) (far : Sofar) (at : ℕ) (w : Word) → NextIs (wordStep s far at w .answer)
+unfolding wordStep importHere includeHere isOne
+word-is s far at (Import c) =
+    full-is (far .imports) 8 (c .at) _ refl (import-step-is far _ (importAt s (c .at) (far .used) .answer) (import-is s (c .at) (far .used)))
+word-is s far at (Include c) =
+    full-is (far .includes) 9 (c .at) _ refl (include-step-is far _ (includeAt s (c .at) (far .used) .answer) (include-is s (c .at) (far .used)))
+word-is s far at (Last c) = tt
+word-is s far at Other = tt
+
+step-is : (s : List ℕ) (far : Sofar) → NextIs (stepAt s far .answer)
+unfolding stepAt stepHere
+step-is s far =
+    let g = gapEnd s (far .at) in
+    by-test (leb (length s) g) (λ t. rw t tt) (λ t. rw t (word-is s far g (wordAt s g)))
+
+-- what holds of every answer of a turn holds of the loop's
+module _ {A R : Type 0} (step : A → Turn A R) (nothing-read : R) (P : R → Type 0)
+    (last : (a : A) (r : R) → step a ≡ stop r → P r) (default : P nothing-read) where
+  pub turns-all : (n : ℕ) (a : A) → P (turns step nothing-read n a)
+  unfolding turns
+  turns-all zero a = default
+  turns-all (suc n) a = go (step a) refl (turns-all n)
+    where
+      go : (t : Turn A R) → step a ≡ t → ((b : A) → P (turns step nothing-read n b)) → P (after (λ b. turns step nothing-read n b) t)
+      go (stop r) e h = last a r e
+      go (on b) e h = h b
+
+abbrev ScanIs : Deps.Scan → Type 0
+ScanIs (Deps.good d) = Unit {0}
+ScanIs (Deps.bad r d) = D r
+
+turn-is : (d : Deps.Dependencies) (x : Next) (r : Deps.Scan) → NextIs x → afterStep d x ≡ stop r → ScanIs r
+unfolding afterStep
+turn-is d (On far) r h e = let z : _≡_ {A = ℕ} 0 1 = cc in absurd (omega arith)
+turn-is d Done r h e = let q : Deps.good d ≡ r = cc in subst ScanIs q tt
+turn-is d (Stop x) r h e = let q : Deps.bad x d ≡ r = cc in subst ScanIs q h
+
+scanned-is : (s : List ℕ) → ScanIs (Deps.scanned s)
+unfolding Deps.scanned Deps.scanFrom scanTurn
+scanned-is s =
+    turns-all (scanTurn s) (Deps.good Deps.none) ScanIs (λ a r e. turn-is _ (stepAt s (a .far) .answer) r (step-is s (a .far)) e) tt (suc (length s)) _
+
+-- ---- what comes first
+
+module _ (s : List ℕ) (short : Bool) where
+  abbrev pub LentIs : Lent → Type 0
+  LentIs Fit = Fits s short
+  LentIs (Unfit r) = FirstRefusal s short r
+
+  pub lent-is : LentIs (lentAt s short)
+  lent-is =
+      let at = runEnd Low s 0 in
+      by-test (ltb 1048576 (length s))
+      (λ t. let h = ltb-true 1048576 (length s) t in subst LentIs (lent-long s short h) (too-long h refl))
+      (λ t. let f = ltb-false 1048576 (length s) t in
+      by-test short (λ v. subst LentIs (lent-short s short f v) (too-little f v refl))
+      (λ v. by-test (ltb at (length s)) (λ w. let h = ltb-true at (length s) w in subst LentIs (lent-high s short f v refl h) (high f v h refl))
+      (λ w. let h = ltb-false at (length s) w in subst LentIs (lent-fit s short f v refl h) (record { few = f; enough = v; low = h }))))
+
+  pub first-unfit : (r : Refusal) → FirstRefusal s short r → lentAt s short ≡ Unfit r
+  first-unfit r (too-long h e) = sym (lent-long s short h) ∙ ap Unfit (sym e)
+  first-unfit r (too-little f h e) = sym (lent-short s short f h) ∙ ap Unfit (sym e)
+  first-unfit r (high f v h e) = sym (lent-high s short f v refl h) ∙ ap Unfit (sym e)
+
+  WholeIs : Deps.Scan → Type 0
+  WholeIs (Deps.good d) = Unit {0}
+  WholeIs (Deps.bad r d) = RefusedAs DependenciesRefusal s short r
+
+  pub dependencies-refused : (r : Refusal) (d : Deps.Dependencies) → Deps.dependencies s short ≡ Deps.bad r d → RefusedAs DependenciesRefusal s short r
+  unfolding Deps.dependencies Deps.ifFit WholeIs
+  dependencies-refused r d e = subst WholeIs e (go (lentAt s short) lent-is)
+    where
+      scan : (x : Deps.Scan) → Fits s short → ScanIs x → WholeIs x
+      scan (Deps.good k) f h = tt
+      scan (Deps.bad q k) f h = read f h
+
+      go : (x : Lent) → LentIs x → WholeIs (Deps.ifFit x (Deps.scanned s))
+      go Fit h = scan (Deps.scanned s) h (scanned-is s)
+      go (Unfit q) h = first h
+
+  pub dependencies-first : (r : Refusal) → FirstRefusal s short r → Deps.dependencies s short ≡ Deps.bad r Deps.none
+  unfolding Deps.dependencies Deps.ifFit
+  dependencies-first r f = ap (λ x. Deps.ifFit x (Deps.scanned s)) (first-unfit r f)

@@ -1,0 +1,111 @@
+-- Which refusals each call can give, by number, keyword, entry, scan answer and place, and when a graph is built, over the definitions that the calls
+-- promise. 1 to 3 and 20 to 22 are given exactly when they are due. Of 4 to 10 it is shown that no other number or keyword comes: when they come is in
+-- the definitions of the scans alone. Of 23 to 31 each has its cause in crate graph (Meaning).
+-- Assumes nothing.
+use Prim.Native.Nat.{ℕ, _≤_, _<_}
+use mathlib.Core.Path.{_≡_}
+use mathlib.Core.Bool.{Bool, true, false}
+use mathlib.Core.Logic.{_↔_, _⊎_}
+use mathlib.Core.List.{List, [], _∷_, List·Memᴰ}
+use lib.ListN.{length}
+use Rattle.text.specs.Scan.{runEnd}
+use Rattle.text.specs.declared.Refusal.{Refusal}
+use Rattle.text.specs.declared.Run.the-variants.{Low}
+use Rattle.form.specs.Form.{bad}
+use Rattle.form.specs.declared.LookUp.the-variants.{Broken}
+use Rattle.image.specs.Image.{imageAt}
+use Rattle.image.specs.Library.{Name}
+use Rattle.find.specs.Find.{findModule, findSubmodule, findImportModule}
+use Rattle.bundle.specs.Bundle.{bundleAt, lookUp, textUnder}
+use Rattle.bundle.specs.Reading.{longestText}
+use Rattle.yangparser.specs.Dependencies as Dependencies
+use Rattle.metadata.specs.Metadata as Metadata
+use Rattle.items.specs.Table.{Reads}
+use Rattle.graph.specs.Nodes.{passOver}
+use Rattle.graph.specs.Graph.{nought}
+use Rattle.graph.specs.Meaning.{Sound, Cause}
+use Rattle.nodes.specs.Adding.{plainAt}
+use Rattle.texts.specs.Texts.{textOf}
+use Rattle.yanglib.specs.ToGraph.{Lengths, tooShort, graphed}
+use Rattle.yanglib.specs.declared.Graphed.the-variants.{Built, Refused}
+
+-- ---- scans
+
+-- one of these numbers with one of these keywords
+pub record OneOf (numbers keywords : List ℕ) (r : Refusal) : Type 0 where
+  pub number : List·Memᴰ (r .number) numbers
+  pub keyword : List·Memᴰ (r .keyword) keywords
+
+-- what is checked first; short: whether something lent is too short, which the promises find from the lengths; `runEnd Low s 0`: the place of the first byte of 128 or more, or the end
+pub data FirstRefusal (s : List ℕ) (short : Bool) (r : Refusal) : Type 0 where
+  too-long : 1048576 < length s → r ≡ record { number = 1; keyword = 0; at = 0 } → FirstRefusal s short r
+  too-little : length s ≤ 1048576 → short ≡ true → r ≡ record { number = 2; keyword = 0; at = 0 } → FirstRefusal s short r
+  high : length s ≤ 1048576 → short ≡ false → runEnd Low s 0 < length s → r ≡ record { number = 3; keyword = 0; at = runEnd Low s 0 }
+      → FirstRefusal s short r
+
+-- then the text is read
+pub record Fits (s : List ℕ) (short : Bool) : Type 0 where
+  pub few : length s ≤ 1048576
+  pub enough : short ≡ false
+  pub low : length s ≤ runEnd Low s 0
+
+pub data RefusedAs (Read : Refusal → Type 0) (s : List ℕ) (short : Bool) (r : Refusal) : Type 0 where
+  first : FirstRefusal s short r → RefusedAs Read s short r
+  read : Fits s short → Read r → RefusedAs Read s short r
+
+-- keywords: 5 prefix, 8 import, 9 include, 10 revision-date
+pub data DependenciesRefusal (r : Refusal) : Type 0 where
+  argument : OneOf (4 ∷ 5 ∷ 6 ∷ []) (5 ∷ 8 ∷ 9 ∷ 10 ∷ []) r → DependenciesRefusal r
+  no-prefix : OneOf (7 ∷ []) (8 ∷ []) r → DependenciesRefusal r
+  block-or-rows : OneOf (8 ∷ 10 ∷ []) (8 ∷ 9 ∷ []) r → DependenciesRefusal r
+
+-- keywords: 1 module, 2 submodule, 3 belongs-to, 4 namespace, 5 prefix, 6 yang-version, 7 revision
+pub data MetadataRefusal (r : Refusal) : Type 0 where
+  no-value : OneOf (4 ∷ []) (1 ∷ 2 ∷ 3 ∷ 4 ∷ 5 ∷ 7 ∷ []) r → MetadataRefusal r
+  no-byte : OneOf (5 ∷ 6 ∷ []) (1 ∷ 2 ∷ 4 ∷ 5 ∷ 6 ∷ 7 ∷ []) r → MetadataRefusal r
+  no-name : OneOf (9 ∷ []) (0 ∷ []) r → MetadataRefusal r
+
+-- ---- graphs
+
+-- why: the first of image, bundle, what is lent, and then what crate graph says of the library and the texts
+pub data GraphCause (s b : List ℕ) (k : Lengths) : (number entry : ℕ) → Refusal → (place : ℕ) → Type 0 where
+  image : {p : ℕ} → imageAt s ≡ bad p → GraphCause s b k 20 0 nought p
+  bundle : {p : ℕ} → Reads (imageAt s) → bundleAt b ≡ bad p → GraphCause s b k 21 0 nought p
+  lent : Reads (imageAt s) → Reads (bundleAt b) → tooShort (longestText b) k ≡ true → GraphCause s b k 22 0 nought 0
+  graph : {n e : ℕ} {a : Refusal} → Reads (imageAt s) → Reads (bundleAt b) → tooShort (longestText b) k ≡ false
+      → Cause passOver (textOf b) (plainAt s) 1024 8192 n e a → GraphCause s b k n e a 0
+
+pub record GraphNumbers (number entry : ℕ) (a : Refusal) (place : ℕ) : Type 0 where
+  pub number-in : List·Memᴰ number (20 ∷ 21 ∷ 22 ∷ 23 ∷ 24 ∷ 25 ∷ 26 ∷ 27 ∷ 28 ∷ 29 ∷ 30 ∷ 31 ∷ [])
+  -- entry 0 exactly before the walk, a scan answer only at 25, a place only at 20 and 21
+  pub entry-none : (entry ≡ 0) ↔ List·Memᴰ number (20 ∷ 21 ∷ 22 ∷ 30 ∷ [])
+  pub scan-none : (a ≡ nought) ⊎ (number ≡ 25)
+  pub place-none : (place ≡ 0) ⊎ List·Memᴰ number (20 ∷ 21 ∷ [])
+
+-- what it takes to be built
+pub record Buildable (s b : List ℕ) (k : Lengths) : Type 0 where
+  pub image : Reads (imageAt s)
+  pub bundle : Reads (bundleAt b)
+  pub lent : tooShort (longestText b) k ≡ false
+  pub sound : Sound passOver (textOf b) (plainAt s) 1024 8192
+
+pub record Demand1 : Type 0 where
+  -- extract_yang_dependencies, print_yang_dependencies; extract_yang_metadata
+  pub dependencies : (s : List ℕ) (short : Bool) (r : Refusal) (d : Dependencies.Dependencies) → Dependencies.dependencies s short ≡ Dependencies.bad r d
+      → RefusedAs DependenciesRefusal s short r
+  pub metadata : (s : List ℕ) (short : Bool) (r : Refusal) (bs : List ℕ) → Metadata.metadata s short ≡ Metadata.bad r bs → RefusedAs MetadataRefusal s short r
+  -- and 1 to 3 are given whenever they are due
+  pub first-refused : (s : List ℕ) (short : Bool) (r : Refusal) → FirstRefusal s short r
+      → (Dependencies.dependencies s short ≡ Dependencies.bad r Dependencies.none) × (Metadata.metadata s short ≡ Metadata.bad r [])
+  -- the finds: 20 exactly if the image is wrong there; the text under a name: 21 exactly if the bundle is
+  pub module-found : (s t : List ℕ) (p : ℕ) → (findModule s t ≡ Broken p) ↔ (imageAt s ≡ bad p)
+  pub submodule-found : (s t : List ℕ) (p : ℕ) → (findSubmodule s t ≡ Broken p) ↔ (imageAt s ≡ bad p)
+  pub import-found : (s t : List ℕ) (p : ℕ) → (findImportModule s t ≡ Broken p) ↔ (imageAt s ≡ bad p)
+  pub text-found : (s t : List ℕ) (p : ℕ) → (lookUp s t ≡ Broken p) ↔ (bundleAt s ≡ bad p)
+  -- to_graph
+  pub graph-refused : (s b : List ℕ) (k : Lengths) (number entry place : ℕ) (a : Refusal) → graphed s b k .answer ≡ Refused number entry a place
+      → GraphCause s b k number entry a place × GraphNumbers number entry a place
+  -- 25 carries the answer of the scan of a text in the bundle
+  pub scan-carried : (s b : List ℕ) (k : Lengths) (entry place : ℕ) (a : Refusal) → graphed s b k .answer ≡ Refused 25 entry a place
+      → (v : Name) × (d : Dependencies.Dependencies) × (Dependencies.dependencies (textUnder b v) false ≡ Dependencies.bad a d)
+  pub graph-built : (s b : List ℕ) (k : Lengths) → ((n : ℕ) × (m : ℕ) × (graphed s b k .answer ≡ Built n m)) ↔ Buildable s b k
