@@ -1,25 +1,38 @@
 #!/bin/sh
-# archive.sh NAME [PROCESSOR]: in a repository of Rattle, proves the library NAME and prints the path of a static archive of it, for C or
-# Rust on this processor (or the one named) to link.
+# archive.sh [--kept] NAME [PROCESSOR]: in a repository of Rattle, proves the library NAME and prints the path of a static archive of it, for
+# C or Rust on this processor (or the one named) to link. Beside it goes a sum of all sources, as they were before the proof, and of the
+# archive. With --kept, one that still has these sums is taken as it is.
 #
 # On x86-64 it is rt's own. For another processor the same proved module is compiled anew: rt runs with a folder in the place of its kit
 # that differs in one file, bin/clang, a wrapper that puts the processor's name in the place of x86-64. Such an archive is for tests and
 # measurements only.
 set -eu
-name=${1:?usage: archive.sh NAME [PROCESSOR]}
+kept=
+[ "${1:-}" != --kept ] || { kept=yes && shift; }
+name=${1:?usage: archive.sh [--kept] NAME [PROCESSOR]}
 processor=${2:-$(uname -m)}
 root=$PWD
 while [ ! -f "$root/crates.txt" ]; do
     [ "$root" != / ] || { echo "archive: no crates.txt in this folder or above it" >&2; exit 2; }
     root=$(dirname "$root")
 done
+made=$root/target/staticlib/lib$name.a # where rt puts it
+archive=$made
+[ "$processor" = x86_64 ] || archive=$root/target/staticlib/$processor/lib$name.a # link.rs looks there too
+mkdir -p "$(dirname "$archive")"
+sources=$(cd "$root" && find crates crates.txt -type f -exec sha256sum {} + | sort | sha256sum)
+sums() { echo "$sources $(sha256sum <"$archive")"; }
+if [ -n "$kept" ] && [ -f "$archive" ] && [ "$(cat "$archive.sums" 2>/dev/null)" = "$(sums)" ]; then
+    echo "$archive"
+    exit 0
+fi
 say=$root/target/archive.say
-mkdir -p "$root/target"
 prove() { rt staticlib "$name" >"$say" 2>&1 || { cat "$say" >&2; exit 1; }; }
+finish() { sums >"$archive.sums" && echo "$archive"; }
 
 if [ "$processor" = x86_64 ]; then
     prove
-    echo "$root/target/staticlib/lib$name.a"
+    finish
     exit 0
 fi
 
@@ -52,6 +65,5 @@ done
 EOF
 chmod +x "$clang"
 RATTLE_HOME=$mirror prove
-mkdir -p "$root/target/staticlib/$processor"
-mv "$root/target/staticlib/lib$name.a" "$root/target/staticlib/$processor/"
-echo "$root/target/staticlib/$processor/lib$name.a"
+mv "$made" "$archive"
+finish

@@ -1,5 +1,6 @@
 #!/bin/sh
-# Makes an archive of a small proved crate, links it into a C program and runs that; then makes one for another processor and looks at it.
+# Makes an archive of a small proved crate, links it into a C program and runs that, and sees when it is kept; then makes one for another
+# processor and looks at it.
 set -eu
 here=$(cd "$(dirname "$0")" && pwd)
 "$here/../need" gcc libc6-dev binutils
@@ -30,8 +31,21 @@ archive=$("$here/archive.sh" probe)
 gcc -o main main.c "$archive"
 said=$(./main)
 [ "$said" = "1 256" ] || { echo "archive: the C program says '$said'" >&2; exit 1; }
+
+# Kept while neither a source nor the archive has changed: then rt, here one that fails, is not asked.
+mkdir none
+printf '#!/bin/sh\nexit 1\n' >none/rt
+chmod +x none/rt
+kept() { PATH=$work/none:$PATH "$here/archive.sh" --kept probe 2>/dev/null; }
+[ "$(kept)" = "$archive" ] || { echo "archive: not kept" >&2; exit 1; }
+echo >>crates/probe/src/lib.rt
+! kept >/dev/null || { echo "archive: kept, though a source has changed" >&2; exit 1; }
+"$here/archive.sh" probe >/dev/null
+echo >>"$archive"
+! kept >/dev/null || { echo "archive: kept, though it has changed itself" >&2; exit 1; }
+
 other=aarch64
 [ "$(uname -m)" = x86_64 ] || other=riscv64
 readelf -h "$("$here/archive.sh" probe $other)" | grep -qi "machine:.*$other\|machine:.*risc" ||
     { echo "archive: not one for $other" >&2; exit 1; }
-echo "archive: links and runs here; made for $other too"
+echo "archive: links and runs here, is kept while nothing changes; made for $other too"

@@ -1,8 +1,7 @@
 #!/bin/sh
-# build.sh: proves crates/nuvaleta, makes its archive for this processor, and builds host/compare/build/release/compare over it.
+# build.sh: builds host/compare/build/release/compare over the archive of crates/nuvaleta for this processor, which is proved and made where it is not
+# that of the sources.
 set -eu
-here=$(cd "$(dirname "$0")" && pwd)
-cd "$here/../.."
-archive=$(host/archive/archive.sh nuvaleta)
-cd "$here"
-RUSTFLAGS="-L native=$(dirname "$archive")" cargo build --release --offline --quiet --target-dir build
+cd "$(dirname "$0")"
+../archive/archive.sh --kept nuvaleta >/dev/null
+cargo build --release --offline --quiet --target-dir build

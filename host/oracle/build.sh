@@ -10,15 +10,12 @@ sha256sum --quiet -c - <<EOF || { echo "oracle: that is not the source that docu
 0647d30d6388e6200eb3cd83889d5e94f2f72ee6835f4877e49592ab8beef9aa  $src/yangparser.rs
 56d60209daa0ce165181141e60ec7efd79e94b13521e7dcf58ba8d1954914ba9  $src/yanglib.rs
 EOF
-"$here/../need" librust-petgraph-dev librust-indexmap-dev python3
-registry=$(dpkg -L librust-petgraph-dev | sed -n 's|/petgraph-[0-9.]*/Cargo.toml$||p')
-[ -n "$registry" ] || { echo "oracle: librust-petgraph-dev holds no crate" >&2; exit 1; }
+"$here/../need" python3
 
 mkdir -p "$here/build/src"
 cp "$here/Cargo.toml" "$here/build/"
 cp "$here/src/main.rs" "$here/src/house.rs" "$here/src/read.rs" "$here/../vectors/src/form.rs" "$src/yangparser.rs" "$here/build/src/"
 python3 "$here/cut.py" "$src/yanglib.rs" "$here/build/src/yanglib.rs"
 cd "$here/build"
-cargo build --release --offline --quiet \
-    --config 'source.crates-io.replace-with="debian"' --config "source.debian.directory=\"$registry\""
+"$here/cargo.sh" build --release
 cp target/release/oracle oracle

@@ -1,8 +1,11 @@
-//! The port beside the original Rust, on the same inputs in one run: bench FILE.. (real modules).
+//! The port beside the original Rust, on the same inputs in one run.
+//!
+//! bench scans FILE..: both scans, of real modules and of others; and how long an image and a bundle take to read.
+//! bench graphs IMAGE BUNDLE: the graph of real modules and of others.
 //!
 //! The Rust makes its strings and lists anew in each call; the port is lent buffers that were made once and clears them in each call, all of what
-//! it is lent: a store as long as the text and, for dependencies, both tables. Images and bundles are a form that the Rust does not have: there
-//! the port stands alone.
+//! it is lent: a store as long as the text and, for dependencies, both tables. Images and bundles are a form that the Rust does not have: for a
+//! look-up the port stands alone, for a graph the oracle's reader stands before the Rust.
 
 use std::hint::black_box;
 use std::time::Instant;
@@ -10,9 +13,18 @@ use std::time::Instant;
 #[path = "../../compare/src/port.rs"]
 #[allow(dead_code)]
 mod port;
+#[path = "../../oracle/build/src/house.rs"]
+#[allow(dead_code)]
+mod house;
+#[path = "../../oracle/build/src/yanglib.rs"]
+#[allow(dead_code, unused_imports)]
+mod yanglib;
 #[path = "../../oracle/build/src/yangparser.rs"]
 #[allow(dead_code)]
 mod yangparser;
+mod graph;
+
+use vectors::form; // house.rs looks for it here
 
 /// The best of some runs, in nanoseconds.
 fn best(runs: usize, mut f: impl FnMut()) -> f64 {
@@ -36,7 +48,28 @@ fn repeated_to(piece: &str, last: char) -> String {
 }
 
 fn main() {
-    let files: Vec<String> = std::env::args().skip(1).collect();
+    let args: Vec<String> = std::env::args().skip(1).collect();
+    match args.split_first() {
+        Some((what, files)) if what == "scans" => scans(files),
+        Some((what, [image, bundle])) if what == "graphs" => graphs(image, bundle),
+        _ => {
+            eprintln!("bench: scans FILE.. | graphs IMAGE BUNDLE");
+            std::process::exit(2);
+        }
+    }
+}
+
+fn graphs(image: &str, bundle: &str) {
+    let read = |file: &str| std::fs::read(file).expect("a file");
+    let (image, bundle) = (read(image), read(bundle));
+    let texts = form::read_bundle(&bundle).expect("a bundle").len();
+    let real = graph::Input { what: format!("{texts} real modules"), image, bundle };
+    graph::table("graph", &[graph::made(500, 6, 1), graph::made(1_000, 8, 16), real]);
+    let growing: Vec<graph::Input> = [125, 250, 500, 1_000].map(|n| graph::made(n, 6, 2)).into();
+    graph::table("graph, growing", &growing);
+}
+
+fn scans(files: &[String]) {
     let read = |f: &String| String::from_utf8(std::fs::read(f).expect("a file")).ok().filter(|t| t.is_ascii());
     let real: Vec<String> = files.iter().filter_map(read).collect();
     let statements = repeated_to("x { y \"z\"; } ", '}');

@@ -1,15 +1,14 @@
-//! The graphs of generated libraries, beside the Rust's: nodes, edges in order, which refusal; and the limits that the Rust does not have.
+//! The graphs of generated and of real libraries, beside the Rust's: nodes, edges in order, which refusal.
 
 use crate::Run;
 use crate::port::{self, Graphed};
 use vectors::answers::{self, FIVE_OR_SIX, Graph, Refusal, UNTOLD};
-use vectors::libraries;
 use vectors::rng::Rng;
+use vectors::{form, libraries};
 
 /// What was lent and held something else, with so many words more than there must be.
 fn drawn(image: &[u8], bundle: &[u8], more: usize) -> Graphed {
-    let longest = vectors::form::read_bundle(bundle).map_or(0, |t| t.iter().map(|t| t.bytes.len()).max().unwrap_or(0));
-    port::graph(image, bundle, longest + more, more)
+    port::graph(image, bundle, form::longest_text(bundle) + more, more)
 }
 
 fn told(recorded: u32, is: u32) -> bool {
@@ -22,14 +21,22 @@ fn refused(number: u32, scan: &Refusal, g: &Graphed) -> bool {
     g.answer[0] == number && entry && same && told(scan.keyword, g.answer[3]) && told(scan.position, g.answer[4]) && g.answer[5..] == [0, 0, 0]
 }
 
-fn agrees(rust: &Graph, g: &Graphed) -> bool {
+/// A node's place is the Rust's, and its length that of a name that stands there.
+fn names(image: &[u8], places: &[u32], g: &Graphed) -> bool {
+    let sets = form::read_image(image).expect("an image");
+    let all = form::candidates(&sets);
+    let length = |place: u32| all.iter().find(|n| n.place == place as usize).map(|n| n.text.len() as u32);
+    places.iter().zip(g.nodes.chunks(2)).all(|(place, row)| row[0] == *place && Some(row[1]) == length(*place))
+}
+
+fn agrees(image: &[u8], rust: &Graph, g: &Graphed) -> bool {
     if !g.is_clean() {
         return false;
     }
     match rust {
         Graph::Built(nodes, edges) => {
             g.answer == [0, 0, 0, 0, 0, 0, nodes.len() as u32, edges.len() as u32]
-                && nodes.iter().enumerate().all(|(i, place)| g.nodes[2 * i] == *place)
+                && names(image, nodes, g)
                 && edges.iter().enumerate().all(|(i, e)| g.edges[2 * i..2 * i + 2] == *e)
         }
         Graph::Refused(number, scan) => refused(*number, scan, g),
@@ -37,13 +44,32 @@ fn agrees(rust: &Graph, g: &Graphed) -> bool {
     }
 }
 
+/// Compares the port with the Rust, and answers the port's eight words.
+fn one(run: &mut Run, image: &[u8], bundle: &[u8], more: usize) -> [u32; 8] {
+    let rust = answers::graph(&mut run.oracle, image, bundle);
+    let port = drawn(image, bundle, more);
+    let shown = |bytes: &[u8]| String::from_utf8_lossy(&bytes[..bytes.len().min(2_000)]).into_owned();
+    run.count(agrees(image, &rust, &port), || {
+        format!("image {image:02X?}\n  bundle {:?}\n  the Rust {rust:?}\n  the port {:?}", shown(bundle), port.answer)
+    });
+    port.answer
+}
+
 pub fn graphs(run: &mut Run, seed: u64, count: u64) {
     let mut r = Rng::new(seed);
     for i in 0..count {
         let library = libraries::library(&mut r);
-        let (image, bundle) = (library.image(), library.bundle());
-        let rust = answers::graph(&mut run.oracle, &image, &bundle);
-        let port = drawn(&image, &bundle, i as usize % 3);
-        run.count(agrees(&rust, &port), || format!("image {image:02X?}\n  bundle {:?}\n  the Rust {rust:?}\n  the port {:?}", String::from_utf8_lossy(&bundle), port.answer));
+        one(run, &library.image(), &library.bundle(), i as usize % 3);
+    }
+}
+
+/// An image and a bundle from files; says what the graph is. One that is refused or has no edges counts as different too: it was to be compared.
+pub fn of(run: &mut Run, image: &str, bundle: &str) {
+    let read = |file: &str| std::fs::read(file).unwrap_or_else(|e| panic!("{file}: {e}"));
+    let [number, entry, .., nodes, edges] = one(run, &read(image), &read(bundle), 0);
+    println!("compare: {image}: {nodes} nodes, {edges} edges");
+    if number != 0 || edges == 0 {
+        run.different = 1; // of one input
+        println!("compare: {image}: no graph to compare: refusal {number}, entry {entry}");
     }
 }

@@ -5,7 +5,8 @@
 //! compare changes SEED COUNT: COUNT small images and COUNT small bundles, with every beginning and every change of one byte.
 //! compare finds SEED COUNT: COUNT generated libraries: the Rust's finds, and damaged copies.
 //! compare graphs SEED COUNT: COUNT generated libraries: nodes, edges in order, which refusal.
-//! compare edges: lengths around each boundary, which the Rust does not have.
+//! compare graph-of IMAGE BUNDLE: the same for the image and the bundle in these files.
+//! compare edges: lengths around each boundary and the limits of a graph, which the Rust does not have.
 
 use std::path::PathBuf;
 use vectors::answers::{self, Dependencies, FIVE_OR_SIX, Refusal, Scan, UNTOLD};
@@ -16,6 +17,7 @@ use vectors::texts;
 mod edges;
 mod graph;
 mod library;
+mod limits;
 mod metadata;
 mod port;
 
@@ -43,13 +45,15 @@ fn main() {
         ["changes", seed, count] => library::changes(&mut run, number(seed), number(count) as usize),
         ["finds", seed, count] => library::finds(&mut run, number(seed), number(count)),
         ["graphs", seed, count] => graph::graphs(&mut run, number(seed), number(count)),
+        ["graph-of", image, bundle] => graph::of(&mut run, image, bundle),
         ["edges"] => {
             edges::run(&mut run);
             metadata::edges(&mut run);
             library::edges(&mut run);
+            limits::run(&mut run);
         }
         _ => {
-            eprintln!("compare: texts SEED COUNT | files SEED COUNT FILE.. | changes SEED COUNT | finds SEED COUNT | graphs SEED COUNT | edges");
+            eprintln!("compare: texts|changes|finds|graphs SEED COUNT | files SEED COUNT FILE.. | graph-of IMAGE BUNDLE | edges");
             std::process::exit(2);
         }
     }

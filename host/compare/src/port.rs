@@ -1,5 +1,11 @@
 //! The port, as include/nuvaleta.h declares it, behind safe functions.
 
+#[path = "../../rust/src/lengths.rs"]
+mod lengths;
+
+use lengths::{EDGE_WORDS, LEVEL_WORDS, NODE_WORDS};
+pub use lengths::{IMPORT_WORDS, INCLUDE_WORDS};
+
 #[derive(Debug, PartialEq)]
 pub struct Scanned {
     /// Number, keyword, position, import rows, include rows, stored bytes, page's length.
@@ -10,8 +16,6 @@ pub struct Scanned {
     pub page: Vec<u8>,
 }
 
-pub const IMPORT_WORDS: usize = 1_792;
-pub const INCLUDE_WORDS: usize = 1_280;
 pub const PAGE_MORE: usize = 6_944;
 
 #[link(name = "nuvaleta", kind = "static")]
@@ -172,18 +176,18 @@ pub struct Graphed {
     pub levels: Vec<u32>,
 }
 
-/// The graph, with a store of this length and tables that are so much longer than they must be, all of which held something else.
+/// How long a graph's tables must be: nodes, edges, imports, includes, levels.
+pub const GRAPH_WORDS: [usize; 5] = [NODE_WORDS, EDGE_WORDS, IMPORT_WORDS, INCLUDE_WORDS, LEVEL_WORDS];
+
+/// A store and tables of these lengths, all of which held something else.
+pub fn lent_graph(store: usize, words: [usize; 5]) -> Graphed {
+    let [nodes, edges, imports, includes, levels] = words.map(|n| vec![0xa5a5_a5a5; n]);
+    Graphed { answer: [0xa5a5_a5a5; 8], nodes, edges, store: vec![0xa5; store], imports, includes, levels }
+}
+
+/// The graph, with a store of this length and tables that are so much longer than they must be.
 pub fn graph(image: &[u8], bundle: &[u8], store: usize, more: usize) -> Graphed {
-    let words = |n: usize| vec![0xa5a5_a5a5_u32; n + more];
-    let mut g = Graphed {
-        answer: [0xa5a5_a5a5; 8],
-        nodes: words(2_048),
-        edges: words(16_384),
-        store: vec![0xa5; store],
-        imports: words(IMPORT_WORDS),
-        includes: words(INCLUDE_WORDS),
-        levels: words(2_304),
-    };
+    let mut g = lent_graph(store, GRAPH_WORDS.map(|n| n + more));
     let number = g.redraw(image, bundle);
     assert_eq!(number, g.answer[0], "the call's result");
     g

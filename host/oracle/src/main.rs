@@ -6,7 +6,6 @@
 //! The Rust may loop for ever, overflow its stack or panic. So a second process does the work, under a limit of processor time, and is
 //! started again after each of these.
 
-use std::collections::HashMap;
 use std::io::{BufRead, BufReader, BufWriter, Write};
 use std::os::unix::process::ExitStatusExt;
 use std::process::{Child, ChildStdin, ChildStdout, Command, Stdio};
@@ -21,8 +20,7 @@ mod yanglib;
 #[allow(dead_code)]
 mod yangparser;
 
-use form::read_bundle;
-use house::{Image, read_image};
+use house::{Image, read_image, read_schemas};
 
 fn main() {
     if std::env::args().nth(1).as_deref() == Some("worker") {
@@ -225,17 +223,11 @@ fn graph(image: &[u8], bundle: &[u8]) -> String {
         Ok(image) => image,
         Err(place) => return format!("image {place}"),
     };
-    let texts = match read_bundle(bundle) {
-        Ok(texts) => texts,
+    let schemas = match read_schemas(bundle) {
+        Ok(Some(schemas)) => schemas,
+        Ok(None) => return "utf8".to_string(),
         Err(place) => return format!("bundle {place}"),
     };
-    let mut schemas: HashMap<Box<str>, Box<str>> = HashMap::new();
-    for text in texts {
-        let Ok(bytes) = std::str::from_utf8(text.bytes) else {
-            return "utf8".to_string();
-        };
-        schemas.insert(text.name.text.into(), bytes.into());
-    }
     graph_limit(bundle);
     let graph = match image.library.to_graph(&schemas) {
         Ok(graph) => graph,

@@ -136,3 +136,24 @@ pub fn read_bundle(bytes: &[u8]) -> Read<Vec<Text<'_>>> {
     let mut seen = HashSet::new();
     whole(bytes, 16_777_216, |r| r.list(0, 2_048, |r| r.text(&mut seen)))
 }
+
+/// How long the longest text of a bundle is; 0 where there is none, or the bundle breaks its form.
+pub fn longest_text(bundle: &[u8]) -> usize {
+    read_bundle(bundle).unwrap_or_default().iter().map(|t| t.bytes.len()).max().unwrap_or(0)
+}
+
+/// All names that may be a node, in the order of the image: modules and import-only modules, each with its submodules.
+pub fn candidates<'a>(sets: &[Set<'a>]) -> Vec<Name<'a>> {
+    let mut out = Vec::new();
+    for set in sets {
+        for m in &set.modules {
+            out.push(m.name);
+            out.extend(&m.submodules);
+        }
+        for m in &set.import_only {
+            out.push(m.name);
+            out.extend(m.revisions.iter().flatten());
+        }
+    }
+    out
+}

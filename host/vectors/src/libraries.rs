@@ -31,6 +31,31 @@ pub struct Library {
     pub texts: BTreeMap<String, String>,
 }
 
+// ---- written down by hand
+
+pub fn words(names: &str) -> Vec<String> {
+    names.split_whitespace().map(|n| n.to_string()).collect()
+}
+
+pub fn module(name: &str, submodules: &str) -> Module {
+    Module { name: name.to_string(), submodules: words(submodules), ..Module::default() }
+}
+
+/// An import-only module; each revision is its submodules.
+pub fn only(name: &str, revisions: &[&str]) -> ImportOnly {
+    ImportOnly { name: name.to_string(), revisions: revisions.iter().map(|r| words(r)).collect() }
+}
+
+pub fn of(sets: &[(&[Module], &[ImportOnly])], texts: &[(&str, &str)]) -> Library {
+    let sets = sets.iter().map(|(m, i)| Set { modules: m.to_vec(), import_only: i.to_vec() }).collect();
+    Library { sets, texts: texts.iter().map(|(n, t)| (n.to_string(), t.to_string())).collect() }
+}
+
+/// Modules m, with submodule s and these two texts, and b, whose text is empty.
+pub fn small(m: &str, s: &str) -> Library {
+    of(&[(&[module("m", "s"), module("b", "")], &[])], &[("m", m), ("s", s), ("b", "")])
+}
+
 // ---- written in the house form
 
 fn number(n: usize, out: &mut Vec<u8>) {
