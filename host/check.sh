@@ -1,30 +1,79 @@
 #!/bin/sh
-# check.sh: the host's quick checks: the archive from C, the packing of images and bundles, then the port beside the original Rust. What needs the NetGauze source, or a Rust that can compile it, is
-# skipped where that is not at hand, and says so.
+# check.sh: the host's quick checks: the archive from C, the packing of images and bundles, the Rust crate and its command, then the port beside
+# the original Rust. What needs the NetGauze source, or a Rust that can compile it, is skipped where that is not at hand, and says so.
 set -eu
 here=$(cd "$(dirname "$0")" && pwd)
 cd "$here/.."
-"$here/archive/test.sh"
-"$here/c/test.sh" "$("$here/archive/archive.sh" nuvaleta)"
-"$here/need" python3
-"$here/pack/test.py"
-
-skip() { echo "host: SKIPPED, $*: the oracle, the recorded answers and the comparison"; exit 0; }
-minor=$(rustc --version 2>/dev/null | sed -n 's/^rustc 1\.\([0-9]*\)\..*/\1/p')
-[ "${minor:-0}" -ge 88 ] && command -v cargo >/dev/null || skip "no Rust of 1.88 or newer"
-status=0
-"$here/oracle/build.sh" || status=$?
-[ "$status" != 3 ] || skip "no NetGauze source"
-[ "$status" = 0 ] || exit "$status"
-"$here/oracle/test.py"
-"$here/vectors/build.sh"
-"$here/vectors/build/release/vectors" verify "$here/../crates"
-"$here/compare/build.sh"
 compare=$here/compare/build/release/compare
-"$compare" edges
-"$compare" texts 7 10000
-# shellcheck disable=SC2046
-"$compare" files 3 3 $("$here/vectors/real.sh")
-"$compare" changes 3 24
-"$compare" finds 5 2000
-"$compare" graphs 9 2000
+minor=$(rustc --version 2>/dev/null | sed -n 's/^rustc 1\.\([0-9]*\)\..*/\1/p')
+command -v cargo >/dev/null || minor=0
+work=$(mktemp -d)
+parts=
+# shellcheck disable=SC2086
+trap '[ -z "$parts" ] || kill $parts 2>/dev/null || :; rm -rf "$work"' EXIT
+trap 'exit 130' INT TERM
+
+# Two of the functions below at once. The first one's output is shown as it comes, the second one's behind it. One that fails fails the whole.
+both() {
+    "$1" &
+    first=$!
+    "$2" >"$work/said" 2>&1 &
+    second=$!
+    parts="$first $second"
+    failed=
+    wait "$first" || failed="$failed $1"
+    wait "$second" || failed="$failed $2"
+    parts=
+    cat "$work/said"
+    [ -z "$failed" ] || { echo "host: failed:$failed" >&2; exit 1; }
+}
+
+# What is skipped; the last line of all.
+skip() { echo "host: SKIPPED, $1: $2" >"$work/skipped"; }
+
+from_c_and_rust() {
+    "$here/archive/test.sh"
+    archive=$("$here/archive/archive.sh" nuvaleta)
+    "$here/c/test.sh" "$archive"
+    [ "${minor:-0}" -lt 63 ] || "$here/rust/test.sh"
+}
+
+packed_and_judged() {
+    "$here/pack/test.py"
+    rest="the oracle, the recorded answers and the comparison"
+    [ "${minor:-0}" -ge 63 ] || { skip "no Rust of 1.63 or newer" "nuvaleta graph, $rest"; return 0; }
+    [ "$minor" -ge 88 ] || { skip "no Rust of 1.88 or newer" "$rest"; return 0; }
+    status=0
+    "$here/oracle/build.sh" || status=$?
+    [ "$status" != 3 ] || { skip "no NetGauze source" "$rest"; return 0; }
+    [ "$status" = 0 ] || exit "$status"
+    "$here/oracle/test.py"
+    "$here/vectors/build.sh"
+    "$here/vectors/build/release/vectors" verify "$here/../crates"
+}
+
+texts_compared() {
+    "$compare" edges
+    "$compare" texts 7 10000
+    # shellcheck disable=SC2086
+    "$compare" files 3 3 $real
+}
+
+libraries_compared() {
+    "$compare" changes 3 24
+    "$compare" finds 5 2000
+    "$compare" graphs 9 2000
+    yuma=$(dpkg -L libyuma-base | grep '/yuma/modules$')
+    "$here/pack/pack" folder "$yuma" "$work/libyuma-base.image" "$work/libyuma-base.bundle"
+    "$compare" graph-of "$work/libyuma-base.image" "$work/libyuma-base.bundle"
+    "$here/vectors/real-library.sh" "$work/real.image" "$work/real.bundle"
+    "$compare" graph-of "$work/real.image" "$work/real.bundle"
+}
+
+# All that two parts could both want to install, and the packages that the packing's tests look for.
+"$here/need" gcc libc6-dev binutils python3
+real=$("$here/vectors/real.sh")
+both from_c_and_rust packed_and_judged
+[ ! -e "$work/skipped" ] || { cat "$work/skipped"; exit 0; }
+"$here/compare/build.sh"
+both texts_compared libraries_compared

@@ -1,0 +1,192 @@
+//! Graphs and refusals through the crate: names, and every refusal in words.
+
+use nuvaleta::{graph, Edge, Refusal, Why};
+use vectors::libraries::{self, module, of, only, small, words, Library, Set};
+use vectors::rng::Rng;
+
+fn set(modules: impl Iterator<Item = String>) -> Set {
+    Set { modules: modules.map(|name| module(&name, "")).collect(), import_only: Vec::new() }
+}
+
+fn said(library: &Library) -> String {
+    graph(&library.image(), &library.bundle()).expect_err("a refusal").to_string()
+}
+
+// ---- document 01's examples
+
+#[test]
+fn first_example() {
+    let image = b"\x01\x02\x01m\x01\x01s\x00\x00\x01b\x00\x00\x00\x00";
+    let library = small("include s;import b{prefix b;}", "import b{prefix b;}");
+    assert_eq!(library.image(), image);
+    let bundle = library.bundle();
+    let drawn = graph(image, &bundle).expect("a graph");
+    assert_eq!(drawn.nodes, ["m", "s", "b"]);
+    assert_eq!(drawn.edges, [[2, 0], [1, 0], [2, 1]].map(|[from, to]| Edge { from, to }));
+    assert_eq!(drawn.to_string(), "Nodes (3):\n  - m\n  - s\n  - b\n\nEdges (3):\n  - b before m\n  - s before m\n  - b before s\n");
+}
+
+#[test]
+fn second_example() {
+    let library = of(&[(&[module("m", "")], &[]), (&[module("m", "s")], &[])], &[("m", "include s;"), ("s", "")]);
+    let told = "a submodule is included which is no node, since its module was passed over: that module's name was a node already";
+    assert_eq!(said(&library), format!("refused 28: module m (set 1, entry 1): {told}"));
+}
+
+#[test]
+fn buffers_are_used_again() {
+    let mut buffers = nuvaleta::Buffers::new();
+    let (good, bad) = (small("include s;", ""), small("include z;", ""));
+    for _ in 0..2 {
+        assert_eq!(buffers.graph(&good.image(), &good.bundle()).expect("a graph").edges.len(), 1);
+        assert_eq!(buffers.graph(&bad.image(), &bad.bundle()).expect_err("a refusal").number(), 27);
+    }
+}
+
+// ---- refusals before the walk
+
+#[test]
+fn forms() {
+    let library = small("", "");
+    let (image, bundle) = (library.image(), library.bundle());
+    let said = |image: &[u8], bundle: &[u8]| graph(image, bundle).expect_err("a refusal").to_string();
+    assert_eq!(said(&image[..9], &bundle), "refused 20: the image breaks its form at byte 9");
+    assert_eq!(said(b"", b""), "refused 20: the image breaks its form at byte 0");
+    assert_eq!(said(&vec![0; 65_537], &bundle), "refused 20: the image has more than 65,536 bytes");
+    assert_eq!(said(&image, b"\x02\x01m\0\x01m\0"), "refused 21: the bundle breaks its form at byte 4");
+    assert_eq!(said(&image, &vec![0; 16_777_217]), "refused 21: the bundle has more than 16,777,216 bytes");
+    assert_eq!(Refusal::LentTooShort.to_string(), "refused 22: a table or scratch is too short");
+}
+
+#[test]
+fn too_many_nodes() {
+    let some = |from: usize, count: usize| set((from..from + count).map(|i| format!("m{i}")));
+    let library = Library { sets: vec![some(0, 512), some(512, 512), some(1_024, 1)], ..Library::default() };
+    assert_eq!(said(&library), "refused 30: more than 1,024 nodes");
+}
+
+// ---- refusals in the walk of an entry
+
+#[test]
+fn missing_texts() {
+    let mut no_entry = small("", "");
+    no_entry.texts.remove("b");
+    assert_eq!(said(&no_entry), "refused 23: module b (set 1, entry 2): the bundle has no text under its name");
+    let mut no_include = small("include s;", "");
+    no_include.texts.remove("s");
+    assert_eq!(said(&no_include), "refused 24: module m (set 1, entry 1): the text of m includes \"s\", of which the bundle has no text");
+}
+
+#[test]
+fn entries_over_sets() {
+    let two = |name: &str| only(name, &["", ""]);
+    let sets: [(&[_], &[_]); 2] = [(&[module("a", "")], &[two("c")]), (&[module("a", "")], &[two("d"), two("e")])];
+    let library = of(&sets, &[("a", ""), ("c", ""), ("d", "")]);
+    assert_eq!(said(&library), "refused 23: import-only module e (set 2, entry 5): the bundle has no text under its name");
+}
+
+#[test]
+fn unknown_names() {
+    let known = "which is neither a module nor an import-only module";
+    let told = |name: &str| format!("refused 26: module m (set 1, entry 1): the text of s imports {name}, {known}");
+    assert_eq!(said(&small("include s;", "import s{prefix p;}")), told("\"s\""));
+    assert_eq!(said(&small("include s;", "import ''{prefix p;}")), told("\"\""));
+    assert_eq!(said(&small("include s;", "import ' '{prefix p;}")), told("\" \""));
+    let mut listed = small("", "");
+    listed.sets[0].modules[1].deviations = words("m s");
+    assert_eq!(said(&listed), format!("refused 26: module b (set 1, entry 2): its list of deviations has s, {known}"));
+    listed.sets[0].modules[1].augmenting = words("b zz");
+    assert_eq!(said(&listed), format!("refused 26: module b (set 1, entry 2): its list of augmenting modules has zz, {known}"));
+    let told = |name: &str| format!("refused 27: module m (set 1, entry 1): the text of m includes {name}, which is no submodule of a module");
+    assert_eq!(said(&small("include s;include b;", "")), told("\"b\""));
+    assert_eq!(said(&small("include '\u{1b}[2J\n\"';", "")), told("\"\\u{1b}[2J\\n\\\"\""));
+    let [most, over] = [128, 129].map(|n| format!("include {};", "n".repeat(n)));
+    let said_of_it = format!("\"{}\"", "n".repeat(128));
+    assert_eq!(said(&small(&most, "")), told(&said_of_it));
+    assert_eq!(said(&small(&over, "")), told(&format!("{said_of_it}..")));
+}
+
+#[test]
+fn too_deep() {
+    let told = "refused 29: module m (set 1, entry 1): includes go deeper than eight texts, or in a circle";
+    assert_eq!(said(&small("include s;", "include s;")), told);
+}
+
+#[test]
+fn too_many_edges() {
+    let names: Vec<String> = (0..1_000).map(|i| format!("m{i:03}")).collect();
+    let sets = names.chunks(500).map(|half| set(half.iter().cloned())).collect();
+    let imports = |i: usize| (0..9).map(|k| format!("import {} {{prefix p;}}", names[(i + k) % 1_000])).collect::<String>();
+    let library = Library { sets, texts: names.iter().cloned().zip((0..1_000).map(imports)).collect() };
+    assert_eq!(said(&library), "refused 31: module m910 (set 2, entry 911): more than 8,192 edges");
+}
+
+// ---- a scan that refused, and the line
+
+/// What is said of the text, the line and the mark below it, without their indent.
+fn refused_at(m: &str, s: &str) -> Vec<String> {
+    let said = said(&small(m, s));
+    let told = said.strip_prefix("refused 25: module m (set 1, entry 1): the text of ").expect("refusal 25");
+    told.split('\n').map(|line| line.strip_prefix("    ").unwrap_or(line).to_string()).collect()
+}
+
+#[test]
+fn lines() {
+    let text = "submodule s {\n  belongs-to m { prefix m; }\n\timport b\t{\n  }\n}\n";
+    let told = ["s, line 4, column 4: an import is closed without prefix (scan refusal 7, byte 58)", "  }", "   ^"];
+    assert_eq!(refused_at("import b{prefix p;}\ninclude s;", text), told);
+    let told = ["m, line 1, column 10: another byte than the one required after import and its value (scan refusal 5, byte 9)", "import b x", "         ^"];
+    assert_eq!(refused_at("import b x", ""), told);
+    let told = ["m, line 1, column 7: no value after import (scan refusal 4, byte 6)", "import", "      ^"];
+    assert_eq!(refused_at("import", ""), told);
+    let told = ["m, line 4, column 1: the text ends before the byte required after include and its value (scan refusal 6, byte 12)", "", "^"];
+    assert_eq!(refused_at("\n\ninclude s\n", ""), told);
+    let told = ["m, line 1, column 11: the text ends inside the block of an include (scan refusal 8, byte 10)", "include s{", "          ^"];
+    assert_eq!(refused_at("include s{", ""), told);
+    let told = ["m, line 1, column 17: no value after prefix (scan refusal 4, byte 16)", "import a{prefix ;", "                ^"];
+    assert_eq!(refused_at("import a{prefix ;", ""), told);
+}
+
+#[test]
+fn long_lines() {
+    let many = "import b{prefix p;}".repeat(256);
+    let text = format!("{many}import b");
+    let mark = format!("{}^", " ".repeat(56));
+    assert_eq!(refused_at("include s;", &text), ["s, line 1, column 4871: a 257th import (scan refusal 10, byte 4870)", &text[many.len() - 50..], &mark]);
+    assert_eq!(refused_at(&" ".repeat(1_048_577), ""), ["m: more than 1,048,576 bytes (scan refusal 1)"]);
+}
+
+#[test]
+fn high_bytes() {
+    let bundle = b"\x03\x01m\x0ainclude s;\x01s\x06a\r\n\tb\xff\x01b\0";
+    let told = graph(&small("", "").image(), bundle).expect_err("a refusal").to_string();
+    assert!(told.ends_with("the text of s, line 2, column 3: a byte of 128 or more (scan refusal 3, byte 5)\n     b?\n      ^"), "{told}");
+}
+
+/// Whatever a generated library is refused for by its names and texts, the walk that looks for it ends at the same refusal.
+#[test]
+fn the_cause_is_found() {
+    let mut r = Rng::new(31);
+    let mut seen = [0; 4];
+    for _ in 0..3_000 {
+        let library = libraries::library(&mut r);
+        let (image, bundle) = (library.image(), library.bundle());
+        let why = match graph(&image, &bundle) {
+            Err(Refusal::Walk { why, .. }) => why,
+            _ => continue,
+        };
+        let found = match &why {
+            Why::NoIncludedText(listed) | Why::UnknownModule(listed) | Why::UnknownSubmodule(listed) => listed.is_some(),
+            Why::Scan { spot, .. } => spot.is_some(),
+            _ => continue,
+        };
+        assert!(found, "{why}: image {image:02X?}, bundle {:?}", String::from_utf8_lossy(&bundle));
+        seen[match why {
+            Why::NoIncludedText(_) => 0,
+            Why::Scan { .. } => 1,
+            Why::UnknownModule(_) => 2,
+            _ => 3,
+        }] += 1;
+    }
+    assert!(seen.iter().all(|n| *n > 20), "{seen:?}");
+}
