@@ -4,7 +4,8 @@
  * written must not overlap with another slice of the same call, and nobody else may write what is lent before the call returns. A slice of length 0
  * may have any pointer but a null one.
  *
- * Stack, as a thread was seen to use it on aarch64, its own needs included: a scan 7 KiB, a find 21 KiB, nuvaleta_text 39 KiB; nuvaleta_graph 345 KiB.
+ * Stack, as a thread was seen to use it, its own needs included: on x86-64 a scan 6 KiB, a find 19 KiB, nuvaleta_text 37 KiB, nuvaleta_graph 343 KiB;
+ * on aarch64 7, 21, 39 and 345 KiB.
  *
  * Every function returns its answer's number: 0, or the number of a refusal. On a refusal all that was lent to be written is zero, but for `answer`.
  */
@@ -145,6 +146,9 @@ enum nuvaleta_graph_refusal {
 /* The graph of an image and a bundle: an edge from u to v says that u must be registered before v. Node table: place of the name's first byte in the
  * image, its length; edge table: from, to, the numbers of two nodes; both in order of adding, and zero behind what is used. Store, imports, includes and
  * levels are scratch, zero after every call.
+ *
+ * A call ends, but how long it takes is not bounded in practice: a text that is included again is walked again, so nine small texts, each of which
+ * includes the next one many times, keep it longer than anyone waits. Texts that are not trusted are for a process that can be ended.
  *
  * answer[8]: number, entry, the scan's number, keyword and position (0 but at 25), place of the fault (0 but at 20 and 21), nodes, edges. */
 uint32_t nuvaleta_graph(const uint8_t *image, size_t image_len, const uint8_t *bundle, size_t bundle_len, uint32_t *nodes, size_t nodes_len,

@@ -94,8 +94,8 @@ fn port(input: &Input, runs: usize) -> ([f64; 2], [usize; 2]) {
     ([all, part], counts)
 }
 
-/// Both sides are tried as often.
 const ROUNDS: usize = 30;
+/// In each round, of the Rust as of the port.
 const TRIES: usize = 20;
 
 /// A table with a row for each input. All inputs take turns, round by round, so that a machine that is busy for a while does not tilt it.
