@@ -35,37 +35,39 @@ static int metadata(void) {
     return 0;
 }
 
-static int told(const uint32_t *answer, uint32_t a, uint32_t b, uint32_t c, uint32_t d, uint32_t e) {
-    return answer[0] == a && answer[1] == b && answer[2] == c && answer[3] == d && answer[4] == e;
-}
+/* A name of one byte looked for in an image or a bundle: the call, what is to be answered, and what is wrong otherwise. */
+struct look_up {
+    uint32_t (*call)(const uint8_t *, size_t, const uint8_t *, size_t, uint32_t *);
+    const uint8_t *form;
+    size_t length;
+    uint8_t name;
+    uint32_t expected[5];
+    const char *what;
+};
 
 /* An image of one set, module m with submodule s, import-only i of two revisions, the first with submodule t; and a bundle with an empty text. */
 static int finds(void) {
     static const uint8_t image[] = {1, 1, 1, 'm', 1, 1, 's', 0, 0, 1, 1, 'i', 2, 1, 1, 't', 0};
     static const uint8_t bundle[] = {2, 1, 'm', 3, 'a', 'b', 'c', 1, 's', 0};
-    const uint8_t *m = (const uint8_t *)"m", *s = (const uint8_t *)"s", *i = (const uint8_t *)"i", *t = (const uint8_t *)"t";
+    static const struct look_up all[] = {
+        {nuvaleta_find_module, image, sizeof image, 'm', {0, 0, 1, 3, 0}, "another module"},
+        {nuvaleta_find_module, image, sizeof image, 's', {0, 0, 0, 0, 0}, "a module that is none"},
+        {nuvaleta_find_submodule, image, sizeof image, 's', {0, 0, 1, 6, 0}, "another submodule"},
+        {nuvaleta_find_submodule, image, sizeof image, 't', {0, 0, 0, 0, 0}, "a submodule of an import-only module"},
+        {nuvaleta_find_import_module, image, sizeof image, 'i', {0, 0, 1, 11, 2}, "another import-only module"},
+        {nuvaleta_find_module, image, sizeof image - 1, 'm', {NUVALETA_IMAGE_BROKEN, 16, 0, 0, 0}, "an image cut short taken"},
+        {nuvaleta_text, bundle, sizeof bundle, 'm', {0, 0, 1, 4, 3}, "another text"},
+        {nuvaleta_text, bundle, sizeof bundle, 's', {0, 0, 1, 10, 0}, "an empty text not found"},
+        {nuvaleta_text, bundle, sizeof bundle, 't', {0, 0, 0, 0, 0}, "a text that is not there"},
+        {nuvaleta_text, bundle, 5, 'm', {NUVALETA_BUNDLE_BROKEN, 3, 0, 0, 0}, "a bundle cut short taken"},
+    };
     uint32_t answer[5];
 
-    if (nuvaleta_find_module(image, sizeof image, m, 1, answer) != 0 || !told(answer, 0, 0, 1, 3, 0))
-        return wrong("another module");
-    if (nuvaleta_find_module(image, sizeof image, s, 1, answer) != 0 || !told(answer, 0, 0, 0, 0, 0))
-        return wrong("a module that is none");
-    if (nuvaleta_find_submodule(image, sizeof image, s, 1, answer) != 0 || !told(answer, 0, 0, 1, 6, 0))
-        return wrong("another submodule");
-    if (nuvaleta_find_submodule(image, sizeof image, t, 1, answer) != 0 || !told(answer, 0, 0, 0, 0, 0))
-        return wrong("a submodule of an import-only module");
-    if (nuvaleta_find_import_module(image, sizeof image, i, 1, answer) != 0 || !told(answer, 0, 0, 1, 11, 2))
-        return wrong("another import-only module");
-    if (nuvaleta_find_module(image, sizeof image - 1, m, 1, answer) != NUVALETA_IMAGE_BROKEN || !told(answer, NUVALETA_IMAGE_BROKEN, 16, 0, 0, 0))
-        return wrong("an image cut short taken");
-    if (nuvaleta_text(bundle, sizeof bundle, m, 1, answer) != 0 || !told(answer, 0, 0, 1, 4, 3))
-        return wrong("another text");
-    if (nuvaleta_text(bundle, sizeof bundle, s, 1, answer) != 0 || !told(answer, 0, 0, 1, 10, 0))
-        return wrong("an empty text not found");
-    if (nuvaleta_text(bundle, sizeof bundle, t, 1, answer) != 0 || !told(answer, 0, 0, 0, 0, 0))
-        return wrong("a text that is not there");
-    if (nuvaleta_text(bundle, 5, m, 1, answer) != NUVALETA_BUNDLE_BROKEN || !told(answer, NUVALETA_BUNDLE_BROKEN, 3, 0, 0, 0))
-        return wrong("a bundle cut short taken");
+    for (size_t i = 0; i < sizeof all / sizeof all[0]; i++) {
+        const struct look_up *x = &all[i];
+        if (x->call(x->form, x->length, &x->name, 1, answer) != x->expected[0] || memcmp(answer, x->expected, sizeof answer) != 0)
+            return wrong(x->what);
+    }
     return 0;
 }
 

@@ -17,7 +17,7 @@ use Rattle.index.specs.Names.{rowOf, nameIn, namesIn}
 use Rattle.bundle.specs.Bundle.{Text, words, placeOf, lookUp}
 use Rattle.bundle.specs.Reading.{Sizes, Held, longestOf, textsOr, longestText, sizeRead, sizeBehind, sizeIn, NameHeld}
 use Rattle.bundle.specs.declared.Place.the-variants.{At}
-use Rattle.bundle.proofs.Looking.{held-look, is-at, place-in}
+use Rattle.bundle.proofs.Looking.{held-look, is-at}
 
 -- ---- the ways out of `size_of`
 
@@ -100,6 +100,3 @@ module _ (s tab t : List ℕ) (n : ℕ) (g : Held s tab n) {from size : ℕ} (e 
   pub found-low : size ≤ longestText s
   unfolding longestText
   found-low = rw (g .read) (place-low t (g .texts) found)
-
-  pub found-in : from + size ≤ length s
-  found-in = place-in s t (g .texts) (g .sizes) found

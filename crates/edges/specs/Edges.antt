@@ -12,9 +12,6 @@ use Rattle.graph.specs.Numbers.{Row, row, eqR, addRow}
 use Rattle.edges.specs.declared.Link.{Link}
 use Rattle.edges.specs.declared.Link.the-variants.{Count, Full}
 
-abbrev pub edgeWords : ℕ
-edgeWords = 2
-
 abbrev pub mostEdges : ℕ
 mostEdges = 8192
 

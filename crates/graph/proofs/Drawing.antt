@@ -7,10 +7,10 @@ use mathlib.Core.Logic.{⊎-elim}
 use mathlib.Core.Bool.{Bool, true, false, cond}
 use mathlib.Core.List.{List, [], _∷_, _++_, map, map-append, List·Memᴰ, List·Memᴰ·head, List·Memᴰ·tail, List·Memᴰ·append-cases, List·Memᴰ·eq-of-singleton, List·Memᴰ·not-nil}
 use lib.ListN.{length}
-use lib.Dec.{leb, ltb}
+use lib.Dec.{leb}
 use Rattle.image.specs.Library.{Name, PlainLibrary}
 use Rattle.graph.specs.Nodes.{Mode, nodesOf}
-use Rattle.graph.specs.Graph.{nought, Text, missing, refusing, deps, noEntryText, noIncludedText, unknownModule, unknownSubmodule, noNode, tooDeep, tooManyNodes, tooManyEdges, deepest, Edge, edge, memE, World, Entry, entries, entrySteps, world, Out, built, refused, thenO, addBy, run, fault, onOut, walkFrom, walkOf, graphOf}
+use Rattle.graph.specs.Graph.{nought, Text, missing, refusing, deps, noEntryText, noIncludedText, unknownModule, unknownSubmodule, noNode, tooDeep, tooManyEdges, deepest, Edge, edge, memE, World, Entry, entries, entrySteps, world, Out, built, refused, thenO, addBy, run, fault, onOut, walkFrom, walkOf}
 use Rattle.graph.specs.Numbers.{numberOf, Row, rowOf, addRow, moduleCode, submoduleCode, codesOf, eachO, importCode, givenCode, includeCode, visitCodes, walkCodes, walkEntryCodes, Drawing, drawn, faulty, drawFrom, codesAt, entryCode, drawingIn, drawingOf, numbered}
 use Rattle.graph.specs.Meaning.{Revised}
 use Rattle.graph.proofs.Tests.{memb-mem}
@@ -156,25 +156,9 @@ module _ (ns : List Name) where
         go (refused n a) s ih = rw (s .same) (refl, tt)
 
 module _ (mode : Mode) (limit : ℕ) (text : Name → Text) (l : PlainLibrary) (revised : Revised l) where
-  both-drawn : (numbered (walkOf mode limit text l) ≡ drawingOf mode limit text l) × Sized (nodesOf mode l) (drawingOf mode limit text l)
-  unfolding drawingOf drawingIn
-  both-drawn =
-      let r = draw-same (nodesOf mode l) (world mode text l) limit (known-node mode l revised) (λ u q. memb-mem u (nodesOf mode l) q) (entries l) (entry-is-node mode l revised) 1 [] (λ e m. absurd (List·Memᴰ·not-nil m)) in
-      (sym (r .0), r .1)
-
   pub drawing : numbered (walkOf mode limit text l) ≡ drawingOf mode limit text l
-  drawing = both-drawn .0
-
-  pub rows-small : (rs : List Row) → drawingOf mode limit text l ≡ drawn rs → (r : Row) → List·Memᴰ r rs
-      → (r .from < length (nodesOf mode l)) × (r .to < length (nodesOf mode l))
-  rows-small rs h = subst (λ d. Sized (nodesOf mode l) d) h (both-drawn .1)
-
-  -- with the limit of nodes before it
-  pub graph-drawn : (nodeLimit : ℕ)
-      → numbered (graphOf mode nodeLimit limit text l) ≡ cond (ltb nodeLimit (length (nodesOf mode l))) (faulty tooManyNodes 0 nought) (drawingOf mode limit text l)
-  unfolding graphOf
-  graph-drawn nodeLimit = go (ltb nodeLimit (length (nodesOf mode l)))
-    where
-      go : (b : Bool) → numbered (cond b (fault tooManyNodes 0 nought) (walkOf mode limit text l)) ≡ cond b (faulty tooManyNodes 0 nought) (drawingOf mode limit text l)
-      go true = refl
-      go false = drawing
+  unfolding drawingOf drawingIn
+  drawing =
+      sym
+      (draw-same (nodesOf mode l) (world mode text l) limit (known-node mode l revised) (λ u q. memb-mem u (nodesOf mode l) q) (entries l)
+      (entry-is-node mode l revised) 1 [] (λ e m. absurd (List·Memᴰ·not-nil m)) .0)

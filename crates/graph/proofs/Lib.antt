@@ -14,6 +14,5 @@ pub mod Faults
 pub mod Spread
 pub mod Permuted
 pub mod Demand
-pub mod Again
 pub mod Examples
 pub mod Instance

@@ -1,16 +1,16 @@
 -- The library without places, list by list: what a walk over words asks of names it asks of the same names without places.
 -- Assumes nothing.
 use mathlib.Core.Path.{_≡_, refl, sym, ap, ap₂, _∙_}
-use mathlib.Core.Bool.{Bool, true, false, _||_}
+use mathlib.Core.Bool.{_||_}
 use mathlib.Core.List.{List, [], _∷_, _++_, map, map-append, flatMap}
 use Rattle.text.specs.Keyword.{same}
 use Rattle.form.specs.Form.{Word}
 use Rattle.image.specs.Library.{Name, Module, ImportOnly, PlainModule, PlainImportOnly, Library, plainName, plainModule, plainImportOnly, plain, modulesOf, importOnlyOf, submodulesOf}
 use Rattle.index.specs.Names.{among}
 use Rattle.index.proofs.First.{among-append, among-map}
-use Rattle.graph.specs.Nodes.{Mode, itself, memb, wordNodes, nodesOf}
+use Rattle.graph.specs.Nodes.{itself, memb}
 use Rattle.graph.specs.Graph.{EntryOf, Entry, moduleEntry, importEntry, setEntries, entries, entryNames, submoduleNames}
-use Rattle.graph.proofs.WordNodes.{among-names, node-names}
+use Rattle.graph.proofs.WordNodes.{among-names}
 
 -- ---- over all sets
 
@@ -48,9 +48,6 @@ known-words u l =
 
 pub listed-words : (u : Name) (l : Library) → memb u (submoduleNames (plain l)) ≡ among plainName u (submodulesOf (modulesOf l))
 listed-words u l = ap (memb u) (plain-submodules l) ∙ sym (among-names u (submodulesOf (modulesOf l)))
-
-pub node-words : (mode : Mode) (u : Name) (l : Library) → memb u (nodesOf mode (plain l)) ≡ among plainName u (wordNodes mode l)
-node-words mode u l = ap (memb u) (sym (node-names mode l)) ∙ sym (among-names u (wordNodes mode l))
 
 -- ---- the entries
 

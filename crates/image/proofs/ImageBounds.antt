@@ -13,7 +13,6 @@ use Rattle.form.proofs.Bounds.{number-end, number-place, name-end, name-place}
 use Rattle.index.specs.Names.{memb, newName}
 use Rattle.image.specs.Library.{Module, ImportOnly, Library}
 use Rattle.image.specs.Image.{mostImage, mostSets, mostModules, mostNames, leastRevisions, mostRevisions, Reader, countAt, counted, anyWord, newWord, moduleAt, revisionAt, importOnlyAt, setAt, libraryAt, imageAt}
-use Rattle.image.proofs.ImageLaws.{accepted}
 
 -- the place of an answer
 abbrev pub placeOf : {A : Type 0} → Ans A → ℕ
@@ -131,10 +130,3 @@ image-placed s =
 -- an image is wrong within its bytes or at their end
 pub image-place : (s : List ℕ) {p : ℕ} → imageAt s ≡ bad p → p ≤ length s
 image-place s e = subst (λ r. Placed s 0 r) e (image-placed s) .inside
-
--- what is accepted is read to its end
-pub image-end : (s : List ℕ) {l : Library} {n : ℕ} → imageAt s ≡ good l n → n ≡ length s
-image-end s {l} {n} e =
-    let q = subst (λ r. Placed s 0 r) e (image-placed s) .inside in
-    let k = accepted s e .end in
-    omega arith

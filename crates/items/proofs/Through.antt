@@ -2,15 +2,11 @@
 -- Assumes nothing.
 use mathlib.Core.Path.{_≡_, sym, ap, _∙_}
 use mathlib.Core.List.{List, [], _∷_, _++_, append-nil, append-assoc}
-use Prim.Native.Nat.{ℕ, zero, suc, _+_, _≤_, _<_}
+use Prim.Native.Nat.{ℕ, zero, suc, _+_}
 use native.Mathlib.Omega.{arith}
 use native.Mathlib.Numerals.{add-one}
-use lib.ListN.{length}
 use Rattle.items.specs.Items.{itemsAt}
 use Rattle.items.specs.Table.{itemIn, itemWord, itemsIn, itemsFrom, Itemized}
-
-pub item-inside : {s tab : List ℕ} {n : ℕ} → Itemized s n tab → (i : ℕ) → i < n → itemIn tab i .place + itemIn tab i .size ≤ length s
-item-inside e i l = e .fits i l .inside
 
 pub items-from : (s tab : List ℕ) (k i : ℕ) → itemsIn s tab (i + k) ≡ itemsIn s tab i ++ itemsFrom s tab i k
 unfolding itemsIn itemsFrom

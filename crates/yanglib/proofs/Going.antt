@@ -95,9 +95,6 @@ module _ (s b : List ℕ) {n : ℕ} {x : Item} {v : ℕ} (g : Placed s n x v) {e
 pub kept-same : (store imports includes levels : List ℕ) → Kept allLevels store imports includes levels store imports includes levels
 kept-same store imports includes levels = record { store-long = refl; imports-long = refl; includes-long = refl; levels-long = refl; above-kept = refl }
 
-pub item-place : {s : List ℕ} {n : ℕ} {x : Item} {v : ℕ} → Placed s n x v → x .place + x .size ≤ length s
-item-place g = g .fits .inside
-
 -- ---- the first item is an entry
 
 abbrev Headed : List (ItemOf Word) → Type 0

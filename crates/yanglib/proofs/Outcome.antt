@@ -1,9 +1,9 @@
 -- The graph of an image in numbers is the drawing of its items: there are as many nodes with places as names, and every row joins two of them.
 -- Assumes nothing.
-use Prim.Native.Nat.{ℕ, _<_}
+use Prim.Native.Nat.{ℕ}
 use mathlib.Core.Path.{_≡_, refl, sym, ap, ap₂, _∙_, subst}
 use mathlib.Core.Bool.{Bool, true, false, cond}
-use mathlib.Core.List.{List, [], map, List·Memᴰ}
+use mathlib.Core.List.{List, [], map}
 use lib.ListN.{length, length-map}
 use lib.Dec.{ltb}
 use Rattle.form.specs.Form.{Word}
@@ -15,12 +15,12 @@ use Rattle.items.specs.Items.{libraryOf, itemsAt}
 use Rattle.items.specs.Table.{Reads}
 use Rattle.graph.specs.Nodes.{passOver, nodesOf}
 use Rattle.graph.specs.Graph.{nought, tooManyNodes, Edge, entries, entrySteps, world, Graph, graph, fault, walkOf, graphOf}
-use Rattle.graph.specs.Numbers.{Row, rowOf, Drawing, drawn, faulty, drawingOf, numbered}
+use Rattle.graph.specs.Numbers.{rowOf, Drawing, drawn, faulty, drawingOf, numbered}
 use Rattle.graph.specs.Meaning.{Revised}
 use Rattle.graph.proofs.WordNodes.{node-names}
 use Rattle.graph.proofs.Revised.{image-revised}
 use Rattle.graph.proofs.Runs.{walk-run}
-use Rattle.graph.proofs.Drawing.{drawing, rows-small}
+use Rattle.graph.proofs.Drawing.{drawing}
 use Rattle.edges.specs.Edges.{mostEdges}
 use Rattle.nodes.specs.Adding.{mostNodes, plainAt, wordsAt, namesAt}
 use Rattle.texts.specs.Texts.{textOf}
@@ -86,10 +86,3 @@ module _ (s b : List ℕ) (reads : Reads (imageAt s)) (bytes : AllBytes s) where
       go : (t : Bool) → resultOf (wordsAt s) (cond t (fault tooManyNodes 0 nought) walked) ≡ cond t (refusal tooManyNodes 0 nought 0) (drawingResult (wordsAt s) items)
       go true = refl
       go false = walk-result walked refl ∙ ap (drawingResult (wordsAt s)) walk-drawn
-
-  pub drawn-small : (rs : List Row) → drawItems s b 0 0 [] (itemsAt s) ≡ drawn rs → (r : Row) → List·Memᴰ r rs
-      → (r .from < length (wordsAt s)) × (r .to < length (wordsAt s))
-  unfolding namesAt
-  drawn-small rs h r m =
-      subst (λ n. (r .from < n) × (r .to < n)) (nodes-long s)
-      (rows-small passOver mostEdges (textOf b) (plainAt s) (revised-here s reads bytes) rs (drawing-items ∙ h) r m)
