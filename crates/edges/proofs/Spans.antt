@@ -25,13 +25,18 @@ unfolding rowsIn
 rows-length zero w = refl
 rows-length (suc n) w = length-append (rowsIn n w) (rowAt w n ∷ []) ∙ rw (rows-length n w, add-one)
 
-mem-snoc : (r : Row) (rs : List Row) (x : Row) → memR r (rs ++ (x ∷ [])) ≡ cond (memR r rs) true (eqR x r)
+-- a test, or one that never passes; a test, or one that always does
+pub or-not : (b : Bool) → cond b true false ≡ b
+or-not true = refl
+or-not false = refl
+
+pub always : (b : Bool) → cond b true true ≡ true
+always true = refl
+always false = refl
+
+pub mem-snoc : (r : Row) (rs : List Row) (x : Row) → memR r (rs ++ (x ∷ [])) ≡ cond (memR r rs) true (eqR x r)
 unfolding memR
-mem-snoc r [] x = bool (eqR x r)
-  where
-    bool : (b : Bool) → cond b true false ≡ b
-    bool true = refl
-    bool false = refl
+mem-snoc r [] x = or-not (eqR x r)
 mem-snoc r (y ∷ rs) x = go (eqR y r) (mem-snoc r rs x)
   where
     go : (b : Bool) → memR r (rs ++ (x ∷ [])) ≡ cond (memR r rs) true (eqR x r)
@@ -66,10 +71,6 @@ module _ (w : List ℕ) (r : Row) where
       (λ k. let f : eqR (rowAt w n) r ≡ true = rw k at e in rw f (always (memR r (rowsIn n w))))
       (λ m. rw (stands-among n i m e))
       (eq-or-lt-of-le {n = i} {m = n} (omega arith))
-    where
-      always : (b : Bool) → cond b true true ≡ true
-      always true = refl
-      always false = refl
 
   from-stands : (n first : ℕ) → memFrom w r first n ≡ true → Stands w r first (first + n)
   unfolding memFrom

@@ -5,6 +5,9 @@ ghost use lib.ListN.{length};
 ghost use Rattle.graph.specs.Numbers.{row, eqR};
 ghost use Rattle.edges.specs.Edges.{mostEdges, mostNodes, rowAt, rowsIn, memFrom, Spanned, firstWith, Puts, Laid, Linked};
 
+// The most nodes and edges of a graph.
+pub const MOST_NODES: usize = 1024;
+
 pub const MOST_EDGES: usize = 8192;
 
 pub const EDGE_TABLE: usize = 16384;

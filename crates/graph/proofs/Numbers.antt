@@ -90,7 +90,7 @@ row-mem (x ∷ rs) r h = go (eqb (x .from) (r .from)) (eqb (x .to) (r .to)) refl
     go true false p q ih h = List·Memᴰ·tail (ih h)
     go false c p q ih h = List·Memᴰ·tail (ih h)
 
-mem-row : {r : Row} {rs : List Row} → List·Memᴰ r rs → memR r rs ≡ true
+pub mem-row : {r : Row} {rs : List Row} → List·Memᴰ r rs → memR r rs ≡ true
 unfolding memR
 mem-row {r} (List·Memᴰ·head {x = x} p) = rw (← p, eq-eqb (r .from) (r .from) refl, eq-eqb (r .to) (r .to) refl)
 mem-row {r} (List·Memᴰ·tail {x = x} m) = go (eqR x r) (mem-row m)

@@ -28,7 +28,8 @@ fn of_byte(x: u8) -> usize
     x as usize
 }
 
-fn of_word(x: u32) -> usize
+// A word as a number.
+pub fn of_word(x: u32) -> usize
     ensures { λ r. ⌜ r ≡ x ⌝ }
 {
     x as usize

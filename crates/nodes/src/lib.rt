@@ -16,8 +16,6 @@ ghost use Rattle.graph.specs.Numbers.{numberOf};
 ghost use Rattle.nodes.specs.Adding.{nodeTable, isEntry, isSub, so, addName, addItem, wordsAt, namesAt, Holding, Adds, AddsItem, Grew, Constructed};
 ghost use Rattle.nodes.specs.Marks.{markTable, Marked, Marking, Stands, Numbered, Desk, knownAt, listedAt, includedAt, resolvedCode, includedCode, ResolvedNode, IncludedNode};
 
-pub const MOST_NODES: usize = 1024;
-
 // How many words the index of nodes has, with room for one too many, and the marks.
 pub const NODE_TABLE: usize = 5123;
 
@@ -63,7 +61,7 @@ fn add_name(s: &[u8], tab: &mut [u32], n: usize, there: bool, place: usize, size
     let Found::Nothing = index::add(s, tab, n, place, size) else {
         return Grown::On(n, there);
     };
-    if MOST_NODES <= n {
+    if edges::MOST_NODES <= n {
         return Grown::Full;
     }
     Grown::On(n + 1, true)

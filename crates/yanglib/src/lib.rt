@@ -208,7 +208,7 @@ fn too_short(
 ) -> bool
     ensures { λ r. ⌜ r ≡ tooShort longest (record { nodes = nodes; edges = edges; store = store; imports = imports; includes = includes; levels = levels }) ⌝ }
 {
-    if nodes < 2 * nodes::MOST_NODES {
+    if nodes < 2 * edges::MOST_NODES {
         return true;
     }
     if edges < edges::EDGE_TABLE {
