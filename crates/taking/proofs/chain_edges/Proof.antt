@@ -1,0 +1,57 @@
+-- `taking::chain_edges`. The first i edges are chained: begun with none, one more, all.
+-- Assumes nothing.
+use borrow.Author.Needs.{needs}
+use Prim.Native.Nat.{_-_, _≤_}
+use Rattle.taking.specs.Chains.{Chained}
+use Rattle.taking.proofs.Chaining.{row-there, chained-all}
+use Rattle.taking.proofs.chain_edges.Statement.{statement}
+use Rattle.taking.proofs.chain_edges.Tie as tie
+
+abbrev Inv-loop : tie.InvT-loop
+Inv-loop edges m heads₀ links₀ waits₀ i₀ heads links waits i = Chained edges i heads links waits × (i ≤ m)
+
+abbrev μ-loop : tie.MeasureT-loop
+μ-loop edges m heads₀ links₀ waits₀ i₀ heads links waits i = m - i
+
+loop-holds : tie.Need-loop-holds Inv-loop μ-loop
+loop-holds c = search needs
+
+chain-edge-requires : tie.Need-chain-edge-requires Inv-loop μ-loop
+chain-edge-requires c κs = (search row-there, search needs)
+
+add-i : tie.Need-add-i Inv-loop μ-loop
+add-i c = search needs
+
+loop-less : tie.Need-loop-less Inv-loop μ-loop
+loop-less c = search needs
+
+loop-again : tie.Need-loop-again Inv-loop μ-loop
+loop-again c = search needs
+
+same-length : tie.Need-same-length Inv-loop μ-loop
+same-length c = search needs
+
+same-length-2 : tie.Need-same-length-2 Inv-loop μ-loop
+same-length-2 c = search needs
+
+same-length-3 : tie.Need-same-length-3 Inv-loop μ-loop
+same-length-3 c = search needs
+
+returns : tie.Need-returns Inv-loop μ-loop
+returns c = search chained-all
+
+pub chain-edges-spec : {M : Type 1} → statement M
+chain-edges-spec =
+    tie.close
+    (tie.spec
+    Inv-loop
+    μ-loop
+    loop-holds
+    chain-edge-requires
+    add-i
+    loop-less
+    loop-again
+    same-length
+    same-length-2
+    same-length-3
+    returns)

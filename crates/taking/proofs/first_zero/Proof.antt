@@ -1,0 +1,52 @@
+-- `taking::first_zero`. Each way out is one law of Zeros.
+-- Assumes nothing.
+use borrow.Author.Needs.{needs}
+use Prim.Native.Nat.{_-_}
+use Rattle.taking.proofs.Zeros.{Seeking, seek-begun, seek-on, seek-hit, seek-done}
+use Rattle.taking.proofs.first_zero.Statement.{statement}
+use Rattle.taking.proofs.first_zero.Tie as tie
+
+abbrev Inv-loop : tie.InvT-loop
+Inv-loop waits first last v₀ v = Seeking waits first v
+
+abbrev μ-loop : tie.MeasureT-loop
+μ-loop waits first last v₀ v = last - v
+
+loop-holds : tie.Need-loop-holds Inv-loop μ-loop
+loop-holds c = search seek-begun
+
+mul-if1 : tie.Need-mul-if1 Inv-loop μ-loop
+mul-if1 c = search needs
+
+shared-slice-read-if1 : tie.Need-shared-slice-read-if1 Inv-loop μ-loop
+shared-slice-read-if1 c = search needs
+
+returns : tie.Need-returns Inv-loop μ-loop
+returns c = search seek-hit
+
+add-v : tie.Need-add-v Inv-loop μ-loop
+add-v c = search needs
+
+loop-less : tie.Need-loop-less Inv-loop μ-loop
+loop-less c = search needs
+
+loop-again : tie.Need-loop-again Inv-loop μ-loop
+loop-again c = search seek-on
+
+returns-2 : tie.Need-returns-2 Inv-loop μ-loop
+returns-2 c = search seek-done
+
+pub first-zero-spec : {M : Type 1} → statement M
+first-zero-spec =
+    tie.close
+    (tie.spec
+    Inv-loop
+    μ-loop
+    loop-holds
+    mul-if1
+    shared-slice-read-if1
+    returns
+    add-v
+    loop-less
+    loop-again
+    returns-2)
