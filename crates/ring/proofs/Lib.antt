@@ -1,0 +1,7 @@
+pub mod Back
+pub mod Marking
+pub mod Noting
+pub mod Parts
+pub mod Rings
+pub mod Round
+pub mod Trails

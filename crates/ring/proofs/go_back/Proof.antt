@@ -1,0 +1,87 @@
+-- `ring::go_back`. What each turn keeps, by the laws of Back.
+-- Assumes nothing.
+use borrow.Author.Needs.{needs}
+use Rattle.ring.proofs.Back.{Going, back-begun, node-fits, node-word, node-seen, node-before, room, back-less, trail-in, back-more, back-done}
+use Rattle.ring.proofs.go_back.Statement.{statement}
+use Rattle.ring.proofs.go_back.Tie as tie
+
+abbrev Inv-loop : tie.InvT-loop
+Inv-loop before v seen₀ trail₀ node₀ at₀ seen trail node at = Going before v seen₀ trail₀ seen trail node at
+
+abbrev μ-loop : tie.MeasureT-loop
+μ-loop before v seen₀ trail₀ node₀ at₀ seen trail node at = at
+
+loop-holds : tie.Need-loop-holds Inv-loop μ-loop
+loop-holds c = search back-begun
+
+mul-if1 : tie.Need-mul-if1 Inv-loop μ-loop
+mul-if1 c = search node-fits
+
+slice-read-if1 : tie.Need-slice-read-if1 Inv-loop μ-loop
+slice-read-if1 c = search node-seen
+
+mul-seen : tie.Need-mul-seen Inv-loop μ-loop
+mul-seen c = search node-fits
+
+slice-write-seen : tie.Need-slice-write-seen Inv-loop μ-loop
+slice-write-seen c = search node-seen
+
+sub-at : tie.Need-sub-at Inv-loop μ-loop
+sub-at c = search room
+
+cast-trail : tie.Need-cast-trail Inv-loop μ-loop
+cast-trail c = search node-word
+
+mul-trail : tie.Need-mul-trail Inv-loop μ-loop
+mul-trail c = search needs
+
+slice-write-trail : tie.Need-slice-write-trail Inv-loop μ-loop
+slice-write-trail c = search trail-in
+
+mul-t7 : tie.Need-mul-t7 Inv-loop μ-loop
+mul-t7 c = search node-fits
+
+shared-slice-read-t9 : tie.Need-shared-slice-read-t9 Inv-loop μ-loop
+shared-slice-read-t9 c = search node-before
+
+node-row-requires : tie.Need-node-row-requires Inv-loop μ-loop
+node-row-requires c κs = search needs
+
+loop-less : tie.Need-loop-less Inv-loop μ-loop
+loop-less c = search back-less
+
+loop-again : tie.Need-loop-again Inv-loop μ-loop
+loop-again c = search back-more
+
+same-length : tie.Need-same-length Inv-loop μ-loop
+same-length c = search needs
+
+same-length-2 : tie.Need-same-length-2 Inv-loop μ-loop
+same-length-2 c = search needs
+
+returns : tie.Need-returns Inv-loop μ-loop
+returns c = search back-done
+
+pub go-back-spec : {M : Type 1} → statement M
+go-back-spec =
+    tie.close
+    (tie.spec
+    Inv-loop
+    μ-loop
+    loop-holds
+    mul-if1
+    slice-read-if1
+    mul-seen
+    slice-write-seen
+    sub-at
+    cast-trail
+    mul-trail
+    slice-write-trail
+    mul-t7
+    shared-slice-read-t9
+    node-row-requires
+    loop-less
+    loop-again
+    same-length
+    same-length-2
+    returns)
