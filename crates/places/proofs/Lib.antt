@@ -1,0 +1,4 @@
+pub mod Barring
+pub mod Examples
+pub mod First
+pub mod Noting
