@@ -6,6 +6,7 @@ ghost use Rattle.find.specs.Find.{findModule, findSubmodule, findImportModule};
 ghost use Rattle.words.specs.Words.{toldWords};
 ghost use Rattle.nuvaleta.specs.Finds.{Told};
 ghost use Rattle.nuvaleta.specs.Graphs.{GraphAnswered};
+ghost use Rattle.nuvaleta.specs.Orders.{OrderAnswered, CheckAnswered};
 ghost use Rattle.nuvaleta.specs.Record.{MetadataAnswered};
 
 // The imports and includes of a text.
@@ -134,4 +135,40 @@ pub extern "C" fn nuvaleta_graph(
     let words = words::graph_words(graphed);
     *answer = words;
     words[0]
+}
+
+// The order of registration from a graph's tables, or a ring of nodes that wait for each other.
+#[no_mangle]
+pub extern "C" fn nuvaleta_order(
+    nodes: &[u32],
+    n: usize,
+    edges: &[u32],
+    m: usize,
+    table: &mut [u32],
+    answer: &mut [u32; 2],
+) -> u32
+    ensures { λ r. ⌜ OrderAnswered (now (nodes .entry)) n (now (edges .entry)) m (now (table .entry)) r (now (table .exit)) (now (answer .exit)) ⌝ }
+{
+    let ordered = order::order(nodes, n, edges, m, table);
+    let number = ordered.number;
+    *answer = [number, ordered.length];
+    number
+}
+
+// Whether a list holds each node of a graph once and breaks no edge.
+#[no_mangle]
+pub extern "C" fn nuvaleta_order_check(
+    nodes: &[u32],
+    n: usize,
+    edges: &[u32],
+    m: usize,
+    list: &[u32],
+    answer: &mut [u32; 2],
+) -> u32
+    ensures { λ r. ⌜ CheckAnswered (now (nodes .entry)) n (now (edges .entry)) m (now (list .entry)) r (now (answer .exit)) ⌝ }
+{
+    let checked = order::order_check(nodes, n, edges, m, list);
+    let number = checked.number;
+    *answer = [number, checked.place];
+    number
 }
