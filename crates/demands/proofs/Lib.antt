@@ -3,6 +3,14 @@ pub mod MetadataNumbers
 pub mod Needs
 pub mod NewestRight
 pub mod Numbers
+pub mod OrderCalls
+pub mod OrderCycle
+pub mod OrderDemand
+pub mod OrderLeast
+pub mod OrderLists
+pub mod OrderOnly
+pub mod OrderPlaces
+pub mod OrderValid
 pub mod Outcomes
 pub mod RfcCounts
 pub mod RfcCovers

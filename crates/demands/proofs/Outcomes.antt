@@ -16,6 +16,9 @@ use Rattle.metadata.specs.Metadata as Metadata
 use Rattle.words.specs.Words.{numberOf, answerWords, recordWords, graphWords}
 use Rattle.nuvaleta.specs.Finds.{Told}
 use Rattle.nuvaleta.specs.Graphs.{Drawn}
+use Rattle.nuvaleta.specs.Orders.{orderWords}
+use Rattle.order.specs.declared.Ordered.{Ordered}
+use Rattle.order.specs.Order.{orderOf}
 use Rattle.yanglib.specs.ToGraph.{Lengths, lengthsOf, Result, graphed, nodeWords, rowWords, Leaves as GraphLeft}
 use Rattle.yanglib.specs.declared.Graphed.{Graphed}
 use Rattle.library.specs.Reading.{readSeen}
@@ -107,6 +110,11 @@ module _ {x x′ : Result} (xe : x ≡ x′) {n e d f g l n′ e′ d′ f′ g�
         equals (λ x. graphWords (x .answer)) xe (a .told .answered) (b .told .answered),
       )
 
+-- ---- orders
+
+ordered-as : (r r′ : Ordered) → r .number ≡ r′ .number → r .length ≡ r′ .length → r ≡ r′
+ordered-as r r′ p q = λ i. record { number = p i; length = q i }
+
 pub one-outcome : OneOutcome
 one-outcome = record {
   dependencies = λ s short d t u d′ t′ u′ ds ts us a b. leaves-one (scans s d t u d′ t′ u′ refl ds ts us) ds ts us a b;
@@ -156,4 +164,17 @@ one-outcome = record {
   host-text = λ s t a b. told-one a b;
   graph = λ s b n e d f g l n′ e′ d′ f′ g′ l′ ks h k. graph-one (ap (graphed s b) ks) ks h k;
   host-graph = λ s b n e d f g l n′ e′ d′ f′ g′ l′ ks h k. drawn-one (ap (graphed s b) ks) ks h k;
+  order = λ x i w j t t′ ts {r} {r′} h k.
+      let xe = ap (orderOf (length x) i w j) ts in (
+        ordered-as r r′ (equals (λ o. o .number) xe (h .number) (k .number)) (equals (λ o. length (o .nodes)) xe (h .count) (k .count)),
+        filled (λ o. o .nodes) xe ts (h .written) (k .written),
+      );
+  host-order = λ x i w j t t′ ts h k.
+      let xe = ap (orderOf (length x) i w j) ts in (
+        equals (λ o. o .number) xe (h .told .number) (k .told .number),
+        filled (λ o. o .nodes) xe ts (h .written) (k .written),
+        equals orderWords xe (h .told .answered) (k .told .answered),
+      );
+  check = λ x i w j l a b. a ∙ sym b;
+  host-check = λ x i w j l a b. told-one a b;
 }

@@ -1,5 +1,5 @@
--- Which refusals each call can give, by number, keyword, entry, scan answer and place, and when a graph is built, over the definitions that the calls
--- promise. 1 to 3 and 20 to 22 are given exactly when they are due. Of 4 to 10 it is shown that no other number or keyword comes: when they come is in
+-- Which refusals each call but an order can give, by number, keyword, entry, scan answer and place, and when a graph is built, over the definitions that
+-- the calls promise; those of an order are in OrderCalls. 1 to 3 and 20 to 22 are given exactly when they are due. Of 4 to 10 it is shown that no other number or keyword comes: when they come is in
 -- the definitions of the scans alone. Of 23 to 31 each has its cause in crate graph (Meaning).
 -- Assumes nothing.
 use Prim.Native.Nat.{ℕ, _≤_, _<_}

@@ -7,3 +7,5 @@ pub mod OneOutcome
 pub mod Demand3
 pub mod Demand3Needs
 pub mod Demand1
+pub mod Order
+pub mod OrderCalls

@@ -25,6 +25,10 @@ use Rattle.nuvaleta.specs.Finds.{Told}
 use Rattle.nuvaleta.specs.Graphs.{GraphAnswered}
 use Rattle.yanglib.specs.ToGraph.{lengthsOf, Graphs}
 use Rattle.yanglib.specs.declared.Graphed.{Graphed}
+use Rattle.order.specs.declared.Ordered.{Ordered}
+use Rattle.order.specs.declared.Checked.{Checked}
+use Rattle.order.specs.Order.{Orders, checkOf}
+use Rattle.nuvaleta.specs.Orders.{OrderAnswered, CheckAnswered}
 
 -- d, t, u, p: store, tables and page at entry; e, f, g, q: at exit; the second outcome has an accent
 pub record OneOutcome : Type 0 where
@@ -73,3 +77,13 @@ pub record OneOutcome : Type 0 where
       → {n n′ : ℕ} {y₁ y₂ y₃ y₄ y₅ y₆ a y₁′ y₂′ y₃′ y₄′ y₅′ y₆′ a′ : List ℕ}
       → GraphAnswered s b x₁ x₂ x₃ x₄ x₅ x₆ n y₁ y₂ y₃ y₄ y₅ y₆ a → GraphAnswered s b x₁′ x₂′ x₃′ x₄′ x₅′ x₆′ n′ y₁′ y₂′ y₃′ y₄′ y₅′ y₆′ a′
       → (n ≡ n′) × (y₁ ≡ y₁′) × (y₂ ≡ y₂′) × (y₃ ≡ y₃′) × (y₄ ≡ y₄′) × (y₅ ≡ y₅′) × (y₆ ≡ y₆′) × (a ≡ a′)
+  -- order and nuvaleta_order; x: node table, w: edge table, t: order table
+  pub order : (x : List ℕ) (i : ℕ) (w : List ℕ) (j : ℕ) (t t′ : List ℕ) → length t ≡ length t′ → {r r′ : Ordered} {y y′ : List ℕ}
+      → Orders x i w j t r y → Orders x i w j t′ r′ y′ → (r ≡ r′) × (y ≡ y′)
+  pub host-order : (x : List ℕ) (i : ℕ) (w : List ℕ) (j : ℕ) (t t′ : List ℕ) → length t ≡ length t′ → {n n′ : ℕ} {y a y′ a′ : List ℕ}
+      → OrderAnswered x i w j t n y a → OrderAnswered x i w j t′ n′ y′ a′ → (n ≡ n′) × (y ≡ y′) × (a ≡ a′)
+  -- order_check and nuvaleta_order_check; l: the list
+  pub check : (x : List ℕ) (i : ℕ) (w : List ℕ) (j : ℕ) (l : List ℕ) {r r′ : Checked} → r ≡ checkOf (length x) i w j l
+      → r′ ≡ checkOf (length x) i w j l → r ≡ r′
+  pub host-check : (x : List ℕ) (i : ℕ) (w : List ℕ) (j : ℕ) (l : List ℕ) {n n′ : ℕ} {a a′ : List ℕ} → CheckAnswered x i w j l n a
+      → CheckAnswered x i w j l n′ a′ → (n ≡ n′) × (a ≡ a′)
