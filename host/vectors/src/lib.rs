@@ -4,6 +4,7 @@ pub mod answers;
 pub mod form;
 pub mod libraries;
 pub mod oracle;
+pub mod orders;
 pub mod records;
 pub mod rng;
 pub mod texts;

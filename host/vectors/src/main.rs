@@ -8,7 +8,7 @@ use std::path::{Path, PathBuf};
 use vectors::answers::{self, Graph, Scan};
 use vectors::oracle::Oracle;
 use vectors::rng::Rng;
-use vectors::{libraries, records, texts};
+use vectors::{libraries, orders, records, texts};
 
 fn main() {
     let args: Vec<String> = std::env::args().collect();
@@ -174,7 +174,48 @@ fn all(oracle: &mut Oracle) -> Vec<File> {
             }
         }
     }
-    vec![dependencies, metadata, values, skips, finds, graph]
+    vec![dependencies, metadata, values, skips, finds, graph, ordered()]
+}
+
+/// Orders and checks, as the plain reading of request 2026-08 has them: the original has none.
+fn ordered() -> File {
+    let mut file = File::new("order_run/data/orders.vec");
+    let mut r = Rng::new(5);
+    while file.records < 400 {
+        let given = orders::any(&mut r);
+        if given.nodes <= 12 && given.edges.len() <= 40 {
+            file.add(one_order(&mut r, &given));
+        }
+    }
+    file
+}
+
+/// The order of a graph, and the check of a list. Some tables are one word short, or have an edge with a number that is no node.
+fn one_order(r: &mut Rng, given: &orders::Given) -> Vec<u8> {
+    let plain = orders::Plain::new(given);
+    let (mut answer, mut words) = orders::due(given, &plain);
+    let mut lists = orders::damaged(r, given.nodes, &words);
+    lists.push(words.clone());
+    let list = lists.swap_remove(r.below(lists.len()));
+    let mut checked = plain.wrong(&list).map_or([0, 0], |place| [42, place as u32]);
+    let (nodes, mut count) = (given.nodes as u32, given.edges.len() as u32);
+    let (mut node_words, mut table) = (2 * nodes, given.nodes + r.below(3));
+    let mut edges = given.edges.concat();
+    match r.below(24) {
+        0 | 1 if nodes > 0 => table = given.nodes - 1,
+        2 if nodes > 0 => node_words -= 1,
+        3 => count += 1,
+        4 if count > 0 => edges[0] = nodes,
+        5 if count > 0 => edges[1] = u32::MAX,
+        _ => {}
+    }
+    let unfit = node_words < 2 * nodes || edges.len() < 2 * count as usize || edges.iter().any(|v| *v >= nodes);
+    if unfit || table < given.nodes {
+        (answer, words) = ([if unfit { 43 } else { 41 }, 0], Vec::new());
+        checked = if unfit { [43, 0] } else { checked };
+    }
+    words.resize(table, 0);
+    records::order([nodes, count, node_words], &edges, &words, answer, &list, checked)
 }
 
 fn verify(dir: &Path) {
@@ -183,9 +224,9 @@ fn verify(dir: &Path) {
         let there = std::fs::read(dir.join(file.name)).unwrap_or_default();
         if there != file.bytes {
             wrong += 1;
-            println!("vectors: {} is not what the Rust answers", file.name);
+            println!("vectors: {} does not hold what is answered", file.name);
         } else {
-            println!("vectors: {} is what the Rust answers ({} records)", file.name, file.records);
+            println!("vectors: {} holds what is answered ({} records)", file.name, file.records);
         }
     }
     std::process::exit(i32::from(wrong != 0));

@@ -92,3 +92,14 @@ pub fn one_value(text: &[u8], answer: &Scan<Vec<Option<Vec<u8>>>>, which: usize)
     };
     metadata(text, &one)
 }
+
+/// A graph: nodes, edges, words of the node table, words of the edge table, these words. Then its order: words of the order table, number, how many nodes,
+/// what is in the table. Then the check of a list: its words, number, place, the list.
+pub fn order(counts: [u32; 3], edges: &[u32], table: &[u32], answer: [u32; 2], list: &[u32], checked: [u32; 2]) -> Vec<u8> {
+    let mut out = Vec::new();
+    let [nodes, count, node_words] = counts;
+    words(&mut out, &[&[nodes, count, node_words, edges.len() as u32], edges].concat());
+    words(&mut out, &[&[table.len() as u32, answer[0], answer[1]], table].concat());
+    words(&mut out, &[&[list.len() as u32, checked[0], checked[1]], list].concat());
+    out
+}
