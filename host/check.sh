@@ -1,6 +1,6 @@
 #!/bin/sh
 # check.sh: the host's quick checks: the archive from C, the packing of images and bundles, the Rust crate and its command, then the port beside
-# the original Rust. What needs the NetGauze source, or a Rust that can compile it, is skipped where that is not at hand, and says so.
+# plain readings and beside the original Rust. What needs the NetGauze source, or a newer Rust, is skipped where that is not at hand, and says so.
 set -eu
 here=$(cd "$(dirname "$0")" && pwd)
 cd "$here/.."
@@ -41,26 +41,31 @@ from_c_and_rust() {
 packed_and_judged() {
     "$here/pack/test.py"
     rest="the oracle, the recorded answers and the comparison"
-    [ "${minor:-0}" -ge 63 ] || { skip "no Rust of 1.63 or newer" "nuvaleta graph, $rest"; return 0; }
+    [ "${minor:-0}" -ge 63 ] || { skip "no Rust of 1.63 or newer" "nuvaleta graph and order, $rest"; return 0; }
     [ "$minor" -ge 88 ] || { skip "no Rust of 1.88 or newer" "$rest"; return 0; }
     status=0
     "$here/oracle/build.sh" || status=$?
-    [ "$status" != 3 ] || { skip "no NetGauze source" "$rest"; return 0; }
+    [ "$status" != 3 ] || { skip "no NetGauze source" "$rest with the original"; return 0; }
     [ "$status" = 0 ] || exit "$status"
     "$here/oracle/test.py"
     "$here/vectors/build.sh"
     "$here/vectors/build/release/vectors" verify "$here/../crates"
 }
 
-texts_compared() {
+# These ask the original nothing.
+plainly_compared() {
     "$compare" edges
+    "$compare" changes 3 24
+    "$compare" orders 13 20000
+}
+
+texts_compared() {
     "$compare" texts 7 10000
     # shellcheck disable=SC2086
     "$compare" files 3 3 $real
 }
 
 libraries_compared() {
-    "$compare" changes 3 24
     "$compare" finds 5 2000
     "$compare" graphs 9 2000
     yuma=$(dpkg -L libyuma-base | grep '/yuma/modules$')
@@ -74,6 +79,9 @@ libraries_compared() {
 "$here/need" gcc libc6-dev binutils python3
 real=$("$here/vectors/real.sh")
 both from_c_and_rust packed_and_judged
+if [ "${minor:-0}" -ge 88 ]; then
+    "$here/compare/build.sh"
+    plainly_compared
+fi
 [ ! -e "$work/skipped" ] || { cat "$work/skipped"; exit 0; }
-"$here/compare/build.sh"
 both texts_compared libraries_compared

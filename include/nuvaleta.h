@@ -4,10 +4,11 @@
  * written must not overlap with another slice of the same call, and nobody else may write what is lent before the call returns. A slice of length 0
  * may have any pointer but a null one.
  *
- * Stack, as a thread was seen to use it, its own needs included: on x86-64 a scan 6 KiB, a find 19 KiB, nuvaleta_text 37 KiB, nuvaleta_graph 343 KiB;
- * on aarch64 7, 21, 39 and 345 KiB.
+ * Stack, as a thread was seen to use it, its own needs included: on x86-64 a scan 6 KiB, a find 19 KiB, nuvaleta_text 37 KiB, nuvaleta_graph 343 KiB,
+ * nuvaleta_order 36 KiB, nuvaleta_order_check 9 KiB; on aarch64 the first four 7, 21, 39 and 345 KiB, and the last two were not measured there.
  *
- * Every function returns its answer's number: 0, or the number of a refusal. On a refusal all that was lent to be written is zero, but for `answer`.
+ * Every function returns its answer's number: 0, or the number of a refusal. On a refusal all that was lent to be written is zero, but for `answer` and,
+ * at NUVALETA_CYCLE alone, a ring in the order table.
  */
 #ifndef NUVALETA_H
 #define NUVALETA_H
@@ -154,6 +155,34 @@ enum nuvaleta_graph_refusal {
 uint32_t nuvaleta_graph(const uint8_t *image, size_t image_len, const uint8_t *bundle, size_t bundle_len, uint32_t *nodes, size_t nodes_len,
                         uint32_t *edges, size_t edges_len, uint8_t *store, size_t store_len, uint32_t *imports, size_t imports_len, uint32_t *includes,
                         size_t includes_len, uint32_t *levels, size_t levels_len, uint32_t *answer);
+
+/* Refusals of an order (40, 41, 43) and of the check of a list (42, 43): 43 first, then 41, then 40 or 42. */
+enum nuvaleta_order_refusal {
+    NUVALETA_CYCLE = 40,           /* a chain of edges comes back to its start, or a node has an edge to itself */
+    NUVALETA_ORDER_TOO_SHORT = 41, /* an order table of fewer words than there are nodes */
+    NUVALETA_LIST_WRONG = 42,      /* a list that does not hold each node once, or breaks an edge */
+    NUVALETA_TABLES_UNFIT = 43     /* more than NUVALETA_NODES_MOST nodes or NUVALETA_EDGES_MOST edges, a table shorter than its count, or an edge with a
+                                    * number that is no node */
+};
+
+/* The order of registration of a graph: each node behind all that have an edge to it, always the lowest number that is free. Nodes and edges are the
+ * tables of nuvaleta_graph, of which node_count and edge_count rows are used; lengths are in words. Of the node table only the length is looked at.
+ * Order table: the number of a node in each word, and zero behind what is used. There is no scratch to lend: it is local.
+ *
+ * At NUVALETA_CYCLE the order table holds a ring instead, its lowest node first, then along the edges: each has an edge to the next, the last to the
+ * first. It is found so: of the nodes left over when none is free, from the lowest one go each time to the lowest that has an edge to it, until one
+ * comes twice.
+ *
+ * answer[2]: number, length: of the order, which is node_count, or of the ring at 40, else 0. */
+uint32_t nuvaleta_order(const uint32_t *nodes, size_t nodes_len, size_t node_count, const uint32_t *edges, size_t edges_len, size_t edge_count,
+                        uint32_t *order, size_t order_len, uint32_t *answer);
+
+/* Whether a list of numbers is an order of registration, not only the one above: it holds each node once and breaks no edge. The place is the first whose
+ * number is no node, is there already, or has an edge from a node not earlier in the list, itself too; or the list's end if it is too short.
+ *
+ * answer[2]: number, place (0 but at 42). */
+uint32_t nuvaleta_order_check(const uint32_t *nodes, size_t nodes_len, size_t node_count, const uint32_t *edges, size_t edges_len, size_t edge_count,
+                              const uint32_t *list, size_t list_len, uint32_t *answer);
 
 #ifdef __cplusplus
 }

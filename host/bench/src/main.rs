@@ -2,10 +2,12 @@
 //!
 //! bench scans FILE..: both scans, of real modules and of others; and how long an image and a bundle take to read.
 //! bench graphs IMAGE BUNDLE: the graph of real modules and of others.
+//! bench orders: the order of registration of graphs, and the check of a list.
 //!
 //! The Rust makes its strings and lists anew in each call; the port is lent buffers that were made once and clears them in each call, all of what
 //! it is lent: a store as long as the text and, for dependencies, both tables. Images and bundles are a form that the Rust does not have: for a
-//! look-up the port stands alone, for a graph the oracle's reader stands before the Rust.
+//! look-up the port stands alone, for a graph the oracle's reader stands before the Rust. The original has no order either: beside the port stands
+//! what a Rust program would do.
 
 use std::hint::black_box;
 use std::time::Instant;
@@ -23,6 +25,7 @@ mod yanglib;
 #[allow(dead_code)]
 mod yangparser;
 mod graph;
+mod order;
 
 use vectors::form; // house.rs looks for it here
 
@@ -52,8 +55,9 @@ fn main() {
     match args.split_first() {
         Some((what, files)) if what == "scans" => scans(files),
         Some((what, [image, bundle])) if what == "graphs" => graphs(image, bundle),
+        Some((what, [])) if what == "orders" => order::table(),
         _ => {
-            eprintln!("bench: scans FILE.. | graphs IMAGE BUNDLE");
+            eprintln!("bench: scans FILE.. | graphs IMAGE BUNDLE | orders");
             std::process::exit(2);
         }
     }

@@ -1,7 +1,7 @@
 //! The graphs of generated and of real libraries, beside the Rust's: nodes, edges in order, which refusal.
 
-use crate::Run;
 use crate::port::{self, Graphed};
+use crate::{Run, orders};
 use vectors::answers::{self, FIVE_OR_SIX, Graph, Refusal, UNTOLD};
 use vectors::rng::Rng;
 use vectors::{form, libraries};
@@ -44,15 +44,15 @@ fn agrees(image: &[u8], rust: &Graph, g: &Graphed) -> bool {
     }
 }
 
-/// Compares the port with the Rust, and answers the port's eight words.
-fn one(run: &mut Run, image: &[u8], bundle: &[u8], more: usize) -> [u32; 8] {
-    let rust = answers::graph(&mut run.oracle, image, bundle);
+/// Compares the port with the Rust, and answers what the port drew.
+fn one(run: &mut Run, image: &[u8], bundle: &[u8], more: usize) -> Graphed {
+    let rust = answers::graph(run.oracle(), image, bundle);
     let port = drawn(image, bundle, more);
     let shown = |bytes: &[u8]| String::from_utf8_lossy(&bytes[..bytes.len().min(2_000)]).into_owned();
     run.count(agrees(image, &rust, &port), || {
         format!("image {image:02X?}\n  bundle {:?}\n  the Rust {rust:?}\n  the port {:?}", shown(bundle), port.answer)
     });
-    port.answer
+    port
 }
 
 pub fn graphs(run: &mut Run, seed: u64, count: u64) {
@@ -63,13 +63,17 @@ pub fn graphs(run: &mut Run, seed: u64, count: u64) {
     }
 }
 
-/// An image and a bundle from files; says what the graph is. One that is refused or has no edges counts as different too: it was to be compared.
+/// An image and a bundle from files, and the order of their graph; says what the graph is. One that is refused or has no edges counts as different too:
+/// it was to be compared.
 pub fn of(run: &mut Run, image: &str, bundle: &str) {
     let read = |file: &str| std::fs::read(file).unwrap_or_else(|e| panic!("{file}: {e}"));
-    let [number, entry, .., nodes, edges] = one(run, &read(image), &read(bundle), 0);
+    let drawn = one(run, &read(image), &read(bundle), 0);
+    let [number, entry, .., nodes, edges] = drawn.answer;
     println!("compare: {image}: {nodes} nodes, {edges} edges");
     if number != 0 || edges == 0 {
         run.different = 1; // of one input
         println!("compare: {image}: no graph to compare: refusal {number}, entry {entry}");
+        return;
     }
+    orders::drawn(run, image, drawn);
 }

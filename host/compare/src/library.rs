@@ -113,7 +113,7 @@ pub fn finds(run: &mut Run, seed: u64, count: u64) {
         let library = libraries::library(&mut r);
         let bytes = library.image();
         let name = NAMES[i as usize % NAMES.len()].as_bytes();
-        let [m, s, o, revisions] = answers::finds(&mut run.oracle, &bytes, name);
+        let [m, s, o, revisions] = answers::finds(run.oracle(), &bytes, name);
         let expected = [(m, 0), (s, 0), (o, revisions)].map(|(p, r)| if p == UNTOLD { NOTHING } else { [0, 0, 1, p, r] });
         let told = FINDS.map(|find| look_up(find, &bytes, name));
         run.count(told == expected, || format!("image {}, {name:?}: {told:?}, the Rust {expected:?}", shown(&bytes)));

@@ -6,9 +6,12 @@
 //! compare finds SEED COUNT: COUNT generated libraries: the Rust's finds, and damaged copies.
 //! compare graphs SEED COUNT: COUNT generated libraries: nodes, edges in order, which refusal.
 //! compare graph-of IMAGE BUNDLE: the same for the image and the bundle in these files.
-//! compare edges: lengths around each boundary and the limits of a graph, which the Rust does not have.
+//! compare orders SEED COUNT: COUNT generated graphs: the order or the ring, and lists, beside a plain reading of request 2026-08.
+//! compare edges: lengths around each boundary and the limits of a graph and of an order, which the Rust does not have.
+//!
+//! Changes, orders and edges ask the original nothing.
 
-use std::path::PathBuf;
+use std::path::Path;
 use vectors::answers::{self, Dependencies, FIVE_OR_SIX, Refusal, Scan, UNTOLD};
 use vectors::oracle::Oracle;
 use vectors::rng::Rng;
@@ -19,13 +22,15 @@ mod graph;
 mod library;
 mod limits;
 mod metadata;
+mod order_limits;
+mod orders;
 mod port;
 
 fn main() {
     let args: Vec<String> = std::env::args().collect();
     let words: Vec<&str> = args.iter().map(|a| a.as_str()).collect();
     let number = |w: &str| w.parse::<u64>().expect("a number");
-    let mut run = Run::new();
+    let mut run = Run { oracle: None, inputs: 0, different: 0 };
     match words[1..] {
         ["texts", seed, count] => {
             (0..4).flat_map(texts::short).for_each(|t| run.text(t.as_bytes()));
@@ -46,14 +51,16 @@ fn main() {
         ["finds", seed, count] => library::finds(&mut run, number(seed), number(count)),
         ["graphs", seed, count] => graph::graphs(&mut run, number(seed), number(count)),
         ["graph-of", image, bundle] => graph::of(&mut run, image, bundle),
+        ["orders", seed, count] => orders::orders(&mut run, number(seed), number(count)),
         ["edges"] => {
             edges::run(&mut run);
             metadata::edges(&mut run);
             library::edges(&mut run);
             limits::run(&mut run);
+            order_limits::run(&mut run);
         }
         _ => {
-            eprintln!("compare: texts|changes|finds|graphs SEED COUNT | files SEED COUNT FILE.. | graph-of IMAGE BUNDLE | edges");
+            eprintln!("compare: texts|changes|finds|graphs|orders SEED COUNT | files SEED COUNT FILE.. | graph-of IMAGE BUNDLE | edges");
             std::process::exit(2);
         }
     }
@@ -62,15 +69,16 @@ fn main() {
 }
 
 pub struct Run {
-    oracle: Oracle,
+    oracle: Option<Oracle>,
     inputs: usize,
     different: usize,
 }
 
 impl Run {
-    fn new() -> Run {
-        let host = PathBuf::from(env!("CARGO_MANIFEST_DIR"));
-        Run { oracle: Oracle::start(&host.join("../oracle/build/oracle")), inputs: 0, different: 0 }
+    /// The original, started when it is first asked: where nothing is asked it need not be there.
+    fn oracle(&mut self) -> &mut Oracle {
+        let program = concat!(env!("CARGO_MANIFEST_DIR"), "/../oracle/build/oracle");
+        self.oracle.get_or_insert_with(|| Oracle::start(Path::new(program)))
     }
 
     /// Counts an input, and says the first ten that differ.
@@ -85,7 +93,7 @@ impl Run {
     }
 
     fn text(&mut self, text: &[u8]) {
-        let told = answers::dependencies(&mut self.oracle, text);
+        let told = answers::dependencies(self.oracle(), text);
         let mut page = port::enough(text, self.inputs % 3);
         let number = page.printed(text);
         let mut plain = port::enough(text, self.inputs % 5);

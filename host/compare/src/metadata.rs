@@ -49,12 +49,12 @@ fn is_zero(bytes: &[u8]) -> bool {
 }
 
 pub fn text(run: &mut Run, text: &[u8]) {
-    let told = answers::metadata(&mut run.oracle, text);
+    let told = answers::metadata(run.oracle(), text);
     let mut port = lent_store(text.len() + run.inputs % 3);
     let number = port.metadata(text);
     let same = number == port.answer[0]
         && match &told {
-            Scan::Good(five) => good(five, &answers::metadata_read(&mut run.oracle, text), &port),
+            Scan::Good(five) => good(five, &answers::metadata_read(run.oracle(), text), &port),
             Scan::Refused(r) => refused(r, &port.answer) && port.record == [0; 18] && is_zero(&port.store),
             Scan::Silent(_) => false,
         };

@@ -38,6 +38,14 @@ unsafe extern "C" {
         levels: *mut u32, levels_len: usize, answer: *mut u32,
     ) -> u32;
     fn nuvaleta_text(bundle: *const u8, bundle_len: usize, name: *const u8, name_len: usize, answer: *mut u32) -> u32;
+    fn nuvaleta_order(
+        nodes: *const u32, nodes_len: usize, node_count: usize, edges: *const u32, edges_len: usize, edge_count: usize, order: *mut u32,
+        order_len: usize, answer: *mut u32,
+    ) -> u32;
+    fn nuvaleta_order_check(
+        nodes: *const u32, nodes_len: usize, node_count: usize, edges: *const u32, edges_len: usize, edge_count: usize, list: *const u32,
+        list_len: usize, answer: *mut u32,
+    ) -> u32;
 }
 
 pub type LookUp = unsafe extern "C" fn(*const u8, usize, *const u8, usize, *mut u32) -> u32;
@@ -214,5 +222,42 @@ impl Graphed {
             && zero(&self.imports)
             && zero(&self.includes)
             && zero(&self.levels)
+    }
+}
+
+/// A graph's tables as they are lent, and the counts that are told beside them, which may be anything.
+#[derive(Clone, Debug)]
+pub struct Tables {
+    pub nodes: Vec<u32>,
+    pub node_count: usize,
+    pub edges: Vec<u32>,
+    pub edge_count: usize,
+}
+
+impl Tables {
+    /// Number, length; the call's result must be the number.
+    pub fn order(&self, order: &mut [u32]) -> [u32; 2] {
+        let mut answer = [0xa5a5_a5a5; 2];
+        let number = unsafe {
+            nuvaleta_order(
+                self.nodes.as_ptr(), self.nodes.len(), self.node_count, self.edges.as_ptr(), self.edges.len(), self.edge_count, order.as_mut_ptr(),
+                order.len(), answer.as_mut_ptr(),
+            )
+        };
+        assert_eq!(number, answer[0], "the call's result");
+        answer
+    }
+
+    /// Number, place of a list; the call's result must be the number.
+    pub fn check(&self, list: &[u32]) -> [u32; 2] {
+        let mut answer = [0xa5a5_a5a5; 2];
+        let number = unsafe {
+            nuvaleta_order_check(
+                self.nodes.as_ptr(), self.nodes.len(), self.node_count, self.edges.as_ptr(), self.edges.len(), self.edge_count, list.as_ptr(),
+                list.len(), answer.as_mut_ptr(),
+            )
+        };
+        assert_eq!(number, answer[0], "the call's result");
+        answer
     }
 }

@@ -1,4 +1,5 @@
-//! Which YANG schema must be registered before which: the graph of a library image and a bundle of YANG texts, in the house form of document 01.
+//! Which YANG schema must be registered before which: the graph of a library image and a bundle of YANG texts, in the house form of document 01, and
+//! the order in which its nodes are registered.
 //!
 //! The work is done by the proved code of crates/nuvaleta. What is here owns the buffers that it is lent, gives the answer names, and says a
 //! refusal in words. A graph uses about 350 KiB of the calling thread's stack.
@@ -9,13 +10,15 @@
 #[allow(dead_code)] // a plain reader of the form, for the names and texts behind a refusal
 mod form;
 mod lengths;
+mod order;
 mod refusal;
 #[allow(unsafe_code)]
 mod sys;
 mod walk;
 
 use lengths::{EDGE_WORDS, IMPORT_WORDS, INCLUDE_WORDS, LEVEL_WORDS, NODE_WORDS};
-pub use refusal::{By, Entry, Line, Listed, Refusal, ScanRefusal, Spot, Why};
+pub use order::Order;
+pub use refusal::{By, Entry, Fault, Line, Listed, Refusal, ScanRefusal, Spot, Why};
 
 /// The longest image, in bytes.
 pub const IMAGE_MOST: usize = 65_536;

@@ -1,10 +1,10 @@
-//! Why a graph is refused, in document 01's numbers and in words.
+//! Why a graph or an order is refused, in words and in numbers: document 01's up to 31, request 2026-08's from 40 on.
 
 use crate::form::{self, Name, Set};
 use crate::{walk, Buffers, BUNDLE_MOST, IMAGE_MOST};
 use std::fmt::{self, Display, Formatter};
 
-/// Why a graph is refused.
+/// Why a graph, an order or a list is refused.
 #[derive(Clone, Debug, PartialEq, Eq)]
 pub enum Refusal {
     /// 20: the place of the first wrong number or name, or 0 for an image that is too long.
@@ -17,6 +17,27 @@ pub enum Refusal {
     TooManyNodes,
     /// 23 to 29 and 31: in the walk of an entry.
     Walk { entry: Entry, why: Why },
+    /// 40: no order, since the nodes of these names, at least one, wait for each other: each must be registered before the next, the last before the first.
+    Ring(Vec<String>),
+    /// 41: with [`crate::Graph::order`] this does not come.
+    OrderTooShort,
+    /// 42: the first wrong place of a list, counted from 0 on.
+    ListWrong { place: usize, fault: Fault },
+    /// 43: more than 1,024 nodes or 8,192 edges, or an edge with a number that is no node. With a graph that was built this does not come.
+    TablesUnfit,
+}
+
+/// What is wrong at a place of a list, by names. It was looked for afterwards, in the graph.
+#[derive(Clone, Debug, PartialEq, Eq)]
+pub enum Fault {
+    /// No node has this number.
+    NoNode(usize),
+    /// This one stands there already.
+    Again(String),
+    /// Another one must be registered first; or the node itself, which is in the way of every order.
+    Early { name: String, first: String },
+    /// The list is too short: this is the lowest node that it does not hold.
+    Missing(String),
 }
 
 /// A module or an import-only module of the library. Entries are numbered from 1 on over all sets, in each modules before import-only modules.
@@ -92,7 +113,7 @@ pub struct Line {
 }
 
 impl Refusal {
-    /// Document 01's number.
+    /// Document 01's number, or from 40 on request 2026-08's.
     pub fn number(&self) -> u32 {
         match self {
             Refusal::ImageBroken { .. } => 20,
@@ -100,6 +121,10 @@ impl Refusal {
             Refusal::LentTooShort => 22,
             Refusal::TooManyNodes => 30,
             Refusal::Walk { why, .. } => why.number(),
+            Refusal::Ring(_) => 40,
+            Refusal::OrderTooShort => 41,
+            Refusal::ListWrong { .. } => 42,
+            Refusal::TablesUnfit => 43,
         }
     }
 }
@@ -201,6 +226,34 @@ impl Display for Refusal {
             Refusal::LentTooShort => write!(f, "a table or scratch is too short"),
             Refusal::TooManyNodes => write!(f, "more than 1,024 nodes"),
             Refusal::Walk { entry, why } => write!(f, "{entry}: {why}"),
+            Refusal::Ring(names) => ring(f, names),
+            Refusal::OrderTooShort => write!(f, "the order table is too short"),
+            Refusal::ListWrong { place, fault } => write!(f, "the list is wrong at place {place}, counted from 0: {fault}"),
+            Refusal::TablesUnfit => write!(f, "more than 1,024 nodes or 8,192 edges, or an edge with a number that is no node"),
+        }
+    }
+}
+
+/// Each edge of a ring on a line of its own, then what can be done.
+fn ring(f: &mut Formatter<'_>, names: &[String]) -> fmt::Result {
+    match names {
+        [_] => write!(f, "no order of registration: a schema waits for itself")?,
+        _ => write!(f, "no order of registration: {} schemas wait for each other in a ring", names.len())?,
+    }
+    for (name, next) in names.iter().zip(names.iter().cycle().skip(1)) {
+        write!(f, "\n    {name} before {next}")?;
+    }
+    write!(f, "\nin each line the second imports, includes, augments or deviates from the first: one of these has to go")
+}
+
+impl Display for Fault {
+    fn fmt(&self, f: &mut Formatter<'_>) -> fmt::Result {
+        match self {
+            Fault::NoNode(number) => write!(f, "{number} is no node"),
+            Fault::Again(name) => write!(f, "{name} is there already"),
+            Fault::Early { name, first } if name == first => write!(f, "{name} waits for itself"),
+            Fault::Early { name, first } => write!(f, "{name} must be registered after {first}"),
+            Fault::Missing(name) => write!(f, "it ends without {name}"),
         }
     }
 }

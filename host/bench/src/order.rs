@@ -1,0 +1,209 @@
+//! The order of registration, and the check of a list: the port beside the plain way of a Rust program, which makes its lists anew in each call.
+
+use crate::best;
+use crate::port::Tables;
+use std::cmp::Reverse;
+use std::collections::{BinaryHeap, HashSet};
+use std::hint::black_box;
+use vectors::orders::shuffled;
+use vectors::rng::Rng;
+
+/// A graph, and what it is.
+struct Input {
+    what: String,
+    nodes: usize,
+    edges: Vec<[u32; 2]>,
+}
+
+// ---- graphs
+
+/// So many edges, each once, between any two nodes, along an order of the nodes that was drawn before.
+fn drawn(nodes: usize, edges: usize) -> Input {
+    let mut r = Rng::new(nodes as u64);
+    let rank = shuffled(&mut r, nodes);
+    let mut seen = HashSet::new();
+    let mut out = Vec::new();
+    while out.len() < edges {
+        let [a, b] = [r.below(nodes), r.below(nodes)];
+        let edge = [rank[a.min(b)], rank[a.max(b)]];
+        if a != b && seen.insert(edge) {
+            out.push(edge);
+        }
+    }
+    Input { what: "drawn evenly, no ring".to_string(), nodes, edges: out }
+}
+
+fn line(what: &str, list: impl Iterator<Item = u32>) -> Input {
+    let list: Vec<u32> = list.collect();
+    let edges = list.windows(2).map(|pair| [pair[0], pair[1]]).collect();
+    Input { what: what.to_string(), nodes: list.len(), edges }
+}
+
+/// A line with so many edges in all, the others from any node to a later one.
+fn filled(mut line: Input, edges: usize) -> Input {
+    let mut r = Rng::new(edges as u64);
+    line.what += ", and edges to later nodes";
+    let list: Vec<u32> = line.edges.iter().map(|edge| edge[0]).collect();
+    let mut seen: HashSet<[u32; 2]> = line.edges.iter().copied().collect();
+    while line.edges.len() < edges {
+        let [a, b] = [r.below(list.len()), r.below(list.len())];
+        let edge = [list[a.min(b)], list[a.max(b)]];
+        if a != b && seen.insert(edge) {
+            line.edges.push(edge);
+        }
+    }
+    line
+}
+
+fn ring(nodes: usize) -> Input {
+    let list = shuffled(&mut Rng::new(40), nodes);
+    let mut ring = line("a ring, which is refused", list.iter().copied());
+    ring.edges.push([list[nodes - 1], list[0]]);
+    ring
+}
+
+/// The groups are those of 32 nodes in which the port looks for a free one. Across them each next node is in the next group, so that each look begins
+/// with a group in which there is none. Between the halves each node of the upper one frees one of the lower one, so that every second look passes half
+/// of the groups.
+fn inputs() -> [Input; 10] {
+    let across = || line("a line across the groups", (0..32).rev().flat_map(|place| (0..32).map(move |group| 32 * group + place)));
+    [
+        drawn(1_024, 8_192),
+        drawn(500, 3_000),
+        drawn(90, 161),
+        line("a line along the numbers", 0..1_024),
+        line("a line against the numbers", (0..1_024).rev()),
+        across(),
+        filled(across(), 8_192),
+        Input { what: "between the halves".to_string(), nodes: 1_024, edges: (0..512).map(|i| [512 + i, i]).collect() },
+        Input { what: "no edges".to_string(), nodes: 1_024, edges: Vec::new() },
+        ring(1_024),
+    ]
+}
+
+// ---- the Rust
+
+/// The lowest free node each time, from a heap; or the ring.
+fn kahn(nodes: usize, edges: &[[u32; 2]]) -> Result<Vec<u32>, Vec<u32>> {
+    let mut after: Vec<Vec<u32>> = vec![Vec::new(); nodes];
+    let mut waits = vec![0; nodes];
+    for [from, to] in edges {
+        after[*from as usize].push(*to);
+        waits[*to as usize] += 1;
+    }
+    let mut free: BinaryHeap<Reverse<u32>> = (0..nodes as u32).filter(|v| waits[*v as usize] == 0).map(Reverse).collect();
+    let mut order = Vec::with_capacity(nodes);
+    while let Some(Reverse(node)) = free.pop() {
+        order.push(node);
+        for to in &after[node as usize] {
+            waits[*to as usize] -= 1;
+            if waits[*to as usize] == 0 {
+                free.push(Reverse(*to));
+            }
+        }
+    }
+    if order.len() == nodes { Ok(order) } else { Err(ring_of(nodes, edges, &order)) }
+}
+
+/// Back from the lowest node left over, each time to the lowest one that is left over.
+fn ring_of(nodes: usize, edges: &[[u32; 2]], order: &[u32]) -> Vec<u32> {
+    let mut left = vec![true; nodes];
+    order.iter().for_each(|v| left[*v as usize] = false);
+    let mut before = vec![u32::MAX; nodes];
+    for [from, to] in edges.iter().filter(|edge| left[edge[0] as usize]) {
+        before[*to as usize] = before[*to as usize].min(*from);
+    }
+    let mut at = left.iter().position(|is| *is).expect("a node left over");
+    let mut place = vec![usize::MAX; nodes];
+    let mut way = Vec::new();
+    while place[at] == usize::MAX {
+        place[at] = way.len();
+        way.push(at as u32);
+        at = before[at] as usize;
+    }
+    let mut ring = way.split_off(place[at]);
+    ring.reverse();
+    let low = (0..ring.len()).min_by_key(|i| ring[*i]).expect("a node");
+    ring.rotate_left(low);
+    ring
+}
+
+/// The first wrong place of a list; none if it has each node once, and each edge forwards.
+fn first_wrong(nodes: usize, edges: &[[u32; 2]], list: &[u32]) -> Option<usize> {
+    let mut places = vec![usize::MAX; nodes];
+    let mut good = 0;
+    for node in list {
+        match places.get_mut(*node as usize) {
+            Some(place) if *place == usize::MAX => *place = good,
+            _ => break,
+        }
+        good += 1;
+    }
+    for [from, to] in edges {
+        if places[*from as usize] >= places[*to as usize] {
+            good = good.min(places[*to as usize]);
+        }
+    }
+    (good < list.len() || good < nodes).then_some(good)
+}
+
+// ---- both
+
+fn tables(input: &Input) -> Tables {
+    let (node_count, edge_count) = (input.nodes, input.edges.len());
+    Tables { nodes: vec![0; 2 * node_count], node_count, edges: input.edges.as_flattened().to_vec(), edge_count }
+}
+
+/// Both sides' order or ring must be the same.
+fn agree(input: &Input, tables: &Tables) {
+    let mut table = vec![0; input.nodes];
+    let [number, length] = tables.order(&mut table);
+    let told = if number == 0 { Ok(table.clone()) } else { Err(table[..length as usize].to_vec()) };
+    assert!(number == 0 || number == 40, "{}: refused {number}", input.what);
+    assert_eq!(told, kahn(input.nodes, &input.edges), "{}: two orders", input.what);
+}
+
+/// Both must accept this list, and must find the same place if two of its numbers are swapped.
+fn agree_on(input: &Input, tables: &Tables, list: &[u32]) {
+    assert!(tables.check(list) == [0, 0] && first_wrong(input.nodes, &input.edges, list).is_none(), "{}: its order is wrong", input.what);
+    for i in 1..list.len() {
+        let mut wrong = list.to_vec();
+        wrong.swap(i, i / 2);
+        let place = first_wrong(input.nodes, &input.edges, &wrong);
+        assert_eq!(tables.check(&wrong), place.map_or([0, 0], |place| [42, place as u32]), "{}: two places", input.what);
+    }
+}
+
+const ROUNDS: usize = 100;
+/// In each round, of the Rust as of the port.
+const TRIES: usize = 20;
+
+/// A row for each graph, and one for the check of the first one's list. All take turns, round by round.
+pub fn table() {
+    let inputs = inputs();
+    let all: Vec<Tables> = inputs.iter().map(tables).collect();
+    inputs.iter().zip(&all).for_each(|(input, tables)| agree(input, tables));
+    let list = kahn(inputs[0].nodes, &inputs[0].edges).expect("an order");
+    agree_on(&inputs[0], &all[0], &list);
+    let mut least = vec![[f64::MAX; 2]; inputs.len() + 1];
+    let mut table = vec![0; 1_024];
+    for _ in 0..ROUNDS {
+        let mut row = 0;
+        let mut note = |rust: f64, port: f64| {
+            least[row] = [least[row][0].min(rust), least[row][1].min(port)];
+            row += 1;
+        };
+        for (input, tables) in inputs.iter().zip(&all) {
+            let rust = best(TRIES, || _ = black_box(kahn(input.nodes, black_box(&input.edges))));
+            note(rust, best(TRIES, || _ = black_box(black_box(tables).order(&mut table[..input.nodes]))));
+        }
+        let rust = best(TRIES, || _ = black_box(first_wrong(inputs[0].nodes, black_box(&inputs[0].edges), &list)));
+        note(rust, best(TRIES, || _ = black_box(black_box(&all[0]).check(&list))));
+    }
+    println!("| order | nodes | edges | Rust, us | port, us | Rust / port |");
+    println!("|---|---|---|---|---|---|");
+    let check = Input { what: "the check of the first one's order".to_string(), edges: inputs[0].edges.clone(), ..inputs[0] };
+    for (input, [rust, port]) in inputs.iter().chain([&check]).zip(&least) {
+        println!("| {} | {} | {} | {:.1} | {:.1} | {:.1} |", input.what, input.nodes, input.edges.len(), rust / 1e3, port / 1e3, rust / port);
+    }
+}
