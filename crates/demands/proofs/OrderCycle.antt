@@ -12,7 +12,7 @@ use Rattle.graph.specs.Numbers.{Row, row, memR}
 use Rattle.tables.specs.Free.{Stuck}
 use Rattle.tables.specs.Tables.{allWithin}
 use Rattle.tables.proofs.Lowest.{lowest-has, lowest-low}
-use Rattle.ring.specs.Ring.{left, firstLeft, goBack, ringOf}
+use Rattle.ring.specs.Ring.{left, firstLeft, before, goBack, ringOf}
 use Rattle.ring.proofs.Round.{Along, Round, Led, Reached, first, further, Ringed, ring-ringed, first-lowest}
 use Rattle.demands.specs.Order as Order
 use Rattle.demands.specs.Order.{Chain, one, on, Returns, LowestLeft, LowestTo, BackCycle}
@@ -105,5 +105,5 @@ module _ (n : ℕ) (es : List Row) (done : List ℕ) where
         reached = λ v h. reached (ringed .way v h .reached);
         back-next = λ i l. led-lowest (led-next i l);
         back-first = led-lowest led-first;
-        lowest-first = first-lowest (goBack (suc n) n es done [] (firstLeft n done));
+        lowest-first = first-lowest (goBack (before n es done) (suc n) [] (firstLeft n done));
       }

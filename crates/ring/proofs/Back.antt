@@ -1,4 +1,4 @@
--- The trail, read from the last node gone through, is the list that `walkBack` hands on; its numbers differ and stay among those that the way never
+-- The trail, read from the last node gone through, is the list that `goBack` hands on; its numbers differ and stay among those that the way never
 -- leaves, so there is always room for one more.
 -- Assumes nothing.
 use mathlib.Core.Path.{_≡_, refl, sym, ap, _∙_}
@@ -16,8 +16,8 @@ use Rattle.text.proofs.Here.{never}
 use Rattle.edges.specs.Edges.{mostNodes}
 use Rattle.tables.specs.Free.{mem}
 use Rattle.tables.proofs.Distinct.{Distinct, none, more, mem-other, short}
-use Rattle.ring.specs.Ring.{until}
-use Rattle.ring.specs.Trail.{Flags, walkBack, Closed, Goes, Went}
+use Rattle.ring.specs.Ring.{until, goBack}
+use Rattle.ring.specs.Trail.{Flags, wordOf, Closed, Goes, Went}
 use Rattle.ring.proofs.Marking.{flag-front, flag-no, flag-yes}
 
 pub record Going (before : List ℕ) (v : ℕ) (seen₀ trail₀ seen trail : List ℕ) (node at : ℕ) : Type 0 where
@@ -27,7 +27,7 @@ pub record Going (before : List ℕ) (v : ℕ) (seen₀ trail₀ seen trail : Li
   pub flags : Flags (drop at trail) seen
   pub distinct : Distinct (drop at trail)
   pub own : (n : ℕ) (p : ℕ → Bool) → Closed before v n p → (p node ≡ true) × ((u : ℕ) → mem u (drop at trail) ≡ true → p u ≡ true)
-  pub same : (k : ℕ) → walkBack (mostNodes - at + suc k) before [] v ≡ walkBack (suc k) before (drop at trail) node
+  pub same : (k : ℕ) → goBack (wordOf before) (mostNodes - at + suc k) [] v ≡ goBack (wordOf before) (suc k) (drop at trail) node
 
 module _ (before : List ℕ) (v : ℕ) (seen₀ trail₀ : List ℕ) (g : Goes before v seen₀ trail₀) where
   pub back-begun : Going before v seen₀ trail₀ seen₀ trail₀ v mostNodes
@@ -95,7 +95,7 @@ module _ (before : List ℕ) (v : ℕ) (seen₀ trail₀ : List ℕ) (g : Goes b
 
       pub back-more : {next : ℕ} → next ≡ getD before node 0
           → Going before v seen₀ trail₀ (set seen node 1) (set trail (at - 1) node) next (at - 1)
-      unfolding walkBack
+      unfolding goBack
       back-more e = record {
         kept-seen = length-set seen node 1 ∙ h .kept-seen;
         kept-trail = length-set trail (at - 1) node ∙ h .kept-trail;
@@ -109,8 +109,8 @@ module _ (before : List ℕ) (v : ℕ) (seen₀ trail₀ : List ℕ) (g : Goes b
 
     -- ---- a node that came before
 
-    met : (k : ℕ) → mem node (drop at trail) ≡ true → walkBack (suc k) before (drop at trail) node ≡ until node (drop at trail) ++ (node ∷ [])
-    unfolding walkBack
+    met : (k : ℕ) → mem node (drop at trail) ≡ true → goBack (wordOf before) (suc k) (drop at trail) node ≡ until node (drop at trail) ++ (node ∷ [])
+    unfolding goBack
     met k a = rw a
 
     pub back-done : (getD seen node 0 ≡ 0 → ⊥) → Went before v trail (record { at = at; node = node })
@@ -121,5 +121,5 @@ module _ (before : List ℕ) (v : ℕ) (seen₀ trail₀ : List ℕ) (g : Goes b
           again = a;
           few = λ n p c. rw (← long) (short n (drop at trail) (h .distinct) (λ u m. c .below u (h .own n p c .1 u m)));
           same = λ n l. let q : suc n ≡ mostNodes - at + suc (n - (mostNodes - at)) = omega arith in
-              ap (λ (k : ℕ). walkBack k before [] v) q ∙ h .same (n - (mostNodes - at)) ∙ met (n - (mostNodes - at)) a;
+              ap (λ (k : ℕ). goBack (wordOf before) k [] v) q ∙ h .same (n - (mostNodes - at)) ∙ met (n - (mostNodes - at)) a;
         }

@@ -201,7 +201,7 @@ module _ (n : ℕ) (es : List Row) (done : List ℕ) where
           (decide u v);
     }
 
-    back-ringed : (turns : ℕ) (seen : List ℕ) (v : ℕ) → Going seen v → turns + length seen ≡ suc n → Ringed n es done (goBack turns n es done seen v)
+    back-ringed : (turns : ℕ) (seen : List ℕ) (v : ℕ) → Going seen v → turns + length seen ≡ suc n → Ringed n es done (goBack (before n es done) turns seen v)
     unfolding goBack
     back-ringed zero seen v g e = absurd (omega (arith, short n seen (g .differ) (λ u k. g .way u k .below)))
     back-ringed (suc k) seen v g e = by-test (mem v seen)
@@ -217,7 +217,7 @@ module _ (n : ℕ) (es : List Row) (done : List ℕ) where
       here = record { over = not-true _ (lowest-has (left done) n (stuck .some)); below = stuck .some; reached = first refl };
     }
 
-    back-ring : Ringed n es done (goBack (suc n) n es done [] (firstLeft n done))
+    back-ring : Ringed n es done (goBack (before n es done) (suc n) [] (firstLeft n done))
     back-ring = back-ringed (suc n) [] (firstLeft n done) back-begun (omega arith)
 
 -- ---- from the lowest node on
@@ -265,7 +265,7 @@ module _ (n : ℕ) (es : List Row) (done : List ℕ) where
   from-lowest (x ∷ xs) r = turned n es done (until (leastOf x xs) (x ∷ xs)) (since (leastOf x xs) (x ∷ xs)) (rw (parted (leastOf x xs) (x ∷ xs)) r)
 
   pub ring-ringed : Stuck n es done → allWithin n es ≡ true → Ringed n es done (ringOf n es done)
-  ring-ringed stuck inside = from-lowest (goBack (suc n) n es done [] (firstLeft n done)) (back-ring n es done stuck inside)
+  ring-ringed stuck inside = from-lowest (goBack (before n es done) (suc n) [] (firstLeft n done)) (back-ring n es done stuck inside)
 
 pub first-lowest : (xs : List ℕ) (v : ℕ) → mem v (lowestFirst xs) ≡ true → getD (lowestFirst xs) 0 0 ≤ v
 unfolding lowestFirst mem

@@ -18,7 +18,7 @@ use Rattle.tables.proofs.Lowest.{lowest-has, lowest-wider, lowest-same}
 use Rattle.tables.proofs.Ready.{within-row}
 use Rattle.ring.specs.declared.Met.{Met}
 use Rattle.ring.specs.Ring.{left, firstLeft, before, goBack}
-use Rattle.ring.specs.Trail.{Flags, Marks, unmarked, Notes, Noted, walkBack, Closed, Goes, Went, Trailed}
+use Rattle.ring.specs.Trail.{Flags, Marks, unmarked, Notes, Noted, wordOf, Closed, Goes, Went, Trailed}
 use Rattle.ring.proofs.Round.{before-below}
 
 none-marked : Flags [] (replicate mostNodes 0)
@@ -95,8 +95,8 @@ module _ (edges : List ℕ) (n m : ℕ) (list : List ℕ) (count : ℕ) (f : Fit
         pub goes : {trail : List ℕ} → length trail ≡ mostNodes → Goes table start (replicate mostNodes 0) trail
         goes e = record { own = own; closed = closed mostNodes (f .few-nodes); clear = none-marked; long-before = t .long; long-trail = e }
 
-        walk-same : (k : ℕ) (seen : List ℕ) (v : ℕ) → own v ≡ true → walkBack k table seen v ≡ goBack k n es done seen v
-        unfolding walkBack goBack
+        walk-same : (k : ℕ) (seen : List ℕ) (v : ℕ) → own v ≡ true → goBack (wordOf table) k seen v ≡ goBack (before n es done) k seen v
+        unfolding goBack
         walk-same zero seen v h = refl
         walk-same (suc k) seen v h = rw (walk-same k (v ∷ seen) (getD table v 0) (word-own v h), word-is v h)
 

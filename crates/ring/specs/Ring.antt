@@ -28,11 +28,11 @@ unfoldable pub since : ℕ → List ℕ → List ℕ
 since m [] = []
 since m (x ∷ xs) = cond (eqb x m) (x ∷ xs) (since m xs)
 
--- `seen` are the nodes gone through, the latest first, so that each has an edge to the one behind it. Where v comes again, the ring is what came since,
--- and v: the latest has an edge to the one behind it, and so on to v, and v to the latest.
-unfoldable pub goBack : (turns n : ℕ) → List Row → (done seen : List ℕ) → ℕ → List ℕ
-goBack zero n es done seen v = []
-goBack (suc k) n es done seen v = cond (mem v seen) (until v seen ++ (v ∷ [])) (goBack k n es done (v ∷ seen) (before n es done v))
+-- `seen` are the nodes gone through, the latest first: each is `step` of the one behind it, and if that is `before`, has an edge to it. Where v comes
+-- again, the ring is what came since, and v: the latest has an edge to the one behind it, and so on to v, and v to the latest.
+unfoldable pub goBack : (step : ℕ → ℕ) (turns : ℕ) (seen : List ℕ) → ℕ → List ℕ
+goBack step zero seen v = []
+goBack step (suc k) seen v = cond (mem v seen) (until v seen ++ (v ∷ [])) (goBack step k (v ∷ seen) (step v))
 
 -- the lowest of a list
 unfoldable pub leastOf : ℕ → List ℕ → ℕ
@@ -46,4 +46,4 @@ lowestFirst (x ∷ xs) = since (leastOf x xs) (x ∷ xs) ++ until (leastOf x xs)
 
 -- one more turn than there are nodes, so that one comes twice
 abbrev pub ringOf : ℕ → List Row → (done : List ℕ) → List ℕ
-ringOf n es done = lowestFirst (goBack (suc n) n es done [] (firstLeft n done))
+ringOf n es done = lowestFirst (goBack (before n es done) (suc n) [] (firstLeft n done))

@@ -1,6 +1,6 @@
 -- What the steps to the ring ask and leave: which nodes are taken, the lowest node left over before each, the trail of the way back and its parts.
 -- Assumes nothing.
-use Prim.Native.Nat.{ℕ, zero, suc, _-_, _*_, _≤_, _<_}
+use Prim.Native.Nat.{ℕ, suc, _-_, _*_, _≤_, _<_}
 use mathlib.Core.Path.{_≡_}
 use mathlib.Core.Bool.{Bool, true, cond, _&&_}
 use mathlib.Core.List.{List, [], _∷_, _++_}
@@ -10,7 +10,7 @@ use lib.Seq.{slice}
 use Rattle.graph.specs.Numbers.{Row, row, memR}
 use Rattle.edges.specs.Edges.{mostNodes, rowAt}
 use Rattle.tables.specs.Free.{mem, lowest}
-use Rattle.ring.specs.Ring.{firstLeft, until, goBack, lowestFirst}
+use Rattle.ring.specs.Ring.{firstLeft, before, until, goBack, lowestFirst}
 use Rattle.ring.specs.declared.Met.{Met}
 
 -- ---- marks
@@ -51,16 +51,15 @@ pub record Noted (gone : List ℕ) (es : List Row) (before : List ℕ) : Type 0 
 
 -- ---- the way back
 
--- as `goBack`, by a table that says which node comes before each
-unfoldable pub walkBack : (turns : ℕ) (before seen : List ℕ) → ℕ → List ℕ
-walkBack zero before seen v = []
-walkBack (suc k) before seen v = cond (mem v seen) (until v seen ++ (v ∷ [])) (walkBack k before (v ∷ seen) (getD before v 0))
+-- a step by a table that says which node comes before each
+abbrev pub wordOf : List ℕ → ℕ → ℕ
+wordOf t v = getD t v 0
 
 -- the way from v never leaves the numbers that have p, each below n
 pub record Closed (before : List ℕ) (v n : ℕ) (p : ℕ → Bool) : Type 0 where
   pub below : (u : ℕ) → p u ≡ true → u < n
   pub start : p v ≡ true
-  pub next : (u : ℕ) → p u ≡ true → p (getD before u 0) ≡ true
+  pub next : (u : ℕ) → p u ≡ true → p (wordOf before u) ≡ true
 
 pub record Goes (before : List ℕ) (v : ℕ) (seen trail : List ℕ) : Type 0 where
   pub own : ℕ → Bool
@@ -74,7 +73,7 @@ pub record Went (before : List ℕ) (v : ℕ) (trail : List ℕ) (r : Met) : Typ
   pub low : r .at ≤ mostNodes
   pub again : mem (r .node) (drop (r .at) trail) ≡ true
   pub few : (n : ℕ) (p : ℕ → Bool) → Closed before v n p → mostNodes - r .at ≤ n
-  pub same : (n : ℕ) → mostNodes - r .at ≤ n → walkBack (suc n) before [] v ≡ until (r .node) (drop (r .at) trail) ++ (r .node ∷ [])
+  pub same : (n : ℕ) → mostNodes - r .at ≤ n → goBack (wordOf before) (suc n) [] v ≡ until (r .node) (drop (r .at) trail) ++ (r .node ∷ [])
 
 -- ---- the trail of a graph
 
@@ -82,7 +81,7 @@ pub record Trailed (n : ℕ) (es : List Row) (done trail : List ℕ) (r : Met) :
   pub low : r .at ≤ mostNodes
   pub again : mem (r .node) (drop (r .at) trail) ≡ true
   pub few : mostNodes - r .at ≤ n
-  pub same : goBack (suc n) n es done [] (firstLeft n done) ≡ until (r .node) (drop (r .at) trail) ++ (r .node ∷ [])
+  pub same : goBack (before n es done) (suc n) [] (firstLeft n done) ≡ until (r .node) (drop (r .at) trail) ++ (r .node ∷ [])
 
 -- ---- parts of the trail
 
