@@ -64,6 +64,9 @@ module _ (n : ℕ) (edges : List ℕ) (m : ℕ) (table : List ℕ) (fit : Fit n 
   unfolding padded
   front = ap (take count) laid ∙ take-at (taken n es) (zeros (length table - length (taken n es))) count (sym c)
 
+  pub laid-still : after ≡ padded (length after) (take count after)
+  laid-still = rw (kept, front) laid
+
   pub stuck : (count ≡ n → ⊥) → Stuck n es (take count after)
   stuck d = rw front (taken-stuck n es (omega (arith, c, d, taken-short n es)))
 

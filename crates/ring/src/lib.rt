@@ -158,9 +158,9 @@ fn copy(trail: &[u32], from: usize, to: usize, table: &mut [u32], at: usize)
     }
 }
 
-// Writes the ring in the place of the `count` nodes that were taken; how many nodes it has.
+// Writes the ring in the place of the `count` nodes that were taken, behind which all is zero; how many nodes it has.
 pub fn write_ring(edges: &[u32], n: usize, m: usize, order: &mut [u32], count: usize) -> usize
-    requires { ⌜ Fit n (now edges) m × (n ≤ length (now order)) × (count ≤ length (now order)) × Stuck n (rowsIn m (now edges)) (take count (now order)) ⌝ }
+    requires { ⌜ Fit n (now edges) m × (n ≤ length (now order)) × (count ≤ length (now order)) × Stuck n (rowsIn m (now edges)) (take count (now order)) × (now order ≡ padded (length (now order)) (take count (now order))) ⌝ }
     ensures { λ r. ⌜ (r ≡ length (ringOf n (rowsIn m (now (edges .entry))) (take count (now (order .entry))))) × (now (order .exit) ≡ padded (length (now (order .entry))) (ringOf n (rowsIn m (now (edges .entry))) (take count (now (order .entry))))) ⌝ }
 {
     let mut trail: [u32; edges::MOST_NODES] = [0; edges::MOST_NODES];
@@ -168,7 +168,7 @@ pub fn write_ring(edges: &[u32], n: usize, m: usize, order: &mut [u32], count: u
     let at = met.at;
     let end = behind(&trail, at, met.node);
     let low = lowest_place(&trail, at, end);
-    buffers::clear_words(order);
+    buffers::clear_words(&mut order[..count]);
     copy(&trail, low, end, order, 0);
     copy(&trail, at, low, order, end - low);
     end - at

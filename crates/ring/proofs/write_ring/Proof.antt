@@ -1,7 +1,7 @@
 -- `ring::write_ring`. The two parts written one behind the other are the ring.
 -- Assumes nothing.
 use borrow.Author.Needs.{needs}
-use Rattle.ring.proofs.Rings.{ring-written}
+use Rattle.ring.proofs.Rings.{front-long, cleared, ring-written}
 use Rattle.ring.proofs.write_ring.Statement.{statement}
 use Rattle.ring.proofs.write_ring.Tie as tie
 
@@ -22,6 +22,12 @@ slice-aggregate-lowest-place c = search needs
 
 lowest-place-requires : tie.Need-lowest-place-requires
 lowest-place-requires c κs = search needs
+
+slice-relend-prefix-clear-words : tie.Need-slice-relend-prefix-clear-words
+slice-relend-prefix-clear-words c = search needs
+
+slice-aggregate-clear-words : tie.Need-slice-aggregate-clear-words
+slice-aggregate-clear-words c = search front-long
 
 clear-words-requires : tie.Need-clear-words-requires
 clear-words-requires c κs = search needs
@@ -56,7 +62,7 @@ returns c =
     let made = end .before .before .before in
     let start = made .before .before .before .before .before in
     ring-written _ _ _ _ _ _ _ (made .make-trail .kept .1 .1 .1 .1 .1 .0) (made .make-trail .ensures) (end .behind .ensures) (low .lowest-place .ensures)
-    (start .args .order .now) (start .pre .1) (clear .clear-words .ensures) (first .copy .ensures) (c .before .before .copy2 .ensures)
+    (start .args .order .now) (start .pre .1) (cleared _ _ (start .pre .2) (start .pre .4) (clear .clear-words .ensures)) (first .copy .ensures) (c .before .before .copy2 .ensures)
 
 pub write-ring-spec : {M : Type 1} → statement M
 write-ring-spec =
@@ -68,6 +74,8 @@ write-ring-spec =
     behind-requires
     slice-aggregate-lowest-place
     lowest-place-requires
+    slice-relend-prefix-clear-words
+    slice-aggregate-clear-words
     clear-words-requires
     slice-aggregate-copy
     copy-requires
