@@ -1,4 +1,4 @@
--- A store of 1 marks one number more; the first unmarked number is the lowest one.
+-- A store of 1 marks one number more.
 -- Assumes nothing.
 use mathlib.Core.Path.{_≡_, refl, sym, _∙_}
 use mathlib.Core.Logic.{⊎-elim}
@@ -6,20 +6,17 @@ use mathlib.Core.Bool.{Bool, true, false, cond}
 use mathlib.Core.List.{List, [], _∷_, _++_}
 use Prim.Native.Nat.{ℕ, _+_, _*_, _≤_, _<_}
 use native.Mathlib.Omega.{arith}
-use native.Mathlib.Nat.{eq-or-lt-of-le}
 use native.Mathlib.Numerals.{add-one}
 use lib.ListN.{length, getD, set, take, length-set}
 use lib.Seq.{getD-set-same, getD-set-other, take-suc, length-take-le, getD-take}
 use mir.Syntax.{w64}
 use mir.Val.{Fits}
-use borrow.Author.Tests.{eq-eqb, ne-eqb}
 use Rattle.index.proofs.Stores.{decide}
 use Rattle.edges.specs.Edges.{mostNodes}
-use Rattle.tables.specs.Free.{mem, lowest}
+use Rattle.tables.specs.Free.{mem}
 use Rattle.tables.proofs.Mem.{mem-snoc-new, mem-snoc-else, place-mem}
 use Rattle.tables.proofs.Distinct.{mem-head, mem-other}
-use Rattle.tables.proofs.Lowest.{lowest-is, lowest-not}
-use Rattle.ring.specs.Trail.{Flags, Marks, unmarked}
+use Rattle.ring.specs.Trail.{Flags, Marks}
 
 -- ---- one mark more
 
@@ -88,24 +85,3 @@ module _ (list : List ℕ) (count : ℕ) (t₀ : List ℕ) (g : Marks list count
 
   pub mark-done : (t : List ℕ) (i : ℕ) → Marking list count t₀ t i → count ≤ i → Flags (take count list) t
   mark-done t i h l = let e : i ≡ count = omega (arith, h .most) in rw (← e) (h .sofar)
-
--- ---- the loop of `first_left`
-
-pub record Passing (t : List ℕ) (v : ℕ) : Type 0 where
-  pub marked : (u : ℕ) → u < v → unmarked t u ≡ false
-
-module _ (t : List ℕ) (n : ℕ) where
-  pub pass-begun : Passing t 0
-  pass-begun = record { marked = λ u l. absurd (omega arith) }
-
-  module _ (v : ℕ) (h : Passing t v) where
-    pub pass-more : (getD t v 0 ≡ 0 → ⊥) → Passing t (v + 1)
-    pass-more d = record {
-      marked = λ u m. ⊎-elim (λ e. rw e (ne-eqb _ _ d)) (λ k. h .marked u k) (eq-or-lt-of-le {n = u} {m = v} (omega arith));
-    }
-
-    pub pass-found : v < n → getD t v 0 ≡ 0 → v ≡ lowest (unmarked t) n
-    pass-found l e = sym (lowest-is (unmarked t) n v l (eq-eqb _ _ e) (h .marked))
-
-    pub pass-none : n ≤ v → n ≡ lowest (unmarked t) n
-    pass-none l = sym (lowest-not (unmarked t) n (λ u m. h .marked u (omega arith)))

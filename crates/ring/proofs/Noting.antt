@@ -16,9 +16,9 @@ use Rattle.index.proofs.Stores.{decide}
 use Rattle.graph.specs.Numbers.{Row, row, memR}
 use Rattle.edges.specs.Edges.{mostNodes, rowAt, rowsIn}
 use Rattle.edges.proofs.Spans.{or-not, always, mem-snoc}
-use Rattle.tables.specs.Free.{lowest}
+use Rattle.tables.specs.Free.{lowest, zeroAt}
 use Rattle.tables.proofs.Lowest.{lowest-has, lowest-none, lowest-is, lowest-not, lowest-same}
-use Rattle.ring.specs.Trail.{unmarked, noted, lowestTo, Notes, Noted}
+use Rattle.ring.specs.Trail.{noted, lowestTo, Notes, Noted}
 
 -- ---- one edge: the ways through `note_edge`
 
@@ -83,38 +83,38 @@ module _ (es : List Row) (from to : ℕ) where
 
   module _ (gone : List ℕ) where
     to-other : (v : ℕ) → (v ≡ to → ⊥) → lowestTo gone More v ≡ lowestTo gone es v
-    to-other v d = lowest-same (λ u. unmarked gone u && memR (row u v) More) (λ u. unmarked gone u && memR (row u v) es) mostNodes
+    to-other v d = lowest-same (λ u. zeroAt gone u && memR (row u v) More) (λ u. zeroAt gone u && memR (row u v) es) mostNodes
         (λ u l. rw (other-to u v d))
 
-    from-taken : (v : ℕ) → unmarked gone from ≡ false → lowestTo gone More v ≡ lowestTo gone es v
-    from-taken v k = lowest-same (λ u. unmarked gone u && memR (row u v) More) (λ u. unmarked gone u && memR (row u v) es) mostNodes
+    from-taken : (v : ℕ) → zeroAt gone from ≡ false → lowestTo gone More v ≡ lowestTo gone es v
+    from-taken v k = lowest-same (λ u. zeroAt gone u && memR (row u v) More) (λ u. zeroAt gone u && memR (row u v) es) mostNodes
         (λ u l. ⊎-elim (λ e. rw e (rw k)) (λ d. rw (other-from u v d)) (decide u from))
 
-    module _ (low : from < mostNodes) (k : unmarked gone from ≡ true) where
+    module _ (low : from < mostNodes) (k : zeroAt gone from ≡ true) where
       lower : from < lowestTo gone es to → lowestTo gone More to ≡ from
-      lower l = with-lower (λ u. unmarked gone u && memR (row u to) es) (λ u. unmarked gone u && memR (row u to) More) mostNodes from low
+      lower l = with-lower (λ u. zeroAt gone u && memR (row u to) es) (λ u. zeroAt gone u && memR (row u to) More) mostNodes from low
           (rw (k, new-row)) (λ u d. rw (other-from u to d)) l
 
       higher : lowestTo gone es to ≤ from → lowestTo gone More to ≡ lowestTo gone es to
-      higher l = with-higher (λ u. unmarked gone u && memR (row u to) es) (λ u. unmarked gone u && memR (row u to) More) mostNodes from low
+      higher l = with-higher (λ u. zeroAt gone u && memR (row u to) es) (λ u. zeroAt gone u && memR (row u to) More) mostNodes from low
           (rw (k, new-row)) (λ u d. rw (other-from u to d)) l
 
     -- the word of each node follows
     module _ (before : List ℕ) (h : Noted gone es before) (f : from < mostNodes) (t : to < mostNodes) where
       at-other : (v : ℕ) → v < mostNodes → (v ≡ to → ⊥) → getD (noted gone before (row from to)) v 0 ≡ lowestTo gone More v
-      at-other v l d = go (unmarked gone from && ltb from (getD before to 0))
+      at-other v l d = go (zeroAt gone from && ltb from (getD before to 0))
         where
           go : (b : Bool) → getD (cond b (set before to from) before) v 0 ≡ lowestTo gone More v
           go true = getD-set-other before to v from 0 d ∙ h .same v l ∙ sym (to-other v d)
           go false = h .same v l ∙ sym (to-other v d)
 
       at-own : getD (noted gone before (row from to)) to 0 ≡ lowestTo gone More to
-      at-own = go (unmarked gone from) refl (ltb from (getD before to 0)) refl
+      at-own = go (zeroAt gone from) refl (ltb from (getD before to 0)) refl
         where
           now-is : getD before to 0 ≡ lowestTo gone es to
           now-is = h .same to t
 
-          go : (a : Bool) → unmarked gone from ≡ a → (b : Bool) → ltb from (getD before to 0) ≡ b
+          go : (a : Bool) → zeroAt gone from ≡ a → (b : Bool) → ltb from (getD before to 0) ≡ b
               → getD (cond (a && b) (set before to from) before) to 0 ≡ lowestTo gone More to
           go true p true q = getD-set-same before to from 0 (omega (arith, h .long))
               ∙ sym (lower f p (omega (arith, ltb-true from (getD before to 0) q, now-is)))
@@ -123,7 +123,7 @@ module _ (es : List Row) (from to : ℕ) where
 
       noted-more : Noted gone More (noted gone before (row from to))
       noted-more = record {
-        long = go (unmarked gone from && ltb from (getD before to 0));
+        long = go (zeroAt gone from && ltb from (getD before to 0));
         same = λ v l. ⊎-elim (λ e. rw e at-own) (λ d. at-other v l d) (decide v to);
       }
         where
@@ -146,7 +146,7 @@ module _ (edges : List ℕ) (m : ℕ) (gone before₀ : List ℕ) (g : Notes edg
     most = omega arith;
     sofar = record {
       long = g .long-before;
-      same = λ v l. g .none v l ∙ sym (lowest-not (λ u. unmarked gone u && false) mostNodes (λ u k. and-false (unmarked gone u)));
+      same = λ v l. g .none v l ∙ sym (lowest-not (λ u. zeroAt gone u && false) mostNodes (λ u k. and-false (zeroAt gone u)));
     };
   }
 

@@ -4,7 +4,7 @@
 use mathlib.Core.Path.{_≡_, refl, sym, ap, _∙_}
 use mathlib.Core.Bool.{Bool, true, false, cond, not, _&&_}
 use mathlib.Core.List.{List, [], _∷_}
-use Prim.Native.Nat.{ℕ, zero, suc, _≤_, _<_}
+use Prim.Native.Nat.{ℕ, zero, suc, _-_, _≤_, _<_}
 use native.Mathlib.Omega.{arith}
 use lib.ListN.{length, getD, take, replicate, length-replicate, getD-replicate}
 use lib.Dec.{eqb, ltb}
@@ -13,12 +13,12 @@ use Rattle.text.proofs.Here.{both}
 use Rattle.graph.specs.Numbers.{Row, row, memR}
 use Rattle.edges.specs.Edges.{mostNodes, rowsIn}
 use Rattle.tables.specs.Tables.{Fit}
-use Rattle.tables.specs.Free.{mem, lowest, Stuck}
+use Rattle.tables.specs.Free.{mem, lowestFrom, lowest, zeroAt, Stuck}
 use Rattle.tables.proofs.Lowest.{lowest-has, lowest-wider, lowest-same}
 use Rattle.tables.proofs.Ready.{within-row}
 use Rattle.ring.specs.declared.Met.{Met}
 use Rattle.ring.specs.Ring.{left, firstLeft, before, goBack}
-use Rattle.ring.specs.Trail.{Flags, Marks, unmarked, Notes, Noted, wordOf, Closed, Goes, Went, Trailed}
+use Rattle.ring.specs.Trail.{Flags, Marks, Notes, Noted, wordOf, Closed, Goes, Went, Trailed}
 use Rattle.ring.proofs.Round.{before-below}
 
 none-marked : Flags [] (replicate mostNodes 0)
@@ -48,7 +48,7 @@ module _ (edges : List ℕ) (n m : ℕ) (list : List ℕ) (count : ℕ) (f : Fit
     pub look-in : n ≤ length gone
     look-in = omega (arith, f .few-nodes, g .long)
 
-    is-left : (v : ℕ) → v < mostNodes → unmarked gone v ≡ left done v
+    is-left : (v : ℕ) → v < mostNodes → zeroAt gone v ≡ left done v
     is-left v l = ap (λ (w : ℕ). eqb w 0) (g .same v l) ∙ go (mem v done)
       where
         go : (b : Bool) → eqb (cond b 1 0) 0 ≡ not b
@@ -76,15 +76,17 @@ module _ (edges : List ℕ) (n m : ℕ) (list : List ℕ) (count : ℕ) (f : Fit
 
         word-is : getD table v 0 ≡ before n es done v
         word-is = t .same v (omega (arith, own-low v h, f .few-nodes))
-            ∙ lowest-same (λ u. unmarked gone u && memR (row u v) es) has mostNodes (λ u l. rw (is-left u l))
+            ∙ lowest-same (λ u. zeroAt gone u && memR (row u v) es) has mostNodes (λ u l. rw (is-left u l))
             ∙ lowest-wider has n mostNodes (f .few-nodes) found
 
         word-own : own (getD table v 0) ≡ true
         word-own = rw word-is (own-is (lowest has n) found (both (left done (lowest has n)) (memR (row (lowest has n) v) es) (lowest-has has n found) .0))
 
-      module _ (start : ℕ) (q : start ≡ lowest (unmarked gone) n) where
+      module _ (start : ℕ) (q : start ≡ lowestFrom (zeroAt gone) 0 (n - 0)) where
         start-is : start ≡ firstLeft n done
-        start-is = q ∙ lowest-same (unmarked gone) (left done) n (λ u l. is-left u (omega (arith, f .few-nodes)))
+        start-is =
+            let e : n - 0 ≡ n = omega arith in
+            q ∙ ap (lowestFrom (zeroAt gone) 0) e ∙ lowest-same (zeroAt gone) (left done) n (λ u l. is-left u (omega (arith, f .few-nodes)))
 
         start-own : own start ≡ true
         start-own = rw start-is (own-is (firstLeft n done) (s .some) (lowest-has (left done) n (s .some)))

@@ -4,12 +4,12 @@ use Prim.Native.Nat.{ℕ, suc, _-_, _*_, _≤_, _<_}
 use mathlib.Core.Path.{_≡_}
 use mathlib.Core.Bool.{Bool, true, cond, _&&_}
 use mathlib.Core.List.{List, [], _∷_, _++_}
-use lib.Dec.{eqb, ltb}
+use lib.Dec.{ltb}
 use lib.ListN.{length, getD, set, take, drop}
 use lib.Seq.{slice}
 use Rattle.graph.specs.Numbers.{Row, row, memR}
 use Rattle.edges.specs.Edges.{mostNodes, rowAt}
-use Rattle.tables.specs.Free.{mem, lowest}
+use Rattle.tables.specs.Free.{mem, lowest, zeroAt}
 use Rattle.ring.specs.Ring.{firstLeft, before, until, goBack, lowestFirst}
 use Rattle.ring.specs.declared.Met.{Met}
 
@@ -25,18 +25,14 @@ pub record Marks (list : List ℕ) (count : ℕ) (t : List ℕ) : Type 0 where
   pub all : count ≤ length list
   pub below : (v : ℕ) → mem v (take count list) ≡ true → v < mostNodes
 
--- a number whose word is 0
-abbrev pub unmarked : List ℕ → ℕ → Bool
-unmarked t v = eqb (getD t v 0) 0
-
 -- ---- the lowest node left over before each
 
 abbrev pub noted : (gone before : List ℕ) → Row → List ℕ
-noted gone before e = cond (unmarked gone (e .from) && ltb (e .from) (getD before (e .to) 0)) (set before (e .to) (e .from)) before
+noted gone before e = cond (zeroAt gone (e .from) && ltb (e .from) (getD before (e .to) 0)) (set before (e .to) (e .from)) before
 
 -- the lowest left-over number with an edge to v; 1,024 if there is none
 abbrev pub lowestTo : (gone : List ℕ) → List Row → ℕ → ℕ
-lowestTo gone es v = lowest (λ u. unmarked gone u && memR (row u v) es) mostNodes
+lowestTo gone es v = lowest (λ u. zeroAt gone u && memR (row u v) es) mostNodes
 
 pub record Notes (edges : List ℕ) (m : ℕ) (gone before : List ℕ) : Type 0 where
   pub all : m * 2 ≤ length edges

@@ -8,9 +8,9 @@ ghost use lib.Seq.{sets, slice};
 ghost use Rattle.buffers.specs.Padded.{padded};
 ghost use Rattle.edges.specs.Edges.{mostNodes, rowAt, rowsIn};
 ghost use Rattle.tables.specs.Tables.{Fit};
-ghost use Rattle.tables.specs.Free.{mem, lowest, Stuck};
+ghost use Rattle.tables.specs.Free.{mem, Stuck};
 ghost use Rattle.ring.specs.Ring.{ringOf};
-ghost use Rattle.ring.specs.Trail.{Flags, Marks, unmarked, noted, Notes, Noted, Goes, Went, Trailed, Behind, LowestAt};
+ghost use Rattle.ring.specs.Trail.{Flags, Marks, noted, Notes, Noted, Goes, Went, Trailed, Behind, LowestAt};
 
 // Stands for no node: more than every number of one.
 const NOWHERE: u32 = 1024;
@@ -32,21 +32,6 @@ fn mark(list: &[u32], count: usize, gone: &mut [u32])
         gone[v] = 1;
         i += 1;
     }
-}
-
-// The lowest node left over; n if there is none.
-fn first_left(gone: &[u32], n: usize) -> usize
-    requires { ⌜ n ≤ length (now gone) ⌝ }
-    ensures { λ r. ⌜ r ≡ lowest (unmarked (now (gone .entry))) n ⌝ }
-{
-    let mut v = 0;
-    while v < n {
-        if gone[v] == 0 {
-            return v;
-        }
-        v += 1;
-    }
-    n
 }
 
 // The edge at `i`, from a node left over, may come from the lowest such node yet.
@@ -109,7 +94,7 @@ fn make_trail(
     let mut seen: [u32; edges::MOST_NODES] = [0; edges::MOST_NODES];
     mark(list, count, &mut gone);
     note_edges(edges, m, &gone, &mut before);
-    let start = first_left(&gone, n);
+    let start = tables::first_zero(&gone, 0, n);
     go_back(&before, start, &mut seen, trail)
 }
 

@@ -1,15 +1,19 @@
--- Below the lowest number with a property none has it, and it is the only one so.
+-- Below the lowest number with a property none has it, and it is the only one so. The first zero of a part of a table is the lowest number there whose
+-- word is 0.
 -- Assumes nothing.
-use mathlib.Core.Path.{_≡_, refl}
+use mathlib.Core.Path.{_≡_, refl, sym, ap, _∙_}
 use mathlib.Core.Bool.{Bool, true, false, cond}
 use mathlib.Core.Logic.{⊎-elim}
-use Prim.Native.Nat.{ℕ, zero, suc, _+_, _≤_, _<_}
+use mathlib.Core.List.{List}
+use Prim.Native.Nat.{ℕ, zero, suc, _+_, _-_, _≤_, _<_}
 use native.Mathlib.Omega.{arith}
 use native.Mathlib.Nat.{eq-or-lt-of-le}
+use native.Mathlib.Numerals.{add-one}
+use lib.ListN.{getD}
 use lib.Dec.{ltb}
-use borrow.Author.Tests.{ltb-true, ltb-false}
+use borrow.Author.Tests.{eqb-true, eq-eqb, ne-eqb, ltb-true, ltb-false}
 use Rattle.text.proofs.Here.{by-test, never}
-use Rattle.tables.specs.Free.{lowestFrom, lowest}
+use Rattle.tables.specs.Free.{lowestFrom, lowest, zeroAt}
 
 module _ (p : ℕ → Bool) where
   from-bounds : (i k : ℕ) → (i ≤ lowestFrom p i k) × (lowestFrom p i k ≤ i + k)
@@ -76,3 +80,38 @@ from-same p q i (suc k) h = rw (h i (omega arith) (omega arith), from-same p q (
 
 pub lowest-same : (p q : ℕ → Bool) (n : ℕ) → ((j : ℕ) → j < n → p j ≡ q j) → lowest p n ≡ lowest q n
 lowest-same p q n same = from-same p q 0 n (λ j a b. same j (omega arith))
+
+-- ---- the loop of `first_zero`
+
+module _ (t : List ℕ) (first last : ℕ) where
+  abbrev answer : ℕ
+  answer = lowestFrom (zeroAt t) first (last - first)
+
+  -- what the loop keeps: the answer from here is the answer from the start
+  abbrev pub Sought : ℕ → Type 0
+  Sought v = lowestFrom (zeroAt t) v (last - v) ≡ answer
+
+  module _ (v : ℕ) (h : Sought v) where
+    pub seek-hit : v < last → getD t v 0 ≡ 0 → v ≡ answer
+    unfolding lowestFrom
+    seek-hit l z = let e : last - v ≡ suc (last - (v + 1)) = omega arith in sym (ap (lowestFrom (zeroAt t) v) e ∙ rw (eq-eqb (getD t v 0) 0 z)) ∙ h
+
+    pub seek-on : v < last → (getD t v 0 ≡ 0 → ⊥) → Sought (v + 1)
+    unfolding lowestFrom
+    seek-on l d =
+        let e : last - v ≡ suc (last - (v + 1)) = omega arith in
+        sym (ap (lowestFrom (zeroAt t) v) e ∙ rw (ne-eqb (getD t v 0) 0 d, ← add-one v)) ∙ h
+
+    pub seek-done : last ≤ v → v ≡ answer
+    unfolding lowestFrom
+    seek-done l = let e : last - v ≡ 0 = omega arith in sym (ap (lowestFrom (zeroAt t) v) e) ∙ h
+
+  -- what is known of it
+  module _ {r : ℕ} (q : r ≡ answer) where
+    pub none-before : (w : ℕ) → first ≤ w → w < r → getD t w 0 ≡ 0 → ⊥
+    none-before w a b z = never (from-none (zeroAt t) first (last - first) w a (omega arith)) (eq-eqb (getD t w 0) 0 z)
+
+    pub zero-there : r < last → getD t r 0 ≡ 0
+    zero-there l =
+        let h = from-has (zeroAt t) first (last - first) (omega (arith, from-bounds (zeroAt t) first (last - first) .0)) in
+        eqb-true (getD t r 0) 0 (rw q h)

@@ -50,7 +50,7 @@ below-append n [] ys = refl
 below-append n (x ∷ xs) ys = rw (below-append n xs ys) (sym (and-assoc (ltb x n) (allBelow n xs) (allBelow n ys)))
 
 -- the larger of two is below n exactly if both are, and so the largest of all
-larger-below : (n a b : ℕ) → ltb (larger a b) n ≡ (ltb a n && ltb b n)
+pub larger-below : (n a b : ℕ) → ltb (larger a b) n ≡ (ltb a n && ltb b n)
 unfolding larger
 larger-below n a b =
     by-test (leb b a)

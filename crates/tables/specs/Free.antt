@@ -6,6 +6,7 @@ use mathlib.Core.Path.{_≡_}
 use mathlib.Core.Bool.{Bool, true, false, cond, not, _&&_}
 use mathlib.Core.List.{List, [], _∷_}
 use lib.Dec.{eqb, ltb}
+use lib.ListN.{getD}
 use Rattle.graph.specs.Numbers.{Row}
 
 unfoldable pub mem : ℕ → List ℕ → Bool
@@ -28,6 +29,10 @@ lowestFrom p i (suc k) = cond (p i) i (lowestFrom p (suc i) k)
 -- the lowest number below n that has p; n if none has it
 abbrev pub lowest : (ℕ → Bool) → ℕ → ℕ
 lowest p n = lowestFrom p 0 n
+
+-- a number whose word in a table is 0
+abbrev pub zeroAt : List ℕ → ℕ → Bool
+zeroAt t v = eqb (getD t v 0) 0
 
 -- nodes are left over, and none of them is free
 pub record Stuck (n : ℕ) (es : List Row) (done : List ℕ) : Type 0 where

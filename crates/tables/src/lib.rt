@@ -1,14 +1,15 @@
 // A built graph's tables as they are lent.
 ghost use mathlib.Core.Path.{_≡_};
-ghost use Prim.Native.Nat.{_*_, _≤_};
+ghost use Prim.Native.Nat.{_-_, _*_, _≤_};
 ghost use lib.ListN.{length};
 ghost use Rattle.text.specs.High.{larger, largest};
 ghost use Rattle.edges.specs.Edges.{rowsIn};
 ghost use Rattle.tables.specs.Tables.{allWithin, fits};
+ghost use Rattle.tables.specs.Free.{lowestFrom, zeroAt};
 
 pub const TABLES_UNFIT: u32 = 43;
 
-fn larger(a: u32, b: u32) -> u32
+pub fn larger(a: u32, b: u32) -> u32
     ensures { λ r. ⌜ r ≡ larger a b ⌝ }
 {
     if a < b { b } else { a }
@@ -24,6 +25,21 @@ fn largest(w: &[u32]) -> u32
         i += 1;
     }
     most
+}
+
+// The first zero from `first` up to `last`; `last` or more if there is none.
+pub fn first_zero(words: &[u32], first: usize, last: usize) -> usize
+    requires { ⌜ last ≤ length (now words) ⌝ }
+    ensures { λ r. ⌜ r ≡ lowestFrom (zeroAt (now (words .entry))) first (last - first) ⌝ }
+{
+    let mut v = first;
+    while v < last {
+        if words[v] == 0 {
+            return v;
+        }
+        v += 1;
+    }
+    v
 }
 
 // Whether both ends of each of the first m edges are nodes. The largest number is found with no early exit, many numbers at a time.

@@ -16,7 +16,7 @@ use Rattle.text.proofs.Here.{by-test, never}
 use Rattle.text.proofs.Writing.{sets-append}
 use Rattle.index.proofs.Stores.{decide}
 use Rattle.edges.specs.Edges.{rowsIn}
-use Rattle.tables.specs.Free.{mem, ready, free}
+use Rattle.tables.specs.Free.{mem, ready, free, zeroAt}
 use Rattle.tables.specs.Tables.{Fit}
 use Rattle.tables.proofs.Mem.{mem-snoc-new, mem-snoc-else}
 use Rattle.tables.proofs.Lowest.{lowest-has, lowest-same}
@@ -111,7 +111,7 @@ module _ (edges : List ℕ) (n m : ℕ) (f : Fit n edges m) (order₀ heads link
     place-in a b = omega (arith, same-room)
 
     -- a count of 0 says that a node is free
-    free-zero : (w : ℕ) → w < n → free n (rowsIn m edges) done w ≡ eqb (getD waits w 0) 0
+    free-zero : (w : ℕ) → w < n → free n (rowsIn m edges) done w ≡ zeroAt waits w
     free-zero w l = rw (lt-ltb w n l, g .waits-of w) (go (mem w done) (ready-wait edges done w m))
       where
         go : (b : Bool) → ready (rowsIn m edges) done w ≡ eqb (waiting edges done w m) 0
@@ -121,7 +121,7 @@ module _ (edges : List ℕ) (n m : ℕ) (f : Fit n edges m) (order₀ heads link
 
     module _ {v : ℕ} {lows₁ : List ℕ} (s : Looked waits n v lows₁) (turn : k < n) where
       next-is : v ≡ next n (rowsIn m edges) done
-      next-is = s .answer ∙ sym (lowest-same (free n (rowsIn m edges) done) (λ w. eqb (getD waits w 0) 0) n free-zero)
+      next-is = s .answer ∙ sym (lowest-same (free n (rowsIn m edges) done) (zeroAt waits) n free-zero)
 
       left : n - k ≡ suc (n - (k + 1))
       left = omega arith
@@ -132,7 +132,7 @@ module _ (edges : List ℕ) (n m : ℕ) (f : Fit n edges m) (order₀ heads link
 
       module _ (l : v < n) where
         zero-v : getD waits v 0 ≡ 0
-        zero-v = eqb-true _ _ (rw (← s .answer) at (lowest-has (λ w. eqb (getD waits w 0) 0) n (rw (← s .answer) l)))
+        zero-v = eqb-true _ _ (rw (← s .answer) at (lowest-has (zeroAt waits) n (rw (← s .answer) l)))
 
         not-done : mem v done ≡ false
         not-done = by-test (mem v done)

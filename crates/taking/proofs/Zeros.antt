@@ -2,20 +2,24 @@
 -- a bound again.
 -- Assumes nothing.
 use mathlib.Core.Path.{_≡_, refl, sym, ap, _∙_}
+use mathlib.Core.Bool.{true}
 use mathlib.Core.Logic.{⊎-elim}
 use mathlib.Core.List.{List}
 use Prim.Native.Nat.{ℕ, _+_, _-_, _*_, _/_, _≤_, _<_}
-use native.Mathlib.Nat.{eq-or-lt-of-le, div-add-mod', mod-lt}
+use native.Mathlib.Nat.{div-add-mod', mod-lt}
 use native.Mathlib.Omega.{arith}
 use lib.Arith.{digits-div}
 use lib.ListN.{length, getD, set, length-set}
 use lib.Seq.{getD-set-same, getD-set-other}
-use lib.Dec.{eqb, ltb}
-use borrow.Author.Tests.{eq-eqb, ne-eqb, ltb-true, ltb-false}
+use lib.Dec.{ltb}
+use borrow.Author.Tests.{eq-eqb, ne-eqb, lt-ltb, ltb-true, ltb-false}
 use Rattle.text.proofs.Here.{by-test}
 use Rattle.index.proofs.Stores.{decide}
-use Rattle.tables.proofs.Lowest.{lowest-is, lowest-not}
-use Rattle.taking.specs.Chains.{Lows, FirstZero, GroupEnd, Greater, LooksIn, LookedIn, Looks, Looked, Lowered}
+use Rattle.text.specs.High.{larger}
+use Rattle.tables.specs.Free.{lowestFrom, zeroAt}
+use Rattle.tables.proofs.Lowest.{lowest-is, lowest-not, none-before, zero-there}
+use Rattle.tables.proofs.Within.{larger-below}
+use Rattle.taking.specs.Chains.{Lows, GroupEnd, LooksIn, LookedIn, Looks, Looked, Lowered}
 
 -- ---- a group
 
@@ -27,26 +31,6 @@ group-low w = omega (arith, div-add-mod' w 32)
 
 group-high : (w : ℕ) → w < w / 32 * 32 + 32
 group-high w = omega (arith, div-add-mod' w 32, mod-lt w {m = 32} (omega arith))
-
--- ---- the zeros of a part
-
-pub record Seeking (waits : List ℕ) (first v : ℕ) : Type 0 where
-  pub none : (w : ℕ) → first ≤ w → w < v → getD waits w 0 ≡ 0 → ⊥
-
-pub seek-begun : (waits : List ℕ) (first : ℕ) → Seeking waits first first
-seek-begun waits first = record { none = λ w a b e. omega arith }
-
-module _ (waits : List ℕ) (first last v : ℕ) (g : Seeking waits first v) where
-  pub seek-on : (getD waits v 0 ≡ 0 → ⊥) → Seeking waits first (v + 1)
-  seek-on d = record { none = λ w a b e. ⊎-elim (λ q. d (rw q at e)) (λ m. g .none w a m e) (eq-or-lt-of-le {n = w} {m = v} (omega arith)) }
-
-  pub seek-hit : getD waits v 0 ≡ 0 → FirstZero waits first last v
-  seek-hit e = record { none = λ w a b c. g .none w a c; zero-at = λ m. e }
-
-  pub seek-done : last ≤ v → FirstZero waits first last v
-  seek-done l = record { none = λ w a b c. g .none w a c; zero-at = λ m. absurd (omega arith) }
-
--- ---- a group
 
 module _ (waits lows : List ℕ) (g n : ℕ) (p : LooksIn waits lows g n) where
   low-in : g < length lows
@@ -71,20 +55,24 @@ module _ (waits lows : List ℕ) (g n : ℕ) (p : LooksIn waits lows g n) where
       start = λ w a z. rw (getD-set-other lows g 32 x 0 not-start) (p .looks .kept .start w a z);
     }
 
-  module _ {last : ℕ} (e : GroupEnd (g * 32) n last) {low first : ℕ} (q : low ≡ getD lows g 0) (m : Greater (g * 32) low first)
-      {v : ℕ} (f : FirstZero waits first last v) where
+  module _ {last : ℕ} (e : GroupEnd (g * 32) n last) {most first : ℕ} (m : most ≡ larger (g * 32) (getD lows g 0)) (q : first ≡ most)
+      {v : ℕ} (f : v ≡ lowestFrom (zeroAt waits) first (last - first)) where
     above : (w : ℕ) → g * 32 ≤ w → w < g * 32 + 32 → w < n → getD waits w 0 ≡ 0 → first ≤ w
-    above w a b c z = m .least w a (rw (q, ← in-group w g a b) (p .looks .kept .low w c z))
+    above w a b c z =
+        let low : getD lows g 0 ≤ w = rw (← in-group w g a b) (p .looks .kept .low w c z) in
+        let h : ltb first (w + 1) ≡ true = rw (q, m) (larger-below (w + 1) (g * 32) (getD lows g 0)
+        ∙ rw (lt-ltb (g * 32) (w + 1) (omega arith), lt-ltb (getD lows g 0) (w + 1) (omega arith))) in
+        omega (arith, ltb-true first (w + 1) h)
 
     none-below : (w : ℕ) → g * 32 ≤ w → w < g * 32 + 32 → w < n → w < v → getD waits w 0 ≡ 0 → ⊥
-    none-below w a b c d z = f .none w (above w a b c z) (e .all w c b) d z
+    none-below w a b c d z = none-before waits first last f w (above w a b c z) d z
 
     pub group-hit : v < last → LookedIn waits lows g n v (set lows g v)
     group-hit l = record {
       room = length-set lows g v;
       near = λ k. omega (arith, e .near);
       none = none-below;
-      zero-at = λ k. f .zero-at l;
+      zero-at = λ k. zero-there waits first last f l;
       kept = raised none-below;
     }
 
@@ -114,7 +102,7 @@ search-begun waits lows n p {g} q = record {
 module _ (waits lows₀ : List ℕ) (n : ℕ) (p : Looks waits lows₀ n) (g : ℕ) (lows : List ℕ) (s : Searching waits n g lows) where
   pub search-done : n ≤ g * 32 → Looked waits n n lows
   search-done l = record {
-    answer = sym (lowest-not (λ w. eqb (getD waits w 0) 0) n (λ j k. ne-eqb _ _ (s .none j (omega arith) k)));
+    answer = sym (lowest-not (zeroAt waits) n (λ j k. ne-eqb _ _ (s .none j (omega arith) k)));
     kept = s .kept;
   }
 
@@ -144,7 +132,7 @@ module _ (waits lows₀ : List ℕ) (n : ℕ) (p : Looks waits lows₀ n) (g : �
 
       pub search-hit : v < n → Looked waits n v (set lows₁ 32 g)
       search-hit k = record {
-        answer = sym (lowest-is (λ w. eqb (getD waits w 0) 0) n v k (eq-eqb _ _ (r .zero-at k))
+        answer = sym (lowest-is (zeroAt waits) n v k (eq-eqb _ _ (r .zero-at k))
             (λ j m. ne-eqb _ _ (below j (omega (arith, r .near k)) (omega arith) m)));
         kept = started;
       }

@@ -7,7 +7,7 @@ use mathlib.Core.List.{List, []}
 use lib.ListN.{length, getD}
 use lib.Dec.{eqb}
 use Rattle.edges.specs.Edges.{mostNodes, mostEdges, rowAt}
-use Rattle.tables.specs.Free.{mem, lowest}
+use Rattle.tables.specs.Free.{mem, lowest, zeroAt}
 
 -- what stands for a node that was taken: more than there are edges
 abbrev pub takenMark : ℕ
@@ -72,17 +72,10 @@ pub record Lows (n : ℕ) (waits lows : List ℕ) : Type 0 where
 
 -- ---- what the code asks and does
 
-pub record FirstZero (waits : List ℕ) (first last r : ℕ) : Type 0 where
-  pub none : (w : ℕ) → first ≤ w → w < last → w < r → getD waits w 0 ≡ 0 → ⊥
-  pub zero-at : r < last → getD waits r 0 ≡ 0
-
 pub record GroupEnd (first n r : ℕ) : Type 0 where
   pub most : r ≤ n
   pub near : r ≤ first + group
   pub all : (w : ℕ) → w < n → w < first + group → w < r
-
-pub record Greater (a b r : ℕ) : Type 0 where
-  pub least : (w : ℕ) → a ≤ w → b ≤ w → r ≤ w
 
 -- what the search for the lowest zero asks, and answers
 pub record Looks (waits lows : List ℕ) (n : ℕ) : Type 0 where
@@ -91,7 +84,7 @@ pub record Looks (waits lows : List ℕ) (n : ℕ) : Type 0 where
   pub kept : Lows n waits lows
 
 pub record Looked (waits : List ℕ) (n r : ℕ) (lows₁ : List ℕ) : Type 0 where
-  pub answer : r ≡ lowest (λ w. eqb (getD waits w 0) 0) n
+  pub answer : r ≡ lowest (zeroAt waits) n
   pub kept : Lows n waits lows₁
 
 -- and of one group, which begins below n

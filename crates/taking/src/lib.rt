@@ -7,7 +7,7 @@ ghost use lib.Seq.{sets};
 ghost use Rattle.edges.specs.Edges.{rowsIn};
 ghost use Rattle.tables.specs.Tables.{Fit};
 ghost use Rattle.taking.specs.Taking.{taken};
-ghost use Rattle.taking.specs.Chains.{Rows, Chained, FirstZero, GroupEnd, Greater, LooksIn, LookedIn, Looks, Looked, Lowered, Releases, Released, Takes, Freed, Took};
+ghost use Rattle.taking.specs.Chains.{Rows, Chained, GroupEnd, LooksIn, LookedIn, Looks, Looked, Lowered, Releases, Released, Takes, Freed, Took};
 
 // How many nodes a group has, and how many groups there are.
 const GROUP: usize = 32;
@@ -44,21 +44,6 @@ fn chain_edges(edges: &[u32], m: usize, heads: &mut [u16], links: &mut [u16], wa
     }
 }
 
-// The first zero from `first` up to `last`; `last` or more if there is none.
-fn first_zero(waits: &[u32], first: usize, last: usize) -> usize
-    requires { ⌜ last ≤ length (now waits) ⌝ }
-    ensures { λ r. ⌜ FirstZero (now (waits .entry)) first last r ⌝ }
-{
-    let mut v = first;
-    while v < last {
-        if waits[v] == 0 {
-            return v;
-        }
-        v += 1;
-    }
-    v
-}
-
 // Where the group that begins at `first` ends.
 fn group_end(first: usize, n: usize) -> usize
     requires { ⌜ first < n ⌝ }
@@ -70,23 +55,14 @@ fn group_end(first: usize, n: usize) -> usize
     first + GROUP
 }
 
-// The greater of two numbers.
-fn greater(a: usize, b: usize) -> usize
-    ensures { λ r. ⌜ Greater a b r ⌝ }
-{
-    if a < b {
-        return b;
-    }
-    a
-}
-
 // The first zero of the group `g`; n if there is none. Next time the look begins where this one ends.
 fn look_group(waits: &[u32], lows: &mut [u32], g: usize, n: usize) -> usize
     requires { ⌜ LooksIn (now waits) (now lows) g n ⌝ }
     ensures { λ r. ⌜ LookedIn (now (waits .entry)) (now (lows .entry)) g n r (now (lows .exit)) ⌝ }
 {
     let last = group_end(g * GROUP, n);
-    let v = first_zero(waits, greater(g * GROUP, index::of_word(lows[g])), last);
+    let first = tables::larger((g * GROUP) as u32, lows[g]);
+    let v = tables::first_zero(waits, index::of_word(first), last);
     if v < last {
         lows[g] = v as u32;
         return v;

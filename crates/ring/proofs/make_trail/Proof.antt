@@ -20,11 +20,11 @@ slice-aggregate-note-edges-2 c = search needs
 note-edges-requires : tie.Need-note-edges-requires
 note-edges-requires c κs = search notes
 
-slice-aggregate-first-left : tie.Need-slice-aggregate-first-left
-slice-aggregate-first-left c = search needs
+slice-aggregate-first-zero : tie.Need-slice-aggregate-first-zero
+slice-aggregate-first-zero c = search needs
 
-first-left-requires : tie.Need-first-left-requires
-first-left-requires c κs = search look-in
+first-zero-requires : tie.Need-first-zero-requires
+first-zero-requires c κs = search look-in
 
 slice-aggregate-go-back : tie.Need-slice-aggregate-go-back
 slice-aggregate-go-back c = search needs
@@ -50,8 +50,8 @@ make-trail-spec =
     slice-aggregate-note-edges
     slice-aggregate-note-edges-2
     note-edges-requires
-    slice-aggregate-first-left
-    first-left-requires
+    slice-aggregate-first-zero
+    first-zero-requires
     slice-aggregate-go-back
     slice-aggregate-go-back-2
     go-back-requires

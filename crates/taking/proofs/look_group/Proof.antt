@@ -11,20 +11,23 @@ mul-group-end c = search needs
 group-end-requires : tie.Need-group-end-requires
 group-end-requires c κs = search needs
 
-mul-greater : tie.Need-mul-greater
-mul-greater c = search needs
+mul-larger : tie.Need-mul-larger
+mul-larger c = search needs
 
-mul-of-word : tie.Need-mul-of-word
-mul-of-word c = search needs
+cast-larger : tie.Need-cast-larger
+cast-larger c = search needs
 
-slice-read-of-word : tie.Need-slice-read-of-word
-slice-read-of-word c = search needs
+mul-larger-2 : tie.Need-mul-larger-2
+mul-larger-2 c = search needs
+
+slice-read-larger : tie.Need-slice-read-larger
+slice-read-larger c = search needs
+
+larger-requires : tie.Need-larger-requires
+larger-requires c κs = search needs
 
 of-word-requires : tie.Need-of-word-requires
 of-word-requires c κs = search needs
-
-greater-requires : tie.Need-greater-requires
-greater-requires c κs = search needs
 
 first-zero-requires : tie.Need-first-zero-requires
 first-zero-requires c κs = search needs
@@ -65,11 +68,12 @@ look-group-spec =
     (tie.spec
     mul-group-end
     group-end-requires
-    mul-greater
-    mul-of-word
-    slice-read-of-word
+    mul-larger
+    cast-larger
+    mul-larger-2
+    slice-read-larger
+    larger-requires
     of-word-requires
-    greater-requires
     first-zero-requires
     cast-lows
     mul-lows

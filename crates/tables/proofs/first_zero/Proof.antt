@@ -1,19 +1,20 @@
--- `taking::first_zero`. Each way out is one law of Zeros.
+-- `tables::first_zero`. Each way out is one law of Lowest.
 -- Assumes nothing.
 use borrow.Author.Needs.{needs}
+use mathlib.Core.Path.{refl}
 use Prim.Native.Nat.{_-_}
-use Rattle.taking.proofs.Zeros.{Seeking, seek-begun, seek-on, seek-hit, seek-done}
-use Rattle.taking.proofs.first_zero.Statement.{statement}
-use Rattle.taking.proofs.first_zero.Tie as tie
+use Rattle.tables.proofs.Lowest.{Sought, seek-on, seek-hit, seek-done}
+use Rattle.tables.proofs.first_zero.Statement.{statement}
+use Rattle.tables.proofs.first_zero.Tie as tie
 
 abbrev Inv-loop : tie.InvT-loop
-Inv-loop waits first last v₀ v = Seeking waits first v
+Inv-loop words first last v₀ v = Sought words first last v
 
 abbrev μ-loop : tie.MeasureT-loop
-μ-loop waits first last v₀ v = last - v
+μ-loop words first last v₀ v = last - v
 
 loop-holds : tie.Need-loop-holds Inv-loop μ-loop
-loop-holds c = search seek-begun
+loop-holds c = refl
 
 mul-if1 : tie.Need-mul-if1 Inv-loop μ-loop
 mul-if1 c = search needs
