@@ -63,6 +63,9 @@ module _ (edges : List ℕ) (n m : ℕ) (list : List ℕ) (count : ℕ) (f : Fit
     own-low : (v : ℕ) → own v ≡ true → v < n
     own-low v h = ltb-true v n (both (ltb v n) (left done v) h .0)
 
+    own-left : (v : ℕ) → own v ≡ true → mem v done ≡ false
+    own-left v h = not-true (mem v done) (both (ltb v n) (left done v) h .1)
+
     own-is : (v : ℕ) → v < n → left done v ≡ true → own v ≡ true
     own-is v l h = rw (lt-ltb v n l, h)
 
@@ -72,7 +75,7 @@ module _ (edges : List ℕ) (n m : ℕ) (list : List ℕ) (count : ℕ) (f : Fit
         has u = left done u && memR (row u v) es
 
         found : lowest has n < n
-        found = before-below n es done s (f .inside) v (own-low v h) (not-true (mem v done) (both (ltb v n) (left done v) h .1))
+        found = before-below n es done s (f .inside) v (own-low v h) (own-left v h)
 
         word-is : getD table v 0 ≡ before n es done v
         word-is = t .same v (omega (arith, own-low v h, f .few-nodes))
@@ -94,8 +97,16 @@ module _ (edges : List ℕ) (n m : ℕ) (list : List ℕ) (count : ℕ) (f : Fit
         closed : (k : ℕ) → n ≤ k → Closed table start k own
         closed k l = record { below = λ u h. omega (arith, own-low u h); start = start-own; next = word-own }
 
-        pub goes : {trail : List ℕ} → length trail ≡ mostNodes → Goes table start (replicate mostNodes 0) trail
-        goes e = record { own = own; closed = closed mostNodes (f .few-nodes); clear = none-marked; long-before = t .long; long-trail = e }
+        pub goes : {trail : List ℕ} → length trail ≡ mostNodes → Goes table start gone trail
+        goes e = record {
+          own = own;
+          closed = closed mostNodes (f .few-nodes);
+          marked = done;
+          flags = g;
+          apart = own-left;
+          long-before = t .long;
+          long-trail = e;
+        }
 
         walk-same : (k : ℕ) (seen : List ℕ) (v : ℕ) → own v ≡ true → goBack (wordOf table) k seen v ≡ goBack (before n es done) k seen v
         unfolding goBack

@@ -2,7 +2,7 @@
 -- Assumes nothing.
 use Prim.Native.Nat.{ℕ, suc, _-_, _*_, _≤_, _<_}
 use mathlib.Core.Path.{_≡_}
-use mathlib.Core.Bool.{Bool, true, cond, _&&_}
+use mathlib.Core.Bool.{Bool, true, false, cond, _&&_}
 use mathlib.Core.List.{List, [], _∷_, _++_}
 use lib.Dec.{ltb}
 use lib.ListN.{length, getD, set, take, drop}
@@ -57,10 +57,13 @@ pub record Closed (before : List ℕ) (v n : ℕ) (p : ℕ → Bool) : Type 0 wh
   pub start : p v ≡ true
   pub next : (u : ℕ) → p u ≡ true → p (wordOf before u) ≡ true
 
-pub record Goes (before : List ℕ) (v : ℕ) (seen trail : List ℕ) : Type 0 where
+-- the marks are of numbers that the way never comes to
+pub record Goes (before : List ℕ) (v : ℕ) (gone trail : List ℕ) : Type 0 where
   pub own : ℕ → Bool
   pub closed : Closed before v mostNodes own
-  pub clear : Flags [] seen
+  pub marked : List ℕ
+  pub flags : Flags marked gone
+  pub apart : (u : ℕ) → own u ≡ true → mem u marked ≡ false
   pub long-before : mostNodes ≤ length before
   pub long-trail : length trail ≡ mostNodes
 

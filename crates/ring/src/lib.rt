@@ -61,15 +61,15 @@ fn note_edges(edges: &[u32], m: usize, gone: &[u32], before: &mut [u32])
     }
 }
 
-// Goes back from v until a node comes twice.
-fn go_back(before: &[u32], v: usize, seen: &mut [u32], trail: &mut [u32]) -> Met
-    requires { ⌜ Goes (now before) v (now seen) (now trail) ⌝ }
+// Goes back from v, past nodes that are not marked, until one comes twice. It marks them.
+fn go_back(before: &[u32], v: usize, gone: &mut [u32], trail: &mut [u32]) -> Met
+    requires { ⌜ Goes (now before) v (now gone) (now trail) ⌝ }
     ensures { λ r. ⌜ Went (now (before .entry)) v (now (trail .exit)) r ⌝ }
 {
     let mut node = v;
     let mut at = edges::MOST_NODES;
-    while seen[node] == 0 {
-        seen[node] = 1;
+    while gone[node] == 0 {
+        gone[node] = 1;
         at -= 1;
         trail[at] = node as u32;
         node = edges::node_row(NodeIndex(before[node]));
@@ -91,11 +91,10 @@ fn make_trail(
 {
     let mut gone: [u32; edges::MOST_NODES] = [0; edges::MOST_NODES];
     let mut before: [u32; edges::MOST_NODES] = [NOWHERE; edges::MOST_NODES];
-    let mut seen: [u32; edges::MOST_NODES] = [0; edges::MOST_NODES];
     mark(list, count, &mut gone);
     note_edges(edges, m, &gone, &mut before);
     let start = tables::first_zero(&gone, 0, n);
-    go_back(&before, start, &mut seen, trail)
+    go_back(&before, start, &mut gone, trail)
 }
 
 // Behind the first place from `at` on where v stands.

@@ -1,15 +1,15 @@
 -- `ring::go_back`. What each turn keeps, by the laws of Back.
 -- Assumes nothing.
 use borrow.Author.Needs.{needs}
-use Rattle.ring.proofs.Back.{Going, back-begun, node-fits, node-word, node-seen, node-before, room, back-less, trail-in, back-more, back-done}
+use Rattle.ring.proofs.Back.{Going, back-begun, node-fits, node-word, node-gone, node-before, room, back-less, trail-in, back-more, back-done}
 use Rattle.ring.proofs.go_back.Statement.{statement}
 use Rattle.ring.proofs.go_back.Tie as tie
 
 abbrev Inv-loop : tie.InvT-loop
-Inv-loop before v seen₀ trail₀ node₀ at₀ seen trail node at = Going before v seen₀ trail₀ seen trail node at
+Inv-loop before v gone₀ trail₀ node₀ at₀ gone trail node at = Going before v gone₀ trail₀ gone trail node at
 
 abbrev μ-loop : tie.MeasureT-loop
-μ-loop before v seen₀ trail₀ node₀ at₀ seen trail node at = at
+μ-loop before v gone₀ trail₀ node₀ at₀ gone trail node at = at
 
 loop-holds : tie.Need-loop-holds Inv-loop μ-loop
 loop-holds c = search back-begun
@@ -18,13 +18,13 @@ mul-if1 : tie.Need-mul-if1 Inv-loop μ-loop
 mul-if1 c = search node-fits
 
 slice-read-if1 : tie.Need-slice-read-if1 Inv-loop μ-loop
-slice-read-if1 c = search node-seen
+slice-read-if1 c = search node-gone
 
-mul-seen : tie.Need-mul-seen Inv-loop μ-loop
-mul-seen c = search node-fits
+mul-gone : tie.Need-mul-gone Inv-loop μ-loop
+mul-gone c = search node-fits
 
-slice-write-seen : tie.Need-slice-write-seen Inv-loop μ-loop
-slice-write-seen c = search node-seen
+slice-write-gone : tie.Need-slice-write-gone Inv-loop μ-loop
+slice-write-gone c = search node-gone
 
 sub-at : tie.Need-sub-at Inv-loop μ-loop
 sub-at c = search room
@@ -71,8 +71,8 @@ go-back-spec =
     loop-holds
     mul-if1
     slice-read-if1
-    mul-seen
-    slice-write-seen
+    mul-gone
+    slice-write-gone
     sub-at
     cast-trail
     mul-trail
