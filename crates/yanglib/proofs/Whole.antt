@@ -32,7 +32,7 @@ use Rattle.walk.specs.Walk.{Ground, Tables}
 use Rattle.yanglib.specs.Entries.{Walks, drawnSeen}
 use Rattle.yanglib.specs.NodeTable.{Puts, Named}
 use Rattle.yanglib.specs.ToGraph.{Lengths, lengthsOf, tooShort, Result, refusal, graphed, nodeWords, rowWords, Leaves}
-use Rattle.yanglib.specs.Between.{BothRead, Prepared, Lent, LentNodes, Edged, drawResult, Holds, Zeroed}
+use Rattle.yanglib.specs.Between.{BothRead, Prepared, Lent, LentNodes, Edged, drawResult, Holds}
 use Rattle.yanglib.specs.declared.Drawn.{Drawn}
 use Rattle.yanglib.specs.declared.Drawn.the-variants.{Built as DrawnBuilt, Refused as DrawnRefused}
 use Rattle.yanglib.specs.declared.Graphed.{Graphed}
@@ -208,10 +208,10 @@ module _ (s b nodes edges store imports includes levels : List ℕ) (zn : nodes 
 same-long : (w v : List ℕ) → w ≡ zeros (length v) → length w ≡ length v
 same-long w v h = ap length h ∙ length-replicate {A = ℕ} (length v) 0
 
-pub now-zero : {v w : List ℕ} → Zeroed v w → w ≡ zeros (length w)
-now-zero {v} {w} h = h .zeroed ∙ ap zeros (sym (same-long w v (h .zeroed)))
+pub now-zero : (v : List ℕ) {w : List ℕ} → w ≡ zeros (length v) → w ≡ zeros (length w)
+now-zero v {w} h = h ∙ ap zeros (sym (same-long w v h))
 
-module _ (s b n e d f g l n₀ e₀ : List ℕ) (p : Zeroed n n₀) (q : Zeroed e e₀) where
+module _ (s b n e d f g l n₀ e₀ : List ℕ) (p : n₀ ≡ zeros (length n)) (q : e₀ ≡ zeros (length e)) where
   abbrev lengths : ℕ → ℕ → Lengths
   lengths i j = record { nodes = i; edges = j; store = length d; imports = length f; includes = length g; levels = length l }
 
@@ -220,11 +220,11 @@ module _ (s b n e d f g l n₀ e₀ : List ℕ) (p : Zeroed n n₀) (q : Zeroed 
       → Leaves (graphed s b (lengthsOf n e d f g l)) n e d f g l r n₁ e₁ d₂ f₂ g₂ l₂
   all-left h zd zf zg zl =
       let x : graphed s b (lengths (length n₀) (length e₀)) ≡ graphed s b (lengths (length n) (length e)) =
-      ap₂ (λ (i j : ℕ). graphed s b (lengths i j)) (same-long n₀ n (p .zeroed)) (same-long e₀ e (q .zeroed)) in
+      ap₂ (λ (i j : ℕ). graphed s b (lengths i j)) (same-long n₀ n p) (same-long e₀ e q) in
       record {
         answer = h .answer ∙ ap (λ (y : Result). y .answer) x;
-        nodes = h .nodes ∙ ap₂ (λ (i : ℕ) (y : Result). padded i (nodeWords (y .nodes))) (same-long n₀ n (p .zeroed)) x;
-        edges = h .edges ∙ ap₂ (λ (i : ℕ) (y : Result). padded i (rowWords (y .rows))) (same-long e₀ e (q .zeroed)) x;
+        nodes = h .nodes ∙ ap₂ (λ (i : ℕ) (y : Result). padded i (nodeWords (y .nodes))) (same-long n₀ n p) x;
+        edges = h .edges ∙ ap₂ (λ (i : ℕ) (y : Result). padded i (rowWords (y .rows))) (same-long e₀ e q) x;
         store = zd ∙ ap zeros (h .kept .store-long);
         imports = zf ∙ ap zeros (h .kept .imports-long);
         includes = zg ∙ ap zeros (h .kept .includes-long);

@@ -65,7 +65,3 @@ pub record Holds (x : Result) (n e d f g l : List ℕ) (r : Graphed) (n₁ e₁ 
   pub nodes : n₁ ≡ padded (length n) (nodeWords (x .nodes))
   pub edges : e₁ ≡ padded (length e) (rowWords (x .rows))
   pub kept : Kept allLevels d f g l d₁ f₁ g₁ l₁
-
--- a table cleared
-pub record Zeroed (before after : List ℕ) : Type 0 where
-  pub zeroed : after ≡ zeros (length before)

@@ -18,7 +18,7 @@ ghost use Rattle.walk.specs.Walk.{Ground, Tables, Drew, Kept};
 ghost use Rattle.yanglib.specs.Entries.{isListed, itemWalk, nextNode, allLevels, Next, Placed, Walks};
 ghost use Rattle.yanglib.specs.ToGraph.{tooShort, lengthsOf, graphed, Graphs};
 ghost use Rattle.yanglib.specs.NodeTable.{Puts, Named};
-ghost use Rattle.yanglib.specs.Between.{BothRead, Prepared, Lent, LentNodes, Edged, drawResult, Holds, Zeroed};
+ghost use Rattle.yanglib.specs.Between.{BothRead, Prepared, Lent, LentNodes, Edged, drawResult, Holds};
 
 // The refusals of this layer.
 pub const LENT_TOO_SHORT: u32 = 22;
@@ -380,13 +380,6 @@ fn read_and_draw(
     }
 }
 
-// Clears a table of the graph.
-fn zero_words(t: &mut [u32])
-    ensures { λ _. ⌜ Zeroed (now (t .entry)) (now (t .exit)) ⌝ }
-{
-    buffers::clear_words(t);
-}
-
 // The graph of the library: nodes and edges, or a refusal that leaves all tables zero. Scratch is zero after every call.
 pub fn to_graph(
     image: &[u8],
@@ -400,8 +393,8 @@ pub fn to_graph(
 ) -> Graphed
     ensures { λ r. ⌜ Graphs (now (image .entry)) (now (bundle .entry)) (now (nodes .entry)) (now (edges .entry)) (now (store .entry)) (now (imports .entry)) (now (includes .entry)) (now (levels .entry)) r (now (nodes .exit)) (now (edges .exit)) (now (store .exit)) (now (imports .exit)) (now (includes .exit)) (now (levels .exit)) ⌝ }
 {
-    zero_words(nodes);
-    zero_words(edges);
+    buffers::clear_words(nodes);
+    buffers::clear_words(edges);
     let graphed = read_and_draw(
         image,
         bundle,
