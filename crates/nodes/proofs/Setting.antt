@@ -13,7 +13,7 @@ use native.Mathlib.Decide.{decLe}
 use mir.Syntax.{w64}
 use mir.Val.{Fits}
 use lib.Dec.{eqb}
-use lib.ListN.{length, getD, take, drop, set, replicate, length-set, length-replicate}
+use lib.ListN.{length, getD, take, drop, set, replicate, length-set}
 use lib.Seq.{getD-set-same, getD-set-other}
 use borrow.Author.Tests.{eqb-true, ne-eqb}
 use Rattle.text.specs.Keyword.{same}
@@ -252,13 +252,13 @@ pub record MarkLoop (s table tab : List ℕ) (count n : ℕ) (before marks : Lis
   pub room : i ≤ count
 
 module _ (s table tab : List ℕ) (count n : ℕ) where
-  pub marks-begun : (m : ℕ) {marks : List ℕ} → 2048 ≤ m → marks ≡ replicate m 0 → MarkLoop s table tab count n marks marks 0
+  pub marks-begun : (marks : List ℕ) → 2048 ≤ length marks → marks ≡ replicate (length marks) 0 → MarkLoop s table tab count n marks marks 0
   unfolding itemsIn amongKind
-  marks-begun m {marks} l e = record {
+  marks-begun marks l e = record {
     marked = record {
-      wide = omega (arith, ap (λ (t : List ℕ). length t) e ∙ length-replicate m 0);
-      known = λ i k. ap (λ (t : List ℕ). getD t (i * 2) 0) e ∙ zero-at m (i * 2);
-      listed = λ i k. ap (λ (t : List ℕ). getD t (i * 2 + 1) 0) e ∙ zero-at m (i * 2 + 1);
+      wide = l;
+      known = λ i k. ap (λ (t : List ℕ). getD t (i * 2) 0) e ∙ zero-at (length marks) (i * 2);
+      listed = λ i k. ap (λ (t : List ℕ). getD t (i * 2 + 1) 0) e ∙ zero-at (length marks) (i * 2 + 1);
     };
     kept = refl;
     room = omega arith;
@@ -276,6 +276,3 @@ module _ (s table tab : List ℕ) (count n : ℕ) where
     marks-done t l =
         let e : i ≡ count = omega (arith, g .room) in
         subst (λ (xs : List (ItemOf Word)). Marked s tab n xs marks) (ap (itemsIn s table) e ∙ t .items) (g .marked)
-
-    pub marks-kept : (m : ℕ) → before ≡ replicate m 0 → length marks ≡ m
-    marks-kept m e = g .kept ∙ ap (λ (t : List ℕ). length t) e ∙ length-replicate m 0

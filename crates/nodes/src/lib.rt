@@ -6,7 +6,7 @@ ghost use mathlib.Core.Path.{_≡_};
 ghost use mathlib.Core.Bool.{false};
 ghost use mathlib.Core.List.{[]};
 ghost use Prim.Native.Nat.{_+_, _≤_, _<_};
-ghost use lib.ListN.{length, getD};
+ghost use lib.ListN.{length, getD, replicate};
 ghost use Rattle.form.specs.Form.{wordAt};
 ghost use Rattle.index.specs.Names.{namesIn};
 ghost use Rattle.items.specs.Items.{itemsAt};
@@ -130,12 +130,11 @@ fn mark_item(s: &[u8], table: &[u32], i: usize, tab: &[u32], n: usize, marks: &m
     marks[k * 2 + 1] = 1;
 }
 
-// What each node may be.
+// What each node may be, into a table that is zero.
 pub fn mark_nodes(s: &[u8], table: &[u32], count: usize, tab: &[u32], n: usize, marks: &mut [u32])
-    requires { ⌜ Itemized (now s) count (now table) × Holding (now s) (now tab) n (wordsAt (now s)) × (markTable ≤ length (now marks)) ⌝ }
+    requires { ⌜ Itemized (now s) count (now table) × Holding (now s) (now tab) n (wordsAt (now s)) × (markTable ≤ length (now marks)) × (now marks ≡ replicate (length (now marks)) 0) ⌝ }
     ensures { λ r. ⌜ Marked (now (s .entry)) (now (tab .entry)) n (itemsAt (now (s .entry))) (now (marks .exit)) × (length (now (marks .exit)) ≡ length (now (marks .entry))) ⌝ }
 {
-    buffers::clear_words(marks);
     let mut i = 0;
     while i < count {
         mark_item(s, table, i, tab, n, marks);

@@ -63,6 +63,9 @@ module _ {s b btab : List ℕ} {texts : ℕ} {ntab : List ℕ} {n : ℕ} {table 
   pub grounded : {marks : List ℕ} → Marked s ntab n (itemsAt s) marks → Ground s b btab texts ntab n marks
   grounded m = record { desk = record { reads = p .opened .reads; holding = p .holding; marked = m }; held = p .opened .held }
 
+pub no-marks : zeros 2048 ≡ zeros (length (zeros 2048))
+no-marks = ap zeros (sym (length-replicate {A = ℕ} 2048 0))
+
 pub no-edges : {b store imports includes levels edges : List ℕ} → Lent b store imports includes levels edges → Tables b store imports includes levels edges (zeros 2048) 8 0
 no-edges {edges = edges} g = record {
   scan = g .scan;

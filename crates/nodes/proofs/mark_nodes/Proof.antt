@@ -2,7 +2,7 @@
 -- Assumes nothing.
 use Prim.Native.Nat.{_-_}
 use borrow.Author.Needs.{needs}
-use Rattle.nodes.proofs.Setting.{MarkLoop, marks-begun, marks-ask, marks-on, marks-done, marks-kept}
+use Rattle.nodes.proofs.Setting.{MarkLoop, marks-begun, marks-ask, marks-on, marks-done}
 use Rattle.nodes.proofs.mark_nodes.Statement.{statement}
 use Rattle.nodes.proofs.mark_nodes.Tie as tie
 
@@ -12,15 +12,12 @@ Inv-loop s table count tab n marks₀ i₀ marks i = MarkLoop s table tab count 
 abbrev μ-loop : tie.MeasureT-loop
 μ-loop s table count tab n marks₀ i₀ marks i = count - i
 
-clear-words-requires : tie.Need-clear-words-requires Inv-loop μ-loop
-clear-words-requires c κs = search needs
-
 loop-holds : tie.Need-loop-holds Inv-loop μ-loop
 loop-holds c = search marks-begun
 
 mark-item-requires : tie.Need-mark-item-requires Inv-loop μ-loop
 mark-item-requires c κs =
-    let given = c .before .before .before .before .before .before .before .before .before .before .before .pre in
+    let given = c .before .before .before .before .before .before .before .pre in
     marks-ask _ _ _ _ _ (c .before .before .loop .inv) (given .0) (given .1) (c .before .loop-test .taken)
 
 add-i : tie.Need-add-i Inv-loop μ-loop
@@ -36,7 +33,7 @@ same-length : tie.Need-same-length Inv-loop μ-loop
 same-length c = search needs
 
 returns : tie.Need-returns Inv-loop μ-loop
-returns c = (search marks-done, search marks-kept)
+returns c = (search marks-done, search needs)
 
 pub mark-nodes-spec : {M : Type 1} → statement M
 mark-nodes-spec =
@@ -44,7 +41,6 @@ mark-nodes-spec =
     (tie.spec
     Inv-loop
     μ-loop
-    clear-words-requires
     loop-holds
     mark-item-requires
     add-i

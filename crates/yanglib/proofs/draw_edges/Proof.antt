@@ -1,7 +1,7 @@
 -- `yanglib::draw_edges`. Each way out is one law of Whole.
 -- Assumes nothing.
 use borrow.Author.Needs.{needs}
-use Rattle.yanglib.proofs.Whole.{grounded, no-edges, edges-refused, edges-built}
+use Rattle.yanglib.proofs.Whole.{no-marks, grounded, no-edges, edges-refused, edges-built}
 use Rattle.yanglib.proofs.draw_edges.Statement.{statement}
 use Rattle.yanglib.proofs.draw_edges.Tie as tie
 
@@ -9,7 +9,7 @@ slice-aggregate-mark-nodes : tie.Need-slice-aggregate-mark-nodes
 slice-aggregate-mark-nodes c = search needs
 
 mark-nodes-requires : tie.Need-mark-nodes-requires
-mark-nodes-requires c κs = search needs
+mark-nodes-requires c κs = (search needs, search needs, search needs, no-marks)
 
 slice-aggregate-walk-items : tie.Need-slice-aggregate-walk-items
 slice-aggregate-walk-items c = search needs
