@@ -8,7 +8,7 @@ use Prim.Native.Nat.{ℕ, zero, suc, _+_, _-_, _*_, _≤_, _<_}
 use native.Mathlib.Omega.{arith}
 use native.Mathlib.Nat.{eq-or-lt-of-le}
 use native.Mathlib.Numerals.{add-one}
-use lib.ListN.{length, length-append}
+use lib.ListN.{length, getD, replicate, length-append}
 use lib.Dec.{eqb}
 use borrow.Author.Tests.{eqb-true}
 use Rattle.graph.specs.Numbers.{Row, row, eqR, memR}
@@ -24,6 +24,12 @@ pub rows-length : (n : ℕ) (w : List ℕ) → length (rowsIn n w) ≡ n
 unfolding rowsIn
 rows-length zero w = refl
 rows-length (suc n) w = length-append (rowsIn n w) (rowAt w n ∷ []) ∙ rw (rows-length n w, add-one)
+
+-- a table of zeros is zero everywhere
+pub zeros-zero : (k j : ℕ) → getD (replicate {A = ℕ} k 0) j 0 ≡ 0
+zeros-zero zero j = refl
+zeros-zero (suc k) zero = refl
+zeros-zero (suc k) (suc j) = zeros-zero k j
 
 -- a test, or one that never passes; a test, or one that always does
 pub or-not : (b : Bool) → cond b true false ≡ b

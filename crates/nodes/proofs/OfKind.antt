@@ -16,6 +16,7 @@ use Rattle.graph.specs.Nodes.{memb}
 use Rattle.graph.specs.Graph.{entryNames, submoduleNames}
 use Rattle.graph.proofs.Tests.{both-bools}
 use Rattle.graph.proofs.Plain.{known-words, listed-words}
+use Rattle.edges.proofs.Spans.{or-not}
 use Rattle.nodes.specs.Adding.{isEntry}
 use Rattle.nodes.specs.Marks.{isSubmodule, amongKind}
 
@@ -28,10 +29,6 @@ or-left false c h = both-bools h refl
 pub or-right : (b c : Bool) → c ≡ true → (b || c) ≡ true
 or-right true c h = refl
 or-right false c h = h
-
-as-is : (b : Bool) → cond b true false ≡ b
-as-is true = refl
-as-is false = refl
 
 -- ---- one list behind another
 
@@ -105,11 +102,11 @@ module _ (u : Name) where
       ∙ ap₂ _||_ (others isEntry u submoduleKind refl (m .submodules))
       (kind-append isEntry u (map (item augmentingKind) (m .augmenting)) (map (item deviationKind) (m .deviations))
       ∙ ap₂ _||_ (others isEntry u augmentingKind refl (m .augmenting)) (others isEntry u deviationKind refl (m .deviations))))
-      ∙ as-is (same (m .name .text) u)
+      ∙ or-not (same (m .name .text) u)
 
   import-entry : (i : ImportOnly) → entry (importItems i) ≡ same (i .name .text) u
   unfolding amongKind
-  import-entry i = ap (λ (b : Bool). cond (same (i .name .text) u) true b) (revision-others isEntry u refl refl (i .revisions)) ∙ as-is (same (i .name .text) u)
+  import-entry i = ap (λ (b : Bool). cond (same (i .name .text) u) true b) (revision-others isEntry u refl refl (i .revisions)) ∙ or-not (same (i .name .text) u)
 
   modules-entry : (ms : List Module) → entry (flatMap moduleItems ms) ≡ among moduleName u ms
   unfolding flatMap amongKind among

@@ -32,6 +32,7 @@ use Rattle.items.specs.Table.{itemIn, itemWord, itemsIn, Itemized}
 use Rattle.items.specs.declared.Item.{Item}
 use Rattle.index.proofs.First.{among-append}
 use Rattle.graph.proofs.Tests.{same-refl, both-bools}
+use Rattle.edges.proofs.Spans.{zeros-zero}
 use Rattle.nodes.specs.Adding.{isEntry, wordsAt, Holding}
 use Rattle.nodes.specs.Marks.{isSubmodule, amongKind, bit, Marked, Marking}
 use Rattle.nodes.proofs.OfKind.{or-left, or-right, kind-append}
@@ -241,11 +242,6 @@ module _ (s table tab marks : List ℕ) (i n : ℕ) (m : Marking s table i tab n
 
 -- ---- all items
 
-zero-at : (n k : ℕ) → _≡_ {A = ℕ} (getD (replicate n 0) k 0) 0
-zero-at zero k = refl
-zero-at (suc n) zero = refl
-zero-at (suc n) (suc k) = zero-at n k
-
 pub record MarkLoop (s table tab : List ℕ) (count n : ℕ) (before marks : List ℕ) (i : ℕ) : Type 0 where
   pub marked : Marked s tab n (itemsIn s table i) marks
   pub kept : length marks ≡ length before
@@ -257,8 +253,8 @@ module _ (s table tab : List ℕ) (count n : ℕ) where
   marks-begun marks l e = record {
     marked = record {
       wide = l;
-      known = λ i k. ap (λ (t : List ℕ). getD t (i * 2) 0) e ∙ zero-at (length marks) (i * 2);
-      listed = λ i k. ap (λ (t : List ℕ). getD t (i * 2 + 1) 0) e ∙ zero-at (length marks) (i * 2 + 1);
+      known = λ i k. ap (λ (t : List ℕ). getD t (i * 2) 0) e ∙ zeros-zero (length marks) (i * 2);
+      listed = λ i k. ap (λ (t : List ℕ). getD t (i * 2 + 1) 0) e ∙ zeros-zero (length marks) (i * 2 + 1);
     };
     kept = refl;
     room = omega arith;

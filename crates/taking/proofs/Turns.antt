@@ -5,7 +5,7 @@ use mathlib.Core.Path.{_≡_, refl, sym, ap, _∙_}
 use mathlib.Core.Bool.{Bool, true, false, cond, not, _&&_}
 use mathlib.Core.Logic.{⊎-elim}
 use mathlib.Core.List.{List, [], _∷_, _++_}
-use Prim.Native.Nat.{ℕ, zero, suc, _+_, _-_, _/_, _≤_, _<_}
+use Prim.Native.Nat.{ℕ, suc, _+_, _-_, _/_, _≤_, _<_}
 use native.Mathlib.Nat.{zero-add}
 use native.Mathlib.Omega.{arith}
 use lib.ListN.{length, getD, set, replicate, length-replicate, length-append}
@@ -16,6 +16,7 @@ use Rattle.text.proofs.Here.{by-test, never}
 use Rattle.text.proofs.Writing.{sets-append}
 use Rattle.index.proofs.Stores.{decide}
 use Rattle.edges.specs.Edges.{rowsIn}
+use Rattle.edges.proofs.Spans.{zeros-zero}
 use Rattle.tables.specs.Free.{mem, ready, free, zeroAt}
 use Rattle.tables.specs.Tables.{Fit}
 use Rattle.tables.proofs.Mem.{mem-snoc-new, mem-snoc-else}
@@ -27,11 +28,6 @@ use Rattle.taking.proofs.Counting.{pending-last, wait-split, ready-wait
 use Rattle.taking.proofs.Releasing.{chain-at}
 
 -- ---- before the first turn
-
-zeros-zero : (k j : ℕ) → getD (replicate {A = ℕ} k 0) j 0 ≡ 0
-zeros-zero zero j = refl
-zeros-zero (suc k) zero = refl
-zeros-zero (suc k) (suc j) = zeros-zero k j
 
 pub rows-fit : (n m : ℕ) (edges : List ℕ) → Fit n edges m → Rows edges m
 rows-fit n m edges f = record {

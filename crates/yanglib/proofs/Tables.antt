@@ -14,15 +14,11 @@ use Rattle.form.specs.Form.{Word}
 use Rattle.index.specs.Names.{rowOf, rowWords as nameWords, nameIn, namesIn}
 use Rattle.graph.specs.Numbers.{Row}
 use Rattle.edges.specs.Edges.{rowAt, rowsIn, Blank, Spanned}
+use Rattle.edges.proofs.Spans.{zeros-zero}
 use Rattle.yanglib.specs.ToGraph.{nodeWords, rowWords}
 use Rattle.yanglib.specs.NodeTable.{Puts, Named}
 
 -- ---- words, then zeros
-
-pub zeros-zero : (n j : ℕ) → getD (zeros n) j 0 ≡ 0
-zeros-zero zero j = refl
-zeros-zero (suc n) zero = refl
-zeros-zero (suc n) (suc j) = zeros-zero n j
 
 blank-rest : (k : ℕ) (w : List ℕ) → Blank k w → drop k w ≡ zeros (length w - k)
 blank-rest k w b =

@@ -1,7 +1,7 @@
 -- From the walk of all items to the whole call: tables that are zero at first hold no edge; at the end they hold the words of the result, which the laws
 -- of Ways name; a refusal leaves them zero, and scratch is cleared whatever came of it.
 -- Assumes nothing.
-use Prim.Native.Nat.{ℕ, _-_, _≤_, _<_}
+use Prim.Native.Nat.{ℕ, _≤_, _<_}
 use mathlib.Core.Path.{_≡_, refl, sym, ap, ap₂, _∙_, subst}
 use mathlib.Core.Bool.{Bool, true, false}
 use mathlib.Core.List.{List, []}
@@ -9,6 +9,8 @@ use native.Mathlib.Omega.{arith}
 use lib.ListN.{length, getD, length-replicate}
 use Rattle.text.specs.declared.Refusal.{Refusal}
 use Rattle.buffers.specs.Padded.{zeros, padded}
+use Rattle.buffers.proofs.Clears.{padded-none}
+use Rattle.edges.proofs.Spans.{zeros-zero}
 use Rattle.form.specs.Writer.{AllBytes}
 use Rattle.image.specs.Image.{imageAt}
 use Rattle.image.proofs.ImageLaws.{accepted}
@@ -37,22 +39,18 @@ use Rattle.yanglib.specs.declared.Drawn.{Drawn}
 use Rattle.yanglib.specs.declared.Drawn.the-variants.{Built as DrawnBuilt, Refused as DrawnRefused}
 use Rattle.yanglib.specs.declared.Graphed.{Graphed}
 use Rattle.yanglib.specs.declared.Graphed.the-variants.{Built, Refused}
-use Rattle.yanglib.proofs.Tables.{zeros-zero, rows-table}
+use Rattle.yanglib.proofs.Tables.{rows-table}
 use Rattle.yanglib.proofs.Short.{Enough, long-enough}
 use Rattle.yanglib.proofs.Going.{kept-same}
 use Rattle.yanglib.proofs.Ways.{image-reads, image-wrong, bundle-wrong, too-little, enough, Ready, too-many, draw-refused, draw-built, nodes-asked, nodes-laid}
 
-zero-padded : (n : ℕ) → zeros n ≡ padded n []
-unfolding padded
-zero-padded n = let e : n ≡ n - 0 = omega arith in ap zeros e
-
 no-nodes : (n : ℕ) → zeros n ≡ padded n (nodeWords [])
 unfolding nodeWords
-no-nodes n = zero-padded n
+no-nodes n = padded-none n
 
 no-rows : (n : ℕ) → zeros n ≡ padded n (rowWords [])
 unfolding rowWords
-no-rows n = zero-padded n
+no-rows n = padded-none n
 
 all-bytes : (s : List ℕ) → Bytes s → AllBytes s
 all-bytes s b k = omega (arith, b k)
