@@ -1,4 +1,4 @@
+pub mod Chains
 pub mod Laying
 pub mod Linking
-pub mod Looks
-pub mod Spans
+pub mod Rows

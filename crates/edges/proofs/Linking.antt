@@ -1,28 +1,27 @@
--- An edge that is laid behind the others keeps every edge to a node within that node's span: the span of the node that it leads to now ends
--- behind it, and begins at it if no edge led there before.
+-- An edge that is laid behind the others keeps every chain: its own now begins with it, and goes on as it was.
 -- Assumes nothing.
 use mathlib.Core.Path.{_≡_, refl, sym, ap, ap₂, _∙_}
 use mathlib.Core.Logic.{⊎-elim}
 use mathlib.Core.List.{List, [], _∷_, _++_}
 use mathlib.Core.Bool.{Bool, true, false}
-use Prim.Native.Nat.{ℕ, zero, suc, _+_, _-_, _*_, _≤_, _<_}
+use Prim.Native.Nat.{ℕ, zero, suc, _+_, _*_, _≤_, _<_}
 use native.Mathlib.Omega.{arith}
 use native.Mathlib.Nat.{eq-or-lt-of-le}
 use native.Mathlib.Numerals.{add-one}
-use lib.ListN.{length, getD}
+use lib.ListN.{getD}
 use borrow.Author.Tests.{le-leb, lt-leb}
 use Rattle.index.proofs.Stores.{decide}
 use Rattle.graph.specs.Graph.{addBy}
 use Rattle.graph.specs.Numbers.{Row, row, memR}
-use Rattle.edges.specs.Edges.{mostEdges, mostNodes, rowAt, rowsIn, memFrom, firstTo, lastTo, Spanned, Laid, Linked}
+use Rattle.edges.specs.Edges.{mostEdges, mostNodes, rowAt, rowsIn, buckets, bucketOf, lastIn, linkOf, Filed, Laid, Linked}
 use Rattle.edges.specs.declared.Link.the-variants.{Count, Full}
-use Rattle.edges.proofs.Looks.{new-span, old-span}
-use Rattle.edges.proofs.Spans.{rows-length, in-span, span-in, span-up}
+use Rattle.edges.proofs.Rows.{rows-length}
+use Rattle.edges.proofs.Chains.{last-here, last-else, last-same, looked}
 
 -- ---- one edge more
 
-module _ (edges spans edges₁ spans₁ : List ℕ) (count from to : ℕ) (g : Spanned edges spans count)
-    (p : Laid edges spans count (to * 2) from to edges₁ spans₁) (f : from < mostNodes) (t : to < mostNodes) (few : count < mostEdges) where
+module _ (edges chains edges₁ chains₁ : List ℕ) (count from to h : ℕ) (g : Filed edges chains count)
+    (p : Laid edges chains count h from to edges₁ chains₁) (q : h ≡ bucketOf (row from to)) (b : h < buckets) (f : from < mostNodes) (t : to < mostNodes) (few : count < mostEdges) where
   word-same : (j : ℕ) → j < count * 2 → getD edges₁ j 0 ≡ getD edges j 0
   word-same j l = p .other-edges j (λ e. omega arith) (λ e. omega arith)
 
@@ -38,36 +37,6 @@ module _ (edges spans edges₁ spans₁ : List ℕ) (count from to : ℕ) (g : S
   unfolding rowsIn
   grown = rw add-one (ap₂ (λ (rs : List Row) (r : Row). rs ++ (r ∷ [])) (rows-same count (omega arith)) (ap₂ row (p .from-of) (p .to-of)))
 
-  -- the spans
-  first-else : (v : ℕ) → (v ≡ to → ⊥) → firstTo spans₁ v ≡ firstTo spans v
-  first-else v d = p .other-spans (v * 2) (λ e. d (omega arith)) (λ e. omega arith)
-
-  last-else : (v : ℕ) → (v ≡ to → ⊥) → lastTo spans₁ v ≡ lastTo spans v
-  last-else v d = p .other-spans (v * 2 + 1) (λ e. omega arith) (λ e. d (omega arith))
-
-  first-new : lastTo spans to ≡ 0 → firstTo spans₁ to ≡ count
-  first-new e = p .first-of ∙ sym (new-span (firstTo spans to) (lastTo spans to) count e)
-
-  first-old : (lastTo spans to ≡ 0 → ⊥) → firstTo spans₁ to ≡ firstTo spans to
-  first-old d = p .first-of ∙ sym (old-span (firstTo spans to) (lastTo spans to) count d)
-
-  own-low : firstTo spans₁ to ≤ count
-  own-low = ⊎-elim
-      (λ e. omega (arith, first-new e))
-      (λ d. omega (arith, first-old d, g .first-before to t, g .last-few to t))
-      (decide (lastTo spans to) 0)
-
-  low : (v i : ℕ) → firstTo spans v ≤ i → i < lastTo spans v → firstTo spans₁ v ≤ i
-  low v i a b = ⊎-elim
-      (λ e. let l : i < lastTo spans to = rw e at b in
-      let m : firstTo spans to ≤ i = rw e at a in
-      rw e (omega (arith, first-old (λ z. omega arith))))
-      (λ d. omega (arith, first-else v d))
-      (decide v to)
-
-  high : (v i : ℕ) → i < count → i < lastTo spans v → i < lastTo spans₁ v
-  high v i a b = ⊎-elim (λ e. rw e (omega (arith, p .last-of))) (λ d. omega (arith, last-else v d)) (decide v to)
-
   to-same : (i : ℕ) → i < count → getD edges₁ (i * 2 + 1) 0 ≡ getD edges (i * 2 + 1) 0
   to-same i l = word-same (i * 2 + 1) (omega arith)
 
@@ -77,65 +46,62 @@ module _ (edges spans edges₁ spans₁ : List ℕ) (count from to : ℕ) (g : S
   from-own : (i : ℕ) → i ≡ count → getD edges₁ (i * 2) 0 ≡ from
   from-own i e = ap (λ (k : ℕ). getD edges₁ (k * 2) 0) e ∙ p .from-of
 
-  pub kept : Spanned edges₁ spans₁ (count + 1)
+  -- the chains
+  bucket-own : bucketOf (rowAt edges₁ count) ≡ h
+  bucket-own = ap bucketOf (ap₂ row (p .from-of) (p .to-of)) ∙ sym q
+
+  lasts-same : (u k : ℕ) → k ≤ count → lastIn edges₁ u k ≡ lastIn edges u k
+  lasts-same u k l = last-same bucketOf edges edges₁ u k (λ i m. row-same i (omega arith))
+
+  head-own : getD chains₁ h 0 ≡ lastIn edges₁ h (count + 1)
+  head-own = p .head-of ∙ sym (last-here bucketOf edges₁ h count bucket-own)
+
+  head-else : (u : ℕ) → u < buckets → (u ≡ h → ⊥) → getD chains₁ u 0 ≡ lastIn edges₁ u (count + 1)
+  head-else u l d = p .other-chains u d (λ e. omega arith) ∙ g .heads-of u l ∙ sym (lasts-same u count (omega arith))
+      ∙ sym (last-else bucketOf edges₁ u count (λ e. d (sym e ∙ bucket-own)))
+
+  link-own : linkOf chains₁ count ≡ lastIn edges₁ (bucketOf (rowAt edges₁ count)) count
+  link-own = p .link-of ∙ g .heads-of h b ∙ sym (lasts-same h count (omega arith)) ∙ ap (λ (u : ℕ). lastIn edges₁ u count) (sym bucket-own)
+
+  link-else : (i : ℕ) → i < count → linkOf chains₁ i ≡ lastIn edges₁ (bucketOf (rowAt edges₁ i)) i
+  link-else i l = p .other-chains (8192 + i) (λ e. omega arith) (λ e. omega arith) ∙ g .links-of i l
+      ∙ sym (lasts-same (bucketOf (rowAt edges i)) i (omega arith)) ∙ ap (λ (r : Row). lastIn edges₁ (bucketOf r) i) (sym (row-same i l))
+
+  pub kept : Filed edges₁ chains₁ (count + 1)
   kept = record {
     few = omega arith;
     long = omega (arith, p .kept-edges, g .long);
-    wide = omega (arith, p .kept-spans, g .wide);
+    wide = omega (arith, p .kept-chains, g .wide);
     blank = record { zeros = λ j l. p .other-edges j (λ e. omega arith) (λ e. omega arith) ∙ g .blank .zeros j (omega arith) };
     nodes = λ i l. ⊎-elim
         (λ e. (omega (arith, from-own i e), omega (arith, to-own i e)))
         (λ m. (omega (arith, word-same (i * 2) (omega arith), g .nodes i m .0), omega (arith, to-same i m, g .nodes i m .1)))
         (eq-or-lt-of-le {n = i} {m = count} (omega arith));
-    from-first = λ i l. ⊎-elim
-        (λ e. rw (to-own i e) (omega (arith, own-low)))
-        (λ m. rw (to-same i m) (low (getD edges (i * 2 + 1) 0) i (g .from-first i m) (g .to-last i m)))
-        (eq-or-lt-of-le {n = i} {m = count} (omega arith));
-    to-last = λ i l. ⊎-elim
-        (λ e. rw (to-own i e) (omega (arith, p .last-of)))
-        (λ m. rw (to-same i m) (high (getD edges (i * 2 + 1) 0) i m (g .to-last i m)))
-        (eq-or-lt-of-le {n = i} {m = count} (omega arith));
-    last-few = λ v l. ⊎-elim
-        (λ e. rw e (omega (arith, p .last-of)))
-        (λ d. omega (arith, last-else v d, g .last-few v l))
-        (decide v to);
-    first-before = λ v l. ⊎-elim
-        (λ e. rw e (omega (arith, p .last-of, own-low)))
-        (λ d. omega (arith, first-else v d, last-else v d, g .first-before v l))
-        (decide v to);
+    heads-of = λ u l. ⊎-elim (λ e. rw e head-own) (head-else u l) (decide u h);
+    links-of = λ i l. ⊎-elim (λ e. rw e link-own) (link-else i) (eq-or-lt-of-le {n = i} {m = count} (omega arith));
   }
 
--- ---- the ways through `add_edge`; i: the row of the node that the edge leads to
+-- ---- the ways through `add_edge`; h: the chain of the edge
 
-module _ (edges spans : List ℕ) (count from to i : ℕ) (g : Spanned edges spans count) (q : i ≡ to) where
-  pub look-in : to < mostNodes → getD spans (i * 2 + 1) 0 * 2 ≤ length edges
-  look-in t = rw q (span-in edges spans count g from to t)
+module _ (edges chains : List ℕ) (count from to h : ℕ) (g : Filed edges chains count) (q : h ≡ bucketOf (row from to)) (b : h < buckets) {x : Bool}
+    (k : x ≡ memR (row from to) (rowsIn (getD chains h 0) edges)) where
+  answer : memR (row from to) (rowsIn count edges) ≡ x
+  answer = looked edges chains count g from to q b k
 
-  pub look-up : to < mostNodes → getD spans (i * 2) 0 ≤ getD spans (i * 2 + 1) 0
-  look-up t = rw q (span-up edges spans count g from to t)
+  pub already : x ≡ true → Linked (rowsIn count edges) (row from to) edges chains (Count count) edges chains
+  unfolding addBy
+  already z = record { seen = rw (answer, z); filed = g; kept-edges = refl; kept-chains = refl }
 
-  module _ {b : Bool} (k : b ≡ memFrom edges (row from to) (getD spans (i * 2) 0) (getD spans (i * 2 + 1) 0 - getD spans (i * 2) 0)) where
-    looked : to < mostNodes → memR (row from to) (rowsIn count edges) ≡ b
-    looked t =
-        let k′ : b ≡ memFrom edges (row from to) (firstTo spans to) (lastTo spans to - firstTo spans to) = rw q at k in
-        in-span edges spans count g from to t ∙ sym k′
+  pub full : x ≡ false → mostEdges ≤ count → Linked (rowsIn count edges) (row from to) edges chains Full edges chains
+  unfolding addBy
+  full z l = record { seen = rw (answer, z, rows-length, le-leb _ _ l); filed = tt; kept-edges = refl; kept-chains = refl }
 
-    pub already : b ≡ true → to < mostNodes → Linked (rowsIn count edges) (row from to) edges spans (Count count) edges spans
-    unfolding addBy
-    already z t = record { seen = rw (looked t, z); spanned = g; kept-edges = refl; kept-spans = refl }
-
-    pub full : b ≡ false → to < mostNodes → mostEdges ≤ count → Linked (rowsIn count edges) (row from to) edges spans Full edges spans
-    unfolding addBy
-    full z t l = record { seen = rw (looked t, z, rows-length, le-leb _ _ l); spanned = tt; kept-edges = refl; kept-spans = refl }
-
-    pub linked : {edges₁ spans₁ : List ℕ} → Laid edges spans count (i * 2) from to edges₁ spans₁ → b ≡ false → from < mostNodes → to < mostNodes
-        → count < mostEdges → Linked (rowsIn count edges) (row from to) edges spans (Count (count + 1)) edges₁ spans₁
-    unfolding addBy
-    linked {edges₁} {spans₁} p z f t l =
-        let p′ : Laid edges spans count (to * 2) from to edges₁ spans₁ = rw q at p in
-        record {
-          seen = rw (looked t, z, rows-length, lt-leb _ _ l, grown edges spans edges₁ spans₁ count from to g p′ f t l);
-          spanned = kept edges spans edges₁ spans₁ count from to g p′ f t l;
-          kept-edges = p .kept-edges;
-          kept-spans = p .kept-spans;
-        }
+  pub linked : {edges₁ chains₁ : List ℕ} → Laid edges chains count h from to edges₁ chains₁ → x ≡ false → from < mostNodes → to < mostNodes
+      → count < mostEdges → Linked (rowsIn count edges) (row from to) edges chains (Count (count + 1)) edges₁ chains₁
+  unfolding addBy
+  linked {edges₁} {chains₁} p z f t l = record {
+    seen = rw (answer, z, rows-length, lt-leb _ _ l, grown edges chains edges₁ chains₁ count from to h g p q b f t l);
+    filed = kept edges chains edges₁ chains₁ count from to h g p q b f t l;
+    kept-edges = p .kept-edges;
+    kept-chains = p .kept-chains;
+  }

@@ -16,7 +16,7 @@ use Rattle.graph.specs.Nodes.{memb}
 use Rattle.graph.specs.Graph.{entryNames, submoduleNames}
 use Rattle.graph.proofs.Tests.{both-bools}
 use Rattle.graph.proofs.Plain.{known-words, listed-words}
-use Rattle.edges.proofs.Spans.{or-not}
+use Rattle.edges.proofs.Rows.{or-not}
 use Rattle.nodes.specs.Adding.{isEntry}
 use Rattle.nodes.specs.Marks.{isSubmodule, amongKind}
 

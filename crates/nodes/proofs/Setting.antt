@@ -32,7 +32,7 @@ use Rattle.items.specs.Table.{itemIn, itemWord, itemsIn, Itemized}
 use Rattle.items.specs.declared.Item.{Item}
 use Rattle.index.proofs.First.{among-append}
 use Rattle.graph.proofs.Tests.{same-refl, both-bools}
-use Rattle.edges.proofs.Spans.{zeros-zero}
+use Rattle.edges.proofs.Rows.{zeros-zero}
 use Rattle.nodes.specs.Adding.{isEntry, wordsAt, Holding}
 use Rattle.nodes.specs.Marks.{isSubmodule, amongKind, bit, Marked, Marking}
 use Rattle.nodes.proofs.OfKind.{or-left, or-right, kind-append}

@@ -15,7 +15,7 @@ use borrow.Author.Tests.{eq-eqb, ne-eqb, lt-ltb, le-ltb, ltb-true, ltb-false}
 use Rattle.index.proofs.Stores.{decide}
 use Rattle.graph.specs.Numbers.{Row, row, memR}
 use Rattle.edges.specs.Edges.{mostNodes, rowAt, rowsIn}
-use Rattle.edges.proofs.Spans.{or-not, always, mem-snoc}
+use Rattle.edges.proofs.Rows.{or-not, always, mem-snoc}
 use Rattle.tables.specs.Free.{lowest, zeroAt}
 use Rattle.tables.proofs.Lowest.{lowest-has, lowest-none, lowest-is, lowest-not, lowest-same}
 use Rattle.ring.specs.Trail.{noted, lowestTo, Notes, Noted}

@@ -10,8 +10,10 @@ use native.Mathlib.Omega.{arith}
 use lib.ListN.{length, getD, set, length-set}
 use lib.Seq.{getD-set-same, getD-set-other}
 use Rattle.index.proofs.Stores.{decide}
+use Rattle.graph.specs.Numbers.{Row}
+use Rattle.edges.proofs.Chains.{last-here, last-else}
 use Rattle.taking.specs.Chains.{lastFrom, Rows, Links, Heads, Counts, Chained}
-use Rattle.taking.proofs.Counting.{last-here, last-else, wait-most, wait-here, wait-else}
+use Rattle.taking.proofs.Counting.{wait-most, wait-here, wait-else}
 
 pub fewer : (edges : List ℕ) (i m : ℕ) → Rows edges m → i ≤ m → Rows edges i
 fewer edges i m r l = record {
@@ -40,8 +42,8 @@ module _ (edges : List ℕ) (i : ℕ) (heads links waits : List ℕ) (r : Rows e
     headed-more = record {
       room = length-set heads from (i + 1) ∙ g .headed .room;
       heads-of = λ u. ⊎-elim
-          (λ q. ap (λ (k : ℕ). getD (set heads from (i + 1)) k 0) q ∙ getD-set-same heads from (i + 1) 0 from-in ∙ sym (last-here edges u i (sym (q ∙ e))))
-          (λ d. getD-set-other heads from u (i + 1) 0 d ∙ g .headed .heads-of u ∙ sym (last-else edges u i (λ q. d (sym (e ∙ q)))))
+          (λ q. ap (λ (k : ℕ). getD (set heads from (i + 1)) k 0) q ∙ getD-set-same heads from (i + 1) 0 from-in ∙ sym (last-here (λ (r : Row). r .from) edges u i (sym (q ∙ e))))
+          (λ d. getD-set-other heads from u (i + 1) 0 d ∙ g .headed .heads-of u ∙ sym (last-else (λ (r : Row). r .from) edges u i (λ q. d (sym (e ∙ q)))))
           (decide u from);
     }
 

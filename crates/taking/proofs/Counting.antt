@@ -4,14 +4,14 @@
 use mathlib.Core.Path.{_≡_, refl, sym, _∙_}
 use mathlib.Core.Bool.{Bool, true, false, cond, not, _&&_, and-true, and-false}
 use mathlib.Core.List.{List, [], _∷_, _++_}
-use Prim.Native.Nat.{ℕ, zero, suc, _+_, _-_, _≤_, _<_}
+use Prim.Native.Nat.{ℕ, zero, suc, _+_, _≤_}
 use native.Mathlib.Nat.{zero-add}
-use native.Mathlib.Numerals.{add-one, sub-one}
+use native.Mathlib.Numerals.{add-one}
 use native.Mathlib.Omega.{arith}
 use lib.Dec.{eqb}
 use borrow.Author.Tests.{eqb-true, eqb-false, eq-eqb, ne-eqb}
 use Rattle.graph.specs.Numbers.{Row}
-use Rattle.edges.specs.Edges.{rowAt, rowsIn}
+use Rattle.edges.specs.Edges.{rowAt, rowsIn, lastBy}
 use Rattle.tables.specs.Free.{mem, ready}
 use Rattle.tables.proofs.Mem.{mem-snoc-new, mem-snoc-else}
 use Rattle.taking.specs.Chains.{one, lastFrom, waiting, pending}
@@ -39,35 +39,6 @@ ready-snoc (x ∷ es) e done v =
     go false c s t ih = ih
 
 module _ (edges : List ℕ) where
-  -- ---- the chains
-
-  pub last-low : (u k : ℕ) → lastFrom edges u k ≤ k
-  unfolding lastFrom
-  last-low u zero = omega arith
-  last-low u (suc k) = go (eqb (rowAt edges k .from) u) (last-low u k)
-    where
-      go : (b : Bool) → lastFrom edges u k ≤ k → cond b (suc k) (lastFrom edges u k) ≤ suc k
-      go true l = omega arith
-      go false l = omega arith
-
-  pub last-own : (u k : ℕ) → 0 < lastFrom edges u k → rowAt edges (lastFrom edges u k - 1) .from ≡ u
-  unfolding lastFrom
-  last-own u zero l = absurd (omega arith)
-  last-own u (suc k) l = go (eqb (rowAt edges k .from) u) refl (last-own u k) l
-    where
-      go : (b : Bool) → eqb (rowAt edges k .from) u ≡ b → (0 < lastFrom edges u k → rowAt edges (lastFrom edges u k - 1) .from ≡ u)
-          → 0 < cond b (suc k) (lastFrom edges u k) → rowAt edges (cond b (suc k) (lastFrom edges u k) - 1) .from ≡ u
-      go true e ih l = rw sub-one (eqb-true _ _ e)
-      go false e ih l = ih l
-
-  pub last-here : (u k : ℕ) → rowAt edges k .from ≡ u → lastFrom edges u (k + 1) ≡ k + 1
-  unfolding lastFrom
-  last-here u k e = rw (add-one, eq-eqb _ _ e)
-
-  pub last-else : (u k : ℕ) → (rowAt edges k .from ≡ u → ⊥) → lastFrom edges u (k + 1) ≡ lastFrom edges u k
-  unfolding lastFrom
-  last-else u k d = rw (add-one, ne-eqb _ _ d)
-
   -- ---- the edges from v to w
 
   module _ (v w : ℕ) where
@@ -81,7 +52,7 @@ module _ (edges : List ℕ) where
 
     -- those behind the last from v can be left out
     pub pending-last : (k : ℕ) → pending edges v w k ≡ pending edges v w (lastFrom edges v k)
-    unfolding lastFrom pending
+    unfolding lastBy pending
     pending-last zero = refl
     pending-last (suc k) = go (eqb (rowAt edges k .from) v) refl (pending-last k)
       where

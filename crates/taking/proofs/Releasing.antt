@@ -9,8 +9,10 @@ use native.Mathlib.Omega.{arith}
 use lib.ListN.{length, getD, set, length-set}
 use lib.Seq.{getD-set-same, getD-set-other}
 use Rattle.index.proofs.Stores.{decide}
+use Rattle.graph.specs.Numbers.{Row}
+use Rattle.edges.proofs.Chains.{last-low, last-own}
 use Rattle.taking.specs.Chains.{lastFrom, pending, Rows, Links, Lows, Lowered, Releases, Released, Chain, Takes, Freed, Took}
-use Rattle.taking.proofs.Counting.{last-low, last-own, pending-here, pending-else, pending-last}
+use Rattle.taking.proofs.Counting.{pending-here, pending-else, pending-last}
 use Rattle.taking.proofs.Chaining.{fewer}
 
 -- ---- one edge less
@@ -67,11 +69,11 @@ module _ (waits lows : List ℕ) (v : ℕ) (p : Releases waits lows v) where
 module _ (edges links : List ℕ) (v : ℕ) where
   pub chain-at : (k : ℕ) → Rows edges k → Links edges k links → pending edges v v k ≡ 0 → {e : ℕ} → e ≡ lastFrom edges v k → Chain edges links v e
   chain-at k r l s {e} q =
-      let low : e ≤ k = omega (arith, last-low edges v k) in
+      let low : e ≤ k = omega (arith, last-low (λ (r : Row). r .from) edges v k) in
       record {
         rows = fewer edges e k r low;
         linked = record { room = l .room; links-of = λ i m. l .links-of i (omega arith) };
-        own = rw q (last-own edges v k);
+        own = rw q (last-own (λ (r : Row). r .from) edges v k);
         self = rw q (sym (pending-last edges v v k) ∙ s);
       }
 
@@ -128,7 +130,7 @@ module _ (edges heads links waits₀ lows₀ : List ℕ) (v : ℕ) (p : Takes ed
 
     module _ (l : 0 < e) where
       pub release-falls : {next : ℕ} → next ≡ getD links (e - 1) 0 → next < e
-      release-falls q = omega (arith, link-last edges links v e (g .chain) l q, last-low edges v (e - 1))
+      release-falls q = omega (arith, link-last edges links v e (g .chain) l q, last-low (λ (r : Row). r .from) edges v (e - 1))
 
       module _ {w : ℕ} (q : w ≡ getD edges ((e - 1) * 2 + 1) 0) where
         other : w ≡ v → ⊥

@@ -15,15 +15,15 @@ use borrow.Author.Tests.{eqb-true, lt-ltb, le-ltb}
 use Rattle.text.proofs.Here.{by-test, never}
 use Rattle.text.proofs.Writing.{sets-append}
 use Rattle.index.proofs.Stores.{decide}
-use Rattle.edges.specs.Edges.{rowsIn}
-use Rattle.edges.proofs.Spans.{zeros-zero}
+use Rattle.edges.specs.Edges.{rowsIn, lastBy}
+use Rattle.edges.proofs.Rows.{zeros-zero}
 use Rattle.tables.specs.Free.{mem, ready, free, zeroAt}
 use Rattle.tables.specs.Tables.{Fit}
 use Rattle.tables.proofs.Mem.{mem-snoc-new, mem-snoc-else}
 use Rattle.tables.proofs.Lowest.{lowest-has, lowest-same}
 use Rattle.tables.proofs.Ready.{within-row}
 use Rattle.taking.specs.Taking.{next, takeFrom, taken}
-use Rattle.taking.specs.Chains.{lastFrom, waiting, pending, Rows, Links, Heads, Chained, Lows, Looks, Looked, Takes, Took}
+use Rattle.taking.specs.Chains.{waiting, pending, Rows, Links, Heads, Chained, Lows, Looks, Looked, Takes, Took}
 use Rattle.taking.proofs.Counting.{pending-last, wait-split, ready-wait}
 use Rattle.taking.proofs.Releasing.{chain-at}
 
@@ -39,7 +39,7 @@ rows-fit n m edges f = record {
 
 -- sizes of the tables
 pub none-chained : (edges : List ℕ) (a b : ℕ) → a ≡ 1024 → b ≡ 8192 → Chained edges 0 (replicate a 0) (replicate b 0) (replicate a 0)
-unfolding lastFrom waiting
+unfolding lastBy waiting
 none-chained edges a b p q = record {
   linked = record { room = length-replicate {A = ℕ} b 0 ∙ q; links-of = λ i l. absurd (omega arith) };
   headed = record { room = length-replicate {A = ℕ} a 0 ∙ p; heads-of = λ u. zeros-zero a u };

@@ -6,7 +6,8 @@ use mathlib.Core.Bool.{Bool, cond, not, _&&_}
 use mathlib.Core.List.{List, []}
 use lib.ListN.{length, getD}
 use lib.Dec.{eqb}
-use Rattle.edges.specs.Edges.{mostNodes, mostEdges, rowAt}
+use Rattle.graph.specs.Numbers.{Row}
+use Rattle.edges.specs.Edges.{mostNodes, mostEdges, rowAt, lastBy}
 use Rattle.tables.specs.Free.{mem, lowest, zeroAt}
 
 -- what stands for a node that was taken: more than there are edges
@@ -24,9 +25,8 @@ abbrev pub one : Bool → ℕ
 one b = cond b 1 0
 
 -- one more than the number of the last of the first k edges that comes from u; 0 where none does
-unfoldable pub lastFrom : List ℕ → (u k : ℕ) → ℕ
-lastFrom edges u zero = 0
-lastFrom edges u (suc k) = cond (eqb (rowAt edges k .from) u) (suc k) (lastFrom edges u k)
+abbrev pub lastFrom : List ℕ → (u k : ℕ) → ℕ
+lastFrom edges u k = lastBy (λ (r : Row). r .from) edges u k
 
 -- how many of the first k edges lead to v from a node that is not among `done`
 unfoldable pub waiting : List ℕ → (done : List ℕ) → (v k : ℕ) → ℕ

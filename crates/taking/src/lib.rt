@@ -98,13 +98,6 @@ fn lower(lows: &mut [u32], i: usize, most: u32)
     }
 }
 
-// A head or a link as a number. The tables of both have 16 bits a place, so that a chain is fast to follow; an edge has a number below 8,192.
-fn of_link(x: u16) -> usize
-    ensures { λ r. ⌜ r ≡ x ⌝ }
-{
-    x as usize
-}
-
 // One edge less for v to wait for.
 fn release(waits: &mut [u32], lows: &mut [u32], v: usize)
     requires { ⌜ Releases (now waits) (now lows) v ⌝ }
@@ -130,11 +123,11 @@ fn release_all(
     requires { ⌜ Takes (now edges) (now heads) (now links) (now waits) (now lows) v ⌝ }
     ensures { λ r. ⌜ Freed (now (edges .entry)) (now (heads .entry)) (now (waits .entry)) (now (lows .entry)) v (now (waits .exit)) (now (lows .exit)) ⌝ }
 {
-    let mut e = of_link(heads[v]);
+    let mut e = edges::of_link(heads[v]);
     while 0 < e {
         let i = e - 1;
         release(waits, lows, edges::node_row(NodeIndex(edges[i * 2 + 1])));
-        e = of_link(links[i]);
+        e = edges::of_link(links[i]);
     }
 }
 

@@ -13,7 +13,7 @@ use Rattle.rows.specs.declared.YangImport.{YangImport}
 use Rattle.rows.proofs.Laws.{rows-done, rows-more}
 use Rattle.graph.specs.Graph.{built, refused, thenO}
 use Rattle.graph.specs.Numbers.{Row, eachO, importCode}
-use Rattle.edges.specs.Edges.{mostEdges, rowsIn, Spanned}
+use Rattle.edges.specs.Edges.{mostEdges, rowsIn, Filed}
 use Rattle.nodes.specs.Marks.{knownAt}
 use Rattle.texts.specs.Texts.{importNames}
 use Rattle.walk.specs.Walk.{ImportRows, importCodes, walkSeen, Drew}
@@ -25,34 +25,34 @@ unfoldable pub importsFrom : (s store imports : List ℕ) → (m i : ℕ) → Li
 importsFrom s store imports m i = map (knownAt s) (importNames store (rowsOf (importAt imports) importSize (m - i) (i * importSize)))
 
 -- what the loop keeps
-pub record Naming (s store imports : List ℕ) (m v : ℕ) (rs : List Row) (edges₀ spans₀ edges spans : List ℕ) (total i : ℕ) : Type 0 where
+pub record Naming (s store imports : List ℕ) (m v : ℕ) (rs : List Row) (edges₀ chains₀ edges chains : List ℕ) (total i : ℕ) : Type 0 where
   pub room : i ≤ m
   pub few : m ≤ mostRows
-  pub spanned : Spanned edges spans total
+  pub filed : Filed edges chains total
   pub long-edges : length edges ≡ length edges₀
-  pub long-spans : length spans ≡ length spans₀
+  pub long-chains : length chains ≡ length chains₀
   pub rest : eachO (importCode mostEdges v) (importCodes s store imports m) rs ≡ eachO (importCode mostEdges v) (importsFrom s store imports m i) (rowsIn total edges)
 
-pub naming-begins : (s store imports : List ℕ) (m v : ℕ) (edges spans : List ℕ) (count : ℕ) → Spanned edges spans count → ImportRows imports m
-    → Naming s store imports m v (rowsIn count edges) edges spans edges spans count 0
+pub naming-begins : (s store imports : List ℕ) (m v : ℕ) (edges chains : List ℕ) (count : ℕ) → Filed edges chains count → ImportRows imports m
+    → Naming s store imports m v (rowsIn count edges) edges chains edges chains count 0
 unfolding importCodes importsFrom importsIn
-naming-begins s store imports m v edges spans count h f = record {
+naming-begins s store imports m v edges chains count h f = record {
   room = omega arith;
   few = f .few;
-  spanned = h;
+  filed = h;
   long-edges = refl;
-  long-spans = refl;
+  long-chains = refl;
   rest = rw (sub-zero m);
 }
 
-module _ (s store imports : List ℕ) (m v : ℕ) (rs : List Row) (edges₀ spans₀ edges spans : List ℕ) (total i : ℕ) (g : Naming s store imports m v rs edges₀ spans₀ edges spans total i) where
-  pub all-named : m ≤ i → Drew (eachO (importCode mostEdges v) (importCodes s store imports m) rs) edges₀ spans₀ (Built total) edges spans
+module _ (s store imports : List ℕ) (m v : ℕ) (rs : List Row) (edges₀ chains₀ edges chains : List ℕ) (total i : ℕ) (g : Naming s store imports m v rs edges₀ chains₀ edges chains total i) where
+  pub all-named : m ≤ i → Drew (eachO (importCode mostEdges v) (importCodes s store imports m) rs) edges₀ chains₀ (Built total) edges chains
   unfolding importsFrom importNames eachO
   all-named h = record {
     seen = sym (g .rest ∙ rw (rows-done (importAt imports) importSize m i h));
-    spanned = g .spanned;
+    filed = g .filed;
     kept-edges = g .long-edges;
-    kept-spans = g .long-spans;
+    kept-chains = g .long-chains;
   }
 
   module _ (x : YangImport) (name : List ℕ) (e : x ≡ importAt imports (i * importSize)) (f : name ≡ valueIn store (x .«module_name»)) (h : i < m) where
@@ -63,26 +63,26 @@ module _ (s store imports : List ℕ) (m v : ℕ) (rs : List Row) (edges₀ span
         let q : name ≡ valueIn store (importAt imports (i * importSize) .«module_name») = f ∙ ap (λ (x : YangImport). valueIn store (x .«module_name»)) e in
         g .rest ∙ rw (rows-more (importAt imports) importSize m i h, q)
 
-    module _ (r : Walked) (edges₁ spans₁ : List ℕ) (d : Drew (importCode mostEdges v (knownAt s name) (rowsIn total edges)) edges spans r edges₁ spans₁) where
+    module _ (r : Walked) (edges₁ chains₁ : List ℕ) (d : Drew (importCode mostEdges v (knownAt s name) (rowsIn total edges)) edges chains r edges₁ chains₁) where
       pub named-wrong : (number : ℕ) (a : Refusal) → r ≡ Refused number a
-          → Drew (eachO (importCode mostEdges v) (importCodes s store imports m) rs) edges₀ spans₀ r edges₁ spans₁
+          → Drew (eachO (importCode mostEdges v) (importCodes s store imports m) rs) edges₀ chains₀ r edges₁ chains₁
       named-wrong number a z =
           let q : importCode mostEdges v (knownAt s name) (rowsIn total edges) ≡ refused number a = sym (d .seen) ∙ ap (λ r. walkSeen r edges₁) z in
           record {
             seen = ap (λ r. walkSeen r edges₁) z ∙ sym (turn ∙ ap (λ o. thenO o (eachO (importCode mostEdges v) (importsFrom s store imports m (i + 1)))) q);
-            spanned = d .spanned;
+            filed = d .filed;
             kept-edges = d .kept-edges ∙ g .long-edges;
-            kept-spans = d .kept-spans ∙ g .long-spans;
+            kept-chains = d .kept-chains ∙ g .long-chains;
           }
 
-      pub named-on : (k : ℕ) → r ≡ Built k → Naming s store imports m v rs edges₀ spans₀ edges₁ spans₁ k (i + 1)
+      pub named-on : (k : ℕ) → r ≡ Built k → Naming s store imports m v rs edges₀ chains₀ edges₁ chains₁ k (i + 1)
       named-on k z =
           let q : importCode mostEdges v (knownAt s name) (rowsIn total edges) ≡ built (rowsIn k edges₁) = sym (d .seen) ∙ ap (λ r. walkSeen r edges₁) z in
           record {
             room = omega arith;
             few = g .few;
-            spanned = rw z at (d .spanned);
+            filed = rw z at (d .filed);
             long-edges = d .kept-edges ∙ g .long-edges;
-            long-spans = d .kept-spans ∙ g .long-spans;
+            long-chains = d .kept-chains ∙ g .long-chains;
             rest = turn ∙ ap (λ o. thenO o (eachO (importCode mostEdges v) (importsFrom s store imports m (i + 1)))) q;
           }

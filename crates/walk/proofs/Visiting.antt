@@ -36,33 +36,33 @@ module _ (s b : List ℕ) (v : ℕ) (name : List ℕ) (p : name ≡ getD (namesA
     unfolding importCodes includeCodes knownAt includedAt worldOf
     read m k z = under ∙ ap (codesOf (worldOf s b) (namesAt s)) (sym (l .seen) ∙ ap (λ r. textSeen r e f g) z)
 
-    module _ (n base absent count : ℕ) (edges spans : List ℕ) where
+    module _ (n base absent count : ℕ) (edges chains : List ℕ) where
       pub text-missing : (a : Refusal) (levels : List ℕ) → r ≡ Missing → a ≡ nought
-          → Called (codesHere s b) n base absent v (rowsIn count edges) edges spans (Stopped absent a) levels edges spans
-      text-missing a levels z t = record { seen = λ below. rw (no-text z, t); ready = tt; kept-edges = refl; kept-spans = refl }
+          → Called (codesHere s b) n base absent v (rowsIn count edges) edges chains (Stopped absent a) levels edges chains
+      text-missing a levels z t = record { seen = λ below. rw (no-text z, t); ready = tt; kept-edges = refl; kept-chains = refl }
 
       pub text-refused : (a : Refusal) (levels : List ℕ) → r ≡ Unread a
-          → Called (codesHere s b) n base absent v (rowsIn count edges) edges spans (Stopped 25 a) levels edges spans
-      text-refused a levels z = record { seen = λ below. rw (unread a z); ready = tt; kept-edges = refl; kept-spans = refl }
+          → Called (codesHere s b) n base absent v (rowsIn count edges) edges chains (Stopped 25 a) levels edges chains
+      text-refused a levels z = record { seen = λ below. rw (unread a z); ready = tt; kept-edges = refl; kept-chains = refl }
 
-      module _ (m k : ℕ) (z : r ≡ Rows m k) (w : Walked) (edges₁ spans₁ : List ℕ)
-          (o : Drew (eachO (importCode mostEdges v) (importCodes s e f m) (rowsIn count edges)) edges spans w edges₁ spans₁) where
+      module _ (m k : ℕ) (z : r ≡ Rows m k) (w : Walked) (edges₁ chains₁ : List ℕ)
+          (o : Drew (eachO (importCode mostEdges v) (importCodes s e f m) (rowsIn count edges)) edges chains w edges₁ chains₁) where
         pub import-refused : (number : ℕ) (a : Refusal) (levels : List ℕ) → w ≡ Refused number a
-            → Called (codesHere s b) n base absent v (rowsIn count edges) edges spans (Stopped number a) levels edges₁ spans₁
+            → Called (codesHere s b) n base absent v (rowsIn count edges) edges chains (Stopped number a) levels edges₁ chains₁
         import-refused number a levels t =
             let q : eachO (importCode mostEdges v) (importCodes s e f m) (rowsIn count edges) ≡ refused number a = sym (o .seen) ∙ ap (λ w. walkSeen w edges₁) t in
-            record { seen = λ below. rw (read m k z, q); ready = tt; kept-edges = o .kept-edges; kept-spans = o .kept-spans }
+            record { seen = λ below. rw (read m k z, q); ready = tt; kept-edges = o .kept-edges; kept-chains = o .kept-chains }
 
         pub called : (total : ℕ) (levels levels₁ : List ℕ) → Saved n (includeCodes s e g k) base k levels levels₁ → w ≡ Built total
-            → Called (codesHere s b) n base absent v (rowsIn count edges) edges spans (Children k total) levels₁ edges₁ spans₁
+            → Called (codesHere s b) n base absent v (rowsIn count edges) edges chains (Children k total) levels₁ edges₁ chains₁
         called total levels levels₁ a t =
             let q : eachO (importCode mostEdges v) (importCodes s e f m) (rowsIn count edges) ≡ built (rowsIn total edges₁) = sym (o .seen) ∙ ap (λ w. walkSeen w edges₁) t in
             let few : (m ≤ mostRows) × (k ≤ mostRows) = rw z at (l .few) in
             record {
               seen = λ below. rw (read m k z, q, a .words);
-              ready = record { spanned = rw t at (o .spanned); few = few .1; low = a .low };
+              ready = record { filed = rw t at (o .filed); few = few .1; low = a .low };
               kept-edges = o .kept-edges;
-              kept-spans = o .kept-spans;
+              kept-chains = o .kept-chains;
             }
 
 -- ---- the tables

@@ -11,7 +11,7 @@ use lib.Seq.{drop-drop, getD-drop}
 use Rattle.text.specs.declared.Refusal.{Refusal}
 use Rattle.graph.specs.Graph.{nought, Out, built, refused, thenO}
 use Rattle.graph.specs.Numbers.{Row, Codes, eachO, includeCode, visitCodes, walkCodes}
-use Rattle.edges.specs.Edges.{mostEdges, rowsIn, Spanned}
+use Rattle.edges.specs.Edges.{mostEdges, rowsIn, Filed}
 use Rattle.edges.specs.declared.NodeIndex.{NodeIndex}
 use Rattle.nodes.specs.Adding.{mostNodes}
 use Rattle.nodes.specs.Marks.{Desk}
@@ -43,7 +43,7 @@ abbrev pub ahead : (at : ℕ → Codes) → (left v : ℕ) → (words : List ℕ
 ahead at left v words rs = eachO (includeCode mostEdges (belowOf at left) v) words rs
 
 -- what the loop keeps
-pub record Walking (at : ℕ → Codes) (n left v base k : ℕ) (levels₀ edges₀ spans₀ : List ℕ) (linked : ℕ) (levels edges spans : List ℕ) (total i : ℕ) : Type 0 where
+pub record Walking (at : ℕ → Codes) (n left v base k : ℕ) (levels₀ edges₀ chains₀ : List ℕ) (linked : ℕ) (levels edges chains : List ℕ) (total i : ℕ) : Type 0 where
   pub room : i ≤ k
   pub few : k ≤ levelWords
   pub based : base ≡ left * levelWords
@@ -51,9 +51,9 @@ pub record Walking (at : ℕ → Codes) (n left v base k : ℕ) (levels₀ edges
   pub long : length levels ≡ length levels₀
   pub kept : drop base levels ≡ drop base levels₀
   pub low : Words n levels₀ base k
-  pub spanned : Spanned edges spans total
+  pub filed : Filed edges chains total
   pub long-edges : length edges ≡ length edges₀
-  pub long-spans : length spans ≡ length spans₀
+  pub long-chains : length chains ≡ length chains₀
   pub rest : ahead at left v (wordsFrom levels₀ base k) (rowsIn linked edges₀) ≡ ahead at left v (wordsFrom levels₀ (base + i) (k - i)) (rowsIn total edges)
 
 pub record Long (store₀ imports₀ includes₀ store imports includes : List ℕ) : Type 0 where
@@ -66,34 +66,34 @@ as-long store imports includes = record { store-long = refl; imports-long = refl
 
 -- ---- before the loop
 
-pub visit-room : {bundle store imports includes levels edges spans : List ℕ} {left count : ℕ} → Tables bundle store imports includes levels edges spans left count
-    → Room bundle store imports includes levels edges spans (left * 256) count
+pub visit-room : {bundle store imports includes levels edges chains : List ℕ} {left count : ℕ} → Tables bundle store imports includes levels edges chains left count
+    → Room bundle store imports includes levels edges chains (left * 256) count
 visit-room t = record { scan = t .scan; level-room = omega (arith, t .levels-room); edges-so-far = t .edges-so-far }
 
 pub kept-up : (left : ℕ) {store imports includes levels store₁ imports₁ includes₁ levels₁ : List ℕ} → Kept (left * 256 + 256) store imports includes levels store₁ imports₁ includes₁ levels₁
     → Kept ((left + 1) * 256) store imports includes levels store₁ imports₁ includes₁ levels₁
 kept-up left k = let q : (left + 1) * 256 ≡ left * 256 + 256 = omega arith in rw q k
 
-module _ (left : ℕ) {at : ℕ → Codes} {n base absent v : ℕ} {rs : List Row} {edges spans : List ℕ} {r : Visited} {levels₁ edges₁ spans₁ : List ℕ} where
-  pub not-visited : Called at n base absent v rs edges spans r levels₁ edges₁ spans₁ → (number : ℕ) (a : Refusal) → r ≡ Stopped number a
-      → Drew (walkCodes at mostEdges left absent v rs) edges spans (Refused number a) edges₁ spans₁
+module _ (left : ℕ) {at : ℕ → Codes} {n base absent v : ℕ} {rs : List Row} {edges chains : List ℕ} {r : Visited} {levels₁ edges₁ chains₁ : List ℕ} where
+  pub not-visited : Called at n base absent v rs edges chains r levels₁ edges₁ chains₁ → (number : ℕ) (a : Refusal) → r ≡ Stopped number a
+      → Drew (walkCodes at mostEdges left absent v rs) edges chains (Refused number a) edges₁ chains₁
   not-visited d number a z = record {
     seen = ap (λ r. visitSeen (belowOf at left) v base r levels₁ edges₁) (sym z) ∙ d .seen (belowOf at left) ∙ sym (opened at left absent v rs);
-    spanned = tt;
+    filed = tt;
     kept-edges = d .kept-edges;
-    kept-spans = d .kept-spans;
+    kept-chains = d .kept-chains;
   }
 
-  all-ahead : Called at n base absent v rs edges spans r levels₁ edges₁ spans₁ → (k linked : ℕ) → r ≡ Children k linked
+  all-ahead : Called at n base absent v rs edges chains r levels₁ edges₁ chains₁ → (k linked : ℕ) → r ≡ Children k linked
       → walkCodes at mostEdges left absent v rs ≡ ahead at left v (wordsFrom levels₁ base k) (rowsIn linked edges₁)
   all-ahead d k linked z = opened at left absent v rs ∙ sym (d .seen (belowOf at left)) ∙ ap (λ r. visitSeen (belowOf at left) v base r levels₁ edges₁) z
 
-pub begun : {at : ℕ → Codes} {n left absent v : ℕ} {rs : List Row} {edges spans : List ℕ} {r : Visited} {levels₁ edges₁ spans₁ : List ℕ} {k linked count : ℕ}
-    {bundle store imports includes levels store₁ imports₁ includes₁ : List ℕ} → Called at n (left * 256) absent v rs edges spans r levels₁ edges₁ spans₁ → r ≡ Children k linked
-    → Tables bundle store imports includes levels edges spans left count → Kept (left * 256 + 256) store imports includes levels store₁ imports₁ includes₁ levels₁
-    → Walking at n left v (left * 256) k levels₁ edges₁ spans₁ linked levels₁ edges₁ spans₁ linked 0
-begun {n = n} {left = left} {levels₁ = levels₁} {edges₁ = edges₁} {spans₁ = spans₁} {k = k} {linked = linked} d z t p =
-    let y : Ready n (left * 256) k linked levels₁ edges₁ spans₁ = rw z at (d .ready) in
+pub begun : {at : ℕ → Codes} {n left absent v : ℕ} {rs : List Row} {edges chains : List ℕ} {r : Visited} {levels₁ edges₁ chains₁ : List ℕ} {k linked count : ℕ}
+    {bundle store imports includes levels store₁ imports₁ includes₁ : List ℕ} → Called at n (left * 256) absent v rs edges chains r levels₁ edges₁ chains₁ → r ≡ Children k linked
+    → Tables bundle store imports includes levels edges chains left count → Kept (left * 256 + 256) store imports includes levels store₁ imports₁ includes₁ levels₁
+    → Walking at n left v (left * 256) k levels₁ edges₁ chains₁ linked levels₁ edges₁ chains₁ linked 0
+begun {n = n} {left = left} {levels₁ = levels₁} {edges₁ = edges₁} {chains₁ = chains₁} {k = k} {linked = linked} d z t p =
+    let y : Ready n (left * 256) k linked levels₁ edges₁ chains₁ = rw z at (d .ready) in
     let o : left * 256 + 0 ≡ left * 256 = omega arith in
     record {
       room = omega arith;
@@ -103,16 +103,16 @@ begun {n = n} {left = left} {levels₁ = levels₁} {edges₁ = edges₁} {spans
       long = refl;
       kept = refl;
       low = y .low;
-      spanned = y .spanned;
+      filed = y .filed;
       long-edges = refl;
-      long-spans = refl;
+      long-chains = refl;
       rest = rw (o, sub-zero k);
     }
 
 -- ---- in the loop
 
-module _ {at : ℕ → Codes} {n left v base k : ℕ} {levels₀ edges₀ spans₀ : List ℕ} {linked : ℕ} {levels edges spans : List ℕ} {total i : ℕ}
-    (g : Walking at n left v base k levels₀ edges₀ spans₀ linked levels edges spans total i) where
+module _ {at : ℕ → Codes} {n left v base k : ℕ} {levels₀ edges₀ chains₀ : List ℕ} {linked : ℕ} {levels edges chains : List ℕ} {total i : ℕ}
+    (g : Walking at n left v base k levels₀ edges₀ chains₀ linked levels edges chains total i) where
   here : getD levels₀ (base + i) 0 ≡ getD levels (base + i) 0
   here = sym (getD-drop base levels₀ i 0) ∙ ap (λ l. getD l i 0) (sym (g .kept)) ∙ getD-drop base levels i 0
 
@@ -144,31 +144,31 @@ module _ {at : ℕ → Codes} {n left v base k : ℕ} {levels₀ edges₀ spans�
     above-kept = later base ((left + 1) * 256) levels levels₀ (omega (arith, g .based)) (g .kept) ∙ later (left * 256 + 256) ((left + 1) * 256) levels₀ levelsE (omega arith) (p .above-kept);
   }
 
-  module _ {absent : ℕ} {rs : List Row} {edgesE spansE : List ℕ} {r : Visited} (d : Called at n base absent v rs edgesE spansE r levels₀ edges₀ spans₀) (z : r ≡ Children k linked) where
-    pub ended : k ≤ i → Drew (walkCodes at mostEdges left absent v rs) edgesE spansE (Built total) edges spans
+  module _ {absent : ℕ} {rs : List Row} {edgesE chainsE : List ℕ} {r : Visited} (d : Called at n base absent v rs edgesE chainsE r levels₀ edges₀ chains₀) (z : r ≡ Children k linked) where
+    pub ended : k ≤ i → Drew (walkCodes at mostEdges left absent v rs) edgesE chainsE (Built total) edges chains
     unfolding eachO wordsFrom
     ended h =
         let q : k - i ≡ 0 = omega arith in
         record {
           seen = sym (all-ahead left d k linked z ∙ g .rest ∙ rw q);
-          spanned = g .spanned;
+          filed = g .filed;
           kept-edges = g .long-edges ∙ d .kept-edges;
-          kept-spans = g .long-spans ∙ d .kept-spans;
+          kept-chains = g .long-chains ∙ d .kept-chains;
         }
 
-    module _ {x : Stepping} {edges₁ spans₁ : List ℕ} (s : Stepped (getD levels (base + i) 0) left v (rowsIn total edges) edges spans x edges₁ spans₁) (h : i < k) where
-      pub halted : {number : ℕ} {a : Refusal} → x ≡ Halted number → a ≡ nought → Drew (walkCodes at mostEdges left absent v rs) edgesE spansE (Refused number a) edges₁ spans₁
+    module _ {x : Stepping} {edges₁ chains₁ : List ℕ} (s : Stepped (getD levels (base + i) 0) left v (rowsIn total edges) edges chains x edges₁ chains₁) (h : i < k) where
+      pub halted : {number : ℕ} {a : Refusal} → x ≡ Halted number → a ≡ nought → Drew (walkCodes at mostEdges left absent v rs) edgesE chainsE (Refused number a) edges₁ chains₁
       halted {number} {a} e y =
           let q : includeCode mostEdges (belowOf at left) v (getD levels (base + i) 0) (rowsIn total edges) ≡ refused number nought = sym (s .seen at) ∙ ap (λ x. stepSeen (belowOf at left) x edges₁) e in
           record {
             seen = ap (λ a. refused number a) y ∙ sym (all-ahead left d k linked z ∙ turn h ∙ ap (λ o. thenO o (ahead at left v (wordsFrom levels₀ (base + (i + 1)) (k - (i + 1))))) q);
-            spanned = tt;
+            filed = tt;
             kept-edges = s .kept-edges ∙ g .long-edges ∙ d .kept-edges;
-            kept-spans = s .kept-spans ∙ g .long-spans ∙ d .kept-spans;
+            kept-chains = s .kept-chains ∙ g .long-chains ∙ d .kept-chains;
           }
 
-  module _ {x : Stepping} {edges₁ spans₁ : List ℕ} (s : Stepped (getD levels (base + i) 0) left v (rowsIn total edges) edges spans x edges₁ spans₁) (h : i < k) {u : NodeIndex} {m : ℕ} (e : x ≡ Down u m) where
-    descends : Descends (getD levels (base + i) 0) left (u .0) m edges₁ spans₁
+  module _ {x : Stepping} {edges₁ chains₁ : List ℕ} (s : Stepped (getD levels (base + i) 0) left v (rowsIn total edges) edges chains x edges₁ chains₁) (h : i < k) {u : NodeIndex} {m : ℕ} (e : x ≡ Down u m) where
+    descends : Descends (getD levels (base + i) 0) left (u .0) m edges₁ chains₁
     descends = rw e at (s .ready)
 
     pub some-left : 0 < left
@@ -177,9 +177,9 @@ module _ {at : ℕ → Codes} {n left v base k : ℕ} {levels₀ edges₀ spans�
     pub child-low : u .0 < n
     child-low = omega (arith, descends .node, word-low h)
 
-    pub child-room : {bundle store imports includes levelsE edgesE spansE store₀ imports₀ includes₀ store₁ imports₁ includes₁ : List ℕ} {count : ℕ} → Tables bundle store imports includes levelsE edgesE spansE left count
+    pub child-room : {bundle store imports includes levelsE edgesE chainsE store₀ imports₀ includes₀ store₁ imports₁ includes₁ : List ℕ} {count : ℕ} → Tables bundle store imports includes levelsE edgesE chainsE left count
         → Kept (left * 256 + 256) store imports includes levelsE store₀ imports₀ includes₀ levels₀ → Long store₀ imports₀ includes₀ store₁ imports₁ includes₁
-        → Tables bundle store₁ imports₁ includes₁ levels edges₁ spans₁ (left - 1) m
+        → Tables bundle store₁ imports₁ includes₁ levels edges₁ chains₁ (left - 1) m
     child-room t p l = record {
       scan = record {
         store-room = omega (arith, t .scan .store-room, l .store-long, p .store-long);
@@ -187,29 +187,29 @@ module _ {at : ℕ → Codes} {n left v base k : ℕ} {levels₀ edges₀ spans�
         include-room = omega (arith, t .scan .include-room, l .includes-long, p .includes-long);
       };
       levels-room = omega (arith, some-left, g .inside, g .based, g .long);
-      edges-so-far = descends .spanned;
+      edges-so-far = descends .filed;
     }
 
-    module _ {w : Walked} {edges₂ spans₂ : List ℕ} (o : Drew (walkCodes at mostEdges (left - 1) 24 (u .0) (rowsIn m edges₁)) edges₁ spans₁ w edges₂ spans₂) where
+    module _ {w : Walked} {edges₂ chains₂ : List ℕ} (o : Drew (walkCodes at mostEdges (left - 1) 24 (u .0) (rowsIn m edges₁)) edges₁ chains₁ w edges₂ chains₂) where
       child : includeCode mostEdges (belowOf at left) v (getD levels (base + i) 0) (rowsIn total edges) ≡ walkSeen w edges₂
       child = sym (s .seen at) ∙ ap (λ x. stepSeen (belowOf at left) x edges₁) e ∙ one-less at left (u .0) (rowsIn m edges₁) some-left ∙ sym (o .seen)
 
-      pub sent-up : {absent : ℕ} {rs : List Row} {edgesE spansE : List ℕ} {r : Visited} {number : ℕ} {a : Refusal} → Called at n base absent v rs edgesE spansE r levels₀ edges₀ spans₀ → r ≡ Children k linked
-          → w ≡ Refused number a → Drew (walkCodes at mostEdges left absent v rs) edgesE spansE w edges₂ spans₂
+      pub sent-up : {absent : ℕ} {rs : List Row} {edgesE chainsE : List ℕ} {r : Visited} {number : ℕ} {a : Refusal} → Called at n base absent v rs edgesE chainsE r levels₀ edges₀ chains₀ → r ≡ Children k linked
+          → w ≡ Refused number a → Drew (walkCodes at mostEdges left absent v rs) edgesE chainsE w edges₂ chains₂
       sent-up {number = number} {a = a} d z y =
           let q : includeCode mostEdges (belowOf at left) v (getD levels (base + i) 0) (rowsIn total edges) ≡ refused number a = child ∙ ap (λ w. walkSeen w edges₂) y in
           record {
             seen = ap (λ w. walkSeen w edges₂) y ∙ sym (all-ahead left d k linked z ∙ turn h ∙ ap (λ o. thenO o (ahead at left v (wordsFrom levels₀ (base + (i + 1)) (k - (i + 1))))) q);
-            spanned = o .spanned;
+            filed = o .filed;
             kept-edges = o .kept-edges ∙ s .kept-edges ∙ g .long-edges ∙ d .kept-edges;
-            kept-spans = o .kept-spans ∙ s .kept-spans ∙ g .long-spans ∙ d .kept-spans;
+            kept-chains = o .kept-chains ∙ s .kept-chains ∙ g .long-chains ∙ d .kept-chains;
           }
 
       module _ {store imports includes store₁ imports₁ includes₁ levels₁ : List ℕ} (p : Kept ((left - 1 + 1) * 256) store imports includes levels store₁ imports₁ includes₁ levels₁) where
         same-words : drop base levels₁ ≡ drop base levels₀
         same-words = let q : base ≡ (left - 1 + 1) * 256 = omega (arith, g .based, some-left) in rw q (p .above-kept) ∙ g .kept
 
-        pub went-on : {t : ℕ} → w ≡ Built t → Walking at n left v base k levels₀ edges₀ spans₀ linked levels₁ edges₂ spans₂ t (i + 1)
+        pub went-on : {t : ℕ} → w ≡ Built t → Walking at n left v base k levels₀ edges₀ chains₀ linked levels₁ edges₂ chains₂ t (i + 1)
         went-on {t} y =
             let q : includeCode mostEdges (belowOf at left) v (getD levels (base + i) 0) (rowsIn total edges) ≡ built (rowsIn t edges₂) = child ∙ ap (λ w. walkSeen w edges₂) y in
             record {
@@ -220,9 +220,9 @@ module _ {at : ℕ → Codes} {n left v base k : ℕ} {levels₀ edges₀ spans�
               long = p .levels-long ∙ g .long;
               kept = same-words;
               low = g .low;
-              spanned = rw y at (o .spanned);
+              filed = rw y at (o .filed);
               long-edges = o .kept-edges ∙ s .kept-edges ∙ g .long-edges;
-              long-spans = o .kept-spans ∙ s .kept-spans ∙ g .long-spans;
+              long-chains = o .kept-chains ∙ s .kept-chains ∙ g .long-chains;
               rest = turn h ∙ ap (λ o. thenO o (ahead at left v (wordsFrom levels₀ (base + (i + 1)) (k - (i + 1))))) q;
             }
 

@@ -9,7 +9,7 @@ use Rattle.bundle.specs.Reading.{Held, longestText}
 use Rattle.graph.specs.Graph.{nought, noIncludedText, tooDeep, tooManyEdges, World, world, Out, built, refused}
 use Rattle.graph.specs.Nodes.{passOver}
 use Rattle.graph.specs.Numbers.{Row, Codes, codesAt, eachO, includeCode, visitCodes, walkCodes}
-use Rattle.edges.specs.Edges.{mostEdges, rowsIn, Spanned}
+use Rattle.edges.specs.Edges.{mostEdges, rowsIn, Filed}
 use Rattle.edges.specs.declared.Link.{Link}
 use Rattle.edges.specs.declared.Link.the-variants.{Count, Full}
 use Rattle.nodes.specs.Adding.{plainAt, namesAt}
@@ -63,16 +63,16 @@ pub record Ground (image bundle btab : List ℕ) (texts : ℕ) (ntab : List ℕ)
   pub held : Held bundle btab texts
 
 -- the tables of a walk with so much depth left and so many edges
-pub record Tables (bundle store imports includes levels edges spans : List ℕ) (left count : ℕ) : Type 0 where
+pub record Tables (bundle store imports includes levels edges chains : List ℕ) (left count : ℕ) : Type 0 where
   pub scan : ScanRoom (longestText bundle) store imports includes
   pub levels-room : (left + 1) * levelWords ≤ length levels
-  pub edges-so-far : Spanned edges spans count
+  pub edges-so-far : Filed edges chains count
 
 -- the same for one text, whose words are saved from `base` on
-pub record Room (bundle store imports includes levels edges spans : List ℕ) (base count : ℕ) : Type 0 where
+pub record Room (bundle store imports includes levels edges chains : List ℕ) (base count : ℕ) : Type 0 where
   pub scan : ScanRoom (longestText bundle) store imports includes
   pub level-room : base + levelWords ≤ length levels
-  pub edges-so-far : Spanned edges spans count
+  pub edges-so-far : Filed edges chains count
 
 -- so many rows in their tables
 pub record ImportRows (imports : List ℕ) (m : ℕ) : Type 0 where
@@ -90,9 +90,9 @@ abbrev pub walkSeen : Walked → List ℕ → Out Row
 walkSeen (Built n) edges = built (rowsIn n edges)
 walkSeen (Refused number a) edges = refused number a
 
-abbrev pub WalkSpanned : Walked → List ℕ → List ℕ → Type 0
-WalkSpanned (Built n) edges spans = Spanned edges spans n
-WalkSpanned (Refused number a) edges spans = Unit {0}
+abbrev pub WalkFiled : Walked → List ℕ → List ℕ → Type 0
+WalkFiled (Built n) edges chains = Filed edges chains n
+WalkFiled (Refused number a) edges chains = Unit {0}
 
 -- what an edge more comes to
 abbrev pub linkWalked : Link → Walked
@@ -100,11 +100,11 @@ linkWalked (Count n) = Built n
 linkWalked Full = Refused tooManyEdges nought
 
 -- edges that were added, as `expected` says; the tables are as long as before
-pub record Drew (expected : Out Row) (edges spans : List ℕ) (r : Walked) (edges₁ spans₁ : List ℕ) : Type 0 where
+pub record Drew (expected : Out Row) (edges chains : List ℕ) (r : Walked) (edges₁ chains₁ : List ℕ) : Type 0 where
   pub seen : walkSeen r edges₁ ≡ expected
-  pub spanned : WalkSpanned r edges₁ spans₁
+  pub filed : WalkFiled r edges₁ chains₁
   pub kept-edges : length edges₁ ≡ length edges
-  pub kept-spans : length spans₁ ≡ length spans
+  pub kept-chains : length chains₁ ≡ length chains
 
 -- the codes of a text's includes, saved from `base` on; words of the levels above are as they were
 pub record Saved (n : ℕ) (codes : List ℕ) (base count : ℕ) (levels after : List ℕ) : Type 0 where
@@ -126,38 +126,38 @@ abbrev pub visitSeen : (below : ℕ → List Row → Out Row) → (v base : ℕ)
 visitSeen below v base (Stopped number a) levels edges = refused number a
 visitSeen below v base (Children k n) levels edges = eachO (includeCode mostEdges below v) (wordsFrom levels base k) (rowsIn n edges)
 
-pub record Ready (n base : ℕ) (k count : ℕ) (levels edges spans : List ℕ) : Type 0 where
-  pub spanned : Spanned edges spans count
+pub record Ready (n base : ℕ) (k count : ℕ) (levels edges chains : List ℕ) : Type 0 where
+  pub filed : Filed edges chains count
   pub few : k ≤ levelWords
   pub low : Words n levels base k
 
 abbrev pub VisitReady : (n base : ℕ) → Visited → List ℕ → List ℕ → List ℕ → Type 0
-VisitReady n base (Stopped number a) levels edges spans = Unit {0}
-VisitReady n base (Children k count) levels edges spans = Ready n base k count levels edges spans
+VisitReady n base (Stopped number a) levels edges chains = Unit {0}
+VisitReady n base (Children k count) levels edges chains = Ready n base k count levels edges chains
 
 -- a text was read, its imports are linked and its includes saved; `before`: the rows so far
-pub record Called (at : ℕ → Codes) (n base absent v : ℕ) (before : List Row) (edges spans : List ℕ) (r : Visited) (levels₁ edges₁ spans₁ : List ℕ) : Type 0 where
+pub record Called (at : ℕ → Codes) (n base absent v : ℕ) (before : List Row) (edges chains : List ℕ) (r : Visited) (levels₁ edges₁ chains₁ : List ℕ) : Type 0 where
   pub seen : (below : ℕ → List Row → Out Row) → visitSeen below v base r levels₁ edges₁ ≡ visitCodes mostEdges below absent v (at v) before
-  pub ready : VisitReady n base r levels₁ edges₁ spans₁
+  pub ready : VisitReady n base r levels₁ edges₁ chains₁
   pub kept-edges : length edges₁ ≡ length edges
-  pub kept-spans : length spans₁ ≡ length spans
+  pub kept-chains : length chains₁ ≡ length chains
 
 -- one include, up to the walk of its text
 abbrev pub stepSeen : (below : ℕ → List Row → Out Row) → Stepping → List ℕ → Out Row
 stepSeen below (Down u n) edges = below (u .0) (rowsIn n edges)
 stepSeen below (Halted number) edges = refused number nought
 
-pub record Descends (word left u count : ℕ) (edges spans : List ℕ) : Type 0 where
+pub record Descends (word left u count : ℕ) (edges chains : List ℕ) : Type 0 where
   pub node : u + 2 ≡ word
   pub deep : 0 < left
-  pub spanned : Spanned edges spans count
+  pub filed : Filed edges chains count
 
 abbrev pub StepReady : (word left : ℕ) → Stepping → List ℕ → List ℕ → Type 0
-StepReady word left (Down u n) edges spans = Descends word left (u .0) n edges spans
-StepReady word left (Halted number) edges spans = Unit {0}
+StepReady word left (Down u n) edges chains = Descends word left (u .0) n edges chains
+StepReady word left (Halted number) edges chains = Unit {0}
 
-pub record Stepped (word left v : ℕ) (before : List Row) (edges spans : List ℕ) (r : Stepping) (edges₁ spans₁ : List ℕ) : Type 0 where
+pub record Stepped (word left v : ℕ) (before : List Row) (edges chains : List ℕ) (r : Stepping) (edges₁ chains₁ : List ℕ) : Type 0 where
   pub seen : (at : ℕ → Codes) → stepSeen (belowOf at left) r edges₁ ≡ includeCode mostEdges (belowOf at left) v word before
-  pub ready : StepReady word left r edges₁ spans₁
+  pub ready : StepReady word left r edges₁ chains₁
   pub kept-edges : length edges₁ ≡ length edges
-  pub kept-spans : length spans₁ ≡ length spans
+  pub kept-chains : length chains₁ ≡ length chains

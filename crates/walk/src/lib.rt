@@ -10,7 +10,7 @@ ghost use mathlib.Core.Bool.{cond};
 ghost use Prim.Native.Nat.{_+_, _*_, _<_};
 ghost use Rattle.graph.specs.Graph.{nought};
 ghost use Rattle.graph.specs.Numbers.{importCode, givenCode, eachO, walkCodes};
-ghost use Rattle.edges.specs.Edges.{mostEdges, mostNodes, rowsIn, Spanned};
+ghost use Rattle.edges.specs.Edges.{mostEdges, mostNodes, rowsIn, Filed};
 ghost use Rattle.nodes.specs.Marks.{Desk, knownAt, includedCode, IncludedNode};
 ghost use Rattle.walk.specs.Walk.{codesHere, importCodes, includeCodes, Ground, Tables, Room, ImportRows, IncludeRows, linkWalked, Drew, Saved, Kept, Called, Stepped};
 
@@ -82,20 +82,20 @@ pub fn link_known(
     name: &[u8],
     given: bool,
     edges: &mut [u32],
-    spans: &mut [u32],
+    chains: &mut [u16],
     v: NodeIndex,
     count: usize,
 ) -> Walked
-    requires { ⌜ Desk (now image) (now ntab) n (now marks) × Spanned (now edges) (now spans) count × (v .0 < n) ⌝ }
-    ensures { λ r. ⌜ Drew (cond given (givenCode mostEdges (v .0) (knownAt (now (image .entry)) (now (name .entry))) (rowsIn count (now (edges .entry)))) (importCode mostEdges (v .0) (knownAt (now (image .entry)) (now (name .entry))) (rowsIn count (now (edges .entry))))) (now (edges .entry)) (now (spans .entry)) r (now (edges .exit)) (now (spans .exit)) ⌝ }
+    requires { ⌜ Desk (now image) (now ntab) n (now marks) × Filed (now edges) (now chains) count × (v .0 < n) ⌝ }
+    ensures { λ r. ⌜ Drew (cond given (givenCode mostEdges (v .0) (knownAt (now (image .entry)) (now (name .entry))) (rowsIn count (now (edges .entry)))) (importCode mostEdges (v .0) (knownAt (now (image .entry)) (now (name .entry))) (rowsIn count (now (edges .entry))))) (now (edges .entry)) (now (chains .entry)) r (now (edges .exit)) (now (chains .exit)) ⌝ }
 {
     let Resolved::Node(u) = nodes::find_known(image, ntab, n, marks, name) else {
         return Walked::Refused(UNKNOWN_MODULE, nought());
     };
     if given {
-        return linked(edges::add_edge(edges, spans, count, v, u));
+        return linked(edges::add_edge(edges, chains, count, v, u));
     }
-    linked(edges::add_edge(edges, spans, count, u, v))
+    linked(edges::add_edge(edges, chains, count, u, v))
 }
 
 // The edges of a text's imports.
@@ -108,19 +108,19 @@ fn link_imports(
     imports: &[u32],
     rows: usize,
     edges: &mut [u32],
-    spans: &mut [u32],
+    chains: &mut [u16],
     v: NodeIndex,
     count: usize,
 ) -> Walked
-    requires { ⌜ Desk (now image) (now ntab) n (now marks) × ImportRows (now imports) rows × Spanned (now edges) (now spans) count × (v .0 < n) ⌝ }
-    ensures { λ r. ⌜ Drew (eachO (importCode mostEdges (v .0)) (importCodes (now (image .entry)) (now (store .entry)) (now (imports .entry)) rows) (rowsIn count (now (edges .entry)))) (now (edges .entry)) (now (spans .entry)) r (now (edges .exit)) (now (spans .exit)) ⌝ }
+    requires { ⌜ Desk (now image) (now ntab) n (now marks) × ImportRows (now imports) rows × Filed (now edges) (now chains) count × (v .0 < n) ⌝ }
+    ensures { λ r. ⌜ Drew (eachO (importCode mostEdges (v .0)) (importCodes (now (image .entry)) (now (store .entry)) (now (imports .entry)) rows) (rowsIn count (now (edges .entry)))) (now (edges .entry)) (now (chains .entry)) r (now (edges .exit)) (now (chains .exit)) ⌝ }
 {
     let mut total = count;
     let mut i = 0;
     while i < rows {
         let import = rows::get_import(imports, i);
         let name = rows::value_in(store, import.module_name);
-        let link = link_known(image, ntab, n, marks, name, false, edges, spans, v, total);
+        let link = link_known(image, ntab, n, marks, name, false, edges, chains, v, total);
         let Walked::Built(m) = link else {
             return link;
         };
@@ -180,14 +180,14 @@ fn visit(
     includes: &mut [u32],
     levels: &mut [u32],
     edges: &mut [u32],
-    spans: &mut [u32],
+    chains: &mut [u16],
     base: usize,
     absent: u32,
     v: NodeIndex,
     count: usize,
 ) -> Visited
-    requires { ⌜ Ground (now image) (now bundle) (now btab) texts (now ntab) n (now marks) × Room (now bundle) (now store) (now imports) (now includes) (now levels) (now edges) (now spans) base count × (v .0 < n) ⌝ }
-    ensures { λ r. ⌜ Called (codesHere (now (image .entry)) (now (bundle .entry))) n base absent (v .0) (rowsIn count (now (edges .entry))) (now (edges .entry)) (now (spans .entry)) r (now (levels .exit)) (now (edges .exit)) (now (spans .exit)) × Kept (base + 256) (now (store .entry)) (now (imports .entry)) (now (includes .entry)) (now (levels .entry)) (now (store .exit)) (now (imports .exit)) (now (includes .exit)) (now (levels .exit)) ⌝ }
+    requires { ⌜ Ground (now image) (now bundle) (now btab) texts (now ntab) n (now marks) × Room (now bundle) (now store) (now imports) (now includes) (now levels) (now edges) (now chains) base count × (v .0 < n) ⌝ }
+    ensures { λ r. ⌜ Called (codesHere (now (image .entry)) (now (bundle .entry))) n base absent (v .0) (rowsIn count (now (edges .entry))) (now (edges .entry)) (now (chains .entry)) r (now (levels .exit)) (now (edges .exit)) (now (chains .exit)) × Kept (base + 256) (now (store .entry)) (now (imports .entry)) (now (includes .entry)) (now (levels .entry)) (now (store .exit)) (now (imports .exit)) (now (includes .exit)) (now (levels .exit)) ⌝ }
 {
     let name = nodes::name_of(image, ntab, v);
     match texts::read_text(bundle, btab, texts, name, store, imports, includes) {
@@ -203,7 +203,7 @@ fn visit(
                 imports,
                 m,
                 edges,
-                spans,
+                chains,
                 v,
                 count,
             ) {
@@ -222,12 +222,12 @@ fn step(
     word: u32,
     left: usize,
     edges: &mut [u32],
-    spans: &mut [u32],
+    chains: &mut [u16],
     v: NodeIndex,
     count: usize,
 ) -> Stepping
-    requires { ⌜ Spanned (now edges) (now spans) count × (word < mostNodes + 2) × (v .0 < mostNodes) ⌝ }
-    ensures { λ r. ⌜ Stepped word left (v .0) (rowsIn count (now (edges .entry))) (now (edges .entry)) (now (spans .entry)) r (now (edges .exit)) (now (spans .exit)) ⌝ }
+    requires { ⌜ Filed (now edges) (now chains) count × (word < mostNodes + 2) × (v .0 < mostNodes) ⌝ }
+    ensures { λ r. ⌜ Stepped word left (v .0) (rowsIn count (now (edges .entry))) (now (edges .entry)) (now (chains .entry)) r (now (edges .exit)) (now (chains .exit)) ⌝ }
 {
     if word == 0 {
         return Stepping::Stopped(UNKNOWN_SUBMODULE);
@@ -236,7 +236,7 @@ fn step(
         return Stepping::Stopped(NO_NODE);
     }
     let u = NodeIndex(word - 2);
-    let Link::Count(m) = edges::add_edge(edges, spans, count, u, v) else {
+    let Link::Count(m) = edges::add_edge(edges, chains, count, u, v) else {
         return Stepping::Stopped(TOO_MANY_EDGES);
     };
     if left == 0 {
@@ -259,14 +259,14 @@ pub fn walk(
     includes: &mut [u32],
     levels: &mut [u32],
     edges: &mut [u32],
-    spans: &mut [u32],
+    chains: &mut [u16],
     left: usize,
     absent: u32,
     v: NodeIndex,
     count: usize,
 ) -> Walked
-    requires { ⌜ Ground (now image) (now bundle) (now btab) texts (now ntab) n (now marks) × Tables (now bundle) (now store) (now imports) (now includes) (now levels) (now edges) (now spans) left count × (v .0 < n) ⌝ }
-    ensures { λ r. ⌜ Drew (walkCodes (codesHere (now (image .entry)) (now (bundle .entry))) mostEdges left absent (v .0) (rowsIn count (now (edges .entry)))) (now (edges .entry)) (now (spans .entry)) r (now (edges .exit)) (now (spans .exit)) × Kept ((left + 1) * 256) (now (store .entry)) (now (imports .entry)) (now (includes .entry)) (now (levels .entry)) (now (store .exit)) (now (imports .exit)) (now (includes .exit)) (now (levels .exit)) ⌝ }
+    requires { ⌜ Ground (now image) (now bundle) (now btab) texts (now ntab) n (now marks) × Tables (now bundle) (now store) (now imports) (now includes) (now levels) (now edges) (now chains) left count × (v .0 < n) ⌝ }
+    ensures { λ r. ⌜ Drew (walkCodes (codesHere (now (image .entry)) (now (bundle .entry))) mostEdges left absent (v .0) (rowsIn count (now (edges .entry)))) (now (edges .entry)) (now (chains .entry)) r (now (edges .exit)) (now (chains .exit)) × Kept ((left + 1) * 256) (now (store .entry)) (now (imports .entry)) (now (includes .entry)) (now (levels .entry)) (now (store .exit)) (now (imports .exit)) (now (includes .exit)) (now (levels .exit)) ⌝ }
 {
     let base = left * LEVEL;
     let visited = visit(
@@ -282,7 +282,7 @@ pub fn walk(
         includes,
         levels,
         edges,
-        spans,
+        chains,
         base,
         absent,
         v,
@@ -294,7 +294,7 @@ pub fn walk(
             let mut total = linked;
             let mut i = 0;
             while i < k {
-                match step(levels[base + i], left, edges, spans, v, total) {
+                match step(levels[base + i], left, edges, chains, v, total) {
                     Stepping::Stopped(number) => {
                         return Walked::Refused(number, nought());
                     }
@@ -312,7 +312,7 @@ pub fn walk(
                             includes,
                             levels,
                             edges,
-                            spans,
+                            chains,
                             left - 1,
                             NO_INCLUDED_TEXT,
                             u,

@@ -20,7 +20,7 @@ use Rattle.graph.specs.Nodes.{passOver, memb}
 use Rattle.graph.specs.Numbers.{Row, numberOf, Drawing, faulty, givenCode, walkCodes}
 use Rattle.graph.proofs.Tests.{both-bools, same-refl}
 use Rattle.graph.proofs.Entries.{known-among}
-use Rattle.edges.specs.Edges.{mostEdges, rowsIn, Spanned}
+use Rattle.edges.specs.Edges.{mostEdges, rowsIn, Filed}
 use Rattle.nodes.specs.Adding.{isEntry, plainAt, namesAt}
 use Rattle.nodes.specs.Marks.{amongKind, knownAt, Stands}
 use Rattle.nodes.proofs.OfKind.{kind-append, known-items, or-right}
@@ -67,29 +67,29 @@ module _ (s b : List ℕ) (x : Item) (v : ℕ) (rs : List Row) where
   unfolding itemWalk
   asked p q = ap₂ asks (sym p) (sym q)
 
-module _ (s b : List ℕ) {n : ℕ} {x : Item} {v : ℕ} (g : Placed s n x v) {edges spans : List ℕ} (count : ℕ) {e : Bool} (p : e ≡ isEntry (x .kind)) where
-  pub item-walked : e ≡ true → {w : Walked} {edges₁ spans₁ : List ℕ} → Drew (walkCodes (codesHere s b) mostEdges 8 23 v (rowsIn count edges)) edges spans w edges₁ spans₁
-      → Drew (itemWalk s b (itemWord s x) v (rowsIn count edges)) edges spans w edges₁ spans₁
-  item-walked t {w} {edges₁} {spans₁} d =
-      subst (λ (o : Out Row). Drew o edges spans w edges₁ spans₁)
+module _ (s b : List ℕ) {n : ℕ} {x : Item} {v : ℕ} (g : Placed s n x v) {edges chains : List ℕ} (count : ℕ) {e : Bool} (p : e ≡ isEntry (x .kind)) where
+  pub item-walked : e ≡ true → {w : Walked} {edges₁ chains₁ : List ℕ} → Drew (walkCodes (codesHere s b) mostEdges 8 23 v (rowsIn count edges)) edges chains w edges₁ chains₁
+      → Drew (itemWalk s b (itemWord s x) v (rowsIn count edges)) edges chains w edges₁ chains₁
+  item-walked t {w} {edges₁} {chains₁} d =
+      subst (λ (o : Out Row). Drew o edges chains w edges₁ chains₁)
       (ap (λ (u : ℕ). walkCodes (codesHere s b) mostEdges 8 23 u (rowsIn count edges)) (g .own (sym p ∙ t))
       ∙ sym (asked s b x v (rowsIn count edges) (sym t ∙ p) refl)) d
 
   module _ (f : e ≡ false) {l : Bool} (q : l ≡ isListed (x .kind)) where
-    pub item-linked : l ≡ true → {w : Walked} {edges₁ spans₁ : List ℕ}
-        → Drew (givenCode mostEdges v (knownAt s (take (x .place + x .size - x .place) (drop (x .place) s))) (rowsIn count edges)) edges spans w edges₁ spans₁
-        → Drew (itemWalk s b (itemWord s x) v (rowsIn count edges)) edges spans w edges₁ spans₁
-    item-linked t {w} {edges₁} {spans₁} d =
-        subst (λ (o : Out Row). Drew o edges spans w edges₁ spans₁)
+    pub item-linked : l ≡ true → {w : Walked} {edges₁ chains₁ : List ℕ}
+        → Drew (givenCode mostEdges v (knownAt s (take (x .place + x .size - x .place) (drop (x .place) s))) (rowsIn count edges)) edges chains w edges₁ chains₁
+        → Drew (itemWalk s b (itemWord s x) v (rowsIn count edges)) edges chains w edges₁ chains₁
+    item-linked t {w} {edges₁} {chains₁} d =
+        subst (λ (o : Out Row). Drew o edges chains w edges₁ chains₁)
         (ap (λ (u : Name). givenCode mostEdges v (knownAt s u) (rowsIn count edges)) (part-word s (x .place) (x .size))
         ∙ sym (asked s b x v (rowsIn count edges) (sym f ∙ p) (sym t ∙ q))) d
 
-    pub item-silent : l ≡ false → Spanned edges spans count → Drew (itemWalk s b (itemWord s x) v (rowsIn count edges)) edges spans (Built count) edges spans
+    pub item-silent : l ≡ false → Filed edges chains count → Drew (itemWalk s b (itemWord s x) v (rowsIn count edges)) edges chains (Built count) edges chains
     item-silent t h = record {
       seen = sym (asked s b x v (rowsIn count edges) (sym f ∙ p) (sym t ∙ q));
-      spanned = h;
+      filed = h;
       kept-edges = refl;
-      kept-spans = refl;
+      kept-chains = refl;
     }
 
 pub kept-same : (store imports includes levels : List ℕ) → Kept allLevels store imports includes levels store imports includes levels
@@ -155,22 +155,22 @@ walk-same s b x v rs = go (isEntry (x .kind)) (isListed (x .kind))
     go true l = refl
     go false l = refl
 
-pub record Going (s b : List ℕ) (n : ℕ) (table : List ℕ) (items : ℕ) (store₀ imports₀ includes₀ levels₀ edges₀ spans₀ store imports includes levels edges spans : List ℕ) (total entry v i : ℕ) : Type 0 where
+pub record Going (s b : List ℕ) (n : ℕ) (table : List ℕ) (items : ℕ) (store₀ imports₀ includes₀ levels₀ edges₀ chains₀ store imports includes levels edges chains : List ℕ) (total entry v i : ℕ) : Type 0 where
   pub rest : drawItems s b 0 0 [] (itemsAt s) ≡ drawItems s b entry v (rowsIn total edges) (itemsFrom s table i (items - i))
   pub listed : Itemized s items table
   pub some : i ≤ items
   pub entries : entry ≤ i
   pub low : 0 < i → v < n
-  pub tables : Tables b store imports includes levels edges spans 8 total
+  pub tables : Tables b store imports includes levels edges chains 8 total
   pub kept : Kept allLevels store₀ imports₀ includes₀ levels₀ store imports includes levels
   pub kept-edges : length edges ≡ length edges₀
-  pub kept-spans : length spans ≡ length spans₀
+  pub kept-chains : length chains ≡ length chains₀
 
-pub going-none : (s b : List ℕ) (n : ℕ) (table : List ℕ) (items : ℕ) (store imports includes levels edges spans : List ℕ)
-    → Tables b store imports includes levels edges spans 8 0 → Itemized s items table
-    → Going s b n table items store imports includes levels edges spans store imports includes levels edges spans 0 0 0 0
+pub going-none : (s b : List ℕ) (n : ℕ) (table : List ℕ) (items : ℕ) (store imports includes levels edges chains : List ℕ)
+    → Tables b store imports includes levels edges chains 8 0 → Itemized s items table
+    → Going s b n table items store imports includes levels edges chains store imports includes levels edges chains 0 0 0 0
 unfolding rowsIn
-going-none s b n table items store imports includes levels edges spans t g =
+going-none s b n table items store imports includes levels edges chains t g =
     let q : items ≡ items - 0 = omega arith in
     record {
       rest = ap (drawItems s b 0 0 []) (sym (items-all g) ∙ ap (itemsFrom s table 0) q);
@@ -181,20 +181,20 @@ going-none s b n table items store imports includes levels edges spans t g =
       tables = t;
       kept = kept-same store imports includes levels;
       kept-edges = refl;
-      kept-spans = refl;
+      kept-chains = refl;
     }
 
-module _ {s b : List ℕ} {n : ℕ} {table : List ℕ} {items : ℕ} {store₀ imports₀ includes₀ levels₀ edges₀ spans₀ store imports includes levels edges spans : List ℕ} {total entry v i : ℕ}
-    (g : Going s b n table items store₀ imports₀ includes₀ levels₀ edges₀ spans₀ store imports includes levels edges spans total entry v i) where
-  pub all-drawn : items ≤ i → Walks s b store₀ imports₀ includes₀ levels₀ edges₀ spans₀ (DrawnBuilt total) store imports includes levels edges spans
+module _ {s b : List ℕ} {n : ℕ} {table : List ℕ} {items : ℕ} {store₀ imports₀ includes₀ levels₀ edges₀ chains₀ store imports includes levels edges chains : List ℕ} {total entry v i : ℕ}
+    (g : Going s b n table items store₀ imports₀ includes₀ levels₀ edges₀ chains₀ store imports includes levels edges chains total entry v i) where
+  pub all-drawn : items ≤ i → Walks s b store₀ imports₀ includes₀ levels₀ edges₀ chains₀ (DrawnBuilt total) store imports includes levels edges chains
   unfolding itemsFrom drawItems
   all-drawn h =
       let q : items - i ≡ 0 = omega arith in
       record {
         seen = sym (g .rest ∙ ap (λ (k : ℕ). drawItems s b entry v (rowsIn total edges) (itemsFrom s table i k)) q);
-        spanned = g .tables .edges-so-far;
+        filed = g .tables .edges-so-far;
         kept-edges = g .kept-edges;
-        kept-spans = g .kept-spans;
+        kept-chains = g .kept-chains;
         kept = g .kept;
       }
 
@@ -233,8 +233,8 @@ module _ {s b : List ℕ} {n : ℕ} {table : List ℕ} {items : ℕ} {store₀ i
           own = λ h. p ∙ ap (λ (c : Bool). cond c (itemNode s (itemWord s x)) v) h;
         }
 
-        module _ {k : ℕ} (q : k ≡ cond (isEntry (x .kind)) (entry + 1) entry) {w : Walked} {edges₁ spans₁ : List ℕ}
-            (d : Drew (itemWalk s b (itemWord s x) u (rowsIn total edges)) edges spans w edges₁ spans₁) where
+        module _ {k : ℕ} (q : k ≡ cond (isEntry (x .kind)) (entry + 1) entry) {w : Walked} {edges₁ chains₁ : List ℕ}
+            (d : Drew (itemWalk s b (itemWord s x) u (rowsIn total edges)) edges chains w edges₁ chains₁) where
           abbrev behind : (y : ItemOf Word) → Out Row → (k u : ℕ) → Drawing
           behind y out k u = onOut out (λ rs. drawItems s b k u rs (itemsFrom s table (i + 1) (items - (i + 1)))) (λ number a. faulty number k a)
 
@@ -260,12 +260,12 @@ module _ {s b : List ℕ} {n : ℕ} {table : List ℕ} {items : ℕ} {store₀ i
             }
 
             pub sent-out : {number : ℕ} {a : Refusal} → w ≡ Refused number a
-                → Walks s b store₀ imports₀ includes₀ levels₀ edges₀ spans₀ (DrawnRefused number k a) store₁ imports₁ includes₁ levels₁ edges₁ spans₁
+                → Walks s b store₀ imports₀ includes₀ levels₀ edges₀ chains₀ (DrawnRefused number k a) store₁ imports₁ includes₁ levels₁ edges₁ chains₁
             sent-out y = record {
               seen = sym (turn ∙ ap (λ (w : Walked). behind (itemWord s x) (walkSeen w edges₁) k u) y);
-              spanned = tt;
+              filed = tt;
               kept-edges = d .kept-edges ∙ g .kept-edges;
-              kept-spans = d .kept-spans ∙ g .kept-spans;
+              kept-chains = d .kept-chains ∙ g .kept-chains;
               kept = kept-on;
             }
 
@@ -276,7 +276,7 @@ module _ {s b : List ℕ} {n : ℕ} {table : List ℕ} {items : ℕ} {store₀ i
                 go true z = omega (arith, g .entries)
                 go false z = omega (arith, g .entries)
 
-            pub going-on : {m : ℕ} → w ≡ Built m → Going s b n table items store₀ imports₀ includes₀ levels₀ edges₀ spans₀ store₁ imports₁ includes₁ levels₁ edges₁ spans₁ m k u (i + 1)
+            pub going-on : {m : ℕ} → w ≡ Built m → Going s b n table items store₀ imports₀ includes₀ levels₀ edges₀ chains₀ store₁ imports₁ includes₁ levels₁ edges₁ chains₁ m k u (i + 1)
             going-on {m} y = record {
               rest = turn ∙ ap (λ (w : Walked). behind (itemWord s x) (walkSeen w edges₁) k u) y;
               listed = g .listed;
@@ -290,9 +290,9 @@ module _ {s b : List ℕ} {n : ℕ} {table : List ℕ} {items : ℕ} {store₀ i
                   include-room = omega (arith, g .tables .scan .include-room, c .includes-long);
                 };
                 levels-room = omega (arith, g .tables .levels-room, c .levels-long);
-                edges-so-far = rw y at (d .spanned);
+                edges-so-far = rw y at (d .filed);
               };
               kept = kept-on;
               kept-edges = d .kept-edges ∙ g .kept-edges;
-              kept-spans = d .kept-spans ∙ g .kept-spans;
+              kept-chains = d .kept-chains ∙ g .kept-chains;
             }

@@ -13,8 +13,8 @@ use Rattle.buffers.specs.Padded.{zeros, padded}
 use Rattle.form.specs.Form.{Word}
 use Rattle.index.specs.Names.{rowOf, rowWords as nameWords, nameIn, namesIn}
 use Rattle.graph.specs.Numbers.{Row}
-use Rattle.edges.specs.Edges.{rowAt, rowsIn, Blank, Spanned}
-use Rattle.edges.proofs.Spans.{zeros-zero}
+use Rattle.edges.specs.Edges.{rowAt, rowsIn, Blank, Filed}
+use Rattle.edges.proofs.Rows.{zeros-zero}
 use Rattle.yanglib.specs.ToGraph.{nodeWords, rowWords}
 use Rattle.yanglib.specs.NodeTable.{Puts, Named}
 
@@ -69,8 +69,8 @@ rows-taken (suc m) w h =
     two-more w m (omega arith)
     ∙ (ap (λ (x : List ℕ). x ++ (getD w (m * 2) 0 ∷ getD w (m * 2 + 1) 0 ∷ [])) (rows-taken m w (omega arith)) ∙ sym (rows-snoc (rowsIn m w) (rowAt w m)))
 
-pub rows-table : (edges spans : List ℕ) (m : ℕ) → Spanned edges spans m → edges ≡ padded (length edges) (rowWords (rowsIn m edges))
-rows-table edges spans m g =
+pub rows-table : (edges chains : List ℕ) (m : ℕ) → Filed edges chains m → edges ≡ padded (length edges) (rowWords (rowsIn m edges))
+rows-table edges chains m g =
     let h : m * 2 ≤ length edges = omega (arith, g .few, g .long) in
     padded-from edges (rowWords (rowsIn m edges)) (m * 2) h (rows-taken m edges h) (g .blank)
 

@@ -30,7 +30,7 @@ use Rattle.items.specs.Table.{Reads}
 use Rattle.graph.specs.Nodes.{passOver}
 use Rattle.graph.specs.Graph.{nought, tooManyNodes, graphOf}
 use Rattle.edges.specs.Edges.{mostEdges, rowsIn}
-use Rattle.edges.proofs.Spans.{rows-length}
+use Rattle.edges.proofs.Rows.{rows-length}
 use Rattle.nodes.specs.Adding.{mostNodes, plainAt, wordsAt, Holding}
 use Rattle.texts.specs.Texts.{textOf}
 use Rattle.yanglib.specs.Entries.{drawItems, drawnSeen}

@@ -10,7 +10,7 @@ use lib.ListN.{length, getD, length-replicate}
 use Rattle.text.specs.declared.Refusal.{Refusal}
 use Rattle.buffers.specs.Padded.{zeros, padded}
 use Rattle.buffers.proofs.Clears.{padded-none}
-use Rattle.edges.proofs.Spans.{zeros-zero}
+use Rattle.edges.proofs.Rows.{zeros-zero}
 use Rattle.form.specs.Writer.{AllBytes}
 use Rattle.image.specs.Image.{imageAt}
 use Rattle.image.proofs.ImageLaws.{accepted}
@@ -23,8 +23,8 @@ use Rattle.library.specs.declared.Read.the-variants.{End, Wrong}
 use Rattle.items.specs.Items.{itemsAt}
 use Rattle.items.specs.Table.{Itemized}
 use Rattle.graph.specs.Graph.{nought}
-use Rattle.edges.specs.Edges.{rowsIn, Spanned}
-use Rattle.edges.proofs.Spans.{empty-spanned}
+use Rattle.edges.specs.Edges.{rowsIn, Filed}
+use Rattle.edges.proofs.Chains.{empty-filed}
 use Rattle.nodes.specs.Adding.{mostNodes, wordsAt, Holding, Constructed}
 use Rattle.nodes.specs.Marks.{Marked}
 use Rattle.nodes.specs.declared.Nodes.{Nodes}
@@ -64,20 +64,20 @@ module _ {s b btab : List ℕ} {texts : ℕ} {ntab : List ℕ} {n : ℕ} {table 
 pub no-marks : zeros 2048 ≡ zeros (length (zeros 2048))
 no-marks = ap zeros (sym (length-replicate {A = ℕ} 2048 0))
 
-pub no-edges : {b store imports includes levels edges : List ℕ} → Lent b store imports includes levels edges → Tables b store imports includes levels edges (zeros 2048) 8 0
+pub no-edges : {b store imports includes levels edges : List ℕ} → Lent b store imports includes levels edges → Tables b store imports includes levels edges (zeros 16384) 8 0
 no-edges {edges = edges} g = record {
   scan = g .scan;
   levels-room = g .levels-room;
-  edges-so-far = empty-spanned edges (zeros 2048) (record {
+  edges-so-far = empty-filed edges (zeros 16384) (record {
     long = g .edges-room;
-    wide = let e : length (zeros 2048) ≡ 2048 = length-replicate {A = ℕ} 2048 0 in omega (arith, e);
+    wide = let e : length (zeros 16384) ≡ 16384 = length-replicate {A = ℕ} 16384 0 in omega (arith, e);
     no-edges = λ j. ap (λ (w : List ℕ). getD w j 0) (g .edges-zero) ∙ zeros-zero (length edges) j;
-    no-spans = λ j. zeros-zero 2048 j;
+    no-chains = λ j. zeros-zero 16384 j;
   });
 }
 
-module _ {s b store imports includes levels edges spans : List ℕ} {r : Drawn} {store₁ imports₁ includes₁ levels₁ edges₁ spans₁ : List ℕ}
-    (g : Walks s b store imports includes levels edges spans r store₁ imports₁ includes₁ levels₁ edges₁ spans₁) where
+module _ {s b store imports includes levels edges chains : List ℕ} {r : Drawn} {store₁ imports₁ includes₁ levels₁ edges₁ chains₁ : List ℕ}
+    (g : Walks s b store imports includes levels edges chains r store₁ imports₁ includes₁ levels₁ edges₁ chains₁) where
   pub edges-refused : {number entry : ℕ} {a : Refusal} → r ≡ DrawnRefused number entry a → {edges₂ : List ℕ} → edges₂ ≡ zeros (length edges₁)
       → Edged s b store imports includes levels edges r store₁ imports₁ includes₁ levels₁ edges₂
   edges-refused {number} {entry} {a} e {edges₂} z = record {
@@ -88,10 +88,10 @@ module _ {s b store imports includes levels edges spans : List ℕ} {r : Drawn} 
 
   pub edges-built : {m : ℕ} → r ≡ DrawnBuilt m → Edged s b store imports includes levels edges (DrawnBuilt m) store₁ imports₁ includes₁ levels₁ edges₁
   edges-built {m} e =
-      let h : Spanned edges₁ spans₁ m = rw e at (g .spanned) in
+      let h : Filed edges₁ chains₁ m = rw e at (g .filed) in
       record {
         seen = sym (ap (λ (q : Drawn). drawnSeen q edges₁) e) ∙ g .seen;
-        table = rows-table edges₁ spans₁ m h ∙ ap (λ (k : ℕ). padded k (rowWords (rowsIn m edges₁))) (g .kept-edges);
+        table = rows-table edges₁ chains₁ m h ∙ ap (λ (k : ℕ). padded k (rowWords (rowsIn m edges₁))) (g .kept-edges);
         kept = g .kept;
       }
 

@@ -14,7 +14,7 @@ use Rattle.items.specs.Items.{augmentingKind, deviationKind, ItemOf, itemsAt}
 use Rattle.graph.specs.Graph.{noEntryText, deepest, Out, built, onOut}
 use Rattle.graph.specs.Nodes.{memb}
 use Rattle.graph.specs.Numbers.{Row, numberOf, givenCode, walkCodes, Drawing, drawn, faulty}
-use Rattle.edges.specs.Edges.{mostEdges, rowsIn, Spanned}
+use Rattle.edges.specs.Edges.{mostEdges, rowsIn, Filed}
 use Rattle.nodes.specs.Adding.{isEntry, wordsAt, namesAt, Holding}
 use Rattle.nodes.specs.Marks.{knownAt}
 use Rattle.walk.specs.Walk.{codesHere, Kept}
@@ -50,9 +50,9 @@ abbrev pub drawnSeen : Drawn → List ℕ → Drawing
 drawnSeen (Built n) edges = drawn (rowsIn n edges)
 drawnSeen (Refused number entry a) edges = faulty number entry a
 
-abbrev pub DrawnSpanned : Drawn → List ℕ → List ℕ → Type 0
-DrawnSpanned (Built n) edges spans = Spanned edges spans n
-DrawnSpanned (Refused number entry a) edges spans = Unit {0}
+abbrev pub DrawnFiled : Drawn → List ℕ → List ℕ → Type 0
+DrawnFiled (Built n) edges chains = Filed edges chains n
+DrawnFiled (Refused number entry a) edges chains = Unit {0}
 
 -- ---- what the code asks and does
 
@@ -74,9 +74,9 @@ pub record Placed (s : List ℕ) (n : ℕ) (x : Item) (v : ℕ) : Type 0 where
   pub own : isEntry (x .kind) ≡ true → v ≡ itemNode s (itemWord s x)
 
 -- all items were walked, or up to the first refusal; the tables are as long as before
-pub record Walks (s b store imports includes levels edges spans : List ℕ) (r : Drawn) (store₁ imports₁ includes₁ levels₁ edges₁ spans₁ : List ℕ) : Type 0 where
+pub record Walks (s b store imports includes levels edges chains : List ℕ) (r : Drawn) (store₁ imports₁ includes₁ levels₁ edges₁ chains₁ : List ℕ) : Type 0 where
   pub seen : drawnSeen r edges₁ ≡ drawItems s b 0 0 [] (itemsAt s)
-  pub spanned : DrawnSpanned r edges₁ spans₁
+  pub filed : DrawnFiled r edges₁ chains₁
   pub kept-edges : length edges₁ ≡ length edges
-  pub kept-spans : length spans₁ ≡ length spans
+  pub kept-chains : length chains₁ ≡ length chains
   pub kept : Kept allLevels store imports includes levels store₁ imports₁ includes₁ levels₁

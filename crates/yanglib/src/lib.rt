@@ -90,12 +90,12 @@ fn walk_item(
     includes: &mut [u32],
     levels: &mut [u32],
     edges: &mut [u32],
-    spans: &mut [u32],
+    chains: &mut [u16],
     v: NodeIndex,
     count: usize,
 ) -> Walked
-    requires { ⌜ Ground (now image) (now bundle) (now btab) texts (now ntab) n (now marks) × Tables (now bundle) (now store) (now imports) (now includes) (now levels) (now edges) (now spans) 8 count × Placed (now image) n x (v .0) ⌝ }
-    ensures { λ r. ⌜ Drew (itemWalk (now (image .entry)) (now (bundle .entry)) (itemWord (now (image .entry)) x) (v .0) (rowsIn count (now (edges .entry)))) (now (edges .entry)) (now (spans .entry)) r (now (edges .exit)) (now (spans .exit)) × Kept allLevels (now (store .entry)) (now (imports .entry)) (now (includes .entry)) (now (levels .entry)) (now (store .exit)) (now (imports .exit)) (now (includes .exit)) (now (levels .exit)) ⌝ }
+    requires { ⌜ Ground (now image) (now bundle) (now btab) texts (now ntab) n (now marks) × Tables (now bundle) (now store) (now imports) (now includes) (now levels) (now edges) (now chains) 8 count × Placed (now image) n x (v .0) ⌝ }
+    ensures { λ r. ⌜ Drew (itemWalk (now (image .entry)) (now (bundle .entry)) (itemWord (now (image .entry)) x) (v .0) (rowsIn count (now (edges .entry)))) (now (edges .entry)) (now (chains .entry)) r (now (edges .exit)) (now (chains .exit)) × Kept allLevels (now (store .entry)) (now (imports .entry)) (now (includes .entry)) (now (levels .entry)) (now (store .exit)) (now (imports .exit)) (now (includes .exit)) (now (levels .exit)) ⌝ }
 {
     if nodes::is_entry(x.kind) {
         return walk::walk(
@@ -111,7 +111,7 @@ fn walk_item(
             includes,
             levels,
             edges,
-            spans,
+            chains,
             DEEPEST,
             walk::NO_ENTRY_TEXT,
             v,
@@ -129,7 +129,7 @@ fn walk_item(
             &image[place..end],
             true,
             edges,
-            spans,
+            chains,
             v,
             count,
         );
@@ -153,10 +153,10 @@ fn walk_items(
     includes: &mut [u32],
     levels: &mut [u32],
     edges: &mut [u32],
-    spans: &mut [u32],
+    chains: &mut [u16],
 ) -> Drawn
-    requires { ⌜ Ground (now image) (now bundle) (now btab) texts (now ntab) n (now marks) × Tables (now bundle) (now store) (now imports) (now includes) (now levels) (now edges) (now spans) 8 0 × Itemized (now image) items (now table) ⌝ }
-    ensures { λ r. ⌜ Walks (now (image .entry)) (now (bundle .entry)) (now (store .entry)) (now (imports .entry)) (now (includes .entry)) (now (levels .entry)) (now (edges .entry)) (now (spans .entry)) r (now (store .exit)) (now (imports .exit)) (now (includes .exit)) (now (levels .exit)) (now (edges .exit)) (now (spans .exit)) ⌝ }
+    requires { ⌜ Ground (now image) (now bundle) (now btab) texts (now ntab) n (now marks) × Tables (now bundle) (now store) (now imports) (now includes) (now levels) (now edges) (now chains) 8 0 × Itemized (now image) items (now table) ⌝ }
+    ensures { λ r. ⌜ Walks (now (image .entry)) (now (bundle .entry)) (now (store .entry)) (now (imports .entry)) (now (includes .entry)) (now (levels .entry)) (now (edges .entry)) (now (chains .entry)) r (now (store .exit)) (now (imports .exit)) (now (includes .exit)) (now (levels .exit)) (now (edges .exit)) (now (chains .exit)) ⌝ }
 {
     let mut total = 0;
     let mut entry = 0;
@@ -180,7 +180,7 @@ fn walk_items(
             includes,
             levels,
             edges,
-            spans,
+            chains,
             v,
             total,
         ) {
@@ -260,7 +260,8 @@ fn draw_edges(
 {
     let mut marks: [u32; 2048] = [0; 2048];
     nodes::mark_nodes(image, table, count, ntab, n, &mut marks);
-    let mut spans: [u32; 2048] = [0; 2048];
+    // A head for each chain, behind them a link for each edge.
+    let mut chains: [u16; 16384] = [0; 16384];
     let drawn = walk_items(
         image,
         bundle,
@@ -276,7 +277,7 @@ fn draw_edges(
         includes,
         levels,
         edges,
-        &mut spans,
+        &mut chains,
     );
     let Drawn::Built(m) = drawn else {
         buffers::clear_words(edges);

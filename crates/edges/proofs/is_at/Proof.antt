@@ -1,7 +1,7 @@
--- `edges::is_at`. Each way out is one law of Looks.
+-- `edges::is_at`. Each way out is one law of Chains.
 -- Assumes nothing.
 use borrow.Author.Needs.{needs}
-use Rattle.edges.proofs.Looks.{other-from, same-from}
+use Rattle.edges.proofs.Chains.{other-from, same-from}
 use Rattle.edges.proofs.is_at.Statement.{statement}
 use Rattle.edges.proofs.is_at.Tie as tie
 

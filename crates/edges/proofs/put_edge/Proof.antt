@@ -1,7 +1,7 @@
 -- `edges::put_edge`. What the four stores leave.
 -- Assumes nothing.
 use borrow.Author.Needs.{needs}
-use Rattle.edges.proofs.Laying.{second-in, laid}
+use Rattle.edges.proofs.Laying.{second-in, head-in, laid}
 use Rattle.edges.proofs.put_edge.Statement.{statement}
 use Rattle.edges.proofs.put_edge.Tie as tie
 
@@ -26,44 +26,32 @@ mul-edges-4 c = search needs
 slice-write-edges-2 : tie.Need-slice-write-edges-2
 slice-write-edges-2 c = search second-in
 
-mul-first-with : tie.Need-mul-first-with
-mul-first-with c = search needs
+mul-chains : tie.Need-mul-chains
+mul-chains c = search needs
 
-slice-read-first-with : tie.Need-slice-read-first-with
-slice-read-first-with c = search needs
+slice-read-chains : tie.Need-slice-read-chains
+slice-read-chains c = search needs
 
-add-first-with : tie.Need-add-first-with
-add-first-with c = search needs
+add-chains : tie.Need-add-chains
+add-chains c = search needs
 
-mul-first-with-2 : tie.Need-mul-first-with-2
-mul-first-with-2 c = search needs
+mul-chains-2 : tie.Need-mul-chains-2
+mul-chains-2 c = search needs
 
-slice-read-first-with-2 : tie.Need-slice-read-first-with-2
-slice-read-first-with-2 c = search needs
+slice-write-chains : tie.Need-slice-write-chains
+slice-write-chains c = search needs
 
-first-with-requires : tie.Need-first-with-requires
-first-with-requires c κs = search needs
+cast-chains : tie.Need-cast-chains
+cast-chains c = search needs
 
-mul-spans : tie.Need-mul-spans
-mul-spans c = search needs
+add-chains-2 : tie.Need-add-chains-2
+add-chains-2 c = search needs
 
-slice-write-spans : tie.Need-slice-write-spans
-slice-write-spans c = search needs
+mul-chains-3 : tie.Need-mul-chains-3
+mul-chains-3 c = search needs
 
-cast-spans : tie.Need-cast-spans
-cast-spans c = search needs
-
-add-spans : tie.Need-add-spans
-add-spans c = search needs
-
-add-spans-2 : tie.Need-add-spans-2
-add-spans-2 c = search needs
-
-mul-spans-2 : tie.Need-mul-spans-2
-mul-spans-2 c = search needs
-
-slice-write-spans-2 : tie.Need-slice-write-spans-2
-slice-write-spans-2 c = search needs
+slice-write-chains-2 : tie.Need-slice-write-chains-2
+slice-write-chains-2 c = search head-in
 
 same-length : tie.Need-same-length
 same-length c = search needs
@@ -85,19 +73,15 @@ put-edge-spec =
     add-edges
     mul-edges-4
     slice-write-edges-2
-    mul-first-with
-    slice-read-first-with
-    add-first-with
-    mul-first-with-2
-    slice-read-first-with-2
-    first-with-requires
-    mul-spans
-    slice-write-spans
-    cast-spans
-    add-spans
-    add-spans-2
-    mul-spans-2
-    slice-write-spans-2
+    mul-chains
+    slice-read-chains
+    add-chains
+    mul-chains-2
+    slice-write-chains
+    cast-chains
+    add-chains-2
+    mul-chains-3
+    slice-write-chains-2
     same-length
     same-length-2
     returns)

@@ -28,11 +28,11 @@ abbrev walk-below : ℕ → In 11 walk-kinds.ps
 walk-below t = and 11 walk-kinds.ps (falls 11 walk-kinds.ps _<_ μ-walk t) walk.Pre
 
 abbrev walk-Inv-loop : walk-lts.InvT-loop
-walk-Inv-loop image bundle btab texts ntab n marks store₀ imports₀ includes₀ levels₀ edges₀ spans₀ left absent v count base k linked total₀ i₀ store imports includes levels edges spans total i =
-    Walking (codesHere image bundle) n left (v .0) base k levels₀ edges₀ spans₀ linked levels edges spans total i × Long store₀ imports₀ includes₀ store imports includes
+walk-Inv-loop image bundle btab texts ntab n marks store₀ imports₀ includes₀ levels₀ edges₀ chains₀ left absent v count base k linked total₀ i₀ store imports includes levels edges chains total i =
+    Walking (codesHere image bundle) n left (v .0) base k levels₀ edges₀ chains₀ linked levels edges chains total i × Long store₀ imports₀ includes₀ store imports includes
 
 abbrev walk-μ-loop : walk-lts.MeasureT-loop
-walk-μ-loop image bundle btab texts ntab n marks store₀ imports₀ includes₀ levels₀ edges₀ spans₀ left absent v count base k linked total₀ i₀ store imports includes levels edges spans total i =
+walk-μ-loop image bundle btab texts ntab n marks store₀ imports₀ includes₀ levels₀ edges₀ chains₀ left absent v count base k linked total₀ i₀ store imports includes levels edges chains total i =
     k - i
 
 walk-mul-base : (t : ℕ) → walk-lts.Need-mul-base (
@@ -141,7 +141,7 @@ walk-step-requires : (t : ℕ) → walk-lts.Need-step-requires (
   walk-below t,
   walk.Post,
 ) (walk-at t) walk.Post walk-Inv-loop walk-μ-loop
-walk-step-requires t c κs = (c .before .before .before .before .loop .inv .0 .spanned, word-node (c .before .before .before .before .loop .inv .0) (c .before .before .before .before .before .before .before .before .before .before .before .before .before .before .before .before .before .before .before .before .before .before .before .before .before .before .before .before .before .before .before .before .before .before .before .before .before .before .pre .1 .0 .desk) (c .before .before .before .loop-test .taken), node-low _ _ _ _ (c .before .before .before .before .before .before .before .before .before .before .before .before .before .before .before .before .before .before .before .before .before .before .before .before .before .before .before .before .before .before .before .before .before .before .before .before .before .before .pre .1 .0 .desk) _ (c .before .before .before .before .before .before .before .before .before .before .before .before .before .before .before .before .before .before .before .before .before .before .before .before .before .before .before .before .before .before .before .before .before .before .before .before .before .before .pre .1 .2))
+walk-step-requires t c κs = (c .before .before .before .before .loop .inv .0 .filed, word-node (c .before .before .before .before .loop .inv .0) (c .before .before .before .before .before .before .before .before .before .before .before .before .before .before .before .before .before .before .before .before .before .before .before .before .before .before .before .before .before .before .before .before .before .before .before .before .before .before .pre .1 .0 .desk) (c .before .before .before .loop-test .taken), node-low _ _ _ _ (c .before .before .before .before .before .before .before .before .before .before .before .before .before .before .before .before .before .before .before .before .before .before .before .before .before .before .before .before .before .before .before .before .before .before .before .before .before .before .pre .1 .0 .desk) _ (c .before .before .before .before .before .before .before .before .before .before .before .before .before .before .before .before .before .before .before .before .before .before .before .before .before .before .before .before .before .before .before .before .before .before .before .before .before .before .pre .1 .2))
 
 walk-enum-known-number : (t : ℕ) → walk-lts.Need-enum-known-number (
   visit-reads.Asked,
@@ -381,7 +381,7 @@ walk-same-length-12 : (t : ℕ) → walk-lts.Need-same-length-12 (
   walk-below t,
   walk.Post,
 ) (walk-at t) walk.Post walk-Inv-loop walk-μ-loop
-walk-same-length-12 t c = c .before .before .before .before .before .before .before .before .before .before .before .before .before .before .walk .ensures .0 .kept-spans ∙ c .before .before .before .before .before .before .before .before .before .before .before .before .before .before .before .before .before .before .before .before .before .before .before .before .before .before .before .before .step .ensures .kept-spans ∙ c .before .before .before .before .before .before .before .before .before .before .before .before .before .before .before .before .before .before .before .before .before .before .before .before .before .before .before .before .before .before .before .before .before .loop .inv .0 .long-spans ∙ c .before .before .before .before .before .before .before .before .before .before .before .before .before .before .before .before .before .before .before .before .before .before .before .before .before .before .before .before .before .before .before .before .before .before .before .before .before .before .before .before .before .before .before .before .before .before .before .before .before .visit .ensures .0 .kept-spans
+walk-same-length-12 t c = c .before .before .before .before .before .before .before .before .before .before .before .before .before .before .walk .ensures .0 .kept-chains ∙ c .before .before .before .before .before .before .before .before .before .before .before .before .before .before .before .before .before .before .before .before .before .before .before .before .before .before .before .before .step .ensures .kept-chains ∙ c .before .before .before .before .before .before .before .before .before .before .before .before .before .before .before .before .before .before .before .before .before .before .before .before .before .before .before .before .before .before .before .before .before .loop .inv .0 .long-chains ∙ c .before .before .before .before .before .before .before .before .before .before .before .before .before .before .before .before .before .before .before .before .before .before .before .before .before .before .before .before .before .before .before .before .before .before .before .before .before .before .before .before .before .before .before .before .before .before .before .before .before .visit .ensures .0 .kept-chains
 
 walk-returns-2 : (t : ℕ) → walk-lts.Need-returns-2 (
   visit-reads.Asked,

@@ -8,11 +8,11 @@ use Rattle.walk.proofs.link_imports.Statement.{statement}
 use Rattle.walk.proofs.link_imports.Tie as tie
 
 abbrev Inv-loop : tie.InvT-loop
-Inv-loop image ntab n marks store imports rows edges₀ spans₀ v count total₀ i₀ edges spans total i =
-    Naming image store imports rows (v .0) (rowsIn count edges₀) edges₀ spans₀ edges spans total i
+Inv-loop image ntab n marks store imports rows edges₀ chains₀ v count total₀ i₀ edges chains total i =
+    Naming image store imports rows (v .0) (rowsIn count edges₀) edges₀ chains₀ edges chains total i
 
 abbrev μ-loop : tie.MeasureT-loop
-μ-loop image ntab n marks store imports rows edges₀ spans₀ v count total₀ i₀ edges spans total i =
+μ-loop image ntab n marks store imports rows edges₀ chains₀ v count total₀ i₀ edges chains total i =
     rows - i
 
 loop-holds : tie.Need-loop-holds Inv-loop μ-loop

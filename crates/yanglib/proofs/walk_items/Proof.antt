@@ -8,11 +8,11 @@ use Rattle.yanglib.proofs.walk_items.Statement.{statement}
 use Rattle.yanglib.proofs.walk_items.Tie as tie
 
 abbrev Inv-loop : tie.InvT-loop
-Inv-loop image bundle btab texts ntab n marks table items store₀ imports₀ includes₀ levels₀ edges₀ spans₀ total₀ entry₀ v₀ i₀ store imports includes levels edges spans total entry v i =
-    Going image bundle n table items store₀ imports₀ includes₀ levels₀ edges₀ spans₀ store imports includes levels edges spans total entry (v .0) i
+Inv-loop image bundle btab texts ntab n marks table items store₀ imports₀ includes₀ levels₀ edges₀ chains₀ total₀ entry₀ v₀ i₀ store imports includes levels edges chains total entry v i =
+    Going image bundle n table items store₀ imports₀ includes₀ levels₀ edges₀ chains₀ store imports includes levels edges chains total entry (v .0) i
 
 abbrev μ-loop : tie.MeasureT-loop
-μ-loop image bundle btab texts ntab n marks table items store₀ imports₀ includes₀ levels₀ edges₀ spans₀ total₀ entry₀ v₀ i₀ store imports includes levels edges spans total entry v i =
+μ-loop image bundle btab texts ntab n marks table items store₀ imports₀ includes₀ levels₀ edges₀ chains₀ total₀ entry₀ v₀ i₀ store imports includes levels edges chains total entry v i =
     items - i
 
 loop-holds : tie.Need-loop-holds Inv-loop μ-loop
@@ -52,7 +52,7 @@ same-length-5 : tie.Need-same-length-5 Inv-loop μ-loop
 same-length-5 c = omega (arith, c .before .before .before .before .before .before .before .before .before .before .before .before .before .before .before .walk-item .ensures .0 .kept-edges, c .before .before .before .before .before .before .before .before .before .before .before .before .before .before .before .before .before .before .before .before .before .before .before .before .before .before .loop .inv .kept-edges)
 
 same-length-6 : tie.Need-same-length-6 Inv-loop μ-loop
-same-length-6 c = omega (arith, c .before .before .before .before .before .before .before .before .before .before .before .before .before .before .before .walk-item .ensures .0 .kept-spans, c .before .before .before .before .before .before .before .before .before .before .before .before .before .before .before .before .before .before .before .before .before .before .before .before .before .before .loop .inv .kept-spans)
+same-length-6 c = omega (arith, c .before .before .before .before .before .before .before .before .before .before .before .before .before .before .before .walk-item .ensures .0 .kept-chains, c .before .before .before .before .before .before .before .before .before .before .before .before .before .before .before .before .before .before .before .before .before .before .before .before .before .before .loop .inv .kept-chains)
 
 returns : tie.Need-returns Inv-loop μ-loop
 returns c = sent-out (c .before .before .before .before .before .before .before .before .before .before .before .before .before .before .before .before .before .before .before .before .before .before .before .before .before .before .loop .inv) (c .before .before .before .before .before .before .before .before .before .before .before .before .before .before .before .before .before .before .before .before .before .before .before .before .before .loop-test .taken) (c .before .before .before .before .before .before .before .before .before .before .before .before .before .before .before .before .before .before .before .before .before .before .before .before .get-item .ensures) (c .before .before .before .before .before .before .before .before .before .before .before .before .before .before .before .before .before .before .before .before .before .before .next-node .ensures .0) (c .before .before .before .before .before .before .before .before .before .before .before .before .before .before .before .before .before .before .before .before .before .before .next-node .ensures .1) (c .before .before .before .before .before .before .before .before .before .before .before .before .before .before .before .before .before .before .before .before .before .before .before .next-entry .ensures) (c .before .before .before .before .before .before .before .before .before .before .before .before .before .before .before .walk-item .ensures .0) (c .before .before .before .before .before .before .before .before .before .before .before .before .before .before .before .walk-item .ensures .1) (c .before .number .given .1)
