@@ -5,33 +5,110 @@
 
 #include "nuvaleta.h"
 
-static const char text[] = "module m {\n  import base { prefix b; revision-date 2024-05-01; }\n  include m-types;\n}\n";
-static const char page_expected[] = "Imports (1):\n  - base (prefix: b) @ 2024-05-01\n\nIncludes (1):\n  - m-types\n";
+/* A slice as a call takes it, of an array or of a string without its end. */
+#define LENT(array) (array), sizeof(array) / sizeof((array)[0])
+#define BYTES(string) (const uint8_t *)(string), sizeof(string) - 1
+#define NOTHING NULL, 0
 
-static uint8_t store[sizeof text], page[sizeof text + NUVALETA_PAGE_MORE];
-static uint32_t imports[NUVALETA_IMPORT_WORDS], includes[NUVALETA_INCLUDE_WORDS];
+#define POISON 0xa5
+
+static const char text[] = "module m {\n  import base { prefix b; revision-date 2024-05-01; }\n  include m-types;\n}\n";
+
+/* What is lent to be written, for all tests: a store for the longest text, an answer of the most words. */
+static struct {
+    uint8_t store[128], page[sizeof text - 1 + NUVALETA_PAGE_MORE];
+    uint32_t imports[NUVALETA_IMPORT_WORDS], includes[NUVALETA_INCLUDE_WORDS], nodes[NUVALETA_NODE_WORDS], edges[NUVALETA_EDGE_WORDS],
+        levels[NUVALETA_LEVEL_WORDS], order[8], record[NUVALETA_RECORD_WORDS], answer[NUVALETA_GRAPH_ANSWER];
+} lent;
 
 static int wrong(const char *what) {
     fprintf(stderr, "c: %s\n", what);
     return 1;
 }
 
-/* Name, parent, prefix, two revisions of which the second is newer; then a text without a name. */
-static int metadata(void) {
-    static const char module[] = "submodule s{belongs-to m{prefix p;} import a{prefix b;} revision 2020;revision 2021{}}";
-    static const uint32_t expected[NUVALETA_RECORD_WORDS] = {1, 0, 1, 0, 0, 0, 1, 2, 1, 1, 3, 4, 1, 1, 1, 1, 7, 4};
-    static uint8_t values[sizeof module];
-    uint32_t record[NUVALETA_RECORD_WORDS], answer[4];
+static int all_are(int byte, const void *at, size_t size) {
+    const unsigned char *bytes = at;
+    for (size_t i = 0; i < size; i++)
+        if (bytes[i] != byte)
+            return 0;
+    return 1;
+}
 
-    if (nuvaleta_metadata((const uint8_t *)module, sizeof module - 1, values, sizeof values, record, answer) != 0)
-        return wrong("metadata refused");
-    if (answer[0] != 0 || answer[1] != 0 || answer[2] != 0 || answer[3] != 11 || memcmp(values, "smb20202021", 12) != 0)
+/* So that what a call leaves is seen to be written by it. Comes before every call. */
+static void poison(void) { memset(&lent, POISON, sizeof lent); }
+
+/* Whether a call returned the answer's number and wrote just these words. */
+static int answered(uint32_t number, const uint32_t *expected, size_t words) {
+    return number == expected[0] && memcmp(lent.answer, expected, words * sizeof expected[0]) == 0 &&
+           all_are(POISON, lent.answer + words, sizeof lent.answer - words * sizeof expected[0]);
+}
+
+/* Whether an array of `lent` holds just these bytes and then zeros. */
+#define HOLDS(array, expected, size) \
+    (memcmp(lent.array, expected, size) == 0 && all_are(0, (const uint8_t *)lent.array + (size), sizeof lent.array - (size)))
+#define ZERO(array) HOLDS(array, "", 0)
+
+static uint32_t dependencies(const uint8_t *bytes, size_t length) {
+    poison();
+    return nuvaleta_dependencies(bytes, length, LENT(lent.store), LENT(lent.imports), LENT(lent.includes), lent.answer);
+}
+
+static int dependencies_read(void) {
+    static const uint32_t good[NUVALETA_DEPENDENCIES_ANSWER] = {0, 0, 0, 1, 1, 22};
+    static const uint32_t refused[NUVALETA_DEPENDENCIES_ANSWER] = {NUVALETA_OTHER_BYTE, NUVALETA_IMPORT, 9, 0, 0, 0};
+    static const uint32_t import[NUVALETA_IMPORT_ROW] = {0, 4, 4, 1, 1, 5, 10}, include[NUVALETA_INCLUDE_ROW] = {15, 7, 0, 0, 0};
+
+    if (!answered(dependencies(BYTES(text)), LENT(good)))
+        return wrong("another answer");
+    if (!HOLDS(store, "baseb2024-05-01m-types", 22) || !HOLDS(imports, import, sizeof import) || !HOLDS(includes, include, sizeof include))
+        return wrong("another row or value");
+    if (!answered(dependencies(BYTES("import a b")), LENT(refused)))
+        return wrong("another refusal");
+    if (!ZERO(store) || !ZERO(imports) || !ZERO(includes))
+        return wrong("a refusal left something");
+    return 0;
+}
+
+static uint32_t printed(size_t page_length) {
+    poison();
+    return nuvaleta_printed(BYTES(text), LENT(lent.store), LENT(lent.imports), LENT(lent.includes), lent.page, page_length, lent.answer);
+}
+
+static int page_printed(void) {
+    static const char page[] = "Imports (1):\n  - base (prefix: b) @ 2024-05-01\n\nIncludes (1):\n  - m-types\n";
+    static const uint32_t good[NUVALETA_PRINTED_ANSWER] = {0, 0, 0, 1, 1, 22, sizeof page - 1};
+    static const uint32_t refused[NUVALETA_PRINTED_ANSWER] = {NUVALETA_LENT_TOO_SHORT, 0, 0, 0, 0, 0, 0};
+    const size_t last = sizeof lent.page - 1;
+
+    if (!answered(printed(sizeof lent.page), LENT(good)))
+        return wrong("another answer with a page");
+    if (!HOLDS(page, page, sizeof page - 1))
+        return wrong("another page");
+    if (!answered(printed(last), LENT(refused)))
+        return wrong("a short page taken");
+    if (!ZERO(store) || !ZERO(imports) || !ZERO(includes) || !all_are(0, lent.page, last) || lent.page[last] != POISON)
+        return wrong("a short page not cleared, or more than it");
+    return 0;
+}
+
+static uint32_t metadata(const uint8_t *bytes, size_t length) {
+    poison();
+    return nuvaleta_metadata(bytes, length, LENT(lent.store), lent.record, lent.answer);
+}
+
+/* Name, parent, prefix, two revisions of which the second is newer; then a text without a name. */
+static int metadata_read(void) {
+    static const char module[] = "submodule s{belongs-to m{prefix p;} import a{prefix b;} revision 2020;revision 2021{}}";
+    static const uint32_t good[NUVALETA_METADATA_ANSWER] = {0, 0, 0, 11}, refused[NUVALETA_METADATA_ANSWER] = {NUVALETA_NO_NAME, 0, 9, 0};
+    static const uint32_t record[NUVALETA_RECORD_WORDS] = {1, 0, 1, 0, 0, 0, 1, 2, 1, 1, 3, 4, 1, 1, 1, 1, 7, 4};
+
+    if (!answered(metadata(BYTES(module)), LENT(good)))
         return wrong("another metadata answer");
-    if (memcmp(record, expected, sizeof expected) != 0)
+    if (!HOLDS(store, "smb20202021", 11) || !HOLDS(record, record, sizeof record))
         return wrong("another metadata record");
-    if (nuvaleta_metadata((const uint8_t *)"container x", 11, values, sizeof values, record, answer) != NUVALETA_NO_NAME || answer[1] != 0 || answer[2] != 9)
+    if (!answered(metadata(BYTES("container x")), LENT(refused)))
         return wrong("a text without a name taken");
-    if (values[0] != 0 || record[3 * NUVALETA_VALUE_NAME] != 0 || answer[3] != 0)
+    if (!ZERO(store) || !ZERO(record))
         return wrong("a refusal of metadata left something");
     return 0;
 }
@@ -42,7 +119,7 @@ struct look_up {
     const uint8_t *form;
     size_t length;
     uint8_t name;
-    uint32_t expected[5];
+    uint32_t expected[NUVALETA_FIND_ANSWER];
     const char *what;
 };
 
@@ -51,51 +128,56 @@ static int finds(void) {
     static const uint8_t image[] = {1, 1, 1, 'm', 1, 1, 's', 0, 0, 1, 1, 'i', 2, 1, 1, 't', 0};
     static const uint8_t bundle[] = {2, 1, 'm', 3, 'a', 'b', 'c', 1, 's', 0};
     static const struct look_up all[] = {
-        {nuvaleta_find_module, image, sizeof image, 'm', {0, 0, 1, 3, 0}, "another module"},
-        {nuvaleta_find_module, image, sizeof image, 's', {0, 0, 0, 0, 0}, "a module that is none"},
-        {nuvaleta_find_submodule, image, sizeof image, 's', {0, 0, 1, 6, 0}, "another submodule"},
-        {nuvaleta_find_submodule, image, sizeof image, 't', {0, 0, 0, 0, 0}, "a submodule of an import-only module"},
-        {nuvaleta_find_import_module, image, sizeof image, 'i', {0, 0, 1, 11, 2}, "another import-only module"},
+        {nuvaleta_find_module, LENT(image), 'm', {0, 0, 1, 3, 0}, "another module"},
+        {nuvaleta_find_module, LENT(image), 's', {0, 0, 0, 0, 0}, "a module that is none"},
+        {nuvaleta_find_submodule, LENT(image), 's', {0, 0, 1, 6, 0}, "another submodule"},
+        {nuvaleta_find_submodule, LENT(image), 't', {0, 0, 0, 0, 0}, "a submodule of an import-only module"},
+        {nuvaleta_find_import_module, LENT(image), 'i', {0, 0, 1, 11, 2}, "another import-only module"},
         {nuvaleta_find_module, image, sizeof image - 1, 'm', {NUVALETA_IMAGE_BROKEN, 16, 0, 0, 0}, "an image cut short taken"},
-        {nuvaleta_text, bundle, sizeof bundle, 'm', {0, 0, 1, 4, 3}, "another text"},
-        {nuvaleta_text, bundle, sizeof bundle, 's', {0, 0, 1, 10, 0}, "an empty text not found"},
-        {nuvaleta_text, bundle, sizeof bundle, 't', {0, 0, 0, 0, 0}, "a text that is not there"},
+        {nuvaleta_text, LENT(bundle), 'm', {0, 0, 1, 4, 3}, "another text"},
+        {nuvaleta_text, LENT(bundle), 's', {0, 0, 1, 10, 0}, "an empty text not found"},
+        {nuvaleta_text, LENT(bundle), 't', {0, 0, 0, 0, 0}, "a text that is not there"},
         {nuvaleta_text, bundle, 5, 'm', {NUVALETA_BUNDLE_BROKEN, 3, 0, 0, 0}, "a bundle cut short taken"},
     };
-    uint32_t answer[5];
 
     for (size_t i = 0; i < sizeof all / sizeof all[0]; i++) {
         const struct look_up *x = &all[i];
-        if (x->call(x->form, x->length, &x->name, 1, answer) != x->expected[0] || memcmp(answer, x->expected, sizeof answer) != 0)
+        poison();
+        if (!answered(x->call(x->form, x->length, &x->name, 1, lent.answer), LENT(x->expected)))
             return wrong(x->what);
     }
     return 0;
 }
 
+static uint32_t graph(const uint8_t *image, size_t image_length, const uint8_t *bundle, size_t bundle_length) {
+    poison();
+    return nuvaleta_graph(image, image_length, bundle, bundle_length, LENT(lent.nodes), LENT(lent.edges), LENT(lent.store), LENT(lent.imports),
+                          LENT(lent.includes), LENT(lent.levels), lent.answer);
+}
+
 /* Document 01's first example of a graph, with its order, and its second, which is refused. */
 static int graphs(void) {
     static const uint8_t image[] = {1, 2, 1, 'm', 1, 1, 's', 0, 0, 1, 'b', 0, 0, 0, 0};
-    static const char texts[] = "\3\1m\35include s;import b{prefix b;}\1s\23import b{prefix b;}\1b";
+    static const char texts[] = "\3\1m\35include s;import b{prefix b;}\1s\23import b{prefix b;}\1b\0";
     static const uint8_t twice[] = {2, 1, 1, 'm', 0, 0, 0, 0, 1, 1, 'm', 1, 1, 's', 0, 0, 0};
-    static const uint8_t included[] = {1, 1, 'm', 10, 'i', 'n', 'c', 'l', 'u', 'd', 'e', ' ', 's', ';'};
-    static const uint32_t expected_nodes[] = {3, 1, 6, 1, 10, 1}, expected_edges[] = {2, 0, 1, 0, 2, 1};
-    static uint32_t nodes[NUVALETA_NODE_WORDS], edges[NUVALETA_EDGE_WORDS], levels[NUVALETA_LEVEL_WORDS];
-    static const uint32_t expected_order[] = {2, 1, 0};
-    static uint8_t scratch[29];
-    uint32_t answer[8], order[3], ordered[2];
+    static const char included[] = "\1\1m\12include s;";
+    static const uint32_t good[NUVALETA_GRAPH_ANSWER] = {0, 0, 0, 0, 0, 0, 3, 3}, refused[NUVALETA_GRAPH_ANSWER] = {NUVALETA_NO_NODE, 1, 0, 0, 0, 0, 0, 0};
+    static const uint32_t nodes[] = {3, 1, 6, 1, 10, 1}, edges[] = {2, 0, 1, 0, 2, 1}, order[] = {2, 1, 0};
+    static uint32_t ordered[NUVALETA_ORDER_ANSWER];
 
-    if (nuvaleta_graph(image, sizeof image, (const uint8_t *)texts, sizeof texts, nodes, NUVALETA_NODE_WORDS, edges, NUVALETA_EDGE_WORDS, scratch, sizeof scratch,
-                       imports, NUVALETA_IMPORT_WORDS, includes, NUVALETA_INCLUDE_WORDS, levels, NUVALETA_LEVEL_WORDS, answer) != 0)
+    if (!answered(graph(LENT(image), BYTES(texts)), LENT(good)))
         return wrong("a graph refused");
-    if (answer[6] != 3 || answer[7] != 3 || memcmp(nodes, expected_nodes, sizeof expected_nodes) != 0 || memcmp(edges, expected_edges, sizeof expected_edges) != 0)
+    if (!HOLDS(nodes, nodes, sizeof nodes) || !HOLDS(edges, edges, sizeof edges))
         return wrong("another graph");
-    if (nuvaleta_order(nodes, NUVALETA_NODE_WORDS, answer[6], edges, NUVALETA_EDGE_WORDS, answer[7], order, 3, ordered) != 0 || ordered[1] != 3 ||
-        memcmp(order, expected_order, sizeof order) != 0)
+    if (!ZERO(store) || !ZERO(imports) || !ZERO(includes) || !ZERO(levels))
+        return wrong("a graph left scratch");
+    memset(ordered, POISON, sizeof ordered);
+    if (nuvaleta_order(LENT(lent.nodes), lent.answer[NUVALETA_GRAPH_NODES], LENT(lent.edges), lent.answer[NUVALETA_GRAPH_EDGES], LENT(lent.order), ordered) != 0 ||
+        ordered[NUVALETA_ORDER_NUMBER] != 0 || ordered[NUVALETA_ORDER_LENGTH] != 3 || !HOLDS(order, order, sizeof order))
         return wrong("another order of a graph");
-    if (nuvaleta_graph(twice, sizeof twice, included, sizeof included, nodes, NUVALETA_NODE_WORDS, edges, NUVALETA_EDGE_WORDS, scratch, sizeof scratch, imports,
-                       NUVALETA_IMPORT_WORDS, includes, NUVALETA_INCLUDE_WORDS, levels, NUVALETA_LEVEL_WORDS, answer) != NUVALETA_NO_NODE)
+    if (!answered(graph(LENT(twice), BYTES(included)), LENT(refused)))
         return wrong("a submodule that is no node taken");
-    if (answer[0] != NUVALETA_NO_NODE || answer[1] != 1 || answer[6] != 0 || nodes[0] != 0 || edges[0] != 0 || levels[0] != 0)
+    if (!ZERO(nodes) || !ZERO(edges) || !ZERO(store) || !ZERO(imports) || !ZERO(includes) || !ZERO(levels))
         return wrong("a refused graph left something");
     return 0;
 }
@@ -104,7 +186,7 @@ static int graphs(void) {
 struct ordering {
     const uint32_t *edges;
     size_t edge_words, edge_count, node_words, order_len;
-    uint32_t answer[2], order[5];
+    uint32_t answer[NUVALETA_ORDER_ANSWER], order[5];
     const char *what;
 };
 
@@ -112,13 +194,15 @@ struct ordering {
 struct checking {
     uint32_t list[5];
     size_t length;
-    uint32_t answer[2];
+    uint32_t answer[NUVALETA_CHECK_ANSWER];
     const char *what;
 };
 
 /* Node 3 before 1, 1 before 0 and 2; the same with 2 before 3, which closes a ring; a self-edge; an edge from a number that is no node. */
+static const uint32_t four[4 * NUVALETA_NODE_ROW];
+static const uint32_t line[] = {3, 1, 1, 0, 1, 2}, ring[] = {3, 1, 1, 0, 1, 2, 2, 3}, self[] = {0, 2, 2, 2}, out[] = {0, 1, 4, 0};
+
 static int orders(void) {
-    static const uint32_t nodes[8], line[] = {3, 1, 1, 0, 1, 2}, ring[] = {3, 1, 1, 0, 1, 2, 2, 3}, self[] = {0, 2, 2, 2}, out[] = {0, 1, 4, 0};
     static const struct ordering all[] = {
         {line, 6, 3, 8, 5, {0, 4}, {3, 1, 0, 2, 0}, "another order"},
         {line, 6, 3, 8, 4, {0, 4}, {3, 1, 0, 2}, "another order in just enough"},
@@ -131,7 +215,23 @@ static int orders(void) {
         {line, 6, 3, 7, 5, {NUVALETA_TABLES_UNFIT, 0}, {0}, "a short node table taken"},
         {out, 4, 2, 8, 3, {NUVALETA_TABLES_UNFIT, 0}, {0}, "an edge from a number that is no node taken"},
     };
-    static const struct checking lists[] = {
+
+    for (size_t i = 0; i < sizeof all / sizeof all[0]; i++) {
+        const struct ordering *x = &all[i];
+        const size_t size = x->order_len * sizeof lent.order[0];
+        poison();
+        if (!answered(nuvaleta_order(four, x->node_words, 4, x->edges, x->edge_words, x->edge_count, lent.order, x->order_len, lent.answer), LENT(x->answer)) ||
+            memcmp(lent.order, x->order, size) != 0)
+            return wrong(x->what);
+        if (!all_are(POISON, lent.order + x->order_len, sizeof lent.order - size))
+            return wrong("something written behind the order table");
+    }
+    return 0;
+}
+
+static int lists(void) {
+    static const uint32_t unfit[NUVALETA_CHECK_ANSWER] = {NUVALETA_TABLES_UNFIT, 0};
+    static const struct checking all[] = {
         {{3, 1, 0, 2}, 4, {0, 0}, "an order refused"},
         {{3, 1, 2, 0}, 4, {0, 0}, "another order refused"},
         {{3, 1, 2}, 3, {NUVALETA_LIST_WRONG, 3}, "a list that is too short taken"},
@@ -140,62 +240,98 @@ static int orders(void) {
         {{3, 1, 1, 0}, 4, {NUVALETA_LIST_WRONG, 2}, "a node taken twice"},
         {{3, 0, 1, 2}, 4, {NUVALETA_LIST_WRONG, 1}, "a broken edge taken"},
     };
-    uint32_t order[8], filled[8], answer[2];
 
-    memset(filled, 0xa5, sizeof filled);
     for (size_t i = 0; i < sizeof all / sizeof all[0]; i++) {
-        const struct ordering *x = &all[i];
-        const size_t lent = x->order_len * sizeof order[0];
-        memcpy(order, filled, sizeof order);
-        memcpy(answer, filled, sizeof answer);
-        if (nuvaleta_order(nodes, x->node_words, 4, x->edges, x->edge_words, x->edge_count, order, x->order_len, answer) != x->answer[0] ||
-            memcmp(answer, x->answer, sizeof answer) != 0 || memcmp(order, x->order, lent) != 0)
-            return wrong(x->what);
-        if (memcmp(order + x->order_len, filled, sizeof order - lent) != 0)
-            return wrong("something written behind the order table");
-    }
-    for (size_t i = 0; i < sizeof lists / sizeof lists[0]; i++) {
-        const struct checking *x = &lists[i];
-        memcpy(answer, filled, sizeof answer);
-        if (nuvaleta_order_check(nodes, 8, 4, line, 6, 3, x->list, x->length, answer) != x->answer[0] || memcmp(answer, x->answer, sizeof answer) != 0)
+        const struct checking *x = &all[i];
+        poison();
+        if (!answered(nuvaleta_order_check(LENT(four), 4, line, 6, 3, x->list, x->length, lent.answer), LENT(x->answer)))
             return wrong(x->what);
     }
-    memcpy(answer, filled, sizeof answer);
-    if (nuvaleta_order_check(nodes, 8, 4, out, 4, 2, lists[0].list, 4, answer) != NUVALETA_TABLES_UNFIT || answer[0] != NUVALETA_TABLES_UNFIT ||
-        answer[1] != 0)
+    poison();
+    if (!answered(nuvaleta_order_check(LENT(four), 4, out, 4, 2, all[0].list, 4, lent.answer), LENT(unfit)))
         return wrong("a list checked over an edge from a number that is no node");
     return 0;
 }
 
+/* Null pointers of length 0 in the place of all slices, then of those that may be empty in a good call. */
+static int nothing_scanned(void) {
+    static const uint32_t short_lent[NUVALETA_PRINTED_ANSWER] = {NUVALETA_LENT_TOO_SHORT}, good[NUVALETA_DEPENDENCIES_ANSWER] = {0};
+    static const uint32_t nameless[NUVALETA_METADATA_ANSWER] = {NUVALETA_NO_NAME};
+
+    poison();
+    if (!answered(nuvaleta_dependencies(NOTHING, NOTHING, NOTHING, NOTHING, lent.answer), short_lent, NUVALETA_DEPENDENCIES_ANSWER))
+        return wrong("no tables taken");
+    poison();
+    if (!answered(nuvaleta_dependencies(NOTHING, NOTHING, LENT(lent.imports), LENT(lent.includes), lent.answer), LENT(good)) || !ZERO(imports) || !ZERO(includes))
+        return wrong("a text of nothing refused");
+    poison();
+    if (!answered(nuvaleta_printed(NOTHING, NOTHING, NOTHING, NOTHING, NOTHING, lent.answer), LENT(short_lent)))
+        return wrong("no page taken");
+    poison();
+    if (nuvaleta_printed(NOTHING, NOTHING, LENT(lent.imports), LENT(lent.includes), LENT(lent.page), lent.answer) != 0 ||
+        memchr(lent.page, 0, sizeof lent.page) != lent.page + lent.answer[NUVALETA_PRINTED_LENGTH])
+        return wrong("a page of nothing refused");
+    poison();
+    if (!answered(nuvaleta_metadata(NOTHING, NOTHING, lent.record, lent.answer), LENT(nameless)) || !ZERO(record))
+        return wrong("another refusal of metadata of nothing");
+    return 0;
+}
+
+static int nothing_found(void) {
+    static const uint8_t none[] = {0};
+    static const uint32_t not_found[NUVALETA_FIND_ANSWER] = {0};
+    static const struct {
+        uint32_t (*call)(const uint8_t *, size_t, const uint8_t *, size_t, uint32_t *);
+        uint32_t broken[NUVALETA_FIND_ANSWER];
+    } all[] = {{nuvaleta_find_module, {NUVALETA_IMAGE_BROKEN}},
+               {nuvaleta_find_submodule, {NUVALETA_IMAGE_BROKEN}},
+               {nuvaleta_find_import_module, {NUVALETA_IMAGE_BROKEN}},
+               {nuvaleta_text, {NUVALETA_BUNDLE_BROKEN}}};
+
+    for (size_t i = 0; i < sizeof all / sizeof all[0]; i++) {
+        poison();
+        if (!answered(all[i].call(NOTHING, NOTHING, lent.answer), LENT(all[i].broken)))
+            return wrong("something found in nothing");
+        poison();
+        if (!answered(all[i].call(LENT(none), NOTHING, lent.answer), LENT(not_found)))
+            return wrong("nothing found somewhere");
+    }
+    return 0;
+}
+
+static int nothing_drawn(void) {
+    static const uint8_t none[] = {0};
+    static const uint32_t refused[][NUVALETA_GRAPH_ANSWER] = {{NUVALETA_IMAGE_BROKEN}, {NUVALETA_BUNDLE_BROKEN}, {NUVALETA_GRAPH_LENT_TOO_SHORT}};
+    static const uint32_t good[NUVALETA_GRAPH_ANSWER] = {0}, unfit[NUVALETA_ORDER_ANSWER] = {NUVALETA_TABLES_UNFIT};
+
+    for (size_t i = 0; i < 3; i++) {
+        poison();
+        if (!answered(nuvaleta_graph(i > 0 ? none : NULL, i > 0, i > 1 ? none : NULL, i > 1, NOTHING, NOTHING, NOTHING, NOTHING, NOTHING, NOTHING, lent.answer),
+                      LENT(refused[i])))
+            return wrong("a graph with nothing lent taken");
+    }
+    poison();
+    if (!answered(nuvaleta_graph(LENT(none), LENT(none), LENT(lent.nodes), LENT(lent.edges), NOTHING, LENT(lent.imports), LENT(lent.includes),
+                                 LENT(lent.levels), lent.answer),
+                  LENT(good)) ||
+        !ZERO(nodes) || !ZERO(edges) || !ZERO(imports) || !ZERO(includes) || !ZERO(levels))
+        return wrong("a graph of nothing refused");
+    for (size_t count = 0; count < 2; count++) {
+        const uint32_t *expected = count == 0 ? good : unfit;
+        poison();
+        if (!answered(nuvaleta_order(NOTHING, count, NOTHING, 0, NOTHING, lent.answer), expected, NUVALETA_ORDER_ANSWER))
+            return wrong("another order of nothing");
+        poison();
+        if (!answered(nuvaleta_order_check(NOTHING, count, NOTHING, 0, NOTHING, lent.answer), expected, NUVALETA_CHECK_ANSWER))
+            return wrong("another check of nothing");
+    }
+    return 0;
+}
+
 int main(void) {
-    const uint8_t *bytes = (const uint8_t *)text;
-    const size_t length = sizeof text - 1;
-    const uint32_t row[NUVALETA_IMPORT_ROW] = {0, 4, 4, 1, 1, 5, 10};
-    uint32_t answer[7];
-
-    if (nuvaleta_dependencies(bytes, length, store, sizeof store, imports, NUVALETA_IMPORT_WORDS, includes, NUVALETA_INCLUDE_WORDS, answer) != 0)
-        return wrong("refused");
-    if (answer[0] != 0 || answer[1] != 0 || answer[2] != 0 || answer[3] != 1 || answer[4] != 1 || answer[5] != 22)
-        return wrong("another answer");
-    if (memcmp(store, "baseb2024-05-01m-types", 23) != 0 || memcmp(imports, row, sizeof row) != 0)
-        return wrong("another row or value");
-
-    if (nuvaleta_printed(bytes, length, store, sizeof store, imports, NUVALETA_IMPORT_WORDS, includes, NUVALETA_INCLUDE_WORDS, page, sizeof page, answer) != 0)
-        return wrong("refused with a page");
-    if (answer[6] != sizeof page_expected - 1 || memcmp(page, page_expected, sizeof page_expected) != 0)
-        return wrong("another page");
-
-    if (nuvaleta_printed(bytes, length, store, sizeof store, imports, NUVALETA_IMPORT_WORDS, includes, NUVALETA_INCLUDE_WORDS, page,
-                         length + NUVALETA_PAGE_MORE - 1, answer) != NUVALETA_LENT_TOO_SHORT)
-        return wrong("a short page taken");
-    if (store[0] != 0 || imports[1] != 0 || page[0] != 0 || answer[6] != 0)
-        return wrong("a refusal left something");
-
-    if (nuvaleta_dependencies((const uint8_t *)"import a b", 10, store, sizeof store, imports, NUVALETA_IMPORT_WORDS, includes, NUVALETA_INCLUDE_WORDS,
-                              answer) != NUVALETA_OTHER_BYTE ||
-        answer[1] != NUVALETA_IMPORT || answer[2] != 9)
-        return wrong("another refusal");
-    if (metadata() != 0 || finds() != 0 || graphs() != 0 || orders() != 0)
+    if (dependencies_read() != 0 || page_printed() != 0 || metadata_read() != 0 || finds() != 0 || graphs() != 0 || orders() != 0 || lists() != 0)
+        return 1;
+    if (nothing_scanned() != 0 || nothing_found() != 0 || nothing_drawn() != 0)
         return 1;
     printf("c: a C program is answered as the header says\n");
     return 0;
