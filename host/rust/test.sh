@@ -2,34 +2,49 @@
 # test.sh: the crate's tests over the archive that host/archive has made, then the command: what it prints where, and its exit status.
 set -eu
 here=$(cd "$(dirname "$0")" && pwd)
-"$here/build.sh" test --test graph --test order
+root=$(cd "$here/../.." && pwd)
+"$here/../need" python3 # for pack
 work=$(mktemp -d)
 trap 'rm -rf "$work"' EXIT
 cd "$work"
+"$here/build.sh" test >tested 2>&1 || { cat tested >&2; exit 1; }
 
+nuvaleta=$root/nuvaleta
 fails=0
-# STATUS, then the words; the file `due` is to be printed on standard output at status 0, else on standard error, and nothing on the other.
+wrong() {
+    fails=$((fails + 1))
+    echo "rust: nuvaleta $1; on standard output:" && cat out && echo "on standard error:" && cat err
+}
+# STATUS, then the words; standard input is the file `in`. The file `due` is to be printed on standard output at status 0 and for a refusal as JSON, else
+# on standard error, and nothing on the other.
 expect() {
     wanted=$1
     shift
     status=0
-    "$here/../../nuvaleta" "$@" >out 2>err || status=$?
+    "$nuvaleta" "$@" <in >out 2>err || status=$?
     said=err silent=out
-    [ "$wanted" != 0 ] || { said=out && silent=err; }
-    if [ "$status" != "$wanted" ] || ! cmp -s "$said" due || [ -s "$silent" ]; then
-        fails=$((fails + 1))
-        echo "rust: nuvaleta $*: status $status, expected $wanted; on standard output:" && cat out && echo "on standard error:" && cat err
-    fi
+    case "$wanted $*" in 0* | 1*--json*) said=out silent=err ;; esac
+    [ "$status" = "$wanted" ] && cmp -s "$said" due && [ ! -s "$silent" ] || wrong "$*: status $status, expected $wanted"
 }
+due() {
+    # shellcheck disable=SC2059
+    printf "$@" >due
+}
+usage() { sed -n 1p "$here/src/help/$1.txt"; }
+: >in
 
 # The first graph of document 01, then with s closed too early.
 printf '\001\002\001m\001\001s\000\000\001b\000\000\000\000' >image
 printf '\003\001m\035include s;import b{prefix b;}\001s\023import b{prefix b;}\001b\000' >bundle
 printf '\003\001m\035include s;import b{prefix b;}\001s\013\nimport b{}\001b\000' >closed
-printf 'Nodes (3):\n  - m\n  - s\n  - b\n\nEdges (3):\n  - b before m\n  - s before m\n  - b before s\n' >due
+due 'Nodes (3):\n  - m\n  - s\n  - b\n\nEdges (3):\n  - b before m\n  - s before m\n  - b before s\n'
 expect 0 graph image bundle
-printf 'b\ns\nm\n' >due
+due 'b\ns\nm\n'
 expect 0 order image bundle
+due '{"nodes":["m","s","b"],"edges":[[2,0],[1,0],[2,1]]}\n'
+expect 0 graph image bundle --json
+due '{"order":["b","s","m"]}\n'
+expect 0 --json order image bundle
 cat >due <<'X1'
 refused 25: module m (set 1, entry 1): the text of s, line 2, column 11: an import is closed without prefix (scan refusal 7, byte 11)
     import b{}
@@ -37,8 +52,19 @@ refused 25: module m (set 1, entry 1): the text of s, line 2, column 11: an impo
 X1
 expect 1 graph image closed
 expect 1 order image closed
+words='module m (set 1, entry 1): the text of s, line 2, column 11: an import is closed without prefix (scan refusal 7, byte 11)'
+entry='"entry":1,"set":1,"import_only":false,"name":"m"'
+echo "{\"refused\":{\"number\":25,\"words\":\"$words\",$entry,\"scan\":7,\"keyword\":\"import\",\"position\":11,\"line\":2,\"column\":11,\"text\":\"s\"}}" >due
+expect 1 order image --json closed
+printf '\003\001m\012include z;\001s\000\001b\000' >unknown
+words='module m (set 1, entry 1): the text of m includes \"z\", which is no submodule of a module'
+echo "{\"refused\":{\"number\":27,\"words\":\"$words\",$entry,\"by\":\"include\",\"listed\":\"z\",\"text\":\"m\"}}" >due
+expect 1 graph image unknown --json
 echo 'refused 21: the bundle breaks its form at byte 0' >due
 expect 1 graph image /dev/null
+echo '{"refused":{"number":21,"words":"the bundle breaks its form at byte 0","place":0}}' >due
+expect 1 order image /dev/null --json
+
 # Two modules that import each other, and one that lists itself as a deviation.
 printf '\001\002\001m\000\000\000\001b\000\000\000\000' >pair
 printf '\002\001m\023import b{prefix b;}\001b\023import m{prefix m;}' >texts
@@ -49,6 +75,8 @@ refused 40: no order of registration: 2 schemas wait for each other in a ring
 in each line the second imports, includes, augments or deviates from the first: one of these has to go
 X1
 expect 1 order pair texts
+due '{"refused":{"number":40,"words":"no order of registration: 2 schemas wait for each other in a ring","ring":["m","b"]}}\n'
+expect 1 order pair texts --json
 printf '\001\001\001m\000\000\001\001m\000' >self
 printf '\001\001m\000' >empty
 cat >due <<'X1'
@@ -57,12 +85,182 @@ refused 40: no order of registration: a schema waits for itself
 in each line the second imports, includes, augments or deviates from the first: one of these has to go
 X1
 expect 1 order self empty
-echo 'nuvaleta: cannot read none' >due
+
+# One text, from a file with a blank in its path, another folder and standard input: as the proved programs print it.
+mkdir 'a b'
+for command in deps meta; do
+    cp "$root/crates/$command/stdin" 'a b/x y.yang'
+    cp "$root/crates/$command/stdin" in
+    cp "$root/crates/$command/stdout" due
+    expect 0 "$command" 'a b/x y.yang'
+    expect 0 "$command" "$work/a b/x y.yang"
+    expect 0 "$command" -
+    expect 0 "$command" -- -
+done
+due '{"name":"m-types","parent":"m","namespace":null,"prefix":"b","first_revision":"2023-11-02","newest_revision":"2024-05-01"}\n'
+expect 0 meta - --json
+cp "$root/crates/deps/stdin" in
+due '{"imports":[{"name":"base","prefix":"b","revision":"2024-05-01"}],"includes":[{"name":"m-types","revision":null}]}\n'
+expect 0 --json deps -
+printf 'include "\\"\\\\\\n\\t\001/\177";' >in
+due '{"imports":[],"includes":[{"name":"\\"\\\\\\n\\t\\u0001/\\u007f","revision":null}]}\n'
+expect 0 deps --json -
+due 'refused 9: standard input, line 1, column 23: no module or submodule with a name\n    include "\\"\\\\\\n\\t?/?";\n%26s^\n' ''
+expect 1 meta -
+printf 'module m {\n\timport b{}\n}\n' >early.yang
+due 'refused 7: early.yang, line 2, column 12: an import is closed without prefix\n     import b{}\n               ^\n'
+expect 1 deps early.yang
+due '{"refused":{"number":7,"words":"an import is closed without prefix","keyword":"import","position":22,"line":2,"column":12}}\n'
+expect 1 deps early.yang --json
+head -c 1048577 /dev/zero >long.yang
+due 'refused 1: long.yang: more than 1,048,576 bytes\n'
+expect 1 deps long.yang
+due '{"refused":{"number":1,"words":"more than 1,048,576 bytes"}}\n'
+expect 1 --json meta long.yang
+
+# Numbers explained. From here on mostly by the binary itself, as the script calls it.
+nuvaleta=$here/build/release/nuvaleta
+due 'scan refusal 7, of a text: an import is closed without prefix\nTo do: write `prefix NAME;` inside the braces of the import\n'
+expect 0 explain 7
+expect 0 explain 7 --keyword 0
+due 'scan refusal 7, at byte 22 of a text: an import is closed without prefix\nTo do: write `prefix NAME;` inside the braces of the import\n'
+expect 0 explain 7 --keyword 8 --at 22
+cat >due <<'X1'
+scan refusal 7, at byte 22 of a text: an import is closed without prefix
+early.yang, line 2, column 12:
+     import b{}
+               ^
+To do: write `prefix NAME;` inside the braces of the import
+X1
+expect 0 explain 7 --at 22 early.yang
+due 'scan refusal 8, of a text: the text ends inside the block of an include\nTo do: the text is cut off, or a } is missing: complete it\n'
+expect 0 explain 8 --keyword include
+expect 0 explain 8 --keyword 9
+words='"words":"no value after prefix"'
+advice='"advice":"write a name or a closed string behind the keyword. A keyword counts wherever it stands as a word of its own, also as the name of something else"'
+echo "{\"number\":4,$words,$advice,\"keyword\":\"prefix\",\"position\":23,\"line\":3,\"column\":1}" >due
+expect 0 explain --json 4 --keyword prefix --at 23 early.yang
+advice='make it anew by `nuvaleta pack`. The place is the start of the first wrong number or name, or the first byte too many'
+printf 'refusal 20: the image breaks its form at byte 9\nimage, from byte 1 on:\n    02 01 6d 01 01 73 00 00 01 62 00 00 00 00\n%28s^^\nTo do: %s\n' '' "$advice" >due
+expect 0 explain 20 --at 9 image
+echo "{\"number\":20,\"words\":\"the image breaks its form at byte 9\",\"advice\":\"$advice\",\"place\":9}" >due
+expect 0 explain --json 20 --at 9 image
+expect 0 explain --json 20 --at 9
+"$nuvaleta" explain 42 --at 3 | grep -q '^refusal 42: the list is wrong at place 3, counted from 0$' || wrong "explain 42 --at 3"
+for number in 0 1 2 3 4 5 6 7 8 9 10 20 21 22 23 24 25 26 27 28 29 30 31 40 41 42 43; do
+    "$nuvaleta" explain $number >out 2>err || wrong "explain $number"
+    sed -n 1p out | grep -q "refusal ${number}[:,] .\|^0: no refusal" && sed -n 2p out | grep -q '^To do: .' || wrong "explain $number"
+done
+for number in 11 19 32 39 44 4294967303 99999999999999999999; do
+    due "nuvaleta: no call answers $number: the numbers are 0 to 10, 20 to 31 and 40 to 43\n$(usage explain)\n"
+    expect 2 explain $number
+done
+
+# Help, from the command and, in a clone where nothing is built, from the script alone.
+mkdir -p fresh/host/rust/src
+cp -R "$here/src/help" fresh/host/rust/src/
+cp -R "$root/host/pack" fresh/host/
+cp "$root/nuvaleta" fresh/
+for nuvaleta in "$root/nuvaleta" "$here/build/release/nuvaleta" fresh/nuvaleta; do
+    for command in deps meta graph order explain; do
+        cp "$here/src/help/$command.txt" due
+        expect 0 "$command" --help
+        expect 0 help "$command"
+    done
+    cp "$here/src/help/nuvaleta.txt" due
+    expect 0 help
+    expect 0 --help
+    "$nuvaleta" pack --help >out 2>err && [ -s out ] && [ ! -s err ] || wrong "pack --help"
+done
+fresh/nuvaleta pack show image >out 2>err && grep -q 'module m' out || wrong "pack show"
+nuvaleta=$here/build/release/nuvaleta
+due "nuvaleta: packing is done by host/pack/pack, which the script nuvaleta of the repository calls\n$(usage pack)\n"
+expect 2 pack folder a b c
+ln -s "$root/nuvaleta" link
+./link --version >due
+expect 0 --version
+nuvaleta=./link
+due 'b\ns\nm\n'
+expect 0 order image bundle
+
+# What is not understood, or cannot be read or written.
+for nuvaleta in "$root/nuvaleta" "$here/build/release/nuvaleta"; do
+    due "$(usage nuvaleta)\n"
+    expect 2
+    expect 2 --json
+    expect 2 help order graph
+    expect 2 help pack graph
+    due 'nuvaleta: none: No such file or directory (os error 2)\n'
+    expect 2 deps none
+    for command in grph nuvaleta; do
+        due "nuvaleta: $command is no command\n$(usage nuvaleta)\n"
+        expect 2 "$command" image bundle
+        expect 2 help "$command"
+    done
+done
+due "nuvaleta: --jsn is no option\n$(usage nuvaleta)\n"
+expect 2 deps --jsn early.yang
+due "nuvaleta: deps has no --all\n$(usage deps)\n"
+expect 2 deps --all early.yang
+due "nuvaleta: --at needs a word behind it\n$(usage nuvaleta)\n"
+expect 2 explain 7 --at
+for number in seven '' +7 -; do
+    due "nuvaleta: $number is no number\n$(usage explain)\n"
+    expect 2 explain "$number"
+    expect 2 explain 7 --at "$number"
+done
+due "nuvaleta: no call answers the place 4294967296\n$(usage explain)\n"
+expect 2 explain 7 --at 4294967296
+due "nuvaleta: imports is no keyword's word or number\n$(usage explain)\n"
+expect 2 explain 4 --keyword imports
+due "nuvaleta: a FILE needs --at\n$(usage explain)\n"
+expect 2 explain 7 early.yang
+due "nuvaleta: 40 has no place\n$(usage explain)\n"
+expect 2 explain 40 --at 1 early.yang
+expect 2 explain 40 --at 1
+due "nuvaleta: the place of 42 is one in a list, not in a FILE\n$(usage explain)\n"
+expect 2 explain 42 --at 1 early.yang
+due "nuvaleta: keyword and place beside 25 are those of the scan's number: explain that one\n$(usage explain)\n"
+expect 2 explain 25 --at 1
+expect 2 explain 25 --keyword import
+for pair in '8 module' '10 revision' '23 import' '9 module' '4 yang-version' '5 belongs-to'; do
+    due "nuvaleta: ${pair% *} does not come with the keyword ${pair#* }\n$(usage explain)\n"
+    expect 2 explain "${pair% *}" --keyword "${pair#* }"
+done
+due 'nuvaleta: early.yang: there is no byte 26, it has 25\n'
+expect 2 explain 7 --at 26 early.yang
+for command in deps meta graph order explain; do
+    due "$(usage $command)\n"
+    expect 2 "$command"
+    expect 2 "$command" image bundle texts
+done
+due "$(usage order)\n"
+expect 2 order --into x image bundle
+expect 2 order --all image bundle
+due 'nuvaleta: none: No such file or directory (os error 2)\n'
 expect 2 graph image none
-printf 'usage: nuvaleta deps|meta FILE\n       nuvaleta graph|order IMAGE BUNDLE\n' >due
-expect 2 graph image
-expect 2 order image
-expect 2
-expect 2 deps image bundle
+expect 2 --json order none bundle
+due 'nuvaleta: standard output: No space left on device (os error 28)\n'
+status=0
+"$nuvaleta" order image bundle >/dev/full 2>err || status=$?
+[ "$status" = 2 ] && cmp -s err due || wrong "to a full device: status $status"
+{
+    sleep 0.1
+    status=0
+    "$nuvaleta" graph image bundle 2>err || status=$?
+    echo "$status" >status
+} | :
+[ "$(cat status)" = 0 ] && [ ! -s err ] || wrong "into a closed pipe"
+
+# The build script says so where the archive is missing, since what the linker says of it helps nobody.
+rustc --edition 2021 -o link_rs "$root/host/archive/link.rs"
+warnings() {
+    CARGO_MANIFEST_DIR="$work/fresh/host/rust" CARGO_CFG_TARGET_ARCH=x86_64 ./link_rs | grep -c '^cargo:warning=no archive yet: host/build makes it$'
+}
+[ "$(warnings)" = 1 ] || wrong "no warning without an archive"
+mkdir -p fresh/target/staticlib
+: >fresh/target/staticlib/libnuvaleta.a
+[ "$(warnings)" = 0 ] || wrong "a warning with an archive"
+
 [ "$fails" = 0 ] || exit 1
-echo "rust: the command prints and ends as it should"
+echo "rust: $(awk '/^test result: ok/ { n += $4 } END { print n }' tested) tests pass, the command prints and ends as it should"

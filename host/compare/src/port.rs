@@ -1,10 +1,7 @@
-//! The port, as include/nuvaleta.h declares it, behind safe functions.
+//! The port's calls, with buffers of any length that held something else.
 
-#[path = "../../rust/src/lengths.rs"]
-mod lengths;
-
-use lengths::{EDGE_WORDS, LEVEL_WORDS, NODE_WORDS};
-pub use lengths::{IMPORT_WORDS, INCLUDE_WORDS};
+use nuvaleta::raw::*;
+pub use nuvaleta::raw::{IMPORT_WORDS, INCLUDE_WORDS, PAGE_MORE};
 
 #[derive(Debug, PartialEq)]
 pub struct Scanned {
@@ -14,38 +11,6 @@ pub struct Scanned {
     pub imports: Vec<u32>,
     pub includes: Vec<u32>,
     pub page: Vec<u8>,
-}
-
-pub const PAGE_MORE: usize = 6_944;
-
-#[link(name = "nuvaleta", kind = "static")]
-unsafe extern "C" {
-    fn nuvaleta_dependencies(
-        text: *const u8, text_len: usize, store: *mut u8, store_len: usize, imports: *mut u32, imports_len: usize, includes: *mut u32,
-        includes_len: usize, answer: *mut u32,
-    ) -> u32;
-    fn nuvaleta_printed(
-        text: *const u8, text_len: usize, store: *mut u8, store_len: usize, imports: *mut u32, imports_len: usize, includes: *mut u32,
-        includes_len: usize, page: *mut u8, page_len: usize, answer: *mut u32,
-    ) -> u32;
-    fn nuvaleta_metadata(text: *const u8, text_len: usize, store: *mut u8, store_len: usize, record: *mut u32, answer: *mut u32) -> u32;
-    fn nuvaleta_find_module(image: *const u8, image_len: usize, name: *const u8, name_len: usize, answer: *mut u32) -> u32;
-    fn nuvaleta_find_submodule(image: *const u8, image_len: usize, name: *const u8, name_len: usize, answer: *mut u32) -> u32;
-    fn nuvaleta_find_import_module(image: *const u8, image_len: usize, name: *const u8, name_len: usize, answer: *mut u32) -> u32;
-    fn nuvaleta_graph(
-        image: *const u8, image_len: usize, bundle: *const u8, bundle_len: usize, nodes: *mut u32, nodes_len: usize, edges: *mut u32,
-        edges_len: usize, store: *mut u8, store_len: usize, imports: *mut u32, imports_len: usize, includes: *mut u32, includes_len: usize,
-        levels: *mut u32, levels_len: usize, answer: *mut u32,
-    ) -> u32;
-    fn nuvaleta_text(bundle: *const u8, bundle_len: usize, name: *const u8, name_len: usize, answer: *mut u32) -> u32;
-    fn nuvaleta_order(
-        nodes: *const u32, nodes_len: usize, node_count: usize, edges: *const u32, edges_len: usize, edge_count: usize, order: *mut u32,
-        order_len: usize, answer: *mut u32,
-    ) -> u32;
-    fn nuvaleta_order_check(
-        nodes: *const u32, nodes_len: usize, node_count: usize, edges: *const u32, edges_len: usize, edge_count: usize, list: *const u32,
-        list_len: usize, answer: *mut u32,
-    ) -> u32;
 }
 
 pub type LookUp = unsafe extern "C" fn(*const u8, usize, *const u8, usize, *mut u32) -> u32;
@@ -68,12 +33,12 @@ pub struct Described {
     pub answer: [u32; 4],
     pub store: Vec<u8>,
     /// Present, start, length of name, namespace, prefix, first revision, parent and newest revision.
-    pub record: [u32; 18],
+    pub record: [u32; RECORD_WORDS],
 }
 
 /// A store of the length given, filled with something that is not zero.
 pub fn lent_store(store: usize) -> Described {
-    Described { answer: [0xa5a5_a5a5; 4], store: vec![0xa5; store], record: [0xa5a5_a5a5; 18] }
+    Described { answer: [0xa5a5_a5a5; 4], store: vec![0xa5; store], record: [0xa5a5_a5a5; RECORD_WORDS] }
 }
 
 impl Described {

@@ -1,100 +1,55 @@
-//! Which YANG schema must be registered before which: the graph of a library image and a bundle of YANG texts, in the house form of document 01, and
-//! the order in which its nodes are registered.
+//! Which YANG schema must be registered before which. A library image says which modules, submodules and augmentations a router has, a bundle holds
+//! their texts, both in the form that the header describes, include/nuvaleta.h; `nuvaleta pack` makes them. This crate draws their graph and orders it,
+//! and scans single texts.
 //!
-//! The work is done by the proved code of crates/nuvaleta. What is here owns the buffers that it is lent, gives the answer names, and says a
-//! refusal in words. A graph uses about 350 KiB of the calling thread's stack.
+//! The work is done by the proved code of crates/nuvaleta. What is here owns the buffers that it is lent, gives the answers names, and says a refusal
+//! in words. No function panics, whatever the input. A graph uses less than [`raw::STACK_MOST`] (416 KiB) of the calling thread's stack, every other
+//! call less than 40 KiB. All but [`raw`], which is the header as it is, is without `unsafe`.
+//!
+//! ```
+//! // A module m with the submodule s, and b, which both of them import.
+//! let image = b"\x01\x02\x01m\x01\x01s\x00\x00\x01b\x00\x00\x00\x00";
+//! let bundle = b"\x03\x01m\x1dinclude s;import b{prefix b;}\x01s\x13import b{prefix b;}\x01b\x00";
+//! let graph = nuvaleta::graph(image, bundle)?;
+//! assert_eq!(graph.order()?.names, ["b", "s", "m"]);
+//! # Ok::<(), nuvaleta::Refusal>(())
+//! ```
+//!
+//! A refusal is an error that says what, where and in which text:
+//!
+//! ```
+//! let image = b"\x01\x01\x01m\x00\x00\x00\x00";
+//! let refusal = nuvaleta::graph(image, b"\x01\x01m\x0aimport b{}").unwrap_err();
+//! assert_eq!(refusal.number(), 25);
+//! let told = "module m (set 1, entry 1): the text of m, line 1, column 11: an import is closed without prefix (scan refusal 7, byte 10)";
+//! assert_eq!(refusal.words(), told);
+//! ```
 
-#![deny(unsafe_code)]
+#![deny(unsafe_code, missing_docs)]
 
+mod find;
 #[path = "../../vectors/src/form.rs"]
 #[allow(dead_code)] // a plain reader of the form, for the names and texts behind a refusal
 mod form;
-mod lengths;
+mod graph;
+mod meaning;
 mod order;
+pub mod raw;
 mod refusal;
+mod scan;
+mod scan_refusal;
 #[allow(unsafe_code)]
 mod sys;
 mod walk;
+mod words;
 
-use lengths::{EDGE_WORDS, IMPORT_WORDS, INCLUDE_WORDS, LEVEL_WORDS, NODE_WORDS};
+pub use find::{find_import_module, find_module, find_submodule, text, ImportModule};
+pub use graph::{graph, Buffers, Edge, Graph};
+pub use meaning::Meaning;
 pub use order::Order;
-pub use refusal::{By, Entry, Fault, Line, Listed, Refusal, ScanRefusal, Spot, Why};
-
-/// The longest image, in bytes.
-pub const IMAGE_MOST: usize = 65_536;
-/// The longest bundle, in bytes.
-pub const BUNDLE_MOST: usize = 16_777_216;
-/// The longest text that a bundle can hold; a scan takes half of it.
-const LENGTH_MOST: usize = 2_097_151;
-
-/// Nodes by name, and edges by the numbers of two nodes, each in order of adding.
-#[derive(Clone, Debug, PartialEq, Eq)]
-pub struct Graph<'a> {
-    pub nodes: Vec<&'a str>,
-    pub edges: Vec<Edge>,
-}
-
-/// `from` must be registered before `to`.
-#[derive(Clone, Copy, Debug, PartialEq, Eq)]
-pub struct Edge {
-    pub from: usize,
-    pub to: usize,
-}
-
-/// What a graph is lent, to be used for any number of graphs.
-pub struct Buffers {
-    nodes: Vec<u32>,
-    edges: Vec<u32>,
-    store: Vec<u8>,
-    imports: Vec<u32>,
-    includes: Vec<u32>,
-    levels: Vec<u32>,
-}
-
-impl Default for Buffers {
-    fn default() -> Self {
-        Buffers::new()
-    }
-}
-
-impl Buffers {
-    pub fn new() -> Buffers {
-        let [nodes, edges, imports, includes, levels] = [NODE_WORDS, EDGE_WORDS, IMPORT_WORDS, INCLUDE_WORDS, LEVEL_WORDS].map(|n| vec![0; n]);
-        Buffers { nodes, edges, store: Vec::new(), imports, includes, levels }
-    }
-
-    /// The graph of an image and a bundle, or why it is refused.
-    pub fn graph<'a>(&mut self, image: &'a [u8], bundle: &[u8]) -> Result<Graph<'a>, Refusal> {
-        // no text is longer than the bundle that holds it
-        self.store.resize(bundle.len().min(LENGTH_MOST), 0);
-        let answer = sys::graph(image, bundle, self);
-        if answer[0] != 0 {
-            return Err(refusal::told(answer, image, bundle, self));
-        }
-        let name = |row: &[u32]| std::str::from_utf8(&image[row[0] as usize..][..row[1] as usize]).expect("names are ASCII");
-        let edge = |row: &[u32]| Edge { from: row[0] as usize, to: row[1] as usize };
-        Ok(Graph {
-            nodes: self.nodes.chunks(2).take(answer[6] as usize).map(name).collect(),
-            edges: self.edges.chunks(2).take(answer[7] as usize).map(edge).collect(),
-        })
-    }
-}
-
-/// The graph with buffers of its own.
-pub fn graph<'a>(image: &'a [u8], bundle: &[u8]) -> Result<Graph<'a>, Refusal> {
-    Buffers::new().graph(image, bundle)
-}
-
-impl std::fmt::Display for Graph<'_> {
-    fn fmt(&self, f: &mut std::fmt::Formatter<'_>) -> std::fmt::Result {
-        writeln!(f, "Nodes ({}):", self.nodes.len())?;
-        for node in &self.nodes {
-            writeln!(f, "  - {node}")?;
-        }
-        writeln!(f, "\nEdges ({}):", self.edges.len())?;
-        for edge in &self.edges {
-            writeln!(f, "  - {} before {}", self.nodes[edge.from], self.nodes[edge.to])?;
-        }
-        Ok(())
-    }
-}
+pub use raw::{BUNDLE_MOST, IMAGE_MOST, TEXT_MOST};
+pub use refusal::{By, Entry, Fault, Listed, Refusal, Spot, Why};
+pub use scan::{dependencies, metadata, Dependencies, Import, Include, Metadata};
+pub use scan_refusal::{Keyword, Line, ScanFault, ScanRefusal};
+#[doc(hidden)] // for the command, which has no unsafe code
+pub use sys::is_terminal;

@@ -1,57 +1,180 @@
-//! nuvaleta graph IMAGE BUNDLE: prints the graph of a library image and a bundle, or on standard error why it is refused.
-//! nuvaleta order IMAGE BUNDLE: the names of its nodes in order of registration, one a line.
+//! nuvaleta, the command over the crate: src/help says what each of its commands does.
 //! Exit status 0, or 1 for a refusal, or 2 for words that are not understood and files that cannot be read.
 
-use std::ffi::{OsStr, OsString};
+#![deny(unsafe_code)]
+
+mod all;
+mod args;
+mod explain;
+mod io;
+mod json;
+
+use args::Args;
+use io::{print, read, read_text, say};
+use nuvaleta::{Refusal, ScanRefusal, Spot};
 use std::fmt::Display;
-use std::io::{self, Read, Write};
 use std::process::ExitCode;
 
-/// Says a line on standard error, which may be closed, and ends with this status.
-fn say(status: u8, line: impl Display) -> ExitCode {
-    let _ = writeln!(io::stderr(), "{line}");
-    ExitCode::from(status)
+/// What keeps a command from its work.
+pub enum Wrong {
+    /// Words that are not understood, and why, if that is not plain from the usage line.
+    Usage(String),
+    /// A file that cannot be read.
+    File(String),
 }
 
-/// A file, or so much of it that it is seen to be too long.
-fn read(file: &OsStr, most: usize) -> io::Result<Vec<u8>> {
-    let mut out = Vec::new();
-    std::fs::File::open(file)?.take(most as u64 + 1).read_to_end(&mut out)?;
-    Ok(out)
+type Ended = Result<ExitCode, Wrong>;
+
+struct Command {
+    name: &'static str,
+    /// The first line is the usage line.
+    help: &'static str,
+    options: &'static [&'static str],
+    run: fn(&Args) -> Ended,
 }
 
-fn read_both(image: &OsStr, bundle: &OsStr) -> Result<[Vec<u8>; 2], String> {
-    let one = |file: &OsStr, most| read(file, most).map_err(|e| format!("{}: {e}", file.to_string_lossy()));
-    Ok([one(image, nuvaleta::IMAGE_MOST)?, one(bundle, nuvaleta::BUNDLE_MOST)?])
+const HELP: &str = include_str!("help/nuvaleta.txt");
+
+const COMMANDS: [Command; 6] = [
+    Command { name: "deps", help: include_str!("help/deps.txt"), options: &["--json"], run: deps },
+    Command { name: "meta", help: include_str!("help/meta.txt"), options: &["--json"], run: meta },
+    Command { name: "graph", help: include_str!("help/graph.txt"), options: &["--json"], run: graph },
+    Command { name: "order", help: include_str!("help/order.txt"), options: &["--json", "--all", "--into"], run: order },
+    Command { name: "pack", help: include_str!("help/pack.txt"), options: &["--json"], run: pack },
+    Command { name: "explain", help: include_str!("help/explain.txt"), options: &["--json", "--keyword", "--at"], run: explain::run },
+];
+
+fn usage<T>() -> Result<T, Wrong> {
+    Err(Wrong::Usage(String::new()))
 }
 
-/// Prints; a reader that has seen enough is no fault.
-fn print(text: &str) -> ExitCode {
-    let mut out = io::stdout().lock();
-    match out.write_all(text.as_bytes()).and_then(|()| out.flush()) {
-        Err(e) if e.kind() != io::ErrorKind::BrokenPipe => say(2, format!("nuvaleta: {e}")),
-        _ => ExitCode::SUCCESS,
+// ---- answers
+
+/// Prints an answer, or says its refusal; with --json both are printed.
+fn end<R: Display>(args: &Args, told: Result<String, R>, refusal: impl Fn(&R) -> String) -> ExitCode {
+    match told {
+        Ok(text) => print(0, &text),
+        Err(why) if args.has("--json") => print(1, &format!("{{\"refused\":{}}}\n", refusal(&why))),
+        Err(why) => say(1, why),
     }
 }
 
-/// The graph of two files, or the order of its nodes.
-fn answer(ordered: bool, image: &OsStr, bundle: &OsStr) -> ExitCode {
-    let [image, bundle] = match read_both(image, bundle) {
-        Ok(both) => both,
-        Err(why) => return say(2, format!("nuvaleta: {why}")),
+/// An answer as it is printed, for a person or as JSON.
+fn shaped<T: Display>(args: &Args, answer: &T, json: impl Fn(&T) -> String) -> String {
+    if args.has("--json") { json(answer) + "\n" } else { answer.to_string() }
+}
+
+/// The refusal of a single text, said as a graph says that of one of its texts.
+struct Refused {
+    scan: ScanRefusal,
+    spot: Spot,
+}
+
+impl Display for Refused {
+    fn fmt(&self, f: &mut std::fmt::Formatter<'_>) -> std::fmt::Result {
+        write!(f, "refused {}: {}: {}", self.scan.number(), self.spot, self.scan.words())?;
+        self.spot.line.as_ref().map_or(Ok(()), |line| write!(f, "\n{line}"))
+    }
+}
+
+fn scanned<T: Display>(args: &Args, scan: fn(&[u8]) -> Result<T, ScanRefusal>, json: fn(&T) -> String) -> Ended {
+    let file = match args.words.as_slice() {
+        [file] => file,
+        _ => return usage(),
     };
-    let graph = nuvaleta::graph(&image, &bundle);
-    let text = if ordered { graph.and_then(|graph| graph.order()).map(|order| order.to_string()) } else { graph.map(|graph| graph.to_string()) };
-    match text {
-        Ok(text) => print(&text),
-        Err(refusal) => say(1, refusal),
+    let text = read_text(file, nuvaleta::TEXT_MOST).map_err(Wrong::File)?;
+    let refused = |scan: ScanRefusal| Refused { scan, spot: Spot { text: io::called(file), line: scan.line(&text).map(Box::new) } };
+    let told = scan(&text).map(|found| shaped(args, &found, json)).map_err(refused);
+    Ok(end(args, told, |refused| json::scan_refusal(&refused.scan, refused.spot.line.as_deref())))
+}
+
+fn deps(args: &Args) -> Ended {
+    scanned(args, nuvaleta::dependencies, json::dependencies)
+}
+
+fn meta(args: &Args) -> Ended {
+    scanned(args, nuvaleta::metadata, json::metadata)
+}
+
+/// What is made of the graph of two files.
+fn drawn(args: &Args, made: fn(&Args, nuvaleta::Graph) -> Result<String, Refusal>) -> Ended {
+    let (image, bundle) = match args.words.as_slice() {
+        [image, bundle] => (image, bundle),
+        _ => return usage(),
+    };
+    let image = read(image, nuvaleta::IMAGE_MOST).map_err(Wrong::File)?;
+    let bundle = read(bundle, nuvaleta::BUNDLE_MOST).map_err(Wrong::File)?;
+    let told = nuvaleta::graph(&image, &bundle).and_then(|graph| made(args, graph));
+    Ok(end(args, told, json::refusal))
+}
+
+fn graph(args: &Args) -> Ended {
+    drawn(args, |args, graph| Ok(shaped(args, &graph, json::graph)))
+}
+
+fn order(args: &Args) -> Ended {
+    match (args.has("--all"), args.value("--into"), args.words.as_slice()) {
+        (true, into, [folder]) => Ok(all::run(folder, into, args.has("--json"))),
+        (false, None, _) => drawn(args, |args, graph| Ok(shaped(args, &graph.order()?, json::order))),
+        _ => usage(),
+    }
+}
+
+fn pack(_: &Args) -> Ended {
+    Err(Wrong::Usage("packing is done by host/pack/pack, which the script nuvaleta of the repository calls".to_string()))
+}
+
+// ---- words
+
+/// The help of a command, or of all.
+fn help(words: &[std::ffi::OsString]) -> Ended {
+    match words {
+        [] => Ok(print(0, HELP)),
+        [name] => match COMMANDS.iter().find(|command| name == command.name) {
+            Some(command) => Ok(print(0, command.help)),
+            None => Err(Wrong::Usage(format!("{} is no command", name.to_string_lossy()))),
+        },
+        _ => usage(),
+    }
+}
+
+fn run(command: &Command, args: &Args) -> Ended {
+    match args.beside(command.options) {
+        _ if args.asks_help() => Ok(print(0, command.help)),
+        Some(option) => Err(Wrong::Usage(format!("{} has no {option}", command.name))),
+        None => (command.run)(args),
+    }
+}
+
+/// Says what is wrong, with the usage line if it is the words.
+fn wrong(why: Wrong, help: &str) -> ExitCode {
+    match why {
+        Wrong::File(why) => say(2, format!("nuvaleta: {why}")),
+        Wrong::Usage(why) => {
+            let why = if why.is_empty() { why } else { format!("nuvaleta: {why}\n") };
+            say(2, format!("{why}{}", help.lines().next().unwrap_or_default()))
+        }
     }
 }
 
 fn main() -> ExitCode {
-    let args: Vec<OsString> = std::env::args_os().skip(1).collect();
-    match args.as_slice() {
-        [word, image, bundle] if word == "graph" || word == "order" => answer(word == "order", image, bundle),
-        _ => say(2, "usage: nuvaleta graph|order IMAGE BUNDLE"),
+    let mut args = match Args::read(std::env::args_os().skip(1)) {
+        Ok(args) => args,
+        Err(why) => return wrong(Wrong::Usage(why), HELP),
+    };
+    if args.words.is_empty() {
+        return match () {
+            _ if args.asks_help() => print(0, HELP),
+            _ if args.has("--version") => print(0, concat!("nuvaleta ", env!("CARGO_PKG_VERSION"), "\n")),
+            _ => wrong(Wrong::Usage(String::new()), HELP),
+        };
+    }
+    let word = args.words.remove(0);
+    if word == "help" {
+        return help(&args.words).unwrap_or_else(|why| wrong(why, HELP));
+    }
+    match COMMANDS.iter().find(|command| word == command.name) {
+        Some(command) => run(command, &args).unwrap_or_else(|why| wrong(why, command.help)),
+        None => wrong(Wrong::Usage(format!("{} is no command", word.to_string_lossy())), HELP),
     }
 }

@@ -1,5 +1,6 @@
 //! The order in which the nodes of a graph are registered, and the check of a list of them.
 
+use crate::raw::NODE_ROW;
 use crate::refusal::{Fault, Refusal};
 use crate::{sys, Edge, Graph};
 use std::fmt::{self, Display, Formatter};
@@ -9,6 +10,7 @@ use std::fmt::{self, Display, Formatter};
 pub struct Order<'a> {
     /// Their numbers in the graph.
     pub nodes: Vec<usize>,
+    /// Their names.
     pub names: Vec<&'a str>,
 }
 
@@ -18,10 +20,10 @@ fn word(number: usize) -> u32 {
 }
 
 impl<'a> Graph<'a> {
-    /// Two words a node, of which only the length is looked at, and two words an edge.
+    /// A row for each node, of which only the length is looked at, and one for each edge.
     fn tables(&self) -> [Vec<u32>; 2] {
         let edge = |edge: &Edge| [word(edge.from), word(edge.to)];
-        [vec![0; 2 * self.nodes.len()], self.edges.iter().flat_map(edge).collect()]
+        [vec![0; NODE_ROW * self.nodes.len()], self.edges.iter().flat_map(edge).collect()]
     }
 
     /// Each node behind all that have an edge to it, always the lowest number that is free; or the ring that stands in the way.

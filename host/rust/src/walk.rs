@@ -4,8 +4,9 @@
 //! A text that was gone through without one is not gone through again. That keeps the order, and ends where includes go in a circle.
 
 use crate::form::{self, Set};
-use crate::refusal::{By, Full, Line, Listed, ScanRefusal, Spot, Why};
-use crate::{sys, Buffers};
+use crate::raw::{IMPORT_ROW, INCLUDE_ROW};
+use crate::refusal::{By, Full, Listed, Spot, Why};
+use crate::{sys, Buffers, ScanRefusal};
 use std::collections::{HashMap, HashSet};
 
 struct Walk<'a> {
@@ -40,15 +41,13 @@ impl<'a> Walk<'a> {
     }
 
     fn scan(&mut self, text: &[u8]) -> Result<Dependencies, ScanRefusal> {
-        let answer = sys::dependencies(text, self.buffers);
-        if answer[0] != 0 {
-            return Err(ScanRefusal { number: answer[0], keyword: answer[1], position: answer[2] as usize });
-        }
-        let store = &self.buffers.store;
+        let Buffers { store, imports, includes, .. } = &mut *self.buffers;
+        let answer = sys::dependencies(text, store, imports, includes);
+        ScanRefusal::of([answer[0], answer[1], answer[2]]).map_or(Ok(()), Err)?;
         let name = |row: &[u32]| String::from_utf8_lossy(&store[row[0] as usize..][..row[1] as usize]).into_owned();
         Ok([
-            self.buffers.imports.chunks(7).take(answer[3] as usize).map(name).collect(),
-            self.buffers.includes.chunks(5).take(answer[4] as usize).map(name).collect(),
+            imports.chunks(IMPORT_ROW).take(answer[3] as usize).map(name).collect(),
+            includes.chunks(INCLUDE_ROW).take(answer[4] as usize).map(name).collect(),
         ])
     }
 
@@ -66,8 +65,8 @@ impl<'a> Walk<'a> {
         let [imports, includes] = match self.scan(text) {
             Ok(both) => both,
             Err(scan) => {
-                let line = scan.has_place().then(|| Line::at(text, scan.position));
-                return Some(Why::Scan { scan, spot: Some(Spot { text: name.to_string(), line }) });
+                let spot = Spot { text: name.to_string(), line: scan.line(text).map(Box::new) };
+                return Some(Why::Scan { scan, spot: Some(spot) });
             }
         };
         let import = |other: &String| self.module(By::ImportIn(name.to_string()), other);

@@ -4,6 +4,7 @@ use nuvaleta::{graph, Edge, Graph, Refusal};
 use std::collections::HashSet;
 use vectors::libraries::{self, module, of, small, words};
 use vectors::rng::Rng;
+use vectors::routers;
 
 const NAMES: [&str; 8] = ["a", "b", "c", "d", "e", "f", "g", "h"];
 
@@ -128,4 +129,23 @@ fn generated() {
         seen[1] += 1;
     }
     assert!(seen.iter().all(|n| *n > 100), "{seen:?}");
+}
+
+/// A generated router has an order, and of each kind what such a library can have.
+#[test]
+fn generated_routers() {
+    for (modules, seed) in [(0, 1), (1, 2), (7, 3), (100, 4), (511, 5), (512, 6), (routers::MODULES_MOST, 7), (routers::MODULES_MOST, 8)] {
+        let library = routers::router(modules, seed);
+        let (image, bundle) = (library.image(), library.bundle());
+        let graph = graph(&image, &bundle).expect("a graph");
+        let order = graph.order().expect("an order");
+        assert!(order.nodes.len() >= modules && graph.check(&order.nodes) == Ok(()));
+        if modules >= 100 {
+            let all = || library.sets.iter().flat_map(|set| &set.modules);
+            assert!(all().any(|m| !m.submodules.is_empty()) && all().any(|m| !m.augmenting.is_empty()) && all().any(|m| !m.deviations.is_empty()));
+            assert!(library.sets.iter().any(|set| !set.import_only.is_empty()) && graph.edges.len() > 5 * modules);
+            assert_ne!(order.nodes, (0..order.nodes.len()).collect::<Vec<_>>());
+            assert!(bundle != routers::router(modules, seed + 100).bundle());
+        }
+    }
 }

@@ -1,0 +1,86 @@
+//! The graph of an image and a bundle, and the buffers that it is lent.
+
+use crate::raw::{EDGE_ROW, EDGE_WORDS, GRAPH_STORE, IMPORT_WORDS, INCLUDE_WORDS, LEVEL_WORDS, NODE_ROW, NODE_WORDS};
+use crate::{refusal, sys, Refusal};
+use std::fmt::{self, Display, Formatter};
+
+/// Nodes by name, and edges by the numbers of two nodes, each in order of adding. A program may also make one of its own names and edges, to have it
+/// ordered; then a number that is no node is refused with 43.
+#[derive(Clone, Debug, PartialEq, Eq)]
+pub struct Graph<'a> {
+    /// The names, each once. A node's number is its place here.
+    pub nodes: Vec<&'a str>,
+    /// Which must be registered before which.
+    pub edges: Vec<Edge>,
+}
+
+/// `from` must be registered before `to`; both are numbers of nodes.
+#[derive(Clone, Copy, Debug, PartialEq, Eq)]
+pub struct Edge {
+    /// The earlier one.
+    pub from: usize,
+    /// The later one.
+    pub to: usize,
+}
+
+/// What a graph is lent, to be used for any number of graphs.
+#[derive(Clone, Debug)]
+pub struct Buffers {
+    pub(crate) nodes: Vec<u32>,
+    pub(crate) edges: Vec<u32>,
+    pub(crate) store: Vec<u8>,
+    pub(crate) imports: Vec<u32>,
+    pub(crate) includes: Vec<u32>,
+    pub(crate) levels: Vec<u32>,
+}
+
+impl Default for Buffers {
+    fn default() -> Self {
+        Buffers::new()
+    }
+}
+
+impl Buffers {
+    /// About 100 KB; a graph makes it grow by up to 2 MiB for the longest text.
+    pub fn new() -> Buffers {
+        let [nodes, edges, imports, includes, levels] = [NODE_WORDS, EDGE_WORDS, IMPORT_WORDS, INCLUDE_WORDS, LEVEL_WORDS].map(|n| vec![0; n]);
+        Buffers { nodes, edges, store: Vec::new(), imports, includes, levels }
+    }
+
+    /// The graph of an image and a bundle, or why it is refused.
+    pub fn graph<'a>(&mut self, image: &'a [u8], bundle: &[u8]) -> Result<Graph<'a>, Refusal> {
+        // no text is longer than the bundle that holds it
+        self.store.resize(bundle.len().min(GRAPH_STORE), 0);
+        let answer = sys::graph(image, bundle, self);
+        if answer[0] != 0 {
+            return Err(refusal::told(answer, image, bundle, self));
+        }
+        let name = |row: &[u32]| std::str::from_utf8(&image[row[0] as usize..][..row[1] as usize]).expect("names are ASCII");
+        let edge = |row: &[u32]| Edge { from: row[0] as usize, to: row[1] as usize };
+        Ok(Graph {
+            nodes: self.nodes.chunks(NODE_ROW).take(answer[6] as usize).map(name).collect(),
+            edges: self.edges.chunks(EDGE_ROW).take(answer[7] as usize).map(edge).collect(),
+        })
+    }
+}
+
+/// The graph of an image and a bundle, or why it is refused, with buffers of its own.
+///
+/// A call ends, but how long it takes is not bounded in practice: a text that is included again is walked again, so nine small texts, each of which
+/// includes the next one many times, keep it longer than anyone waits. Texts that are not trusted are for a process that can be ended.
+pub fn graph<'a>(image: &'a [u8], bundle: &[u8]) -> Result<Graph<'a>, Refusal> {
+    Buffers::new().graph(image, bundle)
+}
+
+/// All nodes, then all edges by names, one a line.
+impl Display for Graph<'_> {
+    fn fmt(&self, f: &mut Formatter<'_>) -> fmt::Result {
+        let name = |node: usize| self.nodes.get(node).copied().unwrap_or("?");
+        writeln!(f, "Nodes ({}):", self.nodes.len())?;
+        for node in &self.nodes {
+            writeln!(f, "  - {node}")?;
+        }
+        writeln!(f, "\nEdges ({}):", self.edges.len())?;
+        self.edges.iter().try_for_each(|edge| writeln!(f, "  - {} before {}", name(edge.from), name(edge.to)))
+    }
+}

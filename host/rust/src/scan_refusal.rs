@@ -1,0 +1,211 @@
+//! Why a text is refused, and where that is as a person counts it.
+
+use crate::meaning::said;
+use std::fmt::{self, Display, Formatter};
+
+/// Why a text is refused. `Display` says it in words, with the number and the place.
+#[derive(Clone, Copy, Debug, PartialEq, Eq)]
+pub struct ScanRefusal {
+    /// What is wrong.
+    pub fault: ScanFault,
+    /// The keyword at which it came, if it is of interest.
+    pub keyword: Option<Keyword>,
+    /// A place in the text, counted in bytes from 0 on; the first two faults have none.
+    pub position: Option<usize>,
+}
+
+/// What is wrong with a text, under the header's number. `Display` says it in words.
+#[derive(Clone, Copy, Debug, PartialEq, Eq)]
+#[repr(u32)]
+pub enum ScanFault {
+    /// The text is over [`crate::TEXT_MOST`].
+    TextTooLong = 1,
+    /// Store, table or page too short. With this crate's functions it does not come.
+    LentTooShort = 2,
+    /// A byte of 128 or more: the first such place.
+    HighByte = 3,
+    /// No value after the keyword.
+    NoValue = 4,
+    /// Another byte than the one required after keyword and value.
+    OtherByte = 5,
+    /// The end instead of that byte.
+    EndOfText = 6,
+    /// An import closed without prefix.
+    NoPrefix = 7,
+    /// The end inside the block of an import or include.
+    OpenEnded = 8,
+    /// Metadata without a name.
+    NoName = 9,
+    /// A 257th import or include.
+    TooMany = 10,
+}
+
+/// A keyword that a refusal names, under the header's number.
+#[derive(Clone, Copy, Debug, PartialEq, Eq)]
+#[repr(u32)]
+#[allow(missing_docs)] // each is its word
+pub enum Keyword {
+    Module = 1,
+    Submodule = 2,
+    BelongsTo = 3,
+    Namespace = 4,
+    Prefix = 5,
+    YangVersion = 6,
+    Revision = 7,
+    Import = 8,
+    Include = 9,
+    RevisionDate = 10,
+}
+
+impl ScanFault {
+    /// All of them, in the order of their numbers.
+    pub const ALL: [ScanFault; 10] = [
+        ScanFault::TextTooLong,
+        ScanFault::LentTooShort,
+        ScanFault::HighByte,
+        ScanFault::NoValue,
+        ScanFault::OtherByte,
+        ScanFault::EndOfText,
+        ScanFault::NoPrefix,
+        ScanFault::OpenEnded,
+        ScanFault::NoName,
+        ScanFault::TooMany,
+    ];
+
+    /// The header's number, 1 to 10.
+    pub fn number(self) -> u32 {
+        self as u32
+    }
+}
+
+impl Display for ScanFault {
+    fn fmt(&self, f: &mut Formatter<'_>) -> fmt::Result {
+        f.pad(&said(self.number(), None))
+    }
+}
+
+impl Keyword {
+    /// All of them, in the order of their numbers.
+    pub const ALL: [Keyword; 10] = [
+        Keyword::Module,
+        Keyword::Submodule,
+        Keyword::BelongsTo,
+        Keyword::Namespace,
+        Keyword::Prefix,
+        Keyword::YangVersion,
+        Keyword::Revision,
+        Keyword::Import,
+        Keyword::Include,
+        Keyword::RevisionDate,
+    ];
+
+    /// The header's number, 1 to 10.
+    pub fn number(self) -> u32 {
+        self as u32
+    }
+
+    /// The keyword as it is written in a text.
+    pub fn word(self) -> &'static str {
+        match self {
+            Keyword::Module => "module",
+            Keyword::Submodule => "submodule",
+            Keyword::BelongsTo => "belongs-to",
+            Keyword::Namespace => "namespace",
+            Keyword::Prefix => "prefix",
+            Keyword::YangVersion => "yang-version",
+            Keyword::Revision => "revision",
+            Keyword::Import => "import",
+            Keyword::Include => "include",
+            Keyword::RevisionDate => "revision-date",
+        }
+    }
+}
+
+impl Display for Keyword {
+    fn fmt(&self, f: &mut Formatter<'_>) -> fmt::Result {
+        f.pad(self.word())
+    }
+}
+
+impl ScanRefusal {
+    /// What the number, keyword and position of a scan's answer say; none for a good scan.
+    pub(crate) fn of([number, keyword, position]: [u32; 3]) -> Option<ScanRefusal> {
+        if number == 0 {
+            return None;
+        }
+        let fault = ScanFault::ALL.into_iter().find(|fault| fault.number() == number);
+        let fault = fault.unwrap_or_else(|| panic!("the archive answers {number} to a scan, which the header does not have"));
+        let keyword = Keyword::ALL.into_iter().find(|word| word.number() == keyword);
+        Some(ScanRefusal { fault, keyword, position: (number > 2).then_some(position as usize) })
+    }
+
+    /// The header's number, 1 to 10.
+    pub fn number(&self) -> u32 {
+        self.fault.number()
+    }
+
+    /// What is wrong, without number and place.
+    pub fn words(&self) -> String {
+        said(self.number(), self.keyword.map(Keyword::word))
+    }
+
+    /// Where it is in the text that was scanned.
+    pub fn line(&self, text: &[u8]) -> Option<Line> {
+        self.position.map(|position| Line::at(text, position))
+    }
+}
+
+impl std::error::Error for ScanRefusal {}
+
+impl Display for ScanRefusal {
+    fn fmt(&self, f: &mut Formatter<'_>) -> fmt::Result {
+        write!(f, "{} (scan refusal {}", self.words(), self.number())?;
+        if let Some(position) = self.position {
+            write!(f, ", byte {position}")?;
+        }
+        write!(f, ")")
+    }
+}
+
+/// A place in a text as a person counts it, lines and columns (of bytes) from 1 on. `Display` is the line with a mark below the place.
+#[derive(Clone, Debug, PartialEq, Eq)]
+pub struct Line {
+    /// The line's number.
+    pub number: usize,
+    /// The column.
+    pub column: usize,
+    /// So much of the line as is printed.
+    pub part: String,
+    /// Where in that part the place is.
+    pub at: usize,
+}
+
+/// How many bytes of a line are printed, and how many of them at most before the place.
+const PART: usize = 72;
+const BEFORE: usize = 56;
+
+impl Line {
+    /// The line of a place, which may be the text's end; one behind it counts as the end.
+    pub fn at(text: &[u8], place: usize) -> Line {
+        let (before, behind) = text.split_at(place.min(text.len()));
+        let start = before.iter().rposition(|b| *b == b'\n').map_or(0, |i| i + 1);
+        let end = behind.iter().position(|b| *b == b'\n').map_or(text.len(), |i| before.len() + i);
+        let from = start.max(before.len().saturating_sub(BEFORE));
+        let part = text[from..end.min(from + PART)].iter().map(|b| printed(*b)).collect::<String>().trim_end().to_string();
+        Line { number: 1 + before.iter().filter(|b| **b == b'\n').count(), column: before.len() - start + 1, part, at: before.len() - from }
+    }
+}
+
+fn printed(byte: u8) -> char {
+    match byte {
+        9..=13 => ' ',
+        32..=126 => byte as char,
+        _ => '?',
+    }
+}
+
+impl Display for Line {
+    fn fmt(&self, f: &mut Formatter<'_>) -> fmt::Result {
+        write!(f, "    {}\n    {}^", self.part, " ".repeat(self.at))
+    }
+}

@@ -1,0 +1,176 @@
+//! Both scans through the crate: document 01's examples, every refusal in words, lines and columns.
+
+use nuvaleta::{dependencies, metadata, Dependencies, Keyword, Line, Meaning, Metadata, ScanFault, ScanRefusal};
+use vectors::rng::Rng;
+use vectors::texts;
+
+fn found(text: &str) -> Dependencies {
+    dependencies(text.as_bytes()).expect("a good scan")
+}
+
+fn about(text: &str) -> Metadata {
+    metadata(text.as_bytes()).expect("a good scan")
+}
+
+fn refused(fault: ScanFault, keyword: Option<Keyword>, position: usize) -> ScanRefusal {
+    ScanRefusal { fault, keyword, position: Some(position) }
+}
+
+// ---- document 01's examples
+
+#[test]
+fn dependency_examples() {
+    assert_eq!(found("").to_string(), "Imports (0):\n\nIncludes (0):\n");
+    assert_eq!(found("").imports().len() + found("").includes().len(), 0);
+    assert_eq!(dependencies(b"import a{}"), Err(refused(ScanFault::NoPrefix, Some(Keyword::Import), 10)));
+    assert_eq!(dependencies(b"module import {}"), Err(refused(ScanFault::NoValue, Some(Keyword::Import), 14)));
+    assert_eq!(dependencies(b"import \"a\"+\"b"), Err(refused(ScanFault::EndOfText, Some(Keyword::Import), 13)));
+}
+
+#[test]
+fn the_program_s_example() {
+    let text = include_str!("../../../crates/deps/stdin");
+    let found = found(text);
+    assert_eq!(found.to_string(), include_str!("../../../crates/deps/stdout"));
+    let imports: Vec<_> = found.imports().map(|i| (i.name, i.prefix, i.revision)).collect();
+    assert_eq!(imports, [("base", "b", Some("2024-05-01"))]);
+    assert_eq!(found.includes().map(|i| (i.name, i.revision)).collect::<Vec<_>>(), [("m-types", None)]);
+}
+
+#[test]
+fn metadata_examples() {
+    assert_eq!(metadata(b""), Err(refused(ScanFault::NoName, None, 0)));
+    assert_eq!(about("module import {}").name(), "import");
+    let about = about("submodule s{belongs-to m{prefix p;} import a{prefix b;}}");
+    assert_eq!([Some(about.name()), about.parent(), about.prefix()], [Some("s"), Some("m"), Some("b")]);
+    assert_eq!([about.namespace(), about.first_revision(), about.newest_revision()], [None; 3]);
+    assert_eq!(about.to_string(), "name: s\nbelongs to: m\nprefix: b\n");
+}
+
+#[test]
+fn the_other_program_s_example() {
+    let about = about(include_str!("../../../crates/meta/stdin"));
+    assert_eq!(about.to_string(), include_str!("../../../crates/meta/stdout"));
+    assert_eq!([about.first_revision(), about.newest_revision()], [Some("2023-11-02"), Some("2024-05-01")]);
+}
+
+#[test]
+fn values() {
+    let all = about("module '' { namespace \"urn:\\\"x\\\"\"; prefix 'a b'; revision 2; revision 1; }");
+    assert_eq!([Some(all.name()), all.namespace(), all.prefix()], [Some(""), Some("urn:\"x\""), Some("a b")]);
+    assert_eq!(all.to_string(), "name: \nnamespace: urn:\"x\"\nprefix: a b\nfirst revision: 2\nnewest revision: 2\n");
+    let both = found("include 'a'+\"\\n\" {revision-date '';} include b;");
+    assert_eq!(both.includes().map(|i| (i.name, i.revision)).collect::<Vec<_>>(), [("a\n", Some("")), ("b", None)]);
+}
+
+// ---- refusals
+
+/// Every refusal that a scan of the crate can give, with its keywords. 2 cannot: the crate lends enough.
+#[test]
+fn in_words() {
+    let deps = |text: &[u8]| dependencies(text).expect_err("a refusal").to_string();
+    let meta = |text: &[u8]| metadata(text).expect_err("a refusal").to_string();
+    let long = vec![b' '; nuvaleta::TEXT_MOST + 1];
+    assert_eq!([deps(&long), meta(&long)], ["more than 1,048,576 bytes (scan refusal 1)"; 2]);
+    assert_eq!([deps(b"a \x80\xff"), meta(b"a \x80\xff")], ["a byte of 128 or more (scan refusal 3, byte 2)"; 2]);
+    assert_eq!(deps(b"include"), "no value after include (scan refusal 4, byte 7)");
+    assert_eq!(deps(b"import a{prefix ;"), "no value after prefix (scan refusal 4, byte 16)");
+    assert_eq!(deps(b"include a{revision-date ;"), "no value after revision-date (scan refusal 4, byte 24)");
+    assert_eq!(deps(b"include a}"), "another byte than the one required after include and its value (scan refusal 5, byte 9)");
+    assert_eq!(deps(b"include a"), "the text ends before the byte required after include and its value (scan refusal 6, byte 9)");
+    assert_eq!(deps(b"import a{}"), "an import is closed without prefix (scan refusal 7, byte 10)");
+    assert_eq!(deps(b"import a{"), "the text ends inside the block of an import (scan refusal 8, byte 9)");
+    assert_eq!(deps(b"include a{"), "the text ends inside the block of an include (scan refusal 8, byte 10)");
+    assert_eq!(meta(b"container c;"), "no module or submodule with a name (scan refusal 9, byte 9)");
+    let [imports, includes] = ["import a{prefix b;}", "include a;"].map(|one| one.repeat(257));
+    assert_eq!(deps(imports.as_bytes()), "a 257th import (scan refusal 10, byte 4870)");
+    assert_eq!(deps(includes.as_bytes()), "a 257th include (scan refusal 10, byte 2567)");
+    for (text, keyword) in [
+        ("module", Keyword::Module),
+        ("submodule", Keyword::Submodule),
+        ("belongs-to", Keyword::BelongsTo),
+        ("namespace", Keyword::Namespace),
+        ("prefix", Keyword::Prefix),
+        ("revision", Keyword::Revision),
+    ] {
+        assert_eq!(metadata(text.as_bytes()), Err(refused(ScanFault::NoValue, Some(keyword), text.len())));
+        assert_eq!(keyword.to_string(), text);
+    }
+    assert_eq!(meta(b"yang-version 1.1"), "the text ends before the byte required after yang-version and its value (scan refusal 6, byte 16)");
+}
+
+#[test]
+fn numbers_and_meanings() {
+    assert!(ScanFault::ALL.iter().map(|fault| fault.number()).eq(1..=10));
+    assert!(Keyword::ALL.iter().map(|keyword| keyword.number()).eq(1..=10));
+    assert!((0..100).filter(|number| Meaning::of(*number).is_some()).eq((0..=10).chain(20..=31).chain(40..=43)));
+    for number in (0..=10).chain(20..=31).chain(40..=43) {
+        let meaning = Meaning::of(number).expect("a meaning");
+        assert!(!meaning.words().is_empty() && !meaning.words().contains("{}") && !meaning.advice.is_empty(), "{meaning:?}");
+    }
+    let general = ScanRefusal { fault: ScanFault::LentTooShort, keyword: None, position: None };
+    assert_eq!(general.to_string(), "store or table too short (scan refusal 2)");
+    let error: Box<dyn std::error::Error> = Box::new(general);
+    assert!(error.source().is_none());
+}
+
+#[test]
+fn faults_in_words() {
+    for fault in ScanFault::ALL {
+        assert_eq!(Some(fault.to_string()), Meaning::of(fault.number()).map(Meaning::words));
+    }
+    assert_eq!(ScanFault::NoValue.to_string(), "no value after the keyword");
+}
+
+#[test]
+fn lines() {
+    let text = b"module m {\n  import a {\n\tprefix\n}\n";
+    let line = dependencies(text).expect_err("a refusal").line(text).expect("a place");
+    assert_eq!((line.number, line.column, line.part.as_str(), line.at), (4, 1, "}", 0));
+    assert_eq!(line.to_string(), "    }\n    ^");
+    let line = Line::at(b"a\n\x01\xff\tb", 99);
+    assert_eq!((line.number, line.column, line.to_string().as_str()), (2, 5, "    ?? b\n        ^"));
+    let long = ScanRefusal { fault: ScanFault::TextTooLong, keyword: None, position: None };
+    assert_eq!(long.line(b""), None);
+}
+
+// ---- generated texts
+
+/// The printed form, made once more of the items.
+fn printed(found: &Dependencies) -> String {
+    let at = |revision: Option<&str>| revision.map_or(String::new(), |revision| format!(" @ {revision}"));
+    let imports: String = found.imports().map(|i| format!("  - {} (prefix: {}){}\n", i.name, i.prefix, at(i.revision))).collect();
+    let includes: String = found.includes().map(|i| format!("  - {}{}\n", i.name, at(i.revision))).collect();
+    format!("Imports ({}):\n{imports}\nIncludes ({}):\n{includes}", found.imports().len(), found.includes().len())
+}
+
+/// Items and page agree, a refusal has a place inside its text, and the newest revision is not below the first.
+#[test]
+fn generated() {
+    let mut r = Rng::new(41);
+    let mut seen = [0; 4];
+    for _ in 0..10_000 {
+        let text = texts::any(&mut r);
+        let place = |refusal: ScanRefusal| assert!(refusal.position.expect("a place") <= text.len() && refusal.line(text.as_bytes()).is_some());
+        match dependencies(text.as_bytes()) {
+            Ok(found) => assert_eq!(found.to_string(), printed(&found), "{text:?}"),
+            Err(refusal) => {
+                seen[0] += 1;
+                place(refusal);
+            }
+        }
+        match metadata(text.as_bytes()) {
+            Ok(about) => {
+                seen[1] += 1;
+                seen[2] += usize::from(about.newest_revision() > about.first_revision());
+                assert!(about.first_revision() <= about.newest_revision(), "{text:?}");
+                assert!(about.to_string().starts_with(&format!("name: {}\n", about.name())));
+            }
+            Err(refusal) => {
+                seen[3] += 1;
+                place(refusal);
+            }
+        }
+    }
+    assert!(seen.iter().all(|n| *n > 50), "{seen:?}");
+}
