@@ -31,6 +31,10 @@ class Refused(Exception):
     """What cannot be packed, said for a person."""
 
 
+class Unusable(Exception):
+    """A file or folder that cannot be read or written, said for a person."""
+
+
 class Wrong(Exception):
     """An image or bundle that breaks its form."""
 

@@ -9,12 +9,13 @@ import xml.etree.ElementTree as ET
 from typing import NamedTuple
 
 import form
-from form import ImportOnly, Module, Refused, Set
+from form import ImportOnly, Module, Refused, Set, Unusable
 
 LIBRARY = "ietf-yang-library"
 XMLNS = "{urn:ietf:params:xml:ns:yang:" + LIBRARY + "}"
 SCANNED = 1_048_576  # the longest text that a scan takes
 DOCUMENT = 67_108_864  # the longest library document that is read
+BY_IMPORT = "such an edge is there only where an import gives it"
 
 
 class Packed(NamedTuple):
@@ -31,10 +32,10 @@ class Packed(NamedTuple):
 def yang_files(folder):
     """Every *.yang under the folder, in the order of their paths."""
     if not os.path.isdir(folder):
-        raise Refused(f"{folder}: no such folder")
+        raise Unusable(f"{folder}: no such folder")
 
     def fail(error):
-        raise Refused(f"{error.filename}: {error.strerror}")
+        raise Unusable(f"{error.filename}: {error.strerror}")
 
     found = []
     for at, folders, names in os.walk(folder, onerror=fail):
@@ -42,7 +43,7 @@ def yang_files(folder):
         found += [os.path.join(at, n) for n in names if n.endswith(".yang")]
     for path in found:
         if not os.path.isfile(path):
-            raise Refused(f"{path}: no file that can be read")
+            raise Unusable(f"{path}: no file that can be read")
     return sorted(found)
 
 
@@ -52,7 +53,7 @@ def read_file(path, most=form.TEXT):
         with open(path, "rb") as file:
             return file.read(most + 1)
     except OSError as error:
-        raise Refused(f"{path}: {error.strerror}") from None
+        raise Unusable(f"{path}: {error.strerror}") from None
 
 
 class Pile:
@@ -114,14 +115,21 @@ def begins(text):
     return None
 
 
-def from_folder(folder):
-    files, pile, modules, parents = {}, Pile(), {}, {}
+def files_by_name(folder):
+    files = {}
     for path in yang_files(folder):
         word = re.split(r"@|\.yang$", os.path.basename(path))[0]
         form.name(word, path)
         if word in files:
             raise Refused(f"{files[word]} and {path}: both are {word}; a bundle has one text under a name")
         files[word] = path
+    if not files:
+        raise Refused(f"no .yang file under {folder}")
+    return files
+
+
+def from_folder(folder):
+    files, pile, modules, parents = files_by_name(folder), Pile(), {}, {}
     for word in sorted(files):
         told = begins(pile.add(word, files[word]))
         if told is None:
@@ -138,6 +146,8 @@ def from_folder(folder):
             modules[parent].append(word)
         else:
             pile.warnings.append(f"{files[word]}: belongs to {parent}, which is no module of this folder; its text is packed, and no module lists it")
+    pile.warnings.append(f"{folder}: which modules augment or deviate from which cannot be told from texts alone: "
+                         f"those lists are empty, and {BY_IMPORT}")
     return Packed([Set([Module(word, own) for word, own in modules.items()])], [folder], pile.texts, pile.files, pile.warnings)
 
 
@@ -228,6 +238,8 @@ def xml_library(data):
         root = parser.close()
     except ET.ParseError as error:
         raise Refused(f"no XML: {error}") from None
+    except (LookupError, ValueError):
+        raise Refused("no XML that can be read: its declaration has an encoding that is not known here") from None
     found = list(root.iter(XMLNS + "yang-library"))
     if len(found) > 1:
         raise Refused(f"{len(found)} yang-library elements; one is due")
@@ -258,11 +270,20 @@ def json_library(data):
     raise Refused(f"no {LIBRARY}:yang-library, and no module-set")
 
 
+def neither(data):
+    """What is said of a document that begins neither as XML nor as an object."""
+    try:
+        json.loads(data)
+    except (ValueError, RecursionError):
+        return Refused("neither XML nor JSON")
+    return Refused("no JSON object")
+
+
 def library_rows(data):
     """The sets of a yang-library document in XML or JSON."""
     first = data.lstrip(b"\xef\xbb\xbf\xfe\xff\0 \t\r\n")[:1]
     if first not in (b"<", b"{"):
-        raise Refused("neither XML nor JSON")
+        raise neither(data)
     library = xml_library(data) if first == b"<" else json_library(data)
 
     def entry(row, what, outer=True):
@@ -306,6 +327,36 @@ def text_file(entry, files):
     return None
 
 
+def no_text(word, revisions, files, folder):
+    """The warning that none of the files is the text of a name, of which these revisions are asked for."""
+    others = ", ".join(sorted(os.path.basename(paths[0]) for stem, paths in files.items() if stem.startswith(word + "@")))
+    if "" in revisions:
+        wanted, there = "no text", f"; the library tells no revision, and there are {others}"
+    else:
+        wanted, there = f"no text of revision {' or '.join(revisions)}", f"; of other revisions there are {others}"
+    return f"{word}: {wanted} in {folder}{there if others else ''}; the bundle is without it"
+
+
+def library_texts(all_rows, folder):
+    files, pile, asked = {}, Pile(), {}
+    for file in yang_files(folder):
+        files.setdefault(os.path.basename(file)[:-len(".yang")], []).append(file)
+    for rows in all_rows:
+        for module in rows.modules + rows.import_only:
+            for entry in [module] + module.submodules:
+                asked.setdefault(entry.name, {}).setdefault(entry.revision, entry)
+    for word, entries in asked.items():
+        file = next(filter(None, (text_file(entry, files) for entry in entries.values())), None)
+        if file is None:
+            pile.warnings.append(no_text(word, entries, files, folder))
+            continue
+        if len(entries) > 1:
+            told = ", ".join(revision or "(none)" for revision in entries)
+            pile.warnings.append(f"{word}: revisions {told} are asked for, and a bundle has one text under a name; it is {file}")
+        pile.add(word, file)
+    return pile
+
+
 def from_library(path, folder):
     data = read_file(path, DOCUMENT)
     try:
@@ -315,22 +366,7 @@ def from_library(path, folder):
         sets = [to_set(rows) for rows in all_rows]
     except Refused as error:
         raise Refused(f"{path}: {error}") from None
-    files, pile, asked = {}, Pile(), {}
-    for file in yang_files(folder):
-        files.setdefault(os.path.basename(file)[:-len(".yang")], []).append(file)
-    for rows in all_rows:
-        for module in rows.modules + rows.import_only:
-            for entry in [module] + module.submodules:
-                asked.setdefault(entry.name, {}).setdefault(entry.revision, entry)
-    for word, entries in asked.items():
-        told = [revision or "(none)" for revision in entries]
-        file = next(filter(None, (text_file(entry, files) for entry in entries.values())), None)
-        if file is None:
-            others = sorted(os.path.basename(paths[0]) for stem, paths in files.items() if stem.startswith(word + "@"))
-            there = f"; of other revisions there are {', '.join(others)}" if others else ""
-            pile.warnings.append(f"{word}: no text of revision {' or '.join(told)} in {folder}{there}; the bundle is without it")
-            continue
-        if len(told) > 1:
-            pile.warnings.append(f"{word}: revisions {', '.join(told)} are asked for, and a bundle has one text under a name; it is {file}")
-        pile.add(word, file)
+    pile = library_texts(all_rows, folder)
+    if not any(module.augmenting for one in sets for module in one.modules):
+        pile.warnings.append(f"{path}: no augmented-by in the document: which modules augment which is not known, and {BY_IMPORT}")
     return Packed(sets, [rows.name for rows in all_rows], pile.texts, pile.files, pile.warnings)

@@ -112,10 +112,10 @@ class Case(unittest.TestCase):
         with open(self.image, "rb") as image, open(self.bundle, "rb") as bundle:
             return form.read_image(image.read()), form.read_bundle(bundle.read())
 
-    def refused(self, said, *words):
-        """It is refused, it says these words, and nothing is written."""
-        status, _, err = said
-        self.assertEqual(status, 1)
+    def refused(self, said, *words, due=1):
+        """It ends with this status, it says these words on standard error, and nothing is written."""
+        status, out, err = said
+        self.assertEqual((status, out), (due, ""))
         for word in words:
             self.assertIn(word, err)
         self.assertEqual([n for n in os.listdir(self.top) if n not in ("texts", "library")], [])
@@ -273,7 +273,8 @@ class Folder(Case):
             self.put(path, text)
         self.put("other.txt", "not a module")
         status, out, err = self.folder()
-        self.assertEqual((status, err), (0, ""))
+        self.assertEqual((status, err), (0, f"nuvaleta pack: {self.dir}: which modules augment or deviate from which cannot be told from texts alone: "
+                                            "those lists are empty, and such an edge is there only where an import gives it\n"))
         self.assertIn("1 set", out)
         self.assertIn("4 texts", out)
         sets, bundle = self.read()
@@ -295,25 +296,43 @@ class Folder(Case):
         self.put("u.yang", "module u { contact é; }")
         self.put("w.yang", b"module w {" + b" " * 1_048_576)
         status, _, err = self.folder()
-        self.assertEqual(status, 0)
-        for word in "belongs to away", "calls itself other", "u.yang: byte 19", "w.yang: over 1,048,576 bytes":
-            self.assertIn(word, err)
+        self.assertEqual((status, len(err.splitlines())), (0, 5))
+        for word in "belongs to away", "calls itself other", "u.yang: byte 19", "w.yang: over 1,048,576 bytes", "augment or deviate":
+            self.assertEqual(err.count(word), 1, word)
         sets, bundle = self.read()
         self.assertEqual(sets, [Set([Module("m"), Module("u"), Module("w")])])
         self.assertEqual([n for n, _ in bundle], ["m", "s", "u", "w"])
 
     def test_what_is_not_there(self):
-        self.refused(self.run_pack("folder", self.dir + "x", self.image, self.bundle), "no such folder")
+        self.refused(self.run_pack("folder", self.dir + "x", self.image, self.bundle), "no such folder", due=2)
         self.put("m.yang", "module m {}")
-        self.refused(self.run_pack("folder", self.dir, self.image, os.path.join(self.top, "no", "bundle")), "No such file")
-        self.refused(self.run_pack("folder", self.dir, self.image, self.dir), "not a file")
-        self.refused(self.run_pack("folder", self.dir, self.image, self.image), "two files")
+        path = os.path.join(self.top, "no", "bundle")
+        self.refused(self.run_pack("folder", self.dir, self.image, path), f"nuvaleta pack: {path}: No such file or directory\n", due=2)
+        self.refused(self.run_pack("folder", self.dir, self.image, self.dir), f"{self.dir}: not a file", due=2)
+        self.refused(self.run_pack("folder", self.dir, self.image, self.image), "two files", due=2)
+        self.refused(self.run_pack("folder", "--json", self.dir, self.image, self.dir), "not a file", due=2)
+        self.refused(self.run_pack("library", self.image, self.dir, self.image, self.bundle), f"{self.image}: No such file", due=2)
+        self.refused(self.run_pack("library", self.put("library", XML, self.top), self.dir + "x", self.image, self.bundle), "no such folder", due=2)
         os.symlink("nowhere", os.path.join(self.dir, "x.yang"))
-        self.refused(self.folder(), "x.yang")
+        self.refused(self.folder(), "x.yang", due=2)
 
     def test_an_empty_folder(self):
-        self.assertEqual(self.folder()[0], 0)
-        self.assertEqual(self.read(), ([Set()], []))
+        self.put("m.yang.txt", "module m {}")
+        self.refused(self.folder(), f"no .yang file under {self.dir}\n")
+
+    def test_control_bytes(self):
+        self.put("m\x1b\n.yang", "")
+        self.refused(self.folder(), "m\\x1b\\n.yang")
+        os.remove(os.path.join(self.dir, "m\x1b\n.yang"))
+        self.put("in\x07/m.yang", "submodule m\x1b[2J { belongs-to n\x00\x7f { prefix p; } }")
+        self.put(b"in\x07/n@\xff.yang".decode(errors="surrogateescape"), b"module n\xff {}")
+        self.bundle += "\r"
+        status, out, err = self.folder()
+        self.assertEqual((status, len(out.splitlines()), len(err.splitlines())), (0, 2, 5))
+        self.assertTrue(all(c.isprintable() or c == "\n" for c in out + err))
+        for word in "in\\x07/m.yang: calls itself m\\x1b[2J;", "belongs to n\\x00\\x7f,", "n@\\udcff.yang: calls itself n\xff;":
+            self.assertIn(word, err)
+        self.assertIn("bundle\\r: ", out)
 
     def test_real_modules(self):
         files = real_modules()
@@ -371,7 +390,7 @@ class Library(Case):
         lines = err.splitlines()
         self.assertEqual(len(lines), 4)
         for line, words in zip(lines, [("d: no text", "d@2022-02-02.yang, d@2023-02-02.yang"), ("i: revisions 2020-01-01, 2021-01-01", "i@2021-01-01.yang"),
-                                       ("j: no text",), ("k: no text of revision (none)",)]):
+                                       ("j: no text in ",), (f"k: no text in {self.dir}; the bundle is without it",)]):
             for word in words:
                 self.assertIn(word, line)
 
@@ -393,7 +412,7 @@ class Library(Case):
         def module(**members):
             return {"module-set": [{"name": "first", "module": [{"name": "mod", **members}]}]}
         for document, *words in [
-            ("", "neither XML nor JSON"), ("module m {", "neither"), ("<a", "no XML"), ("<a/>", "no yang-library"), ("{", "no JSON"), ("{}", "no ietf-yang-library:yang-library"),
+            ("", "neither XML nor JSON"), ("module m {", "neither"), ("[" * 100_000, "neither"), ("[]", "library: no JSON object"), ('"a"', "no JSON object"), ("<a", "no XML"), ("<a/>", "no yang-library"), ("{", "no JSON"), ("{}", "no ietf-yang-library:yang-library"),
             ('{"a":' * 100_000, "no JSON"), (XML.replace("ietf-yang-library", "ietf-other"), "no yang-library"),
             ("<modules-state xmlns='urn:ietf:params:xml:ns:yang:ietf-yang-library'/>", "RFC 7895"), (f"<data>{XML[XML.index('<yang'):] * 2}</data>", "2 yang-library"),
             (XML.replace("<name>b</name>", ""), "set 1 (first)", "module without a name"), (XML.replace("<name>b</name>", "<name>b</name>" * 2), "name stands there 2 times"),
@@ -406,6 +425,17 @@ class Library(Case):
             (b"{\xff}", "no JSON"),
         ]:
             self.refused(self.library(document), *words)
+
+    def test_encodings(self):
+        for encoding in "bogus", "utf-7", "utf-32", "hex", "idna", "punycode", "undefined", "x" * 5_000:
+            self.refused(self.library(XML.replace("UTF-8", encoding)), "library: no XML", "encoding that is not known")
+
+    def test_no_augmented_by(self):
+        without = re.sub(r"<augmented-by.*</augmented-by>", "", XML)
+        told = "library: no augmented-by in the document: which modules augment which is not known, and such an edge is there only where an import gives it\n"
+        for document, due in (XML, 0), (without, 1), (BARE, 0), ({"module-set": [{"module": [{"name": "m", "augmented-by": []}]}]}, 1):
+            status, _, err = self.library(document)
+            self.assertEqual((status, err.count(told), err.count("augmented-by")), (0, due, due))
 
 
 class Show(Case):
@@ -421,20 +451,129 @@ class Show(Case):
         _, out, _ = self.run_pack("show-bundle", self.put("bundle", form.write_bundle([("m", b"x" * 1_000), ("longer", b"")]), self.top))
         self.assertEqual(out.splitlines(), ["bundle of 1,013 bytes, 2 texts", "  m          1,000", "  longer         0"])
 
-    def test_broken(self):
-        self.assertEqual(self.run_pack("show", self.put("image", M_S_B[:-1], self.top)), (1, "image wrong at 14\n", ""))
-        self.assertEqual(self.run_pack("show", self.put("image", bytes(70_000), self.top)), (1, "image wrong at 0\n", ""))
-        self.assertEqual(self.run_pack("show-bundle", self.put("bundle", b"\1\1m\5abcd", self.top)), (1, "bundle wrong at 3\n", ""))
-        status, _, err = self.run_pack("show", os.path.join(self.top, "none"))
-        self.assertEqual(status, 1)
-        self.assertIn("none: No such file", err)
+    def test_one_byte(self):
+        path = self.put("empty", b"\0", self.top)
+        self.assertEqual(self.run_pack("show", path), (0, "image of 1 byte, 0 sets\n", ""))
+        self.assertEqual(self.run_pack("show-bundle", path), (0, "bundle of 1 byte, 0 texts\n", ""))
+        library = self.put("library", '{"module-set": []}', self.top)
+        status, out, _ = self.run_pack("library", library, self.dir, self.image, self.bundle)
+        self.assertEqual((status, out), (0, f"{self.image}: 1 byte, 0 sets\n{self.bundle}: 1 byte, 0 texts\n"))
 
-    def test_as_a_program(self):
-        image = self.put("image", M_S_B, self.top)
-        ran = subprocess.run([os.path.join(HERE, "pack"), "show", image], capture_output=True, text=True, check=False)
-        self.assertEqual((ran.returncode, ran.stdout), (0, "image of 15 bytes, 1 set\nset 1: 2 modules, 0 import-only names\n  module m\n    submodules: s\n  module b\n"))
-        ran = subprocess.run([os.path.join(HERE, "pack")], capture_output=True, text=True, check=False)
-        self.assertEqual(ran.returncode, 2)
+    def test_broken(self):
+        self.assertEqual(self.run_pack("show", self.put("image", M_S_B[:-1], self.top)), (1, "", "nuvaleta pack: image wrong at 14\n"))
+        self.assertEqual(self.run_pack("show", self.put("image", bytes(70_000), self.top)), (1, "", "nuvaleta pack: image wrong at 0\n"))
+        self.assertEqual(self.run_pack("show-bundle", self.put("bundle", b"\1\1m\5abcd", self.top)), (1, "", "nuvaleta pack: bundle wrong at 3\n"))
+        for words in ["show"], ["show-bundle"], ["show", "--json"]:
+            self.assertEqual(self.run_pack(*words, self.image + "x"), (2, "", f"nuvaleta pack: {self.image}x: No such file or directory\n"))
+            self.assertEqual(self.run_pack(*words, self.dir), (2, "", f"nuvaleta pack: {self.dir}: Is a directory\n"))
+
+    def test_json(self):
+        def said(due, *arguments):
+            status, out, err = self.run_pack(*arguments)
+            self.assertEqual((status, err, out.count("\n")), (due, "", 1))
+            return json.loads(out)
+
+        image, bundle = self.put("i", form.write_image(ALL), self.top), self.put("b", form.write_bundle([("m", b"x" * 1_000), ("longer", b"")]), self.top)
+        lists = {"submodules": [], "augmenting": [], "deviations": []}
+        self.assertEqual(said(0, "show", "--json", image), {"bytes": 45, "sets": [
+            {"modules": [{"name": "m", "submodules": ["s", "t"], "augmenting": ["a"], "deviations": ["d", "d"]}, {"name": "a", **lists}, {"name": "d", **lists}],
+             "import_only": [{"name": "m", "revisions": [["s"], ["s", "u"]]}, {"name": "i", "revisions": [[]]}]}, {"modules": [], "import_only": []}]})
+        self.assertEqual(said(0, "show-bundle", bundle, "--json"), {"bytes": 1_013, "texts": [{"name": "m", "bytes": 1_000}, {"name": "longer", "bytes": 0}]})
+        image, bundle = self.put("i", M_S_B[:-1], self.top), self.put("b", b"\1\1m\5abcd", self.top)
+        self.assertEqual(said(1, "--json", "show", image), {"refused": {"number": 20, "words": "image wrong at 14", "place": 14}})
+        self.assertEqual(said(1, "show-bundle", "--json", bundle), {"refused": {"number": 21, "words": "bundle wrong at 3", "place": 3}})
+        self.put("m.yang", 'module m { contact "\xe9"; }')
+        made = {"image": {"file": self.image, "bytes": 8, "sets": 1}, "bundle": {"file": self.bundle, "bytes": 30, "texts": 1}}
+        told = said(0, "folder", "--json", self.dir, self.image, self.bundle)
+        first, last = told.pop("warnings")
+        self.assertIn("byte 20 is 128 or more", first)
+        self.assertIn("augment or deviate", last)
+        self.assertEqual(told, made)
+        library = self.put("library", json.dumps(BARE), self.top)
+        told = said(0, "library", "--json", library, self.dir, self.image, self.bundle)
+        self.assertEqual((told["image"]["sets"], told["bundle"]["texts"], len(told["warnings"])), (2, 1, 7))
+        self.put("s.yang", "")
+        words = f"{self.dir}/s.yang: not understood; it begins neither as `module NAME {{` nor as `submodule NAME {{` with a `belongs-to`"
+        self.assertEqual(said(1, "folder", "--json", self.dir, self.image, self.bundle), {"refused": {"number": None, "words": words}})
+
+    def test_words(self):
+        for arguments, due in [(["--help"], 0), ([], 2), (["pack"], 2), (["folder", "a", "b"], 2), (["show", "--js", "a"], 2)] + [([c, "--help"], 0) for c in pack.COMMANDS]:
+            out, err = io.StringIO(), io.StringIO()
+            with self.assertRaises(SystemExit) as end, contextlib.redirect_stdout(out), contextlib.redirect_stderr(err):
+                pack.main(arguments)
+            self.assertEqual(end.exception.code, due, arguments)
+            said, silent = (out, err) if due == 0 else (err, out)
+            self.assertTrue(said.getvalue().startswith("usage: nuvaleta pack "), arguments)
+            self.assertEqual(silent.getvalue(), "")
+
+
+class Program(Case):
+    """What standard output and standard error lead to."""
+
+    def setUp(self):
+        super().setUp()
+        self.put("m.yang", "module m {}")
+        self.good, self.bad = self.put("good", M_S_B, self.top), self.put("bad", M_S_B[:-1], self.top)
+        self.pack = ["folder", self.dir, self.image, self.bundle]
+
+    def ran(self, streams, *words):
+        """Exit status, standard output, standard error, where the shell's redirections leave them."""
+        line = f'exec "$@" {streams}'
+        ran = subprocess.run(["sh", "-c", line, "sh", os.path.join(HERE, "pack"), *words], capture_output=True, text=True, check=False)
+        return ran.returncode, ran.stdout, ran.stderr
+
+    def broken(self, stream, *words):
+        """The same where the reader of one of them is gone."""
+        reader, writer = os.pipe()
+        os.close(reader)
+        streams = {"stdout": subprocess.PIPE, "stderr": subprocess.PIPE, stream: writer}
+        ran = subprocess.run([os.path.join(HERE, "pack"), *words], text=True, check=False, **streams)
+        os.close(writer)
+        return ran.returncode, ran.stdout, ran.stderr
+
+    def written(self):
+        """Both files are there, and nothing beside them; they are taken away."""
+        self.assertEqual(self.read(), ([Set([Module("m")])], [("m", b"module m {}")]))
+        os.remove(self.image)
+        os.remove(self.bundle)
+        self.assertEqual(sorted(os.listdir(self.top)), ["bad", "good", "texts"])
+
+    def test_open(self):
+        shown = "image of 15 bytes, 1 set\nset 1: 2 modules, 0 import-only names\n  module m\n    submodules: s\n  module b\n"
+        self.assertEqual(self.ran("", "show", self.good), (0, shown, ""))
+        self.assertEqual(self.ran("", "show", self.bad), (1, "", "nuvaleta pack: image wrong at 14\n"))
+        self.assertEqual(self.ran("")[:2], (2, ""))
+
+    def test_full_or_closed_output(self):
+        for stream, why in (">/dev/full", "No space left on device"), (">&-", "Bad file descriptor"):
+            told = f"nuvaleta pack: standard output: {why}\n"
+            for words in ["show", self.good], ["show", "--json", self.bad], ["show-bundle", "--json", self.good], ["--help"], ["show", "--help"]:
+                self.assertEqual(self.ran(stream, *words), (2, "", told), words)
+            self.assertEqual(self.ran(stream, "show", self.bad), (1, "", "nuvaleta pack: image wrong at 14\n"))
+            status, _, err = self.ran(stream, *self.pack)
+            self.assertEqual((status, err.splitlines(True)[1:]), (2, [told]))
+            self.written()
+
+    def test_full_or_closed_error(self):
+        for stream in "2>/dev/full", "2>&-":
+            status, out, err = self.ran(stream, *self.pack)
+            self.assertEqual((status, out, err), (0, f"{self.image}: 8 bytes, 1 set\n{self.bundle}: 15 bytes, 1 text\n", ""))
+            self.written()
+            self.assertEqual(self.ran(stream, "show", self.bad), (1, "", ""))
+            self.assertEqual(self.ran(stream, "show", self.good + "x"), (2, "", ""))
+            self.assertEqual(self.ran(stream, "shew"), (2, "", ""))
+            self.assertEqual(self.ran(f">/dev/full {stream}", "show", self.good), (2, "", ""))
+            self.assertEqual(self.ran(f">&- {stream}", "show", self.good), (2, "", ""))
+
+    def test_a_reader_that_is_gone(self):
+        self.assertEqual(self.broken("stdout", "show", self.good), (0, None, ""))
+        self.assertEqual(self.broken("stdout", "show", "--json", self.bad), (1, None, ""))
+        self.assertEqual(self.broken("stdout", "--help"), (0, None, ""))
+        self.assertEqual(self.broken("stderr", "show", self.bad), (1, "", None))
+        self.assertEqual(self.broken("stderr", "shew"), (2, "", None))
+        for stream in "stdout", "stderr":
+            self.assertEqual(self.broken(stream, *self.pack)[0], 0)
+            self.written()
 
 
 def main():
