@@ -1,10 +1,15 @@
 //! The graph of an image and a bundle, from their bytes on: the port beside to_graph of the original yanglib.rs, behind the oracle's reading of the
 //! same bytes into its types.
 
-use crate::{best, house, port};
+use crate::port::{self, Graphed};
+use crate::table::{counted, grouped};
+use crate::timing::Row;
+use crate::yanglib::YangLibrary;
+use crate::{form, house};
+use petgraph::graph::DiGraph;
 use std::hint::black_box;
 use vectors::libraries::{Library, Module, Set};
-use vectors::rng::Rng;
+use vectors::routers;
 
 /// An image and a bundle, and what they are.
 pub struct Input {
@@ -13,107 +18,116 @@ pub struct Input {
     pub bundle: Vec<u8>,
 }
 
-fn name(i: usize) -> String {
-    format!("example-module-{i:04}")
+impl Input {
+    pub fn of(what: String, library: &Library) -> Input {
+        Input { what, image: library.image(), bundle: library.bundle() }
+    }
+
+    /// Modules of these files.
+    fn real(image: &str, bundle: &str) -> Input {
+        let [image, bundle] = [image, bundle].map(|file| std::fs::read(file).expect("a file"));
+        let texts = form::read_bundle(&bundle).expect("a bundle").len();
+        Input { what: format!("{texts} real modules"), image, bundle }
+    }
+
+    fn made(modules: usize, each: usize, sets: usize) -> Input {
+        let spread = if sets == 1 { "one set".to_string() } else { format!("{sets} sets") };
+        let what = format!("{} modules, {each} imports each, {spread}", grouped(modules));
+        Input::of(what, &routers::made(modules, each, sets, modules as u64))
+    }
+
+    pub fn bytes(&self) -> usize {
+        self.image.len() + self.bundle.len()
+    }
 }
 
-/// A small module as they are written, with these imports.
-fn text(i: usize, imports: &[usize]) -> String {
-    let own = name(i);
-    let mut out = format!("module {own} {{\n  yang-version 1.1;\n  namespace \"urn:example:yang:{own}\";\n  prefix m{i};\n\n");
-    for other in imports {
-        out += &format!("  import {} {{\n    prefix m{other};\n    reference\n      \"RFC 0000: Module {other}\";\n  }}\n", name(*other));
-    }
-    out += "\n  organization\n    \"Example working group\";\n  contact\n    \"WG list: <mailto:list@example.org>\";\n";
-    out += "  description\n    \"What a router tells of one of its parts.\";\n\n  revision 2024-05-01 {\n    description\n      \"First version.\";\n  }\n\n";
-    out += &format!("  container part-{i} {{\n    config false;\n");
-    for leaf in 0..8 {
-        out += &format!("    leaf counter-{leaf} {{\n      type uint64;\n      description\n        \"Packets that were counted.\";\n    }}\n");
-    }
-    out + "  }\n}\n"
+pub fn inputs(image: &str, bundle: &str) -> [Input; 3] {
+    [Input::made(500, 6, 1), Input::made(1_000, 8, 16), Input::real(image, bundle)]
 }
 
-/// So many different ones of the modules, chosen evenly, and not the one that imports them.
-fn imports(r: &mut Rng, own: usize, modules: usize, count: usize) -> Vec<usize> {
-    let mut out = Vec::new();
-    while out.len() < count {
-        let other = r.below(modules);
-        if other != own && !out.contains(&other) {
-            out.push(other);
-        }
-    }
-    out
+pub const SIZES: [usize; 4] = [125, 250, 500, 1_000];
+
+pub fn growing() -> [Input; 4] {
+    SIZES.map(|modules| Input::made(modules, 6, 2))
 }
 
-/// So many modules with so many imports each, spread evenly over so many sets.
-pub fn made(modules: usize, each: usize, sets: usize) -> Input {
-    let mut r = Rng::new(modules as u64);
-    let mut library = Library { sets: vec![Set::default(); sets], ..Library::default() };
+pub const ROUTERS: [usize; 4] = [100, 200, 400, 800];
+
+/// Routers have submodules, import-only modules, augmentations and deviations too.
+pub fn growing_routers() -> [Input; 4] {
+    ROUTERS.map(|modules| Input::of(format!("a router of {modules} modules"), &routers::router(modules, modules as u64)))
+}
+
+/// So many modules with empty texts in four sets, each with a list of others that deviate from it, by numbers.
+fn listed(what: &str, modules: usize, others: impl Fn(usize) -> Vec<usize>) -> Input {
+    let name = |i: usize| format!("m{i:04}");
+    let mut library = Library { sets: vec![Set::default(); 4], ..Library::default() };
     for i in 0..modules {
-        let module = Module { name: name(i), ..Module::default() };
-        library.sets[i * sets / modules].modules.push(module);
-        library.texts.insert(name(i), text(i, &imports(&mut r, i, modules, each)));
+        let deviations = others(i).into_iter().map(name).collect();
+        library.sets[i * 4 / modules].modules.push(Module { name: name(i), deviations, ..Module::default() });
+        library.texts.insert(name(i), String::new());
     }
-    let spread = if sets == 1 { "one set".to_string() } else { format!("{sets} sets") };
-    Input { what: format!("{modules} modules, {each} imports each, {spread}"), image: library.image(), bundle: library.bundle() }
+    Input::of(what.to_string(), &library)
 }
 
-/// In nanoseconds: the Rust from the bytes on, its to_graph alone, the port, its reading alone.
-type Times = [f64; 4];
+/// Many edges to a few nodes, many from a few, and edges that all come into 64 of the 8,192 chains in which the port looks for an edge (crates/edges).
+pub fn adverse() -> [Input; 3] {
+    let filed_together = |i: usize| (0..64).map(|k| (128 * k + 8_192 * 20 - 131 * i) % 8_192).filter(|to| *to < 1_024 && *to != i).collect();
+    [
+        listed("1,000 edges to each of 8", 1_008, |i| if i < 8 { vec![] } else { (0..8).collect() }),
+        listed("64 edges from each of 125", 1_000, |i| if i < 125 { (i + 1..i + 65).collect() } else { vec![] }),
+        listed("edges in 64 chains of 8,192", 1_024, filed_together),
+    ]
+}
 
-/// The Rust's two times, and how many nodes and edges it has.
-fn rust(input: &Input, runs: usize) -> ([f64; 2], [usize; 2]) {
-    let read = || {
-        let library = house::read_library(black_box(&input.image), &mut |_, _| {}).expect("an image");
-        (library, house::read_schemas(black_box(&input.bundle)).expect("a bundle").expect("UTF-8"))
-    };
-    let all = best(runs, || {
-        let (library, schemas) = read();
-        black_box(library.to_graph(&schemas).expect("a graph"));
-    });
-    let (library, schemas) = read();
-    let part = best(runs, || {
-        black_box(library.to_graph(black_box(&schemas)).expect("a graph"));
-    });
+/// What the Rust makes of the bytes before it draws.
+pub fn read(input: &Input) -> (YangLibrary, house::Schemas) {
+    let library = house::read_library(black_box(&input.image), &mut |_, _| {}).expect("an image");
+    (library, house::read_schemas(black_box(&input.bundle)).expect("a bundle").expect("UTF-8"))
+}
+
+pub fn edges_of(graph: &DiGraph<&str, ()>) -> Vec<[u32; 2]> {
+    graph.raw_edges().iter().map(|edge| [edge.source().index() as u32, edge.target().index() as u32]).collect()
+}
+
+/// What the port drew, into tables that are made here. Both sides must have the same nodes and edges.
+pub fn agreed(input: &Input) -> Graphed {
+    let drawn = port::graph(&input.image, &input.bundle, form::longest_text(&input.bundle), 0);
+    assert_eq!(drawn.answer[0], 0, "{}: refused", input.what);
+    let (library, schemas) = read(input);
     let graph = library.to_graph(&schemas).expect("a graph");
-    ([all, part], [graph.node_count(), graph.edge_count()])
+    let name = |row: &[u32]| std::str::from_utf8(&input.image[row[0] as usize..][..row[1] as usize]).expect("a name");
+    assert!(graph.node_weights().copied().eq(drawn.nodes.chunks(2).take(drawn.answer[6] as usize).map(name)), "{}: two lists of nodes", input.what);
+    assert_eq!(edges_of(&graph).as_flattened(), &drawn.edges[..2 * drawn.answer[7] as usize], "{}: two lists of edges", input.what);
+    drawn
 }
 
-/// The port's two times over tables that were made once. Where no node table is lent, the call ends behind the reading, with refusal 22.
-fn port(input: &Input, runs: usize) -> ([f64; 2], [usize; 2]) {
-    let mut lent = port::graph(&input.image, &input.bundle, vectors::form::longest_text(&input.bundle), 0);
-    assert_eq!(lent.answer[0], 0, "{}: refused", input.what);
-    let counts = [lent.answer[6] as usize, lent.answer[7] as usize];
-    let all = best(runs, || {
-        black_box(lent.redraw(black_box(&input.image), black_box(&input.bundle)));
-    });
+/// One run of the port over tables that were made once.
+fn redrawn(input: &Input, mut lent: Graphed) -> impl FnMut() {
+    move || _ = black_box(lent.redraw(black_box(&input.image), black_box(&input.bundle)))
+}
+
+pub fn whole(input: &Input) -> Row<'_> {
+    let rust = || {
+        let (library, schemas) = read(input);
+        black_box(library.to_graph(&schemas).expect("a graph"));
+    };
+    let lent = agreed(input);
+    let [.., nodes, edges] = lent.answer.map(|word| word as usize);
+    Row::new(counted(&input.what, nodes, edges), input.bytes(), rust, redrawn(input, lent))
+}
+
+/// The Rust's to_graph without the reading before it; the port as ever, reading and all.
+pub fn drawing(input: &Input) -> Row<'_> {
+    let (library, schemas) = read(input);
+    let rust = move || _ = black_box(library.to_graph(black_box(&schemas)).expect("a graph"));
+    Row::new(&input.what, input.bytes(), rust, redrawn(input, agreed(input)))
+}
+
+/// Where no node table is lent, the call ends behind the reading, with refusal 22.
+pub fn reading(input: &Input) -> Row<'_> {
+    let mut lent = agreed(input);
     lent.nodes.clear();
-    let part = best(runs, || {
-        assert_eq!(lent.redraw(black_box(&input.image), black_box(&input.bundle)), 22);
-    });
-    ([all, part], counts)
-}
-
-const ROUNDS: usize = 30;
-/// In each round, of the Rust as of the port.
-const TRIES: usize = 20;
-
-/// A table with a row for each input. All inputs take turns, round by round, so that a machine that is busy for a while does not tilt it.
-pub fn table(what: &str, inputs: &[Input]) {
-    let mut least: Vec<(Times, [usize; 2])> = vec![([f64::MAX; 4], [0; 2]); inputs.len()];
-    for _ in 0..ROUNDS {
-        for (input, (times, counts)) in inputs.iter().zip(&mut least) {
-            let (([all, part], told), ([ours, reading], drawn)) = (rust(input, TRIES), port(input, TRIES));
-            assert_eq!(told, drawn, "{}: two graphs", input.what);
-            *counts = drawn;
-            times.iter_mut().zip([all, part, ours, reading]).for_each(|(t, new)| *t = t.min(new));
-        }
-    }
-    println!("| {what} | nodes | edges | bytes | Rust, us | of it to_graph | port, us | of it reading | Rust / port |");
-    println!("|---|---|---|---|---|---|---|---|---|");
-    for (input, (times, [nodes, edges])) in inputs.iter().zip(&least) {
-        let bytes = input.image.len() + input.bundle.len();
-        let [all, part, ours, reading] = times.map(|t| format!("{:.1}", t / 1e3));
-        println!("| {} | {nodes} | {edges} | {bytes} | {all} | {part} | {ours} | {reading} | {:.1} |", input.what, times[0] / times[2]);
-    }
+    let port = move || assert_eq!(lent.redraw(black_box(&input.image), black_box(&input.bundle)), 22);
+    Row::alone(format!("`nuvaleta_graph` up to the drawing, {}", input.what), input.bytes(), port)
 }

@@ -1,7 +1,8 @@
 //! The order of registration, and the check of a list: the port beside the plain way of a Rust program, which makes its lists anew in each call.
 
-use crate::best;
 use crate::port::Tables;
+use crate::table::counted;
+use crate::timing::Row;
 use std::cmp::Reverse;
 use std::collections::{BinaryHeap, HashSet};
 use std::hint::black_box;
@@ -9,7 +10,7 @@ use vectors::orders::shuffled;
 use vectors::rng::Rng;
 
 /// A graph, and what it is.
-struct Input {
+pub struct Input {
     what: String,
     nodes: usize,
     edges: Vec<[u32; 2]>,
@@ -42,7 +43,7 @@ fn line(what: &str, list: impl Iterator<Item = u32>) -> Input {
 /// A line with so many edges in all, the others from any node to a later one.
 fn filled(mut line: Input, edges: usize) -> Input {
     let mut r = Rng::new(edges as u64);
-    line.what += ", and edges to later nodes";
+    line.what = "the same, and edges to later nodes".to_string();
     let list: Vec<u32> = line.edges.iter().map(|edge| edge[0]).collect();
     let mut seen: HashSet<[u32; 2]> = line.edges.iter().copied().collect();
     while line.edges.len() < edges {
@@ -62,11 +63,11 @@ fn ring(nodes: usize) -> Input {
     ring
 }
 
-/// The groups are those of 32 nodes in which the port looks for a free one. Across them each next node is in the next group, so that each look begins
-/// with a group in which there is none. Between the halves each node of the upper one frees one of the lower one, so that every second look passes half
-/// of the groups.
-fn inputs() -> [Input; 10] {
-    let across = || line("a line across the groups", (0..32).rev().flat_map(|place| (0..32).map(move |group| 32 * group + place)));
+/// Across the groups each next node is in the next group, so that each look begins with a group in which there is none. Where each node of the upper
+/// half frees one of the lower half, every second look passes half of the groups.
+pub fn inputs() -> [Input; 10] {
+    let by_place = || (0..32).rev().flat_map(|place| (0..32).map(move |group| 32 * group + place));
+    let across = || line("a line across the groups of 32 in which Nuvaleta looks for a free node", by_place());
     [
         drawn(1_024, 8_192),
         drawn(500, 3_000),
@@ -75,7 +76,7 @@ fn inputs() -> [Input; 10] {
         line("a line against the numbers", (0..1_024).rev()),
         across(),
         filled(across(), 8_192),
-        Input { what: "between the halves".to_string(), nodes: 1_024, edges: (0..512).map(|i| [512 + i, i]).collect() },
+        Input { what: "512 nodes that each free one of the other 512".to_string(), nodes: 1_024, edges: (0..512).map(|i| [512 + i, i]).collect() },
         Input { what: "no edges".to_string(), nodes: 1_024, edges: Vec::new() },
         ring(1_024),
     ]
@@ -84,7 +85,7 @@ fn inputs() -> [Input; 10] {
 // ---- the Rust
 
 /// The lowest free node each time, from a heap; or the ring.
-fn kahn(nodes: usize, edges: &[[u32; 2]]) -> Result<Vec<u32>, Vec<u32>> {
+pub fn kahn(nodes: usize, edges: &[[u32; 2]]) -> Result<Vec<u32>, Vec<u32>> {
     let mut after: Vec<Vec<u32>> = vec![Vec::new(); nodes];
     let mut waits = vec![0; nodes];
     for [from, to] in edges {
@@ -174,36 +175,21 @@ fn agree_on(input: &Input, tables: &Tables, list: &[u32]) {
     }
 }
 
-const ROUNDS: usize = 100;
-/// In each round, of the Rust as of the port.
-const TRIES: usize = 20;
+pub fn ordering(input: &Input) -> Row<'_> {
+    let tables = tables(input);
+    agree(input, &tables);
+    let rust = || _ = black_box(kahn(input.nodes, black_box(&input.edges)));
+    let mut table = vec![0; input.nodes];
+    Row::new(counted(&input.what, input.nodes, input.edges.len()), 0, rust, move || _ = black_box(black_box(&tables).order(&mut table)))
+}
 
-/// A row for each graph, and one for the check of the first one's list. All take turns, round by round.
-pub fn table() {
-    let inputs = inputs();
-    let all: Vec<Tables> = inputs.iter().map(tables).collect();
-    inputs.iter().zip(&all).for_each(|(input, tables)| agree(input, tables));
-    let list = kahn(inputs[0].nodes, &inputs[0].edges).expect("an order");
-    agree_on(&inputs[0], &all[0], &list);
-    let mut least = vec![[f64::MAX; 2]; inputs.len() + 1];
-    let mut table = vec![0; 1_024];
-    for _ in 0..ROUNDS {
-        let mut row = 0;
-        let mut note = |rust: f64, port: f64| {
-            least[row] = [least[row][0].min(rust), least[row][1].min(port)];
-            row += 1;
-        };
-        for (input, tables) in inputs.iter().zip(&all) {
-            let rust = best(TRIES, || _ = black_box(kahn(input.nodes, black_box(&input.edges))));
-            note(rust, best(TRIES, || _ = black_box(black_box(tables).order(&mut table[..input.nodes]))));
-        }
-        let rust = best(TRIES, || _ = black_box(first_wrong(inputs[0].nodes, black_box(&inputs[0].edges), &list)));
-        note(rust, best(TRIES, || _ = black_box(black_box(&all[0]).check(&list))));
-    }
-    println!("| order | nodes | edges | Rust, us | port, us | Rust / port |");
-    println!("|---|---|---|---|---|---|");
-    let check = Input { what: "the check of the first one's order".to_string(), edges: inputs[0].edges.clone(), ..inputs[0] };
-    for (input, [rust, port]) in inputs.iter().chain([&check]).zip(&least) {
-        println!("| {} | {} | {} | {:.1} | {:.1} | {:.1} |", input.what, input.nodes, input.edges.len(), rust / 1e3, port / 1e3, rust / port);
-    }
+/// The check of its order.
+pub fn checking(input: &Input) -> Row<'_> {
+    let tables = tables(input);
+    let list = kahn(input.nodes, &input.edges).expect("an order");
+    agree_on(input, &tables, &list);
+    let ours = list.clone();
+    let rust = move || _ = black_box(first_wrong(input.nodes, black_box(&input.edges), &list));
+    let what = counted("the check of the first one's order", input.nodes, input.edges.len());
+    Row::new(what, 0, rust, move || _ = black_box(black_box(&tables).check(&ours)))
 }

@@ -7,4 +7,5 @@ pub mod oracle;
 pub mod orders;
 pub mod records;
 pub mod rng;
+pub mod routers;
 pub mod texts;

@@ -2,13 +2,14 @@
 //! vectors real SEED COUNT FILE..: the same for real modules and COUNT damaged copies of each.
 //! vectors record DIR: writes the recorded answers below DIR (the repository's crates folder).
 //! vectors verify DIR: makes them anew and says which files there differ.
+//! vectors routers DIR COUNT MODULES [SEED]: writes image and bundle of COUNT generated routers with so many modules each; the oracle is not asked.
 
 use std::collections::BTreeMap;
 use std::path::{Path, PathBuf};
 use vectors::answers::{self, Graph, Scan};
 use vectors::oracle::Oracle;
 use vectors::rng::Rng;
-use vectors::{libraries, orders, records, texts};
+use vectors::{libraries, orders, records, routers, texts};
 
 fn main() {
     let args: Vec<String> = std::env::args().collect();
@@ -19,8 +20,10 @@ fn main() {
         ["real", seed, count, ref files @ ..] => real(number(seed), number(count) as usize, files),
         ["record", dir] => all(&mut oracle()).iter().for_each(|f| f.write(Path::new(dir))),
         ["verify", dir] => verify(Path::new(dir)),
+        ["routers", dir, count, modules] => some_routers(Path::new(dir), number(count), number(modules) as usize, 1),
+        ["routers", dir, count, modules, seed] => some_routers(Path::new(dir), number(count), number(modules) as usize, number(seed)),
         _ => {
-            eprintln!("vectors: tally SEED COUNT | real SEED COUNT FILE.. | record DIR | verify DIR");
+            eprintln!("vectors: tally SEED COUNT | real SEED COUNT FILE.. | record DIR | verify DIR | routers DIR COUNT MODULES [SEED]");
             std::process::exit(2);
         }
     }
@@ -87,9 +90,12 @@ fn tally(seed: u64, count: usize) {
 fn real(seed: u64, count: usize, files: &[&str]) {
     let (mut oracle, mut r, mut tally) = (oracle(), Rng::new(seed), Tally::default());
     for file in files {
-        let Ok(text) = String::from_utf8(std::fs::read(file).expect("a file")) else {
-            tally.count("real", "no UTF-8".to_string());
-            continue;
+        let text = match String::from_utf8(std::fs::read(file).expect("a file")) {
+            Ok(text) => text,
+            Err(_) => {
+                tally.count("real", "no UTF-8".to_string());
+                continue;
+            }
         };
         if !text.is_ascii() {
             tally.count("real", "not below 128".to_string());
@@ -230,4 +236,25 @@ fn verify(dir: &Path) {
         }
     }
     std::process::exit(i32::from(wrong != 0));
+}
+
+// ---- routers
+
+/// Writes router-001.image, router-001.bundle and so on; the next router's seed is the next number of the first seed's row.
+fn some_routers(dir: &Path, count: u64, modules: usize, seed: u64) {
+    if count > 999 || modules > routers::MODULES_MOST {
+        eprintln!("vectors: up to 999 routers with up to {} modules each", routers::MODULES_MOST);
+        std::process::exit(2);
+    }
+    std::fs::create_dir_all(dir).expect("a folder");
+    let mut r = Rng::new(seed);
+    let mut bytes = 0;
+    for i in 1..=count {
+        let library = routers::router(modules, r.below(usize::MAX) as u64);
+        for (form, kind) in [(library.image(), "image"), (library.bundle(), "bundle")] {
+            bytes += form.len();
+            std::fs::write(dir.join(format!("router-{i:03}.{kind}")), form).expect("a file");
+        }
+    }
+    println!("vectors: {count} routers in {}, {bytes} bytes", dir.display());
 }
