@@ -1,15 +1,16 @@
 #!/bin/sh
-# archive.sh [--kept] NAME [PROCESSOR]: in a repository of Rattle, proves the library NAME and prints the path of a static archive of it, for
-# C or Rust on this processor (or the one named) to link. Beside it goes a sum of all sources, as they were before the proof, and of the
-# archive. With --kept, one that still has these sums is taken as it is.
+# archive.sh [--kept] [--covered] NAME [PROCESSOR]: in a repository of Rattle, proves the library NAME and prints the path of a static archive
+# of it, for C or Rust on this processor (or the one named) to link. Beside it goes a sum of all sources, as they were before the proof, and
+# of the archive. With --kept, one that still has these sums is taken as it is.
 #
 # On x86-64 it is rt's own. For another processor the same proved module is compiled anew: rt runs with a folder in the place of its kit
-# that differs in one file, bin/clang, a wrapper that puts the processor's name in the place of x86-64. Such an archive is for tests and
-# measurements only.
+# that differs in one file, bin/clang, a wrapper that puts the processor's name in the place of x86-64. With --covered that wrapper also
+# has the compiler count which parts of the code are reached, for a fuzzer. Such archives are for tests and measurements only.
 set -eu
-kept=
+kept='' covered=''
 [ "${1:-}" != --kept ] || { kept=yes && shift; }
-name=${1:?usage: archive.sh [--kept] NAME [PROCESSOR]}
+[ "${1:-}" != --covered ] || { covered=-fsanitize-coverage=inline-8bit-counters,pc-table,trace-cmp && shift; }
+name=${1:?usage: archive.sh [--kept] [--covered] NAME [PROCESSOR]}
 processor=${2:-$(uname -m)}
 root=$PWD
 while [ ! -f "$root/crates.txt" ]; do
@@ -19,6 +20,7 @@ done
 made=$root/target/staticlib/lib$name.a # where rt puts it
 archive=$made
 [ "$processor" = x86_64 ] || archive=$root/target/staticlib/$processor/lib$name.a # link.rs looks there too
+[ -z "$covered" ] || archive=$root/target/staticlib/covered/$processor/lib$name.a
 mkdir -p "$(dirname "$archive")"
 sources=$(cd "$root" && find crates crates.txt -type f -exec sha256sum {} + | sort | sha256sum)
 sums() { echo "$sources $(sha256sum <"$archive")"; }
@@ -26,11 +28,14 @@ if [ -n "$kept" ] && [ -f "$archive" ] && [ "$(cat "$archive.sums" 2>/dev/null)"
     echo "$archive"
     exit 0
 fi
+command -v rt >/dev/null || { echo "archive: rt, the command of the Rattle kit, is not on the path" >&2; exit 2; }
+# Who asks for a kept one does not expect to wait.
+[ -z "$kept" ] || echo "$name: proving and building, once; this takes some minutes" >&2
 say=$root/target/archive.say
 prove() { rt staticlib "$name" >"$say" 2>&1 || { cat "$say" >&2; exit 1; }; }
 finish() { sums >"$archive.sums" && echo "$archive"; }
 
-if [ "$processor" = x86_64 ]; then
+if [ "$archive" = "$made" ]; then
     prove
     finish
     exit 0
@@ -38,7 +43,9 @@ fi
 
 kit=$(cd "$(dirname "$(rt doc)")/.." && pwd)
 mirror=$(mktemp -d)
-trap 'rm -rf "$mirror"' EXIT
+# rt writes over the one for x86-64, which is put back however this ends.
+trap '[ ! -f "$mirror/made.a" ] || mv "$mirror/made.a" "$made"; rm -rf "$mirror"' EXIT
+trap 'exit 130' INT TERM
 # All of a folder but one entry, by links.
 link() { # FROM TO BUT
     mkdir -p "$2"
@@ -55,7 +62,7 @@ cat >"$clang" <<EOF
 for word in "\$@"; do
     shift
     case \$word in
-    --target=*) set -- "\$@" --target=$processor-unknown-linux-gnu -Wno-override-module ;;
+    --target=*) set -- "\$@" --target=$processor-unknown-linux-gnu -Wno-override-module $covered ;;
     -march=*) ;;
     *) set -- "\$@" "\$word" ;;
     esac
@@ -64,6 +71,7 @@ done
 "$kit/$own/toolchain/bin/clang" "\$@" 2>"$mirror/said" || { cat "$mirror/said" >&2; exit 1; }
 EOF
 chmod +x "$clang"
+[ ! -f "$made" ] || mv "$made" "$mirror/made.a"
 RATTLE_HOME=$mirror prove
 mv "$made" "$archive"
 finish

@@ -1,4 +1,4 @@
-//! The build script of the Rust crates over crates/nuvaleta: says where archive.sh puts the archive, and that a change of it is one of theirs.
+//! The build script of host/rust: says where archive.sh puts the archive, and that a change of it is one of the crate, and so of all that is built on it.
 
 use std::path::Path;
 
@@ -9,6 +9,10 @@ fn main() {
     if processor != "x86_64" {
         folder.push(processor);
     }
+    let archive = folder.join("libnuvaleta.a");
+    if !archive.is_file() {
+        println!("cargo:warning=no archive yet: host/build makes it");
+    }
     println!("cargo:rustc-link-search=native={}", folder.display());
-    println!("cargo:rerun-if-changed={}", folder.join("libnuvaleta.a").display());
+    println!("cargo:rerun-if-changed={}", archive.display());
 }

@@ -1,6 +1,6 @@
 #!/bin/sh
-# Makes an archive of a small proved crate, links it into a C program and runs that, and sees when it is kept; then makes one for another
-# processor and looks at it.
+# Makes an archive of a small proved crate, links it into a C program and runs that, and sees when it is kept; then makes one that counts what
+# is reached, and one for another processor, and looks at them.
 set -eu
 here=$(cd "$(dirname "$0")" && pwd)
 "$here/../need" gcc libc6-dev binutils
@@ -44,8 +44,12 @@ echo >>crates/probe/src/lib.rt
 echo >>"$archive"
 ! kept >/dev/null || { echo "archive: kept, though it has changed itself" >&2; exit 1; }
 
+"$here/archive.sh" probe >/dev/null
+objdump -h "$("$here/archive.sh" --covered probe)" | grep -q __sancov_cntrs || { echo "archive: --covered counts nothing" >&2; exit 1; }
+[ "$(kept)" = "$archive" ] || { echo "archive: not kept beside one that counts" >&2; exit 1; }
+
 other=aarch64
 [ "$(uname -m)" = x86_64 ] || other=riscv64
 readelf -h "$("$here/archive.sh" probe $other)" | grep -qi "machine:.*$other\|machine:.*risc" ||
     { echo "archive: not one for $other" >&2; exit 1; }
-echo "archive: links and runs here, is kept while nothing changes; made for $other too"
+echo "archive: links and runs here, is kept while nothing changes; made with counters and for $other too"

@@ -1,0 +1,82 @@
+/* Faults put on purpose between the harness and the port, to see that each is noticed: in a build with -DPLANTED the one that --planted=N names. */
+#ifndef PLANTED_H
+#define PLANTED_H
+
+enum planted {
+    BEHIND_STORE = 1,   /* a byte written behind the store */
+    BEFORE_TEXT,        /* a byte read before the text */
+    TEXT_WRITTEN,       /* a byte written to the text, the one that is there */
+    LEFT_ON_REFUSAL,    /* the last import word not zero on a refusal */
+    LEFT_BEHIND,        /* the last import word not zero where there is none */
+    OTHER_NUMBER,       /* another number returned than answered */
+    OF_ANOTHER_CALL,    /* the number of another call's refusal */
+    OUTSIDE_STORE,      /* a name's start behind what is stored */
+    AS_IT_WAS,          /* a byte of the store that is what it was before */
+    LEVELS_DIRTY,       /* scratch of a graph not zero */
+    EDGE_TWICE,         /* an edge of a graph twice */
+    ORDER_TURNED,       /* an order backwards */
+    ANY_LIST,           /* a check that accepts every list */
+    NULL_READ,          /* a text of length 0 read */
+    DEEP_REFUSAL        /* a byte written behind the store of a graph at 28 alone */
+};
+
+static volatile uint8_t planted_sink;
+
+static uint32_t planted_dependencies(const uint8_t *text, size_t text_len, uint8_t *store, size_t store_len, uint32_t *imports, size_t imports_len,
+                                     uint32_t *includes, size_t includes_len, uint32_t *answer) {
+    const uint8_t was = store_len != 0 ? store[0] : 0;
+    uint32_t number = nuvaleta_dependencies(text, text_len, store, store_len, imports, imports_len, includes, includes_len, answer);
+    if (call_planted == BEHIND_STORE)
+        store[store_len] = 1;
+    if (call_planted == BEFORE_TEXT || (call_planted == NULL_READ && text_len == 0))
+        planted_sink = text[call_planted == BEFORE_TEXT ? -1 : 0];
+    if (call_planted == TEXT_WRITTEN && text_len != 0)
+        ((volatile uint8_t *)text)[0] = text[0];
+    if ((call_planted == LEFT_ON_REFUSAL && number != 0 && imports_len != 0) || (call_planted == LEFT_BEHIND && number == 0))
+        imports[imports_len - 1] = 1;
+    if (call_planted == OUTSIDE_STORE && number == 0 && answer[3] != 0)
+        imports[0] = answer[5];
+    if (call_planted == AS_IT_WAS && number == 0 && answer[5] != 0)
+        store[0] = was;
+    if (call_planted == OF_ANOTHER_CALL && number == 4)
+        answer[0] = number = 9;
+    return call_planted == OTHER_NUMBER && number == 4 ? 5 : number;
+}
+
+static uint32_t planted_graph(const uint8_t *image, size_t image_len, const uint8_t *bundle, size_t bundle_len, uint32_t *nodes, size_t nodes_len,
+                              uint32_t *edges, size_t edges_len, uint8_t *store, size_t store_len, uint32_t *imports, size_t imports_len,
+                              uint32_t *includes, size_t includes_len, uint32_t *levels, size_t levels_len, uint32_t *answer) {
+    const uint32_t number = nuvaleta_graph(image, image_len, bundle, bundle_len, nodes, nodes_len, edges, edges_len, store, store_len, imports,
+                                           imports_len, includes, includes_len, levels, levels_len, answer);
+    if (call_planted == LEVELS_DIRTY && levels_len != 0)
+        levels[levels_len / 2] = 1;
+    if (call_planted == EDGE_TWICE && number == 0 && answer[7] > 1)
+        memcpy(edges + 2, edges, 2 * sizeof *edges);
+    if (call_planted == DEEP_REFUSAL && number == NUVALETA_NO_NODE)
+        store[store_len] = 1;
+    return number;
+}
+
+static uint32_t planted_order(const uint32_t *nodes, size_t nodes_len, size_t node_count, const uint32_t *edges, size_t edges_len, size_t edge_count,
+                              uint32_t *order, size_t order_len, uint32_t *answer) {
+    const uint32_t number = nuvaleta_order(nodes, nodes_len, node_count, edges, edges_len, edge_count, order, order_len, answer);
+    for (size_t i = 0; call_planted == ORDER_TURNED && number == 0 && i < node_count; i++)
+        order[i] = node_count - 1 - i;
+    return number;
+}
+
+static uint32_t planted_order_check(const uint32_t *nodes, size_t nodes_len, size_t node_count, const uint32_t *edges, size_t edges_len,
+                                    size_t edge_count, const uint32_t *list, size_t list_len, uint32_t *answer) {
+    const uint32_t number = nuvaleta_order_check(nodes, nodes_len, node_count, edges, edges_len, edge_count, list, list_len, answer);
+    if (call_planted != ANY_LIST || number != NUVALETA_LIST_WRONG)
+        return number;
+    answer[0] = answer[1] = 0;
+    return 0;
+}
+
+#define nuvaleta_dependencies planted_dependencies
+#define nuvaleta_graph planted_graph
+#define nuvaleta_order planted_order
+#define nuvaleta_order_check planted_order_check
+
+#endif
