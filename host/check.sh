@@ -1,6 +1,7 @@
 #!/bin/sh
-# check.sh: the host's quick checks: the archive from C, the packing of images and bundles, the Rust crate and its command, then the port beside
-# plain readings and beside the original Rust. What needs the NetGauze source, or a newer Rust, is skipped where that is not at hand, and says so.
+# check.sh: the host's quick checks: the archive from C, installed too, and under attack; the packing of images and bundles, the Rust crate and its command,
+# the examples and the README's snippets; then the port beside plain readings and beside the original Rust. What needs the NetGauze source, or a newer
+# Rust, is skipped where that is not at hand, and says so.
 set -eu
 here=$(cd "$(dirname "$0")" && pwd)
 cd "$here/.."
@@ -35,13 +36,22 @@ from_c_and_rust() {
     "$here/archive/test.sh"
     archive=$("$here/archive/archive.sh" nuvaleta)
     "$here/c/test.sh" "$archive"
-    [ "${minor:-0}" -lt 63 ] || "$here/rust/test.sh"
+    "$here/attack/test.sh" "$archive"
+    rust=rust
+    [ "${minor:-0}" -ge 63 ] || rust=
+    # shellcheck disable=SC2086
+    "$here/example/test.sh" README.md c $rust
+    [ -n "$rust" ] || return 0
+    "$here/rust/test.sh"
+    "$here/rust/test_all.py"
+    "$here/../examples/test.sh"
 }
 
 packed_and_judged() {
+    "$here/readme/reading.py" README.md
     "$here/pack/test.py"
     rest="the oracle, the recorded answers and the comparison"
-    [ "${minor:-0}" -ge 63 ] || { skip "no Rust of 1.63 or newer" "nuvaleta graph and order, $rest"; return 0; }
+    [ "${minor:-0}" -ge 63 ] || { skip "no Rust of 1.63 or newer" "the Rust crate and the command, $rest"; return 0; }
     [ "$minor" -ge 88 ] || { skip "no Rust of 1.88 or newer" "$rest"; return 0; }
     status=0
     "$here/oracle/build.sh" || status=$?
@@ -76,7 +86,7 @@ libraries_compared() {
 }
 
 # All that two parts could both want to install, and the packages that the packing's tests look for.
-"$here/need" gcc libc6-dev binutils python3
+"$here/need" gcc g++ libc6-dev binutils make pkg-config python3 valgrind
 real=$("$here/vectors/real.sh")
 both from_c_and_rust packed_and_judged
 if [ "${minor:-0}" -ge 88 ]; then
