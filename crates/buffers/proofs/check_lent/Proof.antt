@@ -11,9 +11,6 @@ returns c = search lent-long
 returns-2 : tie.Need-returns-2
 returns-2 c = search lent-short
 
-first-high-requires : tie.Need-first-high-requires
-first-high-requires c κs = search needs
-
 returns-3 : tie.Need-returns-3
 returns-3 c = search lent-high
 
@@ -21,4 +18,4 @@ returns-4 : tie.Need-returns-4
 returns-4 c = search lent-fit
 
 pub check-lent-spec : {M : Type 1} → statement M
-check-lent-spec = tie.close (tie.spec returns returns-2 first-high-requires returns-3 returns-4)
+check-lent-spec = tie.close (tie.spec returns returns-2 (λ c κs. search needs) returns-3 returns-4)

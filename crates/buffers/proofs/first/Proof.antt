@@ -12,15 +12,6 @@ use Rattle.buffers.proofs.first.Tie as tie
 returns : tie.Need-returns
 returns c = sym (take-all (c .before .args .n) (c .before .args .s .now) (omega arith))
 
-sub-result : tie.Need-sub-result
-sub-result c = search needs
-
-part-result-start : tie.Need-part-result-start
-part-result-start c = search needs
-
-part-result-end : tie.Need-part-result-end
-part-result-end c = search needs
-
 returns-2 : tie.Need-returns-2
 returns-2 c =
     let start = c .before .before .args in
@@ -28,4 +19,4 @@ returns-2 c =
     ap (λ k. take k (start .s .now)) n
 
 pub first-spec : {M : Type 1} → statement M
-first-spec = tie.close (tie.spec returns sub-result part-result-start part-result-end returns-2)
+first-spec = tie.close (tie.spec returns (λ c. search needs) (λ c. search needs) (λ c. search needs) returns-2)

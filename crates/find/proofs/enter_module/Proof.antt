@@ -6,23 +6,11 @@ use Rattle.find.proofs.Ways.{no-module, entered}
 use Rattle.find.proofs.enter_module.Statement.{statement}
 use Rattle.find.proofs.enter_module.Tie as tie
 
-name-requires : tie.Need-name-requires
-name-requires c κs = search needs
-
-enum-known-first : tie.Need-enum-known-first
-enum-known-first c = search needs
-
-enum-told : tie.Need-enum-told
-enum-told c = search needs
-
 returns : tie.Need-returns
 returns c = search no-module
 
 add-read-count : tie.Need-add-read-count
 add-read-count c = search end-fits
-
-read-count-requires : tie.Need-read-count-requires
-read-count-requires c κs = search needs
 
 returns-2 : tie.Need-returns-2
 returns-2 c = search entered
@@ -31,10 +19,10 @@ pub enter-module-spec : {M : Type 1} → statement M
 enter-module-spec =
     tie.close
     (tie.spec
-    name-requires
-    enum-known-first
-    enum-told
+    (λ c κs. search needs)
+    (λ c. search needs)
+    (λ c. search needs)
     returns
     add-read-count
-    read-count-requires
+    (λ c κs. search needs)
     returns-2)

@@ -5,24 +5,15 @@ use Rattle.find.proofs.Ways.{is-hit, is-next, is-bad}
 use Rattle.find.proofs.found_by.Statement.{statement}
 use Rattle.find.proofs.found_by.Tie as tie
 
-enum-known-tried : tie.Need-enum-known-tried
-enum-known-tried c = search needs
-
 returns : tie.Need-returns
 returns c = search is-hit
 
-enum-known-tried-2 : tie.Need-enum-known-tried-2
-enum-known-tried-2 c = search needs
-
 returns-2 : tie.Need-returns-2
 returns-2 c = search is-next
-
-enum-told : tie.Need-enum-told
-enum-told c = search needs
 
 returns-3 : tie.Need-returns-3
 returns-3 c = search is-bad
 
 pub found-by-spec : {M : Type 1} → statement M
 found-by-spec =
-    tie.close (tie.spec enum-known-tried returns enum-known-tried-2 returns-2 enum-told returns-3)
+    tie.close (tie.spec (λ c. search needs) returns (λ c. search needs) returns-2 (λ c. search needs) returns-3)

@@ -5,15 +5,6 @@ use Rattle.find.proofs.Ways.{module-hit, no-revisions, import-only-hit}
 use Rattle.find.proofs.hit_at.Statement.{statement}
 use Rattle.find.proofs.hit_at.Tie as tie
 
-number-requires : tie.Need-number-requires
-number-requires c κs = search needs
-
-enum-known-revisions : tie.Need-enum-known-revisions
-enum-known-revisions c = search needs
-
-enum-told : tie.Need-enum-told
-enum-told c = search needs
-
 returns : tie.Need-returns
 returns c = search no-revisions
 
@@ -25,4 +16,4 @@ returns-3 c = search module-hit
 
 pub hit-at-spec : {M : Type 1} → statement M
 hit-at-spec =
-    tie.close (tie.spec number-requires enum-known-revisions enum-told returns returns-2 returns-3)
+    tie.close (tie.spec (λ c κs. search needs) (λ c. search needs) (λ c. search needs) returns returns-2 returns-3)

@@ -6,32 +6,14 @@ use Rattle.find.proofs.Ways.{no-word, word-hit, word-other}
 use Rattle.find.proofs.try_word.Statement.{statement}
 use Rattle.find.proofs.try_word.Tie as tie
 
-name-requires : tie.Need-name-requires
-name-requires c κs = search needs
-
-enum-known-first : tie.Need-enum-known-first
-enum-known-first c = search needs
-
-enum-told : tie.Need-enum-told
-enum-told c = search needs
-
 returns : tie.Need-returns
 returns c = search no-word
 
 add-end : tie.Need-add-end
 add-end c = search end-fits
 
-sub-same : tie.Need-sub-same
-sub-same c = search needs
-
-part-same-start : tie.Need-part-same-start
-part-same-start c = search needs
-
 part-same-end : tie.Need-part-same-end
 part-same-end c = search end-in
-
-same-requires : tie.Need-same-requires
-same-requires c κs = search needs
 
 returns-2 : tie.Need-returns-2
 returns-2 c = search word-hit
@@ -43,14 +25,14 @@ pub try-word-spec : {M : Type 1} → statement M
 try-word-spec =
     tie.close
     (tie.spec
-    name-requires
-    enum-known-first
-    enum-told
+    (λ c κs. search needs)
+    (λ c. search needs)
+    (λ c. search needs)
     returns
     add-end
-    sub-same
-    part-same-start
+    (λ c. search needs)
+    (λ c. search needs)
     part-same-end
-    same-requires
+    (λ c κs. search needs)
     returns-2
     returns-3)

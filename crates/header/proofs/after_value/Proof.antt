@@ -5,23 +5,11 @@ use Rattle.header.proofs.ReadLaws.{due-byte, value-parent, value-revisi
 use Rattle.header.proofs.after_value.Statement.{statement}
 use Rattle.header.proofs.after_value.Tie as tie
 
-past-statement-requires : tie.Need-past-statement-requires
-past-statement-requires c κs = search needs
-
 returns : tie.Need-returns
 returns c = search value-parent
 
-skip-whitespace-and-comments-requires : tie.Need-skip-whitespace-and-comments-requires
-skip-whitespace-and-comments-requires c κs = search needs
-
-after-revision-requires : tie.Need-after-revision-requires
-after-revision-requires c κs = search needs
-
 returns-2 : tie.Need-returns-2
 returns-2 c = search value-revision
-
-due-for-requires : tie.Need-due-for-requires
-due-for-requires c κs = search needs
 
 expect-char-requires : tie.Need-expect-char-requires
 expect-char-requires c κs = search (due-byte, needs)
@@ -33,11 +21,11 @@ pub after-value-spec : {M : Type 1} → statement M
 after-value-spec =
     tie.close
     (tie.spec
-    past-statement-requires
+    (λ c κs. search needs)
     returns
-    skip-whitespace-and-comments-requires
-    after-revision-requires
+    (λ c κs. search needs)
+    (λ c κs. search needs)
     returns-2
-    due-for-requires
+    (λ c κs. search needs)
     expect-char-requires
     returns-3)

@@ -5,20 +5,11 @@ use Rattle.header.proofs.StatementLaws.{statement-room, said-end, said-
 use Rattle.header.proofs.hear.Statement.{statement}
 use Rattle.header.proofs.hear.Tie as tie
 
-skip-whitespace-and-comments-requires : tie.Need-skip-whitespace-and-comments-requires
-skip-whitespace-and-comments-requires c κs = search needs
-
 returns : tie.Need-returns
 returns c =
     let gap = c .before in
     let a = gap .before .before .before .args in
     said-end (a .s .now) (a .from .at) (a .used) (a .prefixed) (a .store .now) (gap .skip-whitespace-and-comments .ensures) (c .if1 .taken)
-
-read-tag-requires : tie.Need-read-tag-requires
-read-tag-requires c κs = search needs
-
-enum-known-tag : tie.Need-enum-known-tag
-enum-known-tag c = search needs
 
 read-statement-requires : tie.Need-read-statement-requires
 read-statement-requires c κs =
@@ -31,21 +22,6 @@ read-statement-requires c κs =
       start .pre .0,
       statement-room (a .s .now) (a .from .at) (a .used) _ (gap .skip-whitespace-and-comments .ensures) (read .read-tag .ensures) (k .0 .0) (k .0 .1 .0) (k .1) (start .pre .1),
     )
-
-enum-known-tag-2 : tie.Need-enum-known-tag-2
-enum-known-tag-2 c = search needs
-
-enum-told : tie.Need-enum-told
-enum-told c = search needs
-
-skip-one-token-requires : tie.Need-skip-one-token-requires
-skip-one-token-requires c κs = search needs
-
-token-end-requires : tie.Need-token-end-requires
-token-end-requires c κs = search needs
-
-same-length : tie.Need-same-length
-same-length c = search needs
 
 returns-2 : tie.Need-returns-2
 returns-2 c =
@@ -77,16 +53,16 @@ pub hear-spec : {M : Type 1} → statement M
 hear-spec =
     tie.close
     (tie.spec
-    skip-whitespace-and-comments-requires
+    (λ c κs. search needs)
     returns
-    read-tag-requires
-    enum-known-tag
+    (λ c κs. search needs)
+    (λ c. search needs)
     read-statement-requires
-    enum-known-tag-2
-    enum-told
-    skip-one-token-requires
-    token-end-requires
-    same-length
+    (λ c. search needs)
+    (λ c. search needs)
+    (λ c κs. search needs)
+    (λ c κs. search needs)
+    (λ c. search needs)
     returns-2
     returns-3
     returns-4)

@@ -6,12 +6,6 @@ use Rattle.header.proofs.ReadLaws.{last-after}
 use Rattle.header.proofs.last_tag.Statement.{statement}
 use Rattle.header.proofs.last_tag.Tie as tie
 
-enum-known-m : tie.Need-enum-known-m
-enum-known-m c = search needs
-
-enum-told : tie.Need-enum-told
-enum-told c = search needs
-
 returns : tie.Need-returns
 returns c = search last-after
 
@@ -20,4 +14,4 @@ unfolding lastTag
 returns-2 c = search needs
 
 pub last-tag-spec : {M : Type 1} → statement M
-last-tag-spec = tie.close (tie.spec enum-known-m enum-told returns returns-2)
+last-tag-spec = tie.close (tie.spec (λ c. search needs) (λ c. search needs) returns returns-2)

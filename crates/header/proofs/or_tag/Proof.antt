@@ -5,15 +5,6 @@ use Rattle.header.proofs.ReadLaws.{tag-after, tag-not}
 use Rattle.header.proofs.or_tag.Statement.{statement}
 use Rattle.header.proofs.or_tag.Tie as tie
 
-match-keyword-requires : tie.Need-match-keyword-requires
-match-keyword-requires c κs = search needs
-
-enum-known-m : tie.Need-enum-known-m
-enum-known-m c = search needs
-
-enum-told : tie.Need-enum-told
-enum-told c = search needs
-
 returns : tie.Need-returns
 returns c = search tag-after
 
@@ -21,4 +12,4 @@ returns-2 : tie.Need-returns-2
 returns-2 c = search tag-not
 
 pub or-tag-spec : {M : Type 1} → statement M
-or-tag-spec = tie.close (tie.spec match-keyword-requires enum-known-m enum-told returns returns-2)
+or-tag-spec = tie.close (tie.spec (λ c κs. search needs) (λ c. search needs) (λ c. search needs) returns returns-2)

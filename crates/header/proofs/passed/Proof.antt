@@ -5,12 +5,6 @@ use Rattle.header.proofs.ReadLaws.{passed-after, passed-not}
 use Rattle.header.proofs.passed.Statement.{statement}
 use Rattle.header.proofs.passed.Tie as tie
 
-enum-known-d : tie.Need-enum-known-d
-enum-known-d c = search needs
-
-enum-known-d-2 : tie.Need-enum-known-d-2
-enum-known-d-2 c = search needs
-
 returns : tie.Need-returns
 returns c = search passed-after
 
@@ -18,4 +12,4 @@ returns-2 : tie.Need-returns-2
 returns-2 c = search passed-not
 
 pub passed-spec : {M : Type 1} → statement M
-passed-spec = tie.close (tie.spec enum-known-d enum-known-d-2 returns returns-2)
+passed-spec = tie.close (tie.spec (λ c. search needs) (λ c. search needs) returns returns-2)

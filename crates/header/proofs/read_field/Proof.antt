@@ -8,21 +8,6 @@ use Rattle.header.proofs.StatementLaws.{field-refused, field-other, fie
 use Rattle.header.proofs.read_field.Statement.{statement}
 use Rattle.header.proofs.read_field.Tie as tie
 
-read-value-requires : tie.Need-read-value-requires
-read-value-requires c κs = search needs
-
-enum-known-got : tie.Need-enum-known-got
-enum-known-got c = search needs
-
-enum-told : tie.Need-enum-told
-enum-told c = search needs
-
-argument-refusal-requires : tie.Need-argument-refusal-requires
-argument-refusal-requires c κs = search needs
-
-same-length : tie.Need-same-length
-same-length c = search needs
-
 returns : tie.Need-returns
 returns c =
     let at-read = c .before .before .before .before .before in
@@ -30,21 +15,6 @@ returns c =
     let v = at-read .read-value in
     let k = c .before .enum-told .given in
     (field-refused (a .s .now) (a .here .at) (a .keyword) (a .used) (v .ensures .0) (k .0 .0) (k .1) (c .argument-refusal .ensures), field-stored (a .s .now) (a .here .at) (a .keyword) (a .used) (a .store .now) (v .ensures .1))
-
-after-value-requires : tie.Need-after-value-requires
-after-value-requires c κs = search needs
-
-enum-known-due : tie.Need-enum-known-due
-enum-known-due c = search needs
-
-enum-told-2 : tie.Need-enum-told-2
-enum-told-2 c = search needs
-
-refusal-of-requires : tie.Need-refusal-of-requires
-refusal-of-requires c κs = search needs
-
-same-length-2 : tie.Need-same-length-2
-same-length-2 c = search needs
 
 returns-2 : tie.Need-returns-2
 returns-2 c =
@@ -67,12 +37,6 @@ sub-size c =
     let f = argument-far (a .s .now) (a .here .at) (a .used) (a .keyword) (k .0 .0) (k .0 .1 .0) (sym (at-read .read-value .ensures .0) ∙ k .1) in
     omega (arith, f)
 
-held-requires : tie.Need-held-requires
-held-requires c κs = search needs
-
-same-length-3 : tie.Need-same-length-3
-same-length-3 c = search needs
-
 returns-3 : tie.Need-returns-3
 returns-3 c =
     let due = c .before .before in
@@ -89,19 +53,19 @@ pub read-field-spec : {M : Type 1} → statement M
 read-field-spec =
     tie.close
     (tie.spec
-    read-value-requires
-    enum-known-got
-    enum-told
-    argument-refusal-requires
-    same-length
+    (λ c κs. search needs)
+    (λ c. search needs)
+    (λ c. search needs)
+    (λ c κs. search needs)
+    (λ c. search needs)
     returns
-    after-value-requires
-    enum-known-due
-    enum-told-2
-    refusal-of-requires
-    same-length-2
+    (λ c κs. search needs)
+    (λ c. search needs)
+    (λ c. search needs)
+    (λ c κs. search needs)
+    (λ c. search needs)
     returns-2
     sub-size
-    held-requires
-    same-length-3
+    (λ c κs. search needs)
+    (λ c. search needs)
     returns-3)

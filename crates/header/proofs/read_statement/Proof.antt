@@ -5,29 +5,11 @@ use Rattle.header.proofs.StatementLaws.{version-said, prefix-said, fiel
 use Rattle.header.proofs.read_statement.Statement.{statement}
 use Rattle.header.proofs.read_statement.Tie as tie
 
-skip-value-requires : tie.Need-skip-value-requires
-skip-value-requires c κs = search needs
-
-after-value-requires : tie.Need-after-value-requires
-after-value-requires c κs = search needs
-
-passed-requires : tie.Need-passed-requires
-passed-requires c κs = search needs
-
 returns : tie.Need-returns
 returns c =
     let test = c .before .before .before in
     let a = test .before .before .before .args in
     version-said (a .s .now) (a .here .at) (a .keyword) (a .used) (a .prefixed) (a .store .now) (test .if1 .taken) (c .before .before .skip-value .ensures) (c .before .after-value .ensures) (c .passed .ensures)
-
-later-prefix-requires : tie.Need-later-prefix-requires
-later-prefix-requires c κs = search needs
-
-past-statement-requires : tie.Need-past-statement-requires
-past-statement-requires c κs = search needs
-
-passed-requires-2 : tie.Need-passed-requires-2
-passed-requires-2 c κs = search needs
 
 returns-2 : tie.Need-returns-2
 returns-2 c =
@@ -35,12 +17,6 @@ returns-2 c =
     let test = later .before in
     let a = test .before .before .before .args in
     prefix-said (a .s .now) (a .here .at) (a .keyword) (a .used) (a .prefixed) (a .store .now) (test .if1 .left) (later .later-prefix .ensures) (c .before .before .if2 .taken) (c .before .past-statement .ensures) (c .passed2 .ensures)
-
-read-field-requires : tie.Need-read-field-requires
-read-field-requires c κs = search needs
-
-same-length : tie.Need-same-length
-same-length c = search needs
 
 returns-3 : tie.Need-returns-3
 returns-3 c =
@@ -53,14 +29,14 @@ pub read-statement-spec : {M : Type 1} → statement M
 read-statement-spec =
     tie.close
     (tie.spec
-    skip-value-requires
-    after-value-requires
-    passed-requires
+    (λ c κs. search needs)
+    (λ c κs. search needs)
+    (λ c κs. search needs)
     returns
-    later-prefix-requires
-    past-statement-requires
-    passed-requires-2
+    (λ c κs. search needs)
+    (λ c κs. search needs)
+    (λ c κs. search needs)
     returns-2
-    read-field-requires
-    same-length
+    (λ c κs. search needs)
+    (λ c. search needs)
     returns-3)

@@ -6,18 +6,6 @@ use Rattle.header.proofs.TagLaws.{tag-none}
 use Rattle.header.proofs.read_tag.Statement.{statement}
 use Rattle.header.proofs.read_tag.Tie as tie
 
-peek-char-requires : tie.Need-peek-char-requires
-peek-char-requires c κs = search needs
-
-starts-ident-requires : tie.Need-starts-ident-requires
-starts-ident-requires c κs = search needs
-
-try-tags-requires : tie.Need-try-tags-requires
-try-tags-requires c κs = search needs
-
-returns : tie.Need-returns
-returns c = search needs
-
 returns-2 : tie.Need-returns-2
 returns-2 c =
     let starts = c .before in
@@ -28,4 +16,4 @@ returns-2 c =
 pub read-tag-spec : {M : Type 1} → statement M
 read-tag-spec =
     tie.close
-    (tie.spec peek-char-requires starts-ident-requires try-tags-requires returns returns-2)
+    (tie.spec (λ c κs. search needs) (λ c κs. search needs) (λ c κs. search needs) (λ c. search needs) returns-2)

@@ -5,14 +5,8 @@ use borrow.Author.Needs.{needs}
 use Rattle.imports.proofs.begun.Statement.{statement}
 use Rattle.imports.proofs.begun.Tie as tie
 
-missing-requires : tie.Need-missing-requires
-missing-requires c κs = search needs
-
-missing-requires-2 : tie.Need-missing-requires-2
-missing-requires-2 c κs = search needs
-
 returns : tie.Need-returns
 returns c = begun-is (c .before .before .args .here .at) (c .before .before .args .used) (c .before .missing .ensures) (c .missing2 .ensures)
 
 pub begun-spec : {M : Type 1} → statement M
-begun-spec = tie.close (tie.spec missing-requires missing-requires-2 returns)
+begun-spec = tie.close (tie.spec (λ c κs. search needs) (λ c κs. search needs) returns)

@@ -6,12 +6,6 @@ use borrow.Author.Needs.{needs}
 use Rattle.imports.proofs.block_refusal.Statement.{statement}
 use Rattle.imports.proofs.block_refusal.Tie as tie
 
-enum-told : tie.Need-enum-told
-enum-told c = search needs
-
-enum-known-b : tie.Need-enum-known-b
-enum-known-b c = search needs
-
 returns : tie.Need-returns
 unfolding blockRefusal
 returns c = sym (ap blockRefusal (c .enum-told .given .1))
@@ -21,4 +15,4 @@ unfolding blockRefusal
 returns-2 c = sym (ap blockRefusal (c .before .b .given .1))
 
 pub block-refusal-spec : {M : Type 1} → statement M
-block-refusal-spec = tie.close (tie.spec enum-told enum-known-b returns returns-2)
+block-refusal-spec = tie.close (tie.spec (λ c. search needs) (λ c. search needs) returns returns-2)

@@ -5,18 +5,6 @@ use borrow.Author.Needs.{needs}
 use Rattle.imports.proofs.import_line.Statement.{statement}
 use Rattle.imports.proofs.import_line.Tie as tie
 
-match-prefix-requires : tie.Need-match-prefix-requires
-match-prefix-requires c κs = search needs
-
-enum-known-c : tie.Need-enum-known-c
-enum-known-c c = search needs
-
-enum-told : tie.Need-enum-told
-enum-told c = search needs
-
-revision-line-requires : tie.Need-revision-line-requires
-revision-line-requires c κs = search needs
-
 returns : tie.Need-returns
 returns c =
     let a = c .before .before .before .before .before .args in
@@ -31,9 +19,9 @@ pub import-line-spec : {M : Type 1} → statement M
 import-line-spec =
     tie.close
     (tie.spec
-    match-prefix-requires
-    enum-known-c
-    enum-told
-    revision-line-requires
+    (λ c κs. search needs)
+    (λ c. search needs)
+    (λ c. search needs)
+    (λ c κs. search needs)
     returns
     returns-2)

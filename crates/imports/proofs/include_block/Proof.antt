@@ -5,21 +5,6 @@ use borrow.Author.Needs.{needs}
 use Rattle.imports.proofs.include_block.Statement.{statement}
 use Rattle.imports.proofs.include_block.Tie as tie
 
-parse-block-requires : tie.Need-parse-block-requires
-parse-block-requires c κs = search needs
-
-enum-known-block : tie.Need-enum-known-block
-enum-known-block c = search needs
-
-enum-told : tie.Need-enum-told
-enum-told c = search needs
-
-block-refusal-requires : tie.Need-block-refusal-requires
-block-refusal-requires c κs = search needs
-
-same-length : tie.Need-same-length
-same-length c = search needs
-
 returns : tie.Need-returns
 returns c =
     let told = c .before in
@@ -28,9 +13,6 @@ returns c =
     let v = at-block .parse-block in
     let k = told .enum-told .given in
     (include-broken (a .s .now) (a .here .at) (a .used) (a .name) (v .ensures .0) (k .0 .0) (k .1) (c .block-refusal .ensures), v .ensures .1)
-
-same-length-2 : tie.Need-same-length-2
-same-length-2 c = search needs
 
 returns-2 : tie.Need-returns-2
 returns-2 c =
@@ -45,11 +27,11 @@ pub include-block-spec : {M : Type 1} → statement M
 include-block-spec =
     tie.close
     (tie.spec
-    parse-block-requires
-    enum-known-block
-    enum-told
-    block-refusal-requires
-    same-length
+    (λ c κs. search needs)
+    (λ c. search needs)
+    (λ c. search needs)
+    (λ c κs. search needs)
+    (λ c. search needs)
     returns
-    same-length-2
+    (λ c. search needs)
     returns-2)

@@ -16,9 +16,6 @@ Inv-loop classes s store₀ used keyword body₀ store body = Reading s keyword 
 abbrev μ-loop : tie.MeasureT-loop
 μ-loop classes s store₀ used keyword body₀ store body = length s - body .at
 
-begun-requires : tie.Need-begun-requires Inv-loop μ-loop
-begun-requires c κs = search needs
-
 loop-holds : tie.Need-loop-holds Inv-loop μ-loop
 loop-holds c = reading-begun (c .before .before .before .args .here .at) (c .begun .ensures) (c .before .before .before .pre .1)
 
@@ -26,9 +23,6 @@ parse-inside-requires : tie.Need-parse-inside-requires Inv-loop μ-loop
 parse-inside-requires c κs =
     let j = c .before .loop .inv in
     (c .before .before .before .before .before .pre .0, omega (arith, reading-long j, j .room))
-
-enum-known-next : tie.Need-enum-known-next Inv-loop μ-loop
-enum-known-next c = search needs
 
 loop-less : tie.Need-loop-less Inv-loop μ-loop
 loop-less c =
@@ -44,9 +38,6 @@ loop-again c =
     let w = at-inside .parse-inside .ensures in
     reading-more (at-loop .loop .inv) w (c .before .next .given .0 .0) (c .before .next .given .1)
 
-enum-known-end : tie.Need-enum-known-end Inv-loop μ-loop
-enum-known-end c = search needs
-
 same-length : tie.Need-same-length Inv-loop μ-loop
 same-length c =
     let at-inside = c .before .before .before .before .before in
@@ -60,9 +51,6 @@ returns c =
     let at-begun = at-loop .before in
     let a = at-begun .before .before .before .args in
     reading-done (at-loop .loop .inv) w (a .here .at) (at-begun .begun .ensures) (c .before .end .given .0 .0) (c .before .end .given .1)
-
-enum-known-r : tie.Need-enum-known-r Inv-loop μ-loop
-enum-known-r c = search needs
 
 same-length-2 : tie.Need-same-length-2 Inv-loop μ-loop
 same-length-2 c =
@@ -84,15 +72,15 @@ parse-block-spec =
     (tie.spec
     Inv-loop
     μ-loop
-    begun-requires
+    (λ c κs. search needs)
     loop-holds
     parse-inside-requires
-    enum-known-next
+    (λ c. search needs)
     loop-less
     loop-again
-    enum-known-end
+    (λ c. search needs)
     same-length
     returns
-    enum-known-r
+    (λ c. search needs)
     same-length-2
     returns-2)

@@ -8,21 +8,6 @@ use borrow.Author.Needs.{needs}
 use Rattle.imports.proofs.parse_include.Statement.{statement}
 use Rattle.imports.proofs.parse_include.Tie as tie
 
-read-value-requires : tie.Need-read-value-requires
-read-value-requires c κs = search needs
-
-enum-known-name : tie.Need-enum-known-name
-enum-known-name c = search needs
-
-enum-told : tie.Need-enum-told
-enum-told c = search needs
-
-argument-refusal-requires : tie.Need-argument-refusal-requires
-argument-refusal-requires c κs = search needs
-
-same-length : tie.Need-same-length
-same-length c = search needs
-
 returns : tie.Need-returns
 returns c =
     let told = c .before in
@@ -40,15 +25,6 @@ sub-size c =
     let k = named .name .given in
     let v = at-read .read-value .ensures in
     argument-grows (a .s .now) (a .here .at) (a .used) 9 (k .0 .0) (k .0 .1 .0) (v .0) (k .1)
-
-held-requires : tie.Need-held-requires
-held-requires c κs = search needs
-
-skip-whitespace-and-comments-requires : tie.Need-skip-whitespace-and-comments-requires
-skip-whitespace-and-comments-requires c κs = search needs
-
-peek-char-requires : tie.Need-peek-char-requires
-peek-char-requires c κs = search needs
 
 add-inner : tie.Need-add-inner
 add-inner c =
@@ -69,9 +45,6 @@ include-block-requires c κs =
     let room = inner-room (a .s .now) (a .here .at) (a .used) 9 (length (a .store .now)) (k .0 .0) (k .0 .1 .0) (v .0) (k .1) (at-gap .skip-whitespace-and-comments .ensures) (start .pre .1) in
     (start .pre .0, omega (arith, room, at-read .read-value .kept .1 .1 .1 .0))
 
-same-length-2 : tie.Need-same-length-2
-same-length-2 c = search needs
-
 returns-2 : tie.Need-returns-2
 returns-2 c =
     let at-peek = c .before .before .before .before .before in
@@ -84,21 +57,6 @@ returns-2 c =
     let b = c .before .before .include-block .ensures in
     include-open (a .s .now) (a .here .at) (a .used) (a .store .now) (v .0) (v .1) (k .0 .0) (k .0 .1 .0) (k .1) (at-gap .before .held .ensures) (at-gap .skip-whitespace-and-comments .ensures) (at-peek .peek-char .ensures) (c .before .before .before .before .if1 .taken) (b .0) (b .1)
 
-expect-char-requires : tie.Need-expect-char-requires
-expect-char-requires c κs = search needs
-
-enum-known-due : tie.Need-enum-known-due
-enum-known-due c = search needs
-
-enum-told-2 : tie.Need-enum-told-2
-enum-told-2 c = search needs
-
-refusal-of-requires : tie.Need-refusal-of-requires
-refusal-of-requires c κs = search needs
-
-same-length-3 : tie.Need-same-length-3
-same-length-3 c = search needs
-
 returns-3 : tie.Need-returns-3
 returns-3 c =
     let at-peek = c .before .before .before .before .before in
@@ -110,12 +68,6 @@ returns-3 c =
     let v = at-read .read-value .ensures in
     let t = c .before .enum-told2 .given in
     include-other (a .s .now) (a .here .at) (a .used) (a .store .now) (v .0) (v .1) (k .0 .0) (k .0 .1 .0) (k .1) (at-gap .before .held .ensures) (at-gap .skip-whitespace-and-comments .ensures) (at-peek .peek-char .ensures) (c .before .before .before .before .if1 .left) (c .before .before .before .expect-char .ensures) (t .0 .0) (t .1) (c .refusal-of .ensures)
-
-missing-requires : tie.Need-missing-requires
-missing-requires c κs = search needs
-
-same-length-4 : tie.Need-same-length-4
-same-length-4 c = search needs
 
 returns-4 : tie.Need-returns-4
 returns-4 c =
@@ -133,26 +85,26 @@ pub parse-include-spec : {M : Type 1} → statement M
 parse-include-spec =
     tie.close
     (tie.spec
-    read-value-requires
-    enum-known-name
-    enum-told
-    argument-refusal-requires
-    same-length
+    (λ c κs. search needs)
+    (λ c. search needs)
+    (λ c. search needs)
+    (λ c κs. search needs)
+    (λ c. search needs)
     returns
     sub-size
-    held-requires
-    skip-whitespace-and-comments-requires
-    peek-char-requires
+    (λ c κs. search needs)
+    (λ c κs. search needs)
+    (λ c κs. search needs)
     add-inner
     include-block-requires
-    same-length-2
+    (λ c. search needs)
     returns-2
-    expect-char-requires
-    enum-known-due
-    enum-told-2
-    refusal-of-requires
-    same-length-3
+    (λ c κs. search needs)
+    (λ c. search needs)
+    (λ c. search needs)
+    (λ c κs. search needs)
+    (λ c. search needs)
     returns-3
-    missing-requires
-    same-length-4
+    (λ c κs. search needs)
+    (λ c. search needs)
     returns-4)

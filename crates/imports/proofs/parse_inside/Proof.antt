@@ -12,12 +12,6 @@ use borrow.Author.Needs.{needs}
 use Rattle.imports.proofs.parse_inside.Statement.{statement}
 use Rattle.imports.proofs.parse_inside.Tie as tie
 
-skip-whitespace-and-comments-requires : tie.Need-skip-whitespace-and-comments-requires
-skip-whitespace-and-comments-requires c κs = search needs
-
-peek-char-requires : tie.Need-peek-char-requires
-peek-char-requires c κs = search needs
-
 returns : tie.Need-returns
 returns c =
     let at-peek = c .before in
@@ -31,21 +25,12 @@ add-end c =
     let a = at-gap .before .before .before .args in
     omega (arith, here (a .s .now) (at-gap .skip-whitespace-and-comments .result .at) (λ e. omega arith))
 
-moved-requires : tie.Need-moved-requires
-moved-requires c κs = search needs
-
 returns-2 : tie.Need-returns-2
 returns-2 c =
     let at-peek = c .before .before .before in
     let at-gap = at-peek .before in
     let a = at-gap .before .before .before .args in
     leaves (inside-close (a .s .now) (a .keyword) (a .body) (at-gap .skip-whitespace-and-comments .ensures) (at-peek .peek-char .ensures) (c .before .before .if1 .left) (c .before .if2 .taken)) (a .store .now) (a .body .used) (ap Closed (c .moved .ensures), refl)
-
-line-kind-requires : tie.Need-line-kind-requires
-line-kind-requires c κs = search needs
-
-enum-known-c : tie.Need-enum-known-c
-enum-known-c c = search needs
 
 read-prefix-requires : tie.Need-read-prefix-requires
 read-prefix-requires c κs =
@@ -59,9 +44,6 @@ read-prefix-requires c κs =
     let far = kind-prefix-far (a .s .now) g (a .keyword) (k .0 .0) (sym (at-kind .line-kind .ensures) ∙ k .1) in
     (at-gap .before .before .before .pre .0, omega (arith, far, gap-from (a .s .now) (a .body .at)))
 
-enum-known-c-2 : tie.Need-enum-known-c-2
-enum-known-c-2 c = search needs
-
 read-revision-requires : tie.Need-read-revision-requires
 read-revision-requires c κs =
     let at-c = c .before .before in
@@ -74,21 +56,6 @@ read-revision-requires c κs =
     let far = kind-revision-far (a .s .now) g (a .keyword) (k .0 .0) (sym (at-kind .line-kind .ensures) ∙ k .1) in
     (at-gap .before .before .before .pre .0, omega (arith, far, gap-from (a .s .now) (a .body .at)))
 
-enum-told : tie.Need-enum-told
-enum-told c = search needs
-
-skip-statement-requires : tie.Need-skip-statement-requires
-skip-statement-requires c κs = search needs
-
-ended-at-requires : tie.Need-ended-at-requires
-ended-at-requires c κs = search needs
-
-moved-requires-2 : tie.Need-moved-requires-2
-moved-requires-2 c κs = search needs
-
-same-length : tie.Need-same-length
-same-length c = search needs
-
 returns-3 : tie.Need-returns-3
 returns-3 c =
     let at-c = c .before .before .before .before .before in
@@ -98,9 +65,6 @@ returns-3 c =
     let a = at-gap .before .before .before .args in
     let k = at-c .c .given in
     leaves (inside-prefix (a .s .now) (a .keyword) (a .body) (at-gap .skip-whitespace-and-comments .ensures) (at-peek .peek-char .ensures) (at-kind .before .before .if1 .left) (at-kind .before .if2 .left) (at-kind .line-kind .ensures) (k .0 .0) (k .1)) (a .store .now) (a .body .used) (c .before .before .read-prefix .ensures)
-
-same-length-2 : tie.Need-same-length-2
-same-length-2 c = search needs
 
 returns-4 : tie.Need-returns-4
 returns-4 c =
@@ -125,23 +89,23 @@ pub parse-inside-spec : {M : Type 1} → statement M
 parse-inside-spec =
     tie.close
     (tie.spec
-    skip-whitespace-and-comments-requires
-    peek-char-requires
+    (λ c κs. search needs)
+    (λ c κs. search needs)
     returns
     add-end
-    moved-requires
+    (λ c κs. search needs)
     returns-2
-    line-kind-requires
-    enum-known-c
+    (λ c κs. search needs)
+    (λ c. search needs)
     read-prefix-requires
-    enum-known-c-2
+    (λ c. search needs)
     read-revision-requires
-    enum-told
-    skip-statement-requires
-    ended-at-requires
-    moved-requires-2
-    same-length
+    (λ c. search needs)
+    (λ c κs. search needs)
+    (λ c κs. search needs)
+    (λ c κs. search needs)
+    (λ c. search needs)
     returns-3
-    same-length-2
+    (λ c. search needs)
     returns-4
     returns-5)

@@ -5,15 +5,6 @@ use borrow.Author.Needs.{needs}
 use Rattle.imports.proofs.revision_line.Statement.{statement}
 use Rattle.imports.proofs.revision_line.Tie as tie
 
-match-revision-date-requires : tie.Need-match-revision-date-requires
-match-revision-date-requires c κs = search needs
-
-enum-known-c : tie.Need-enum-known-c
-enum-known-c c = search needs
-
-enum-told : tie.Need-enum-told
-enum-told c = search needs
-
 returns : tie.Need-returns
 returns c =
     let a = c .before .before .before .before .before .args in
@@ -26,4 +17,4 @@ returns-2 c =
 
 pub revision-line-spec : {M : Type 1} → statement M
 revision-line-spec =
-    tie.close (tie.spec match-revision-date-requires enum-known-c enum-told returns returns-2)
+    tie.close (tie.spec (λ c κs. search needs) (λ c. search needs) (λ c. search needs) returns returns-2)

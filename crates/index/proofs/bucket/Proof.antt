@@ -16,24 +16,6 @@ abbrev μ-loop : tie.MeasureT-loop
 loop-holds : tie.Need-loop-holds Inv-loop μ-loop
 loop-holds c = search hash-begun
 
-mul-h : tie.Need-mul-h Inv-loop μ-loop
-mul-h c = search needs
-
-shared-slice-read-of-byte : tie.Need-shared-slice-read-of-byte Inv-loop μ-loop
-shared-slice-read-of-byte c = search needs
-
-of-byte-requires : tie.Need-of-byte-requires Inv-loop μ-loop
-of-byte-requires c κs = search needs
-
-add-h : tie.Need-add-h Inv-loop μ-loop
-add-h c = search needs
-
-add-i : tie.Need-add-i Inv-loop μ-loop
-add-i c = search needs
-
-loop-less : tie.Need-loop-less Inv-loop μ-loop
-loop-less c = search needs
-
 loop-again : tie.Need-loop-again Inv-loop μ-loop
 loop-again c = search hash-more
 
@@ -47,11 +29,11 @@ bucket-spec =
     Inv-loop
     μ-loop
     loop-holds
-    mul-h
-    shared-slice-read-of-byte
-    of-byte-requires
-    add-h
-    add-i
-    loop-less
+    (λ c. search needs)
+    (λ c. search needs)
+    (λ c κs. search needs)
+    (λ c. search needs)
+    (λ c. search needs)
+    (λ c. search needs)
     loop-again
     returns)

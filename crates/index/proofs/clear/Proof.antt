@@ -15,23 +15,8 @@ abbrev μ-loop : tie.MeasureT-loop
 loop-holds : tie.Need-loop-holds Inv-loop μ-loop
 loop-holds c = search clear-begun
 
-mul-tab : tie.Need-mul-tab Inv-loop μ-loop
-mul-tab c = search needs
-
-slice-write-tab : tie.Need-slice-write-tab Inv-loop μ-loop
-slice-write-tab c = search needs
-
-add-h : tie.Need-add-h Inv-loop μ-loop
-add-h c = search needs
-
-loop-less : tie.Need-loop-less Inv-loop μ-loop
-loop-less c = search needs
-
 loop-again : tie.Need-loop-again Inv-loop μ-loop
 loop-again c = search clear-more
-
-same-length : tie.Need-same-length Inv-loop μ-loop
-same-length c = search needs
 
 returns : tie.Need-returns Inv-loop μ-loop
 returns c = search clear-done
@@ -43,10 +28,10 @@ clear-spec =
     Inv-loop
     μ-loop
     loop-holds
-    mul-tab
-    slice-write-tab
-    add-h
-    loop-less
+    (λ c. search needs)
+    (λ c. search needs)
+    (λ c. search needs)
+    (λ c. search needs)
     loop-again
-    same-length
+    (λ c. search needs)
     returns)

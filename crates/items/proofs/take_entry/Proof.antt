@@ -11,9 +11,6 @@ take-item-requires c κs = (search needs, search needs, search import-name-read)
 take-revisions-requires : tie.Need-take-revisions-requires
 take-revisions-requires c κs = (search needs, search revisions-read)
 
-same-length : tie.Need-same-length
-same-length c = search needs
-
 returns : tie.Need-returns
 returns c = search import-taken
 
@@ -22,9 +19,6 @@ take-item-requires-2 c κs = (search needs, search needs, search module-name-rea
 
 take-lists-requires : tie.Need-take-lists-requires
 take-lists-requires c κs = (search needs, search lists-read)
-
-same-length-2 : tie.Need-same-length-2
-same-length-2 c = search needs
 
 returns-2 : tie.Need-returns-2
 returns-2 c = search module-taken
@@ -35,9 +29,9 @@ take-entry-spec =
     (tie.spec
     take-item-requires
     take-revisions-requires
-    same-length
+    (λ c. search needs)
     returns
     take-item-requires-2
     take-lists-requires
-    same-length-2
+    (λ c. search needs)
     returns-2)

@@ -13,15 +13,6 @@ Inv-loop s tab₀ n kind at count reach₀ names₀ tab reach names = Ahead (nam
 abbrev μ-loop : tie.MeasureT-loop
 μ-loop s tab₀ n kind at count reach₀ names₀ tab reach names = names
 
-read-count-requires : tie.Need-read-count-requires Inv-loop μ-loop
-read-count-requires c κs = search needs
-
-enum-known-count : tie.Need-enum-known-count Inv-loop μ-loop
-enum-known-count c = search needs
-
-enum-told : tie.Need-enum-told Inv-loop μ-loop
-enum-told c = search needs
-
 returns : tie.Need-returns Inv-loop μ-loop
 returns c = absurd (search no-list)
 
@@ -31,17 +22,8 @@ loop-holds c = search list-begun
 take-item-requires : tie.Need-take-item-requires Inv-loop μ-loop
 take-item-requires c κs = (search needs, search needs, ahead-reads (c .before .before .loop .inv) (c .before .loop-test .taken))
 
-sub-names : tie.Need-sub-names Inv-loop μ-loop
-sub-names c = search needs
-
-loop-less : tie.Need-loop-less Inv-loop μ-loop
-loop-less c = search needs
-
 loop-again : tie.Need-loop-again Inv-loop μ-loop
 loop-again c = search ahead-on
-
-same-length : tie.Need-same-length Inv-loop μ-loop
-same-length c = search needs
 
 returns-2 : tie.Need-returns-2 Inv-loop μ-loop
 returns-2 c = search ahead-done
@@ -52,14 +34,14 @@ take-list-spec =
     (tie.spec
     Inv-loop
     μ-loop
-    read-count-requires
-    enum-known-count
-    enum-told
+    (λ c κs. search needs)
+    (λ c. search needs)
+    (λ c. search needs)
     returns
     loop-holds
     take-item-requires
-    sub-names
-    loop-less
+    (λ c. search needs)
+    (λ c. search needs)
     loop-again
-    same-length
+    (λ c. search needs)
     returns-2)

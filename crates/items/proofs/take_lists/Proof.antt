@@ -17,13 +17,10 @@ take-list-requires-3 c κs =
     let start = first .before .before .before .before in
     (search needs, search needs, deviations-read _ _ _ _ (first .take-list .ensures) (c .before .before .before .take-list2 .ensures) (start .pre .1))
 
-same-length : tie.Need-same-length
-same-length c = search needs
-
 returns : tie.Need-returns
 returns c = search lists-taken
 
 pub take-lists-spec : {M : Type 1} → statement M
 take-lists-spec =
     tie.close
-    (tie.spec take-list-requires take-list-requires-2 take-list-requires-3 same-length returns)
+    (tie.spec take-list-requires take-list-requires-2 take-list-requires-3 (λ c. search needs) returns)

@@ -14,15 +14,6 @@ Inv-loop s tab₀ n at count reach₀ left₀ tab reach left = Ahead (listRead l
 abbrev μ-loop : tie.MeasureT-loop
 μ-loop s tab₀ n at count reach₀ left₀ tab reach left = left
 
-read-count-requires : tie.Need-read-count-requires Inv-loop μ-loop
-read-count-requires c κs = search needs
-
-enum-known-count : tie.Need-enum-known-count Inv-loop μ-loop
-enum-known-count c = search needs
-
-enum-told : tie.Need-enum-told Inv-loop μ-loop
-enum-told c = search needs
-
 returns : tie.Need-returns Inv-loop μ-loop
 returns c = absurd (search no-revisions)
 
@@ -38,17 +29,8 @@ loop-holds c = search revisions-begun
 take-list-requires-2 : tie.Need-take-list-requires-2 Inv-loop μ-loop
 take-list-requires-2 c κs = (search needs, search needs, ahead-reads (c .before .before .loop .inv) (c .before .loop-test .taken))
 
-sub-left-2 : tie.Need-sub-left-2 Inv-loop μ-loop
-sub-left-2 c = search needs
-
-loop-less : tie.Need-loop-less Inv-loop μ-loop
-loop-less c = search needs
-
 loop-again : tie.Need-loop-again Inv-loop μ-loop
 loop-again c = search ahead-on
-
-same-length : tie.Need-same-length Inv-loop μ-loop
-same-length c = search needs
 
 returns-2 : tie.Need-returns-2 Inv-loop μ-loop
 returns-2 c = search revisions-taken
@@ -59,16 +41,16 @@ take-revisions-spec =
     (tie.spec
     Inv-loop
     μ-loop
-    read-count-requires
-    enum-known-count
-    enum-told
+    (λ c κs. search needs)
+    (λ c. search needs)
+    (λ c. search needs)
     returns
     take-list-requires
     sub-left
     loop-holds
     take-list-requires-2
-    sub-left-2
-    loop-less
+    (λ c. search needs)
+    (λ c. search needs)
     loop-again
-    same-length
+    (λ c. search needs)
     returns-2)

@@ -11,12 +11,9 @@ take-entries-requires c κs = (search needs, search modules-read)
 take-entries-requires-2 : tie.Need-take-entries-requires-2
 take-entries-requires-2 c κs = (search needs, search imports-read)
 
-same-length : tie.Need-same-length
-same-length c = search needs
-
 returns : tie.Need-returns
 returns c = search set-taken
 
 pub take-set-spec : {M : Type 1} → statement M
 take-set-spec =
-    tie.close (tie.spec take-entries-requires take-entries-requires-2 same-length returns)
+    tie.close (tie.spec take-entries-requires take-entries-requires-2 (λ c. search needs) returns)

@@ -5,15 +5,6 @@ use Rattle.library.proofs.Counting.{no-number, too-few, too-many, as-ma
 use Rattle.library.proofs.read_count.Statement.{statement}
 use Rattle.library.proofs.read_count.Tie as tie
 
-number-requires : tie.Need-number-requires
-number-requires c κs = search needs
-
-enum-known-number : tie.Need-enum-known-number
-enum-known-number c = search needs
-
-enum-told : tie.Need-enum-told
-enum-told c = search needs
-
 returns : tie.Need-returns
 returns c = search no-number
 
@@ -29,4 +20,4 @@ returns-4 c = search as-many
 pub read-count-spec : {M : Type 1} → statement M
 read-count-spec =
     tie.close
-    (tie.spec number-requires enum-known-number enum-told returns returns-2 returns-3 returns-4)
+    (tie.spec (λ c κs. search needs) (λ c. search needs) (λ c. search needs) returns returns-2 returns-3 returns-4)

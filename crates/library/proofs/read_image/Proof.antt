@@ -8,18 +8,6 @@ use Rattle.library.proofs.read_image.Tie as tie
 returns : tie.Need-returns
 returns c = search too-long
 
-slice-aggregate-read-sets : tie.Need-slice-aggregate-read-sets
-slice-aggregate-read-sets c = search needs
-
-read-sets-requires : tie.Need-read-sets-requires
-read-sets-requires c κs = search needs
-
-enum-known-read : tie.Need-enum-known-read
-enum-known-read c = search needs
-
-enum-told : tie.Need-enum-told
-enum-told c = search needs
-
 returns-2 : tie.Need-returns-2
 returns-2 c = search image-stopped
 
@@ -34,10 +22,10 @@ read-image-spec =
     tie.close
     (tie.spec
     returns
-    slice-aggregate-read-sets
-    read-sets-requires
-    enum-known-read
-    enum-told
+    (λ c. search needs)
+    (λ c κs. search needs)
+    (λ c. search needs)
+    (λ c. search needs)
     returns-2
     returns-3
     returns-4)

@@ -14,38 +14,14 @@ Inv-loop s at count here₀ i₀ here i = Going (revisionAt s) count here₀ i h
 abbrev μ-loop : tie.MeasureT-loop
 μ-loop s at count here₀ i₀ here i = count - i
 
-read-count-requires : tie.Need-read-count-requires Inv-loop μ-loop
-read-count-requires c κs = search needs
-
-enum-known-count : tie.Need-enum-known-count Inv-loop μ-loop
-enum-known-count c = search needs
-
-enum-told : tie.Need-enum-told Inv-loop μ-loop
-enum-told c = search needs
-
 returns : tie.Need-returns Inv-loop μ-loop
 returns c = search no-revisions
 
 loop-holds : tie.Need-loop-holds Inv-loop μ-loop
 loop-holds c = going _ _ _
 
-read-names-requires : tie.Need-read-names-requires Inv-loop μ-loop
-read-names-requires c κs = search needs
-
-enum-known-end : tie.Need-enum-known-end Inv-loop μ-loop
-enum-known-end c = search needs
-
-enum-known-p : tie.Need-enum-known-p Inv-loop μ-loop
-enum-known-p c = search needs
-
 returns-2 : tie.Need-returns-2 Inv-loop μ-loop
 returns-2 c = search revisions-stopped
-
-add-i : tie.Need-add-i Inv-loop μ-loop
-add-i c = search needs
-
-loop-less : tie.Need-loop-less Inv-loop μ-loop
-loop-less c = search needs
 
 loop-again : tie.Need-loop-again Inv-loop μ-loop
 loop-again c = search revisions-further
@@ -59,16 +35,16 @@ read-revisions-spec =
     (tie.spec
     Inv-loop
     μ-loop
-    read-count-requires
-    enum-known-count
-    enum-told
+    (λ c κs. search needs)
+    (λ c. search needs)
+    (λ c. search needs)
     returns
     loop-holds
-    read-names-requires
-    enum-known-end
-    enum-known-p
+    (λ c κs. search needs)
+    (λ c. search needs)
+    (λ c. search needs)
     returns-2
-    add-i
-    loop-less
+    (λ c. search needs)
+    (λ c. search needs)
     loop-again
     returns-3)

@@ -6,32 +6,14 @@ use Rattle.library.proofs.Words.{no-word, any-word, repeated, new-word}
 use Rattle.library.proofs.read_word.Statement.{statement}
 use Rattle.library.proofs.read_word.Tie as tie
 
-name-requires : tie.Need-name-requires
-name-requires c κs = search needs
-
-enum-known-name : tie.Need-enum-known-name
-enum-known-name c = search needs
-
-enum-told : tie.Need-enum-told
-enum-told c = search needs
-
 returns : tie.Need-returns
 returns c = search no-word
 
 add-end : tie.Need-add-end
 add-end c = search end-fits
 
-sub-among : tie.Need-sub-among
-sub-among c = search needs
-
-part-among-start : tie.Need-part-among-start
-part-among-start c = search needs
-
 part-among-end : tie.Need-part-among-end
 part-among-end c = search end-in
-
-among-requires : tie.Need-among-requires
-among-requires c κs = search needs
 
 returns-2 : tie.Need-returns-2
 returns-2 c = search repeated
@@ -46,15 +28,15 @@ pub read-word-spec : {M : Type 1} → statement M
 read-word-spec =
     tie.close
     (tie.spec
-    name-requires
-    enum-known-name
-    enum-told
+    (λ c κs. search needs)
+    (λ c. search needs)
+    (λ c. search needs)
     returns
     add-end
-    sub-among
-    part-among-start
+    (λ c. search needs)
+    (λ c. search needs)
     part-among-end
-    among-requires
+    (λ c κs. search needs)
     returns-2
     returns-3
     returns-4)

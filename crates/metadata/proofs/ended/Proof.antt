@@ -5,17 +5,11 @@ use Rattle.metadata.proofs.KeepLaws.{ended-good, ended-nameless}
 use Rattle.metadata.proofs.ended.Statement.{statement}
 use Rattle.metadata.proofs.ended.Tie as tie
 
-array-copy-out-name : tie.Need-array-copy-out-name
-array-copy-out-name c = search needs
-
 returns : tie.Need-returns
 returns c = ended-good _ _ _ (c .if1 .taken)
-
-refused-requires : tie.Need-refused-requires
-refused-requires c κs = search needs
 
 returns-2 : tie.Need-returns-2
 returns-2 c = ended-nameless _ _ _ (c .before .if1 .left) (c .refused .ensures)
 
 pub ended-spec : {M : Type 1} → statement M
-ended-spec = tie.close (tie.spec array-copy-out-name returns refused-requires returns-2)
+ended-spec = tie.close (tie.spec (λ c. search needs) returns (λ c κs. search needs) returns-2)

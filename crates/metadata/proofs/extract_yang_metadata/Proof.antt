@@ -6,18 +6,6 @@ use Rattle.metadata.proofs.EntryLaws.{entry-cleared, entry-scanned, ent
 use Rattle.metadata.proofs.extract_yang_metadata.Statement.{statement}
 use Rattle.metadata.proofs.extract_yang_metadata.Tie as tie
 
-clear-bytes-requires : tie.Need-clear-bytes-requires
-clear-bytes-requires c κs = search needs
-
-classes-requires : tie.Need-classes-requires
-classes-requires c κs = search needs
-
-check-lent-requires : tie.Need-check-lent-requires
-check-lent-requires c κs = search needs
-
-enum-told : tie.Need-enum-told
-enum-told c = search needs
-
 parse-cleared-requires : tie.Need-parse-cleared-requires
 parse-cleared-requires c κs =
     let told = c .before .before in
@@ -27,15 +15,6 @@ parse-cleared-requires c κs =
     let a = clear .before .before .before .before .args in
     entry-cleared (a .s .now) (a .store .now) (clear .clear-bytes .ensures) refl (check .check-lent .ensures) (told .enum-told .given .1) (classes .classes .ensures)
 
-enum-known-lent : tie.Need-enum-known-lent
-enum-known-lent c = search needs
-
-refused-requires : tie.Need-refused-requires
-refused-requires c κs = search needs
-
-same-length : tie.Need-same-length
-same-length c = search needs
-
 returns : tie.Need-returns
 returns c =
     let told = c .before .before .before .before .before in
@@ -43,9 +22,6 @@ returns c =
     let clear = check .before .before .before .before .before in
     let a = clear .before .before .before .before .args in
     entry-scanned (a .s .now) (a .store .now) (clear .clear-bytes .ensures) refl (check .check-lent .ensures) (told .enum-told .given .1) (c .before .before .parse-cleared .ensures)
-
-same-length-2 : tie.Need-same-length-2
-same-length-2 c = search needs
 
 returns-2 : tie.Need-returns-2
 returns-2 c =
@@ -60,14 +36,14 @@ pub extract-yang-metadata-spec : {M : Type 1} → statement M
 extract-yang-metadata-spec =
     tie.close
     (tie.spec
-    clear-bytes-requires
-    classes-requires
-    check-lent-requires
-    enum-told
+    (λ c κs. search needs)
+    (λ c κs. search needs)
+    (λ c κs. search needs)
+    (λ c. search needs)
     parse-cleared-requires
-    enum-known-lent
-    refused-requires
-    same-length
+    (λ c. search needs)
+    (λ c κs. search needs)
+    (λ c. search needs)
     returns
-    same-length-2
+    (λ c. search needs)
     returns-2)

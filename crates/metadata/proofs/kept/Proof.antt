@@ -6,17 +6,8 @@ use Rattle.metadata.proofs.KeepLaws.{place-within, kept-revision, kept-
 use Rattle.metadata.proofs.kept.Statement.{statement}
 use Rattle.metadata.proofs.kept.Tie as tie
 
-first-kept-requires : tie.Need-first-kept-requires
-first-kept-requires c κs = search needs
-
-newest-kept-requires : tie.Need-newest-kept-requires
-newest-kept-requires c κs = search needs
-
 returns : tie.Need-returns
 returns c = search kept-revision
-
-value-of-requires : tie.Need-value-of-requires
-value-of-requires c κs = search needs
 
 mul-v : tie.Need-mul-v
 mul-v c = omega (arith, c .value-of .ensures, place-within (c .before .before .before .args .keyword))
@@ -31,10 +22,10 @@ pub kept-spec : {M : Type 1} → statement M
 kept-spec =
     tie.close
     (tie.spec
-    first-kept-requires
-    newest-kept-requires
+    (λ c κs. search needs)
+    (λ c κs. search needs)
     returns
-    value-of-requires
+    (λ c κs. search needs)
     mul-v
     array-set-from-v
     returns-2)

@@ -7,15 +7,6 @@ use Rattle.header.proofs.RefusalLaws.{said-number}
 use Rattle.metadata.proofs.parse_cleared.Statement.{statement}
 use Rattle.metadata.proofs.parse_cleared.Tie as tie
 
-parse-metadata-requires : tie.Need-parse-metadata-requires
-parse-metadata-requires c κs = search needs
-
-clear-bytes-requires : tie.Need-clear-bytes-requires
-clear-bytes-requires c κs = search needs
-
-same-length : tie.Need-same-length
-same-length c = search needs
-
 returns : tie.Need-returns
 returns c =
     let clear = c .before .before in
@@ -23,9 +14,6 @@ returns c =
     let scan = test .before .before .before .before .before in
     let start = scan .before .before .before .before in
     leaves-refused (start .pre) (scan .parse-metadata .ensures) (test .if1 .taken) (clear .clear-bytes .ensures)
-
-same-length-2 : tie.Need-same-length-2
-same-length-2 c = search needs
 
 returns-2 : tie.Need-returns-2
 returns-2 c =
@@ -38,9 +26,9 @@ pub parse-cleared-spec : {M : Type 1} → statement M
 parse-cleared-spec =
     tie.close
     (tie.spec
-    parse-metadata-requires
-    clear-bytes-requires
-    same-length
+    (λ c κs. search needs)
+    (λ c κs. search needs)
+    (λ c. search needs)
     returns
-    same-length-2
+    (λ c. search needs)
     returns-2)

@@ -20,14 +20,8 @@ no-values-requires c κs = tt
 loop-holds : tie.Need-loop-holds Inv-loop μ-loop
 loop-holds c = loop-begin (c .no-values .ensures) (c .before .before .before .pre .1)
 
-array-copy-out-prefix : tie.Need-array-copy-out-prefix Inv-loop μ-loop
-array-copy-out-prefix c = search needs
-
 hear-requires : tie.Need-hear-requires Inv-loop μ-loop
 hear-requires c κs = (c .before .before .before .before .before .before .pre .0, loop-room (c .before .before .loop .inv))
-
-enum-known-heard : tie.Need-enum-known-heard Inv-loop μ-loop
-enum-known-heard c = search needs
 
 kept-requires : tie.Need-kept-requires Inv-loop μ-loop
 kept-requires c κs = tt
@@ -50,9 +44,6 @@ loop-again c =
     let k = c .before .before .before .heard .given in
     loop-value j refl (h .0) (h .1) (k .0 .0) (k .0 .1 .0) (k .0 .1 .1 .0) (k .0 .1 .1 .1 .0) (k .1) (c .kept .ensures)
 
-enum-known-heard-2 : tie.Need-enum-known-heard-2 Inv-loop μ-loop
-enum-known-heard-2 c = search needs
-
 loop-less-2 : tie.Need-loop-less-2 Inv-loop μ-loop
 loop-less-2 c =
     let hear = c .before .before .before .before .before in
@@ -71,9 +62,6 @@ loop-again-2 c =
     let k = c .before .heard2 .given in
     loop-passed j refl (h .0) (h .1) (k .0 .0) (k .1)
 
-enum-known-heard-3 : tie.Need-enum-known-heard-3 Inv-loop μ-loop
-enum-known-heard-3 c = search needs
-
 ended-requires : tie.Need-ended-requires Inv-loop μ-loop
 ended-requires c κs = tt
 
@@ -88,9 +76,6 @@ returns c =
     let h = hear .hear .ensures in
     let k = c .before .before .heard3 .given in
     loop-done j refl (h .0) (h .1) (k .0 .0) (k .1) (c .ended .ensures)
-
-enum-known-heard-4 : tie.Need-enum-known-heard-4 Inv-loop μ-loop
-enum-known-heard-4 c = search needs
 
 refused-requires : tie.Need-refused-requires Inv-loop μ-loop
 refused-requires c κs = tt
@@ -115,20 +100,20 @@ parse-metadata-spec =
     μ-loop
     no-values-requires
     loop-holds
-    array-copy-out-prefix
+    (λ c. search needs)
     hear-requires
-    enum-known-heard
+    (λ c. search needs)
     kept-requires
     loop-less
     loop-again
-    enum-known-heard-2
+    (λ c. search needs)
     loop-less-2
     loop-again-2
-    enum-known-heard-3
+    (λ c. search needs)
     ended-requires
     same-length
     returns
-    enum-known-heard-4
+    (λ c. search needs)
     refused-requires
     same-length-2
     returns-2)

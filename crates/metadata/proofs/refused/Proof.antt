@@ -5,11 +5,8 @@ use Rattle.metadata.proofs.KeepLaws.{refused-is}
 use Rattle.metadata.proofs.refused.Statement.{statement}
 use Rattle.metadata.proofs.refused.Tie as tie
 
-no-values-requires : tie.Need-no-values-requires
-no-values-requires c κs = search needs
-
 returns : tie.Need-returns
 returns c = search refused-is
 
 pub refused-spec : {M : Type 1} → statement M
-refused-spec = tie.close (tie.spec no-values-requires returns)
+refused-spec = tie.close (tie.spec (λ c κs. search needs) returns)

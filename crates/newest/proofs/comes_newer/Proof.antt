@@ -6,15 +6,6 @@ use Rattle.newest.proofs.ComesLaws.{comes-none, comes-less}
 use Rattle.newest.proofs.comes_newer.Statement.{statement}
 use Rattle.newest.proofs.comes_newer.Tie as tie
 
-value-in-requires : tie.Need-value-in-requires
-value-in-requires c κs = search needs
-
-value-in-requires-2 : tie.Need-value-in-requires-2
-value-in-requires-2 c κs = search needs
-
-less-requires : tie.Need-less-requires
-less-requires c κs = search needs
-
 returns : tie.Need-returns
 returns c = search comes-less
 
@@ -23,4 +14,4 @@ returns-2 c = let args = c .before .before .args in sym (comes-none (args .store
 
 pub comes-newer-spec : {M : Type 1} → statement M
 comes-newer-spec =
-    tie.close (tie.spec value-in-requires value-in-requires-2 less-requires returns returns-2)
+    tie.close (tie.spec (λ c κs. search needs) (λ c κs. search needs) (λ c κs. search needs) returns returns-2)

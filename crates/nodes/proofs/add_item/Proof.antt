@@ -5,29 +5,14 @@ use Rattle.nodes.proofs.Growing.{item-asks, item-entry, item-sub, item-
 use Rattle.nodes.proofs.add_item.Statement.{statement}
 use Rattle.nodes.proofs.add_item.Tie as tie
 
-get-item-requires : tie.Need-get-item-requires
-get-item-requires c κs = search needs
-
-is-entry-requires : tie.Need-is-entry-requires
-is-entry-requires c κs = search needs
-
 add-name-requires : tie.Need-add-name-requires
 add-name-requires c κs = search item-asks
-
-same-length : tie.Need-same-length
-same-length c = search needs
 
 returns : tie.Need-returns
 returns c = search item-entry
 
-is-sub-requires : tie.Need-is-sub-requires
-is-sub-requires c κs = search needs
-
 add-name-requires-2 : tie.Need-add-name-requires-2
 add-name-requires-2 c κs = search item-asks
-
-same-length-2 : tie.Need-same-length-2
-same-length-2 c = search needs
 
 returns-2 : tie.Need-returns-2
 returns-2 c = search item-sub
@@ -42,14 +27,14 @@ pub add-item-spec : {M : Type 1} → statement M
 add-item-spec =
     tie.close
     (tie.spec
-    get-item-requires
-    is-entry-requires
+    (λ c κs. search needs)
+    (λ c κs. search needs)
     add-name-requires
-    same-length
+    (λ c. search needs)
     returns
-    is-sub-requires
+    (λ c κs. search needs)
     add-name-requires-2
-    same-length-2
+    (λ c. search needs)
     returns-2
     returns-3
     returns-4)

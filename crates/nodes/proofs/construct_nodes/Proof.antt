@@ -12,38 +12,17 @@ Inv-loop s table count tab₀ n₀ adding₀ i₀ tab n adding i = Building s ta
 abbrev μ-loop : tie.MeasureT-loop
 μ-loop s table count tab₀ n₀ adding₀ i₀ tab n adding i = count - i
 
-clear-requires : tie.Need-clear-requires Inv-loop μ-loop
-clear-requires c κs = search needs
-
 loop-holds : tie.Need-loop-holds Inv-loop μ-loop
 loop-holds c = search build-begun
 
 add-item-requires : tie.Need-add-item-requires Inv-loop μ-loop
 add-item-requires c κs = search build-asks
 
-enum-known-m : tie.Need-enum-known-m Inv-loop μ-loop
-enum-known-m c = search needs
-
-enum-told : tie.Need-enum-told Inv-loop μ-loop
-enum-told c = search needs
-
-same-length : tie.Need-same-length Inv-loop μ-loop
-same-length c = search needs
-
 returns : tie.Need-returns Inv-loop μ-loop
 returns c = search (build-full, c .before .before .before .before .before .before .before .before .before .before .before .before .before .before .shared-slice-known .given)
 
-add-i : tie.Need-add-i Inv-loop μ-loop
-add-i c = search needs
-
-loop-less : tie.Need-loop-less Inv-loop μ-loop
-loop-less c = search needs
-
 loop-again : tie.Need-loop-again Inv-loop μ-loop
 loop-again c = search build-on
-
-same-length-2 : tie.Need-same-length-2 Inv-loop μ-loop
-same-length-2 c = search needs
 
 returns-2 : tie.Need-returns-2 Inv-loop μ-loop
 returns-2 c = search (build-done, c .before .before .before .before .before .before .before .before .shared-slice-known .given)
@@ -54,15 +33,15 @@ construct-nodes-spec =
     (tie.spec
     Inv-loop
     μ-loop
-    clear-requires
+    (λ c κs. search needs)
     loop-holds
     add-item-requires
-    enum-known-m
-    enum-told
-    same-length
+    (λ c. search needs)
+    (λ c. search needs)
+    (λ c. search needs)
     returns
-    add-i
-    loop-less
+    (λ c. search needs)
+    (λ c. search needs)
     loop-again
-    same-length-2
+    (λ c. search needs)
     returns-2)

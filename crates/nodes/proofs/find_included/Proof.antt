@@ -5,18 +5,6 @@ use Rattle.nodes.proofs.Looking.{included-not, included-yes, included-n
 use Rattle.nodes.proofs.find_included.Statement.{statement}
 use Rattle.nodes.proofs.find_included.Tie as tie
 
-find-requires : tie.Need-find-requires
-find-requires c κs = search needs
-
-enum-known-k : tie.Need-enum-known-k
-enum-known-k c = search needs
-
-enum-told : tie.Need-enum-told
-enum-told c = search needs
-
-no-node-requires : tie.Need-no-node-requires
-no-node-requires c κs = search needs
-
 returns : tie.Need-returns
 returns c = (search included-nowhere, search never-node)
 
@@ -45,10 +33,10 @@ pub find-included-spec : {M : Type 1} → statement M
 find-included-spec =
     tie.close
     (tie.spec
-    find-requires
-    enum-known-k
-    enum-told
-    no-node-requires
+    (λ c κs. search needs)
+    (λ c. search needs)
+    (λ c. search needs)
+    (λ c κs. search needs)
     returns
     mul-if1
     add-if1

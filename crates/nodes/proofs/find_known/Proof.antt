@@ -5,15 +5,6 @@ use Rattle.nodes.proofs.Looking.{known-not, known-yes, known-nowhere, a
 use Rattle.nodes.proofs.find_known.Statement.{statement}
 use Rattle.nodes.proofs.find_known.Tie as tie
 
-find-requires : tie.Need-find-requires
-find-requires c κs = search needs
-
-enum-known-k : tie.Need-enum-known-k
-enum-known-k c = search needs
-
-enum-told : tie.Need-enum-told
-enum-told c = search needs
-
 returns : tie.Need-returns
 returns c = (search (known-nowhere, c .before .before .before .before .before .before .shared-slice-known .given), tt)
 
@@ -39,9 +30,9 @@ pub find-known-spec : {M : Type 1} → statement M
 find-known-spec =
     tie.close
     (tie.spec
-    find-requires
-    enum-known-k
-    enum-told
+    (λ c κs. search needs)
+    (λ c. search needs)
+    (λ c. search needs)
     returns
     mul-if1
     mul-if1-2

@@ -6,35 +6,14 @@ use Rattle.nodes.proofs.Setting.{end-in, end-fits, word-fits, word-byte
 use Rattle.nodes.proofs.mark_item.Statement.{statement}
 use Rattle.nodes.proofs.mark_item.Tie as tie
 
-get-item-requires : tie.Need-get-item-requires
-get-item-requires c κs = search needs
-
 add-end : tie.Need-add-end
 add-end c = search end-fits
-
-sub-find : tie.Need-sub-find
-sub-find c = search needs
-
-part-find-start : tie.Need-part-find-start
-part-find-start c = search needs
 
 part-find-end : tie.Need-part-find-end
 part-find-end c = search end-in
 
-find-requires : tie.Need-find-requires
-find-requires c κs = search needs
-
-enum-known-k : tie.Need-enum-known-k
-enum-known-k c = search needs
-
-enum-told : tie.Need-enum-told
-enum-told c = search needs
-
 returns : tie.Need-returns
 returns c = (search mark-nowhere, refl)
-
-is-entry-requires : tie.Need-is-entry-requires
-is-entry-requires c κs = search needs
 
 mul-marks : tie.Need-mul-marks
 mul-marks c = search word-fits
@@ -44,9 +23,6 @@ mul-marks-2 c = search word-bytes
 
 slice-write-marks : tie.Need-slice-write-marks
 slice-write-marks c = search word-in
-
-same-length : tie.Need-same-length
-same-length c = search needs
 
 returns-2 : tie.Need-returns-2
 returns-2 c = (search mark-entry, search needs)
@@ -66,9 +42,6 @@ mul-marks-4 c = search next-bytes
 slice-write-marks-2 : tie.Need-slice-write-marks-2
 slice-write-marks-2 c = search next-in
 
-same-length-2 : tie.Need-same-length-2
-same-length-2 c = search needs
-
 returns-4 : tie.Need-returns-4
 returns-4 c = (search mark-sub, search needs)
 
@@ -76,25 +49,25 @@ pub mark-item-spec : {M : Type 1} → statement M
 mark-item-spec =
     tie.close
     (tie.spec
-    get-item-requires
+    (λ c κs. search needs)
     add-end
-    sub-find
-    part-find-start
+    (λ c. search needs)
+    (λ c. search needs)
     part-find-end
-    find-requires
-    enum-known-k
-    enum-told
+    (λ c κs. search needs)
+    (λ c. search needs)
+    (λ c. search needs)
     returns
-    is-entry-requires
+    (λ c κs. search needs)
     mul-marks
     mul-marks-2
     slice-write-marks
-    same-length
+    (λ c. search needs)
     returns-2
     returns-3
     mul-marks-3
     add-marks
     mul-marks-4
     slice-write-marks-2
-    same-length-2
+    (λ c. search needs)
     returns-4)

@@ -20,17 +20,8 @@ mark-item-requires c κs =
     let given = c .before .before .before .before .before .before .before .pre in
     marks-ask _ _ _ _ _ (c .before .before .loop .inv) (given .0) (given .1) (c .before .loop-test .taken)
 
-add-i : tie.Need-add-i Inv-loop μ-loop
-add-i c = search needs
-
-loop-less : tie.Need-loop-less Inv-loop μ-loop
-loop-less c = search needs
-
 loop-again : tie.Need-loop-again Inv-loop μ-loop
 loop-again c = search marks-on
-
-same-length : tie.Need-same-length Inv-loop μ-loop
-same-length c = search needs
 
 returns : tie.Need-returns Inv-loop μ-loop
 returns c = (search marks-done, search needs)
@@ -43,8 +34,8 @@ mark-nodes-spec =
     μ-loop
     loop-holds
     mark-item-requires
-    add-i
-    loop-less
+    (λ c. search needs)
+    (λ c. search needs)
     loop-again
-    same-length
+    (λ c. search needs)
     returns)

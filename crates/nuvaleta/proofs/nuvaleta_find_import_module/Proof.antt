@@ -5,17 +5,11 @@ use Rattle.nuvaleta.proofs.ToldLaws.{import-fits, told-as}
 use Rattle.nuvaleta.proofs.nuvaleta_find_import_module.Statement.{statement}
 use Rattle.nuvaleta.proofs.nuvaleta_find_import_module.Tie as tie
 
-find-import-module-requires : tie.Need-find-import-module-requires
-find-import-module-requires c κs = search needs
-
 told-words-requires : tie.Need-told-words-requires
 told-words-requires c κs = search import-fits
-
-array-read-result : tie.Need-array-read-result
-array-read-result c = search needs
 
 returns : tie.Need-returns
 returns c = search told-as
 
 pub nuvaleta-find-import-module-spec : {M : Type 1} → statement M
-nuvaleta-find-import-module-spec = tie.close (tie.spec find-import-module-requires told-words-requires array-read-result returns)
+nuvaleta-find-import-module-spec = tie.close (tie.spec (λ c κs. search needs) told-words-requires (λ c. search needs) returns)

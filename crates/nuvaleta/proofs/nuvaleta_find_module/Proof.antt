@@ -5,17 +5,11 @@ use Rattle.nuvaleta.proofs.ToldLaws.{module-fits, told-as}
 use Rattle.nuvaleta.proofs.nuvaleta_find_module.Statement.{statement}
 use Rattle.nuvaleta.proofs.nuvaleta_find_module.Tie as tie
 
-find-module-requires : tie.Need-find-module-requires
-find-module-requires c κs = search needs
-
 told-words-requires : tie.Need-told-words-requires
 told-words-requires c κs = search module-fits
-
-array-read-result : tie.Need-array-read-result
-array-read-result c = search needs
 
 returns : tie.Need-returns
 returns c = search told-as
 
 pub nuvaleta-find-module-spec : {M : Type 1} → statement M
-nuvaleta-find-module-spec = tie.close (tie.spec find-module-requires told-words-requires array-read-result returns)
+nuvaleta-find-module-spec = tie.close (tie.spec (λ c κs. search needs) told-words-requires (λ c. search needs) returns)

@@ -5,17 +5,11 @@ use Rattle.nuvaleta.proofs.ToldLaws.{submodule-fits, told-as}
 use Rattle.nuvaleta.proofs.nuvaleta_find_submodule.Statement.{statement}
 use Rattle.nuvaleta.proofs.nuvaleta_find_submodule.Tie as tie
 
-find-submodule-requires : tie.Need-find-submodule-requires
-find-submodule-requires c κs = search needs
-
 told-words-requires : tie.Need-told-words-requires
 told-words-requires c κs = search submodule-fits
-
-array-read-result : tie.Need-array-read-result
-array-read-result c = search needs
 
 returns : tie.Need-returns
 returns c = search told-as
 
 pub nuvaleta-find-submodule-spec : {M : Type 1} → statement M
-nuvaleta-find-submodule-spec = tie.close (tie.spec find-submodule-requires told-words-requires array-read-result returns)
+nuvaleta-find-submodule-spec = tie.close (tie.spec (λ c κs. search needs) told-words-requires (λ c. search needs) returns)

@@ -6,9 +6,6 @@ use Rattle.nuvaleta.proofs.RecordLaws.{small, described}
 use Rattle.nuvaleta.proofs.nuvaleta_metadata.Statement.{statement}
 use Rattle.nuvaleta.proofs.nuvaleta_metadata.Tie as tie
 
-extract-yang-metadata-requires : tie.Need-extract-yang-metadata-requires
-extract-yang-metadata-requires c κs = search needs
-
 record-of-requires : tie.Need-record-of-requires
 record-of-requires c κs =
     let scan = c .before .before .before .before in
@@ -23,9 +20,6 @@ metadata-answer-of-requires c κs =
     let k = small (a .text .now) _ (a .store .now) (scan .extract-yang-metadata .ensures) in
     (k .place, k .count)
 
-same-length : tie.Need-same-length
-same-length c = search needs
-
 returns : tie.Need-returns
 returns c =
     let scan = c .before .before .before .before .before .before in
@@ -36,8 +30,8 @@ pub nuvaleta-metadata-spec : {M : Type 1} → statement M
 nuvaleta-metadata-spec =
     tie.close
     (tie.spec
-    extract-yang-metadata-requires
+    (λ c κs. search needs)
     record-of-requires
     metadata-answer-of-requires
-    same-length
+    (λ c. search needs)
     returns)

@@ -5,11 +5,8 @@ use Rattle.nuvaleta.proofs.OrderLaws.{check-told}
 use Rattle.nuvaleta.proofs.nuvaleta_order_check.Statement.{statement}
 use Rattle.nuvaleta.proofs.nuvaleta_order_check.Tie as tie
 
-order-check-requires : tie.Need-order-check-requires
-order-check-requires c κs = search needs
-
 returns : tie.Need-returns
 returns c = search check-told
 
 pub nuvaleta-order-check-spec : {M : Type 1} → statement M
-nuvaleta-order-check-spec = tie.close (tie.spec order-check-requires returns)
+nuvaleta-order-check-spec = tie.close (tie.spec (λ c κs. search needs) returns)

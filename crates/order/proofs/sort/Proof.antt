@@ -5,15 +5,6 @@ use Rattle.order.proofs.Sorting.{all-sorted, room-still, count-in, laid
 use Rattle.order.proofs.sort.Statement.{statement}
 use Rattle.order.proofs.sort.Tie as tie
 
-take-all-requires : tie.Need-take-all-requires
-take-all-requires c κs = search needs
-
-cast-t10 : tie.Need-cast-t10
-cast-t10 c = search needs
-
-same-length : tie.Need-same-length
-same-length c = search needs
-
 returns : tie.Need-returns
 returns c = search all-sorted
 
@@ -23,9 +14,6 @@ write-ring-requires c κs = (search needs, search room-still, search count-in, s
 cast-t13 : tie.Need-cast-t13
 cast-t13 c = search ring-few
 
-same-length-2 : tie.Need-same-length-2
-same-length-2 c = search needs
-
 returns-2 : tie.Need-returns-2
 returns-2 c = search ring-sorted
 
@@ -33,11 +21,11 @@ pub sort-spec : {M : Type 1} → statement M
 sort-spec =
     tie.close
     (tie.spec
-    take-all-requires
-    cast-t10
-    same-length
+    (λ c κs. search needs)
+    (λ c. search needs)
+    (λ c. search needs)
     returns
     write-ring-requires
     cast-t13
-    same-length-2
+    (λ c. search needs)
     returns-2)

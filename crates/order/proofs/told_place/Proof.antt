@@ -5,12 +5,6 @@ use Rattle.order.proofs.Sorting.{right-told, wrong-told}
 use Rattle.order.proofs.told_place.Statement.{statement}
 use Rattle.order.proofs.told_place.Tie as tie
 
-enum-told : tie.Need-enum-told
-enum-told c = search needs
-
-enum-known-place : tie.Need-enum-known-place
-enum-known-place c = search needs
-
 returns : tie.Need-returns
 returns c = search right-told
 
@@ -18,4 +12,4 @@ returns-2 : tie.Need-returns-2
 returns-2 c = search wrong-told
 
 pub told-place-spec : {M : Type 1} → statement M
-told-place-spec = tie.close (tie.spec enum-told enum-known-place returns returns-2)
+told-place-spec = tie.close (tie.spec (λ c. search needs) (λ c. search needs) returns returns-2)

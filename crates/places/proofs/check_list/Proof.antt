@@ -5,23 +5,11 @@ use Rattle.places.proofs.First.{blank-table, all-known, wrong, too-shor
 use Rattle.places.proofs.check_list.Statement.{statement}
 use Rattle.places.proofs.check_list.Tie as tie
 
-slice-aggregate-note-places : tie.Need-slice-aggregate-note-places
-slice-aggregate-note-places c = search needs
-
 note-places-requires : tie.Need-note-places-requires
 note-places-requires c κs = search blank-table
 
-slice-aggregate-unbroken : tie.Need-slice-aggregate-unbroken
-slice-aggregate-unbroken c = search needs
-
-cast-unbroken : tie.Need-cast-unbroken
-cast-unbroken c = search needs
-
 unbroken-requires : tie.Need-unbroken-requires
 unbroken-requires c κs = search all-known
-
-of-word-requires : tie.Need-of-word-requires
-of-word-requires c κs = search needs
 
 returns : tie.Need-returns
 returns c = search wrong
@@ -36,12 +24,12 @@ pub check-list-spec : {M : Type 1} → statement M
 check-list-spec =
     tie.close
     (tie.spec
-    slice-aggregate-note-places
+    (λ c. search needs)
     note-places-requires
-    slice-aggregate-unbroken
-    cast-unbroken
+    (λ c. search needs)
+    (λ c. search needs)
     unbroken-requires
-    of-word-requires
+    (λ c κs. search needs)
     returns
     returns-2
     returns-3)

@@ -21,12 +21,6 @@ breaks-requires c κs = search edge-known
 returns : tie.Need-returns Inv-loop μ-loop
 returns c = search found
 
-add-i : tie.Need-add-i Inv-loop μ-loop
-add-i c = search needs
-
-loop-less : tie.Need-loop-less Inv-loop μ-loop
-loop-less c = search needs
-
 loop-again : tie.Need-loop-again Inv-loop μ-loop
 loop-again c = search one-sought
 
@@ -42,7 +36,7 @@ next-break-spec =
     loop-holds
     breaks-requires
     returns
-    add-i
-    loop-less
+    (λ c. search needs)
+    (λ c. search needs)
     loop-again
     returns-2)

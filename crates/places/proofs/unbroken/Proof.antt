@@ -12,29 +12,11 @@ Inv-loop edges m places good least₀ i₀ least i = Passing edges places good m
 abbrev μ-loop : tie.MeasureT-loop
 μ-loop edges m places good least₀ i₀ least i = m - i
 
-next-break-requires : tie.Need-next-break-requires Inv-loop μ-loop
-next-break-requires c κs = search needs
-
 loop-holds : tie.Need-loop-holds Inv-loop μ-loop
 loop-holds c = search none-passed
 
-mul-place-at : tie.Need-mul-place-at Inv-loop μ-loop
-mul-place-at c = search needs
-
-add-place-at : tie.Need-add-place-at Inv-loop μ-loop
-add-place-at c = search needs
-
 place-at-requires : tie.Need-place-at-requires Inv-loop μ-loop
 place-at-requires c κs = search second-known
-
-add-next-break : tie.Need-add-next-break Inv-loop μ-loop
-add-next-break c = search needs
-
-next-break-requires-2 : tie.Need-next-break-requires-2 Inv-loop μ-loop
-next-break-requires-2 c κs = search needs
-
-loop-less : tie.Need-loop-less Inv-loop μ-loop
-loop-less c = search needs
 
 loop-again : tie.Need-loop-again Inv-loop μ-loop
 loop-again c = search more-passed
@@ -48,13 +30,13 @@ unbroken-spec =
     (tie.spec
     Inv-loop
     μ-loop
-    next-break-requires
+    (λ c κs. search needs)
     loop-holds
-    mul-place-at
-    add-place-at
+    (λ c. search needs)
+    (λ c. search needs)
     place-at-requires
-    add-next-break
-    next-break-requires-2
-    loop-less
+    (λ c. search needs)
+    (λ c κs. search needs)
+    (λ c. search needs)
     loop-again
     returns)

@@ -7,9 +7,6 @@ use borrow.Author.Needs.{needs}
 use Rattle.printed.proofs.print.Statement.{statement}
 use Rattle.printed.proofs.print.Tie as tie
 
-slice-aggregate-put-heading : tie.Need-slice-aggregate-put-heading
-slice-aggregate-put-heading c = search needs
-
 put-heading-requires : tie.Need-put-heading-requires
 put-heading-requires c κs =
     let start = c .before .before .before .before .before .before in
@@ -25,9 +22,6 @@ put-import-lines-requires c κs =
     let one = puts begun (heading .put-heading .ensures) in
     (start .pre .0, start .pre .1, fits (from-start (start .pre .4)) one)
 
-slice-aggregate-put : tie.Need-slice-aggregate-put
-slice-aggregate-put c = search needs
-
 put-requires : tie.Need-put-requires
 put-requires c κs =
     let lines = c .before .before .before .before in
@@ -38,9 +32,6 @@ put-requires c κs =
     let one = puts begun (heading .put-heading .ensures) in
     let two = puts one (lines .put-import-lines .ensures) in
     fits (from-start (start .pre .4)) two
-
-slice-aggregate-put-heading-2 : tie.Need-slice-aggregate-put-heading-2
-slice-aggregate-put-heading-2 c = search needs
 
 put-heading-requires-2 : tie.Need-put-heading-requires-2
 put-heading-requires-2 c κs =
@@ -70,9 +61,6 @@ put-include-lines-requires c κs =
     let four = puts three (heading2 .put-heading2 .ensures) in
     (start .pre .2, start .pre .3, fits (from-start (start .pre .4)) four)
 
-same-length : tie.Need-same-length
-same-length c = search needs
-
 returns : tie.Need-returns
 returns c =
     let heading2 = c .before .before .before .before .before .before in
@@ -93,13 +81,13 @@ pub print-spec : {M : Type 1} → statement M
 print-spec =
     tie.close
     (tie.spec
-    slice-aggregate-put-heading
+    (λ c. search needs)
     put-heading-requires
     put-import-lines-requires
-    slice-aggregate-put
+    (λ c. search needs)
     put-requires
-    slice-aggregate-put-heading-2
+    (λ c. search needs)
     put-heading-requires-2
     put-include-lines-requires
-    same-length
+    (λ c. search needs)
     returns)

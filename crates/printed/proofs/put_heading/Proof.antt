@@ -19,9 +19,6 @@ put-count-requires c κs =
     let a = start .args in
     (start .pre .0, fits (start .pre .1) (puts (heading-begin (a .page .now) (a .at) (a .word .now) (a .n)) (word .put .ensures)))
 
-slice-aggregate-put : tie.Need-slice-aggregate-put
-slice-aggregate-put c = search needs
-
 put-requires-2 : tie.Need-put-requires-2
 put-requires-2 c κs =
     let count = c .before .before .before .before in
@@ -29,9 +26,6 @@ put-requires-2 c κs =
     let start = word .before .before .before .before in
     let a = start .args in
     fits (start .pre .1) (puts (puts (heading-begin (a .page .now) (a .at) (a .word .now) (a .n)) (word .put .ensures)) (count .put-count .ensures))
-
-same-length : tie.Need-same-length
-same-length c = search needs
 
 returns : tie.Need-returns
 returns c =
@@ -46,7 +40,7 @@ put-heading-spec =
     (tie.spec
     put-requires
     put-count-requires
-    slice-aggregate-put
+    (λ c. search needs)
     put-requires-2
-    same-length
+    (λ c. search needs)
     returns)

@@ -6,17 +6,11 @@ use borrow.Author.Needs.{needs}
 use Rattle.printed.proofs.put_import_line.Statement.{statement}
 use Rattle.printed.proofs.put_import_line.Tie as tie
 
-slice-aggregate-put-value : tie.Need-slice-aggregate-put-value
-slice-aggregate-put-value c = search needs
-
 put-value-requires : tie.Need-put-value-requires
 put-value-requires c κs =
     let start = c .before .before .before .before in
     let a = start .args in
     fits-two (start .pre) (import-begin (a .page .now) (a .at) (a .store .now) (a .i))
-
-slice-aggregate-put-value-2 : tie.Need-slice-aggregate-put-value-2
-slice-aggregate-put-value-2 c = search needs
 
 put-value-requires-2 : tie.Need-put-value-requires-2
 put-value-requires-2 c κs =
@@ -26,9 +20,6 @@ put-value-requires-2 c κs =
     let begun = import-begin (a .page .now) (a .at) (a .store .now) (a .i) in
     let one = puts-two begun (name .put-value .ensures) in
     fits-two (start .pre) one
-
-slice-aggregate-put : tie.Need-slice-aggregate-put
-slice-aggregate-put c = search needs
 
 put-requires : tie.Need-put-requires
 put-requires c κs =
@@ -54,9 +45,6 @@ put-line-end-requires c κs =
     let three = puts two (close .put .ensures) in
     fits-two (start .pre) three
 
-same-length : tie.Need-same-length
-same-length c = search needs
-
 returns : tie.Need-returns
 returns c =
     let close = c .before .before .before .before .before .before in
@@ -74,12 +62,12 @@ pub put-import-line-spec : {M : Type 1} → statement M
 put-import-line-spec =
     tie.close
     (tie.spec
-    slice-aggregate-put-value
+    (λ c. search needs)
     put-value-requires
-    slice-aggregate-put-value-2
+    (λ c. search needs)
     put-value-requires-2
-    slice-aggregate-put
+    (λ c. search needs)
     put-requires
     put-line-end-requires
-    same-length
+    (λ c. search needs)
     returns)

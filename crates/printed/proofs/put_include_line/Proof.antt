@@ -6,9 +6,6 @@ use borrow.Author.Needs.{needs}
 use Rattle.printed.proofs.put_include_line.Statement.{statement}
 use Rattle.printed.proofs.put_include_line.Tie as tie
 
-slice-aggregate-put-value : tie.Need-slice-aggregate-put-value
-slice-aggregate-put-value c = search needs
-
 put-value-requires : tie.Need-put-value-requires
 put-value-requires c κs =
     let start = c .before .before .before .before in
@@ -22,9 +19,6 @@ put-line-end-requires c κs =
     let a = start .args in
     fits-two (start .pre) (puts-two (include-begin (a .page .now) (a .at) (a .store .now) (a .i)) (name .put-value .ensures))
 
-same-length : tie.Need-same-length
-same-length c = search needs
-
 returns : tie.Need-returns
 returns c =
     let name = c .before .before .before .before .before .before in
@@ -34,4 +28,4 @@ returns c =
 pub put-include-line-spec : {M : Type 1} → statement M
 put-include-line-spec =
     tie.close
-    (tie.spec slice-aggregate-put-value put-value-requires put-line-end-requires same-length returns)
+    (tie.spec (λ c. search needs) put-value-requires put-line-end-requires (λ c. search needs) returns)

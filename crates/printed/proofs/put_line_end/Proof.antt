@@ -6,17 +6,11 @@ use borrow.Author.Needs.{needs}
 use Rattle.printed.proofs.put_line_end.Statement.{statement}
 use Rattle.printed.proofs.put_line_end.Tie as tie
 
-slice-aggregate-put-value : tie.Need-slice-aggregate-put-value
-slice-aggregate-put-value c = search needs
-
 put-value-requires : tie.Need-put-value-requires
 put-value-requires c κs =
     let start = c .before .before .before .before .before in
     let a = start .args in
     fits (start .pre) (end-there (a .store .now) (a .x) (a .page .now) (a .at) (c .before .before .if1 .taken))
-
-slice-aggregate-put : tie.Need-slice-aggregate-put
-slice-aggregate-put c = search needs
 
 put-requires : tie.Need-put-requires
 put-requires c κs =
@@ -25,26 +19,17 @@ put-requires c κs =
     let a = start .args in
     fits (start .pre) (puts (end-there (a .store .now) (a .x) (a .page .now) (a .at) (value .before .before .before .if1 .taken)) (value .put-value .ensures))
 
-same-length : tie.Need-same-length
-same-length c = search needs
-
 returns : tie.Need-returns
 returns c =
     let value = c .before .before .before .before .before .before .before in
     let a = value .before .before .before .before .before .before .args in
     ended (puts (puts (end-there (a .store .now) (a .x) (a .page .now) (a .at) (value .before .before .before .if1 .taken)) (value .put-value .ensures)) (c .before .before .put .ensures))
 
-slice-aggregate-put-2 : tie.Need-slice-aggregate-put-2
-slice-aggregate-put-2 c = search needs
-
 put-requires-2 : tie.Need-put-requires-2
 put-requires-2 c κs =
     let start = c .before .before .before .before .before in
     let a = start .args in
     fits (start .pre) (end-none (a .store .now) (a .x) (a .page .now) (a .at) (c .before .before .if1 .left))
-
-same-length-2 : tie.Need-same-length-2
-same-length-2 c = search needs
 
 returns-2 : tie.Need-returns-2
 returns-2 c =
@@ -55,13 +40,13 @@ pub put-line-end-spec : {M : Type 1} → statement M
 put-line-end-spec =
     tie.close
     (tie.spec
-    slice-aggregate-put-value
+    (λ c. search needs)
     put-value-requires
-    slice-aggregate-put
+    (λ c. search needs)
     put-requires
-    same-length
+    (λ c. search needs)
     returns
-    slice-aggregate-put-2
+    (λ c. search needs)
     put-requires-2
-    same-length-2
+    (λ c. search needs)
     returns-2)

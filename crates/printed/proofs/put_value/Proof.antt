@@ -13,18 +13,12 @@ put-requires c κs =
     let a = start .args in
     fits (start .pre) (begin-two (a .page .now) (a .at) (a .label .now) (valueIn (a .store .now) (a .x)))
 
-value-in-requires : tie.Need-value-in-requires
-value-in-requires c κs = search needs
-
 put-requires-2 : tie.Need-put-requires-2
 put-requires-2 c κs =
     let label = c .before .before .before .before in
     let start = label .before .before .before .before .before in
     let a = start .args in
     fits (start .pre) (puts (value-begin (a .page .now) (a .at) (a .label .now) (c .value-in .ensures)) (label .put .ensures))
-
-same-length : tie.Need-same-length
-same-length c = search needs
 
 returns : tie.Need-returns
 returns c =
@@ -35,4 +29,4 @@ returns c =
 
 pub put-value-spec : {M : Type 1} → statement M
 put-value-spec =
-    tie.close (tie.spec put-requires value-in-requires put-requires-2 same-length returns)
+    tie.close (tie.spec put-requires (λ c κs. search needs) put-requires-2 (λ c. search needs) returns)

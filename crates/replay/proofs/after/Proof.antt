@@ -5,25 +5,10 @@ use Rattle.replay.proofs.Laws.{behind-missing, behind-there}
 use Rattle.replay.proofs.after.Statement.{statement}
 use Rattle.replay.proofs.after.Tie as tie
 
-on-by-requires : tie.Need-on-by-requires
-on-by-requires c κs = search needs
-
-missing-requires : tie.Need-missing-requires
-missing-requires c κs = search needs
-
 returns : tie.Need-returns
 returns c =
     let start = c .before .before .before .before in
     behind-missing (start .args .d .now) (start .args .at) (c .before .before .on-by .ensures) (c .before .missing .ensures) (c .if1 .taken)
-
-length-at-requires : tie.Need-length-at-requires
-length-at-requires c κs = search needs
-
-cast-on-by : tie.Need-cast-on-by
-cast-on-by c = search needs
-
-on-by-requires-2 : tie.Need-on-by-requires-2
-on-by-requires-2 c κs = search needs
 
 returns-2 : tie.Need-returns-2
 returns-2 c =
@@ -35,10 +20,10 @@ pub after-spec : {M : Type 1} → statement M
 after-spec =
     tie.close
     (tie.spec
-    on-by-requires
-    missing-requires
+    (λ c κs. search needs)
+    (λ c κs. search needs)
     returns
-    length-at-requires
-    cast-on-by
-    on-by-requires-2
+    (λ c κs. search needs)
+    (λ c. search needs)
+    (λ c κs. search needs)
     returns-2)

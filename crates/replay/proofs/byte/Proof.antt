@@ -7,9 +7,6 @@ use Rattle.replay.proofs.Laws.{byte-out}
 use Rattle.replay.proofs.byte.Statement.{statement}
 use Rattle.replay.proofs.byte.Tie as tie
 
-shared-slice-read-result : tie.Need-shared-slice-read-result
-shared-slice-read-result c = search needs
-
 cast-result : tie.Need-cast-result
 cast-result c = omega (arith, c .shared-slice-known .given (c .before .before .args .at))
 
@@ -20,4 +17,4 @@ returns-2 : tie.Need-returns-2
 returns-2 c = (byte-out (c .before .args .d .now) (c .before .args .at) (c .if1 .left), omega arith)
 
 pub byte-spec : {M : Type 1} → statement M
-byte-spec = tie.close (tie.spec shared-slice-read-result cast-result returns returns-2)
+byte-spec = tie.close (tie.spec (λ c. search needs) cast-result returns returns-2)

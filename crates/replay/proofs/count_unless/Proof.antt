@@ -5,14 +5,8 @@ use borrow.Author.Needs.{needs}
 use Rattle.replay.proofs.count_unless.Tie as tie
 use Rattle.replay.proofs.count_unless.Statement.{statement}
 
-returns : tie.Need-returns
-returns c = search needs
-
-wrapping-add-u64-requires : tie.Need-wrapping-add-u64-requires
-wrapping-add-u64-requires c κs = search needs
-
 returns-2 : tie.Need-returns-2
 returns-2 c = c .wrapping-add-u64 .ensures ∙ sym (simp (c .before .if1 .left))
 
 pub count-unless-spec : {M : Type 1} → statement M
-count-unless-spec = tie.close (tie.spec returns wrapping-add-u64-requires returns-2)
+count-unless-spec = tie.close (tie.spec (λ c. search needs) (λ c κs. search needs) returns-2)

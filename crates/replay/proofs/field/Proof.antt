@@ -5,12 +5,6 @@ use Rattle.replay.proofs.Laws.{field-order, field-end, field-is}
 use Rattle.replay.proofs.field.Statement.{statement}
 use Rattle.replay.proofs.field.Tie as tie
 
-on-by-requires : tie.Need-on-by-requires
-on-by-requires c κs = search needs
-
-after-requires : tie.Need-after-requires
-after-requires c κs = search needs
-
 sub-result : tie.Need-sub-result
 sub-result c = search field-order
 
@@ -28,4 +22,4 @@ returns c =
 pub field-spec : {M : Type 1} → statement M
 field-spec =
     tie.close
-    (tie.spec on-by-requires after-requires sub-result part-result-start part-result-end returns)
+    (tie.spec (λ c κs. search needs) (λ c κs. search needs) sub-result part-result-start part-result-end returns)

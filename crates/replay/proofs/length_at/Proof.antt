@@ -9,21 +9,6 @@ use Rattle.replay.proofs.length_at.Statement.{statement}
 returns : tie.Need-returns
 returns c = (length-out (c .before .before .args .d .now) (c .before .before .args .at) (c .if1 .taken), omega arith)
 
-byte-requires : tie.Need-byte-requires
-byte-requires c κs = search needs
-
-add-byte : tie.Need-add-byte
-add-byte c = search needs
-
-byte-requires-2 : tie.Need-byte-requires-2
-byte-requires-2 c κs = search needs
-
-mul-result : tie.Need-mul-result
-mul-result c = search needs
-
-add-result : tie.Need-add-result
-add-result c = search needs
-
 returns-2 : tie.Need-returns-2
 returns-2 c =
     let start = c .before .before .before .before in
@@ -32,4 +17,4 @@ returns-2 c =
 pub length-at-spec : {M : Type 1} → statement M
 length-at-spec =
     tie.close
-    (tie.spec returns byte-requires add-byte byte-requires-2 mul-result add-result returns-2)
+    (tie.spec returns (λ c κs. search needs) (λ c. search needs) (λ c κs. search needs) (λ c. search needs) (λ c. search needs) returns-2)

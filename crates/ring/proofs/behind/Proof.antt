@@ -16,28 +16,10 @@ abbrev μ-loop : tie.MeasureT-loop
 loop-holds : tie.Need-loop-holds Inv-loop μ-loop
 loop-holds c = search seek-begun
 
-mul-of-word : tie.Need-mul-of-word Inv-loop μ-loop
-mul-of-word c = search needs
-
-shared-slice-read-of-word : tie.Need-shared-slice-read-of-word Inv-loop μ-loop
-shared-slice-read-of-word c = search needs
-
-of-word-requires : tie.Need-of-word-requires Inv-loop μ-loop
-of-word-requires c κs = search needs
-
-add-result : tie.Need-add-result Inv-loop μ-loop
-add-result c = search needs
-
 returns : tie.Need-returns Inv-loop μ-loop
 returns c =
     let at-loop = c .before .before .before .before in
     seek-found _ _ _ _ (at-loop .loop .inv) (c .before .before .before .loop-test .taken) (c .before .of-word .ensures) (c .if1 .taken)
-
-add-i : tie.Need-add-i Inv-loop μ-loop
-add-i c = search needs
-
-loop-less : tie.Need-loop-less Inv-loop μ-loop
-loop-less c = search needs
 
 loop-again : tie.Need-loop-again Inv-loop μ-loop
 loop-again c =
@@ -54,12 +36,12 @@ behind-spec =
     Inv-loop
     μ-loop
     loop-holds
-    mul-of-word
-    shared-slice-read-of-word
-    of-word-requires
-    add-result
+    (λ c. search needs)
+    (λ c. search needs)
+    (λ c κs. search needs)
+    (λ c. search needs)
     returns
-    add-i
-    loop-less
+    (λ c. search needs)
+    (λ c. search needs)
     loop-again
     returns-2)

@@ -32,9 +32,6 @@ sub-at c = search room
 cast-trail : tie.Need-cast-trail Inv-loop μ-loop
 cast-trail c = search node-word
 
-mul-trail : tie.Need-mul-trail Inv-loop μ-loop
-mul-trail c = search needs
-
 slice-write-trail : tie.Need-slice-write-trail Inv-loop μ-loop
 slice-write-trail c = search trail-in
 
@@ -44,20 +41,11 @@ mul-t7 c = search node-fits
 shared-slice-read-t9 : tie.Need-shared-slice-read-t9 Inv-loop μ-loop
 shared-slice-read-t9 c = search node-before
 
-node-row-requires : tie.Need-node-row-requires Inv-loop μ-loop
-node-row-requires c κs = search needs
-
 loop-less : tie.Need-loop-less Inv-loop μ-loop
 loop-less c = search back-less
 
 loop-again : tie.Need-loop-again Inv-loop μ-loop
 loop-again c = search back-more
-
-same-length : tie.Need-same-length Inv-loop μ-loop
-same-length c = search needs
-
-same-length-2 : tie.Need-same-length-2 Inv-loop μ-loop
-same-length-2 c = search needs
 
 returns : tie.Need-returns Inv-loop μ-loop
 returns c = search back-done
@@ -75,13 +63,13 @@ go-back-spec =
     slice-write-gone
     sub-at
     cast-trail
-    mul-trail
+    (λ c. search needs)
     slice-write-trail
     mul-t7
     shared-slice-read-t9
-    node-row-requires
+    (λ c κs. search needs)
     loop-less
     loop-again
-    same-length
-    same-length-2
+    (λ c. search needs)
+    (λ c. search needs)
     returns)

@@ -15,32 +15,14 @@ abbrev μ-loop : tie.MeasureT-loop
 loop-holds : tie.Need-loop-holds Inv-loop μ-loop
 loop-holds c = search mark-begun
 
-mul-t7 : tie.Need-mul-t7 Inv-loop μ-loop
-mul-t7 c = search needs
-
-shared-slice-read-t9 : tie.Need-shared-slice-read-t9 Inv-loop μ-loop
-shared-slice-read-t9 c = search needs
-
-node-row-requires : tie.Need-node-row-requires Inv-loop μ-loop
-node-row-requires c κs = search needs
-
 mul-gone : tie.Need-mul-gone Inv-loop μ-loop
 mul-gone c = search mark-fits
 
 slice-write-gone : tie.Need-slice-write-gone Inv-loop μ-loop
 slice-write-gone c = search mark-in
 
-add-i : tie.Need-add-i Inv-loop μ-loop
-add-i c = search needs
-
-loop-less : tie.Need-loop-less Inv-loop μ-loop
-loop-less c = search needs
-
 loop-again : tie.Need-loop-again Inv-loop μ-loop
 loop-again c = search mark-more
-
-same-length : tie.Need-same-length Inv-loop μ-loop
-same-length c = search needs
 
 returns : tie.Need-returns Inv-loop μ-loop
 returns c = search mark-done
@@ -52,13 +34,13 @@ mark-spec =
     Inv-loop
     μ-loop
     loop-holds
-    mul-t7
-    shared-slice-read-t9
-    node-row-requires
+    (λ c. search needs)
+    (λ c. search needs)
+    (λ c κs. search needs)
     mul-gone
     slice-write-gone
-    add-i
-    loop-less
+    (λ c. search needs)
+    (λ c. search needs)
     loop-again
-    same-length
+    (λ c. search needs)
     returns)

@@ -18,17 +18,8 @@ loop-holds c = search note-begun
 note-edge-requires : tie.Need-note-edge-requires Inv-loop μ-loop
 note-edge-requires c κs = (search row-in, search from-in, search to-in)
 
-add-i : tie.Need-add-i Inv-loop μ-loop
-add-i c = search needs
-
-loop-less : tie.Need-loop-less Inv-loop μ-loop
-loop-less c = search needs
-
 loop-again : tie.Need-loop-again Inv-loop μ-loop
 loop-again c = search note-more
-
-same-length : tie.Need-same-length Inv-loop μ-loop
-same-length c = search needs
 
 returns : tie.Need-returns Inv-loop μ-loop
 returns c = search note-done
@@ -41,8 +32,8 @@ note-edges-spec =
     μ-loop
     loop-holds
     note-edge-requires
-    add-i
-    loop-less
+    (λ c. search needs)
+    (λ c. search needs)
     loop-again
-    same-length
+    (λ c. search needs)
     returns)

@@ -6,18 +6,6 @@ use borrow.Author.Needs.{needs}
 use Rattle.rows.proofs.get_include.Statement.{statement}
 use Rattle.rows.proofs.get_include.Tie as tie
 
-mul-at : tie.Need-mul-at
-mul-at c = search needs
-
-get-span-requires : tie.Need-get-span-requires
-get-span-requires c κs = search needs
-
-add-get-marked : tie.Need-add-get-marked
-add-get-marked c = search needs
-
-get-marked-requires : tie.Need-get-marked-requires
-get-marked-requires c κs = search needs
-
 returns : tie.Need-returns
 returns c =
     let start = c .before .before .before .args in
@@ -25,4 +13,4 @@ returns c =
 
 pub get-include-spec : {M : Type 1} → statement M
 get-include-spec =
-    tie.close (tie.spec mul-at get-span-requires add-get-marked get-marked-requires returns)
+    tie.close (tie.spec (λ c. search needs) (λ c κs. search needs) (λ c. search needs) (λ c κs. search needs) returns)

@@ -12,68 +12,17 @@ use borrow.Author.Needs.{needs}
 use Rattle.rows.proofs.put_include.Statement.{statement}
 use Rattle.rows.proofs.put_include.Tie as tie
 
-mul-at : tie.Need-mul-at
-mul-at c = search needs
-
-cast-table : tie.Need-cast-table
-cast-table c = search needs
-
-mul-table : tie.Need-mul-table
-mul-table c = search needs
-
-slice-write-table : tie.Need-slice-write-table
-slice-write-table c = search needs
-
-cast-table-2 : tie.Need-cast-table-2
-cast-table-2 c = search needs
-
-add-table : tie.Need-add-table
-add-table c = search needs
-
-mul-table-2 : tie.Need-mul-table-2
-mul-table-2 c = search needs
-
 slice-write-table-2 : tie.Need-slice-write-table-2
 slice-write-table-2 c = simp length-set (omega arith)
-
-mark-requires : tie.Need-mark-requires
-mark-requires c κs = search needs
-
-add-table-2 : tie.Need-add-table-2
-add-table-2 c = search needs
-
-mul-table-3 : tie.Need-mul-table-3
-mul-table-3 c = search needs
 
 slice-write-table-3 : tie.Need-slice-write-table-3
 slice-write-table-3 c = simp length-set (omega arith)
 
-cast-table-3 : tie.Need-cast-table-3
-cast-table-3 c = search needs
-
-add-table-3 : tie.Need-add-table-3
-add-table-3 c = search needs
-
-mul-table-4 : tie.Need-mul-table-4
-mul-table-4 c = search needs
-
 slice-write-table-4 : tie.Need-slice-write-table-4
 slice-write-table-4 c = simp length-set (omega arith)
 
-cast-table-4 : tie.Need-cast-table-4
-cast-table-4 c = search needs
-
-add-table-4 : tie.Need-add-table-4
-add-table-4 c = search needs
-
-mul-table-5 : tie.Need-mul-table-5
-mul-table-5 c = search needs
-
 slice-write-table-5 : tie.Need-slice-write-table-5
 slice-write-table-5 c = simp length-set (omega arith)
-
-same-length : tie.Need-same-length
-same-length c = search needs
 
 returns : tie.Need-returns
 unfolding includeWords
@@ -91,25 +40,25 @@ pub put-include-spec : {M : Type 1} → statement M
 put-include-spec =
     tie.close
     (tie.spec
-    mul-at
-    cast-table
-    mul-table
-    slice-write-table
-    cast-table-2
-    add-table
-    mul-table-2
+    (λ c. search needs)
+    (λ c. search needs)
+    (λ c. search needs)
+    (λ c. search needs)
+    (λ c. search needs)
+    (λ c. search needs)
+    (λ c. search needs)
     slice-write-table-2
-    mark-requires
-    add-table-2
-    mul-table-3
+    (λ c κs. search needs)
+    (λ c. search needs)
+    (λ c. search needs)
     slice-write-table-3
-    cast-table-3
-    add-table-3
-    mul-table-4
+    (λ c. search needs)
+    (λ c. search needs)
+    (λ c. search needs)
     slice-write-table-4
-    cast-table-4
-    add-table-4
-    mul-table-5
+    (λ c. search needs)
+    (λ c. search needs)
+    (λ c. search needs)
     slice-write-table-5
-    same-length
+    (λ c. search needs)
     returns)

@@ -14,12 +14,9 @@ returns-2 : tie.Need-returns-2
 unfolding atClose
 returns-2 c = simp (ne-eqb _ _ (c .before .if1 .left), eq-eqb _ _ (c .if2 .taken))
 
-sub-outer : tie.Need-sub-outer
-sub-outer c = search needs
-
 returns-3 : tie.Need-returns-3
 unfolding atClose
 returns-3 c = simp (ne-eqb _ _ (c .before .if1 .left), ne-eqb _ _ (c .if2 .left))
 
 pub at-close-spec : {M : Type 1} → statement M
-at-close-spec = tie.close (tie.spec returns returns-2 sub-outer returns-3)
+at-close-spec = tie.close (tie.spec returns returns-2 (λ c. search needs) returns-3)

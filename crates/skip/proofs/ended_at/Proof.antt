@@ -6,18 +6,6 @@ use Rattle.skip.specs.Statement.{endedAt}
 use Rattle.skip.proofs.ended_at.Statement.{statement}
 use Rattle.skip.proofs.ended_at.Tie as tie
 
-enum-known-e : tie.Need-enum-known-e
-enum-known-e c = search needs
-
-enum-known-e-2 : tie.Need-enum-known-e-2
-enum-known-e-2 c = search needs
-
-enum-known-e-3 : tie.Need-enum-known-e-3
-enum-known-e-3 c = search needs
-
-enum-known-e-4 : tie.Need-enum-known-e-4
-enum-known-e-4 c = search needs
-
 returns : tie.Need-returns
 unfolding endedAt
 returns c = sym (ap endedAt (c .before .e .given .1))
@@ -35,4 +23,4 @@ unfolding endedAt
 returns-4 c = sym (ap endedAt (c .before .e4 .given .1))
 
 pub ended-at-spec : {M : Type 1} → statement M
-ended-at-spec = tie.close (tie.spec enum-known-e enum-known-e-2 enum-known-e-3 enum-known-e-4 returns returns-2 returns-3 returns-4)
+ended-at-spec = tie.close (tie.spec (λ c. search needs) (λ c. search needs) (λ c. search needs) (λ c. search needs) returns returns-2 returns-3 returns-4)

@@ -18,12 +18,6 @@ abbrev μ-loop : tie.MeasureT-loop
 loop-holds : tie.Need-loop-holds Inv-loop μ-loop
 loop-holds c = refl
 
-skip-string-requires : tie.Need-skip-string-requires Inv-loop μ-loop
-skip-string-requires c κs = search needs
-
-enum-known-next : tie.Need-enum-known-next Inv-loop μ-loop
-enum-known-next c = search needs
-
 loop-less : tie.Need-loop-less Inv-loop μ-loop
 loop-less c =
     let known = c .before in
@@ -37,9 +31,6 @@ loop-again c =
     let tail = known .before .before in
     let at-loop = tail .before in
     sym (added-more (at-loop .before .before .args .s .now) (at-loop .loop .at) (tail .skip-string .ensures) (known .next .given .0 .0) (known .next .given .1)) ∙ at-loop .loop .inv
-
-enum-known-end : tie.Need-enum-known-end Inv-loop μ-loop
-enum-known-end c = search needs
 
 returns : tie.Need-returns Inv-loop μ-loop
 returns c =
@@ -55,9 +46,9 @@ skip-added-spec =
     Inv-loop
     μ-loop
     loop-holds
-    skip-string-requires
-    enum-known-next
+    (λ c κs. search needs)
+    (λ c. search needs)
     loop-less
     loop-again
-    enum-known-end
+    (λ c. search needs)
     returns)

@@ -9,27 +9,6 @@ use Rattle.skip.proofs.skip_one_token.Tie as tie
 returns : tie.Need-returns
 returns c = let a = c .before .before .args in sym (token-past (a .s .now) (a .here .at) (c .if1 .taken))
 
-peek-char-requires : tie.Need-peek-char-requires
-peek-char-requires c κs = search needs
-
-add-after : tie.Need-add-after
-add-after c = search needs
-
-is-quote-requires : tie.Need-is-quote-requires
-is-quote-requires c κs = search needs
-
-shared-slice-read-q : tie.Need-shared-slice-read-q
-shared-slice-read-q c = search needs
-
-close-of-requires : tie.Need-close-of-requires
-close-of-requires c κs = search needs
-
-enum-known-end : tie.Need-enum-known-end
-enum-known-end c = search needs
-
-enum-told : tie.Need-enum-told
-enum-told c = search needs
-
 returns-2 : tie.Need-returns-2
 returns-2 c =
     let close = c .before .before in
@@ -50,12 +29,6 @@ returns-3 c =
     let if1 = peek .before in
     let a = if1 .before .before .args in
     sym (token-closed (a .s .now) (a .here .at) (if1 .if1 .left) (peek .peek-char .ensures) (quote .is-quote .ensures) (if2 .if2 .taken) (close .close-of .ensures) (known .end .given .0 .0) (known .end .given .1))
-
-starts-ident-requires : tie.Need-starts-ident-requires
-starts-ident-requires c κs = search needs
-
-run-end-requires : tie.Need-run-end-requires
-run-end-requires c κs = search needs
 
 returns-4 : tie.Need-returns-4
 returns-4 c =
@@ -83,16 +56,16 @@ skip-one-token-spec =
     tie.close
     (tie.spec
     returns
-    peek-char-requires
-    add-after
-    is-quote-requires
-    shared-slice-read-q
-    close-of-requires
-    enum-known-end
-    enum-told
+    (λ c κs. search needs)
+    (λ c. search needs)
+    (λ c κs. search needs)
+    (λ c. search needs)
+    (λ c κs. search needs)
+    (λ c. search needs)
+    (λ c. search needs)
     returns-2
     returns-3
-    starts-ident-requires
-    run-end-requires
+    (λ c κs. search needs)
+    (λ c κs. search needs)
     returns-4
     returns-5)

@@ -9,24 +9,6 @@ use Rattle.skip.proofs.skip_part.Tie as tie
 returns : tie.Need-returns
 returns c = let a = c .before .before .args in sym (part-past (a .s .now) (a .here .at) (a .depth) (c .if1 .taken))
 
-add-after : tie.Need-add-after
-add-after c = search needs
-
-shared-slice-read-b : tie.Need-shared-slice-read-b
-shared-slice-read-b c = search needs
-
-quoted-end-requires : tie.Need-quoted-end-requires
-quoted-end-requires c κs = search needs
-
-at-semicolon-requires : tie.Need-at-semicolon-requires
-at-semicolon-requires c κs = search needs
-
-add-inner : tie.Need-add-inner
-add-inner c = search needs
-
-at-close-requires : tie.Need-at-close-requires
-at-close-requires c κs = search needs
-
 returns-2 : tie.Need-returns-2
 returns-2 c =
     let key = c .before in
@@ -65,12 +47,12 @@ skip-part-spec =
     tie.close
     (tie.spec
     returns
-    add-after
-    shared-slice-read-b
-    quoted-end-requires
-    at-semicolon-requires
-    add-inner
-    at-close-requires
+    (λ c. search needs)
+    (λ c. search needs)
+    (λ c κs. search needs)
+    (λ c κs. search needs)
+    (λ c. search needs)
+    (λ c κs. search needs)
     returns-2
     returns-3
     returns-4

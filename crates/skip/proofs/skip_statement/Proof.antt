@@ -20,14 +20,8 @@ abbrev μ-loop : tie.MeasureT-loop
 loop-holds : tie.Need-loop-holds Inv-loop μ-loop
 loop-holds c = let a = c .before .args in (omega arith, sym (statement-is (a .s .now) (a .here .at)))
 
-skip-whitespace-and-comments-requires : tie.Need-skip-whitespace-and-comments-requires Inv-loop μ-loop
-skip-whitespace-and-comments-requires c κs = search needs
-
 skip-part-requires : tie.Need-skip-part-requires Inv-loop μ-loop
 skip-part-requires c κs = omega (arith, gap-from (c .before .before .before .args .s .now) (c .before .loop .at))
-
-enum-known-next : tie.Need-enum-known-next Inv-loop μ-loop
-enum-known-next c = search needs
 
 loop-less : tie.Need-loop-less Inv-loop μ-loop
 loop-less c =
@@ -49,9 +43,6 @@ loop-again c =
       sym (statement-more s (at-loop .loop .at) (at-loop .loop .depth) (gap .skip-whitespace-and-comments .ensures) (part .skip-part .ensures) (got .0 .0) (got .0 .1 .0) (got .1)) ∙ at-loop .loop .inv .1,
     )
 
-enum-known-end : tie.Need-enum-known-end Inv-loop μ-loop
-enum-known-end c = search needs
-
 returns : tie.Need-returns Inv-loop μ-loop
 returns c =
     let known = c .before in
@@ -67,10 +58,10 @@ skip-statement-spec =
     Inv-loop
     μ-loop
     loop-holds
-    skip-whitespace-and-comments-requires
+    (λ c κs. search needs)
     skip-part-requires
-    enum-known-next
+    (λ c. search needs)
     loop-less
     loop-again
-    enum-known-end
+    (λ c. search needs)
     returns)

@@ -8,12 +8,6 @@ use Rattle.skip.proofs.PassLaws.{tail-plain, tail-bare, tail-past, tail
 use Rattle.skip.proofs.skip_string.Statement.{statement}
 use Rattle.skip.proofs.skip_string.Tie as tie
 
-skip-whitespace-and-comments-requires : tie.Need-skip-whitespace-and-comments-requires
-skip-whitespace-and-comments-requires c κs = search needs
-
-peek-char-requires : tie.Need-peek-char-requires
-peek-char-requires c κs = search needs
-
 returns : tie.Need-returns
 returns c =
     let peek = c .before in
@@ -25,24 +19,6 @@ add-next : tie.Need-add-next
 add-next c =
     let gap = c .before .before in
     omega (arith, here (gap .before .before .args .s .now) (gap .skip-whitespace-and-comments .result .at) (λ e. omega arith))
-
-skip-whitespace-and-comments-requires-2 : tie.Need-skip-whitespace-and-comments-requires-2
-skip-whitespace-and-comments-requires-2 c κs = search needs
-
-peek-char-requires-2 : tie.Need-peek-char-requires-2
-peek-char-requires-2 c κs = search needs
-
-is-quote-requires : tie.Need-is-quote-requires
-is-quote-requires c κs = search needs
-
-skip-one-token-requires : tie.Need-skip-one-token-requires
-skip-one-token-requires c κs = search needs
-
-enum-known-end : tie.Need-enum-known-end
-enum-known-end c = search needs
-
-enum-told : tie.Need-enum-told
-enum-told c = search needs
 
 returns-2 : tie.Need-returns-2
 returns-2 c =
@@ -86,16 +62,16 @@ pub skip-string-spec : {M : Type 1} → statement M
 skip-string-spec =
     tie.close
     (tie.spec
-    skip-whitespace-and-comments-requires
-    peek-char-requires
+    (λ c κs. search needs)
+    (λ c κs. search needs)
     returns
     add-next
-    skip-whitespace-and-comments-requires-2
-    peek-char-requires-2
-    is-quote-requires
-    skip-one-token-requires
-    enum-known-end
-    enum-told
+    (λ c κs. search needs)
+    (λ c κs. search needs)
+    (λ c κs. search needs)
+    (λ c κs. search needs)
+    (λ c. search needs)
+    (λ c. search needs)
     returns-2
     returns-3
     returns-4)

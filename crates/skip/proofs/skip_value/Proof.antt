@@ -7,24 +7,6 @@ use Rattle.skip.proofs.PassLaws.{passed-string, passed-cut, passed-name
 use Rattle.skip.proofs.skip_value.Statement.{statement}
 use Rattle.skip.proofs.skip_value.Tie as tie
 
-skip-whitespace-and-comments-requires : tie.Need-skip-whitespace-and-comments-requires
-skip-whitespace-and-comments-requires c κs = search needs
-
-peek-char-requires : tie.Need-peek-char-requires
-peek-char-requires c κs = search needs
-
-is-quote-requires : tie.Need-is-quote-requires
-is-quote-requires c κs = search needs
-
-skip-one-token-requires : tie.Need-skip-one-token-requires
-skip-one-token-requires c κs = search needs
-
-enum-known-end : tie.Need-enum-known-end
-enum-known-end c = search needs
-
-enum-told : tie.Need-enum-told
-enum-told c = search needs
-
 returns : tie.Need-returns
 returns c =
     let token = c .before .before in
@@ -34,9 +16,6 @@ returns c =
     let gap = peek .before in
     let a = gap .before .before .args in
     sym (passed-cut (a .s .now) (a .here .at) (gap .skip-whitespace-and-comments .ensures) (peek .peek-char .ensures) (quote .is-quote .ensures) (if1 .if1 .taken) (token .skip-one-token .ensures) (c .enum-told .given .0 .0) (c .enum-told .given .1))
-
-skip-added-requires : tie.Need-skip-added-requires
-skip-added-requires c κs = search needs
 
 returns-2 : tie.Need-returns-2
 returns-2 c =
@@ -48,12 +27,6 @@ returns-2 c =
     let gap = peek .before in
     let a = gap .before .before .args in
     sym (passed-string (a .s .now) (a .here .at) (gap .skip-whitespace-and-comments .ensures) (peek .peek-char .ensures) (quote .is-quote .ensures) (if1 .if1 .taken) (token .skip-one-token .ensures) (known .end .given .0 .0) (known .end .given .1) (c .skip-added .ensures))
-
-starts-name-requires : tie.Need-starts-name-requires
-starts-name-requires c κs = search needs
-
-run-end-requires : tie.Need-run-end-requires
-run-end-requires c κs = search needs
 
 returns-3 : tie.Need-returns-3
 returns-3 c =
@@ -80,16 +53,16 @@ pub skip-value-spec : {M : Type 1} → statement M
 skip-value-spec =
     tie.close
     (tie.spec
-    skip-whitespace-and-comments-requires
-    peek-char-requires
-    is-quote-requires
-    skip-one-token-requires
-    enum-known-end
-    enum-told
+    (λ c κs. search needs)
+    (λ c κs. search needs)
+    (λ c κs. search needs)
+    (λ c κs. search needs)
+    (λ c. search needs)
+    (λ c. search needs)
     returns
-    skip-added-requires
+    (λ c κs. search needs)
     returns-2
-    starts-name-requires
-    run-end-requires
+    (λ c κs. search needs)
+    (λ c κs. search needs)
     returns-3
     returns-4)

@@ -5,12 +5,6 @@ use Rattle.skip.proofs.SkipLaws.{end-past, end-cut}
 use Rattle.skip.proofs.token_end.Statement.{statement}
 use Rattle.skip.proofs.token_end.Tie as tie
 
-enum-known-t : tie.Need-enum-known-t
-enum-known-t c = search needs
-
-enum-known-t-2 : tie.Need-enum-known-t-2
-enum-known-t-2 c = search needs
-
 returns : tie.Need-returns
 returns c = end-past (c .before .before .before .args .t) (c .before .t .given .0 .0) (c .before .t .given .1)
 
@@ -18,4 +12,4 @@ returns-2 : tie.Need-returns-2
 returns-2 c = end-cut (c .before .before .before .args .t) (c .before .t2 .given .0 .0) (c .before .t2 .given .1)
 
 pub token-end-spec : {M : Type 1} → statement M
-token-end-spec = tie.close (tie.spec enum-known-t enum-known-t-2 returns returns-2)
+token-end-spec = tie.close (tie.spec (λ c. search needs) (λ c. search needs) returns returns-2)

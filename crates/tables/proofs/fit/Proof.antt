@@ -11,20 +11,11 @@ returns c = search too-many-nodes
 returns-2 : tie.Need-returns-2
 returns-2 c = search too-many-edges
 
-mul-if3 : tie.Need-mul-if3
-mul-if3 c = search needs
-
 returns-3 : tie.Need-returns-3
 returns-3 c = search nodes-short
 
-mul-if4 : tie.Need-mul-if4
-mul-if4 c = search needs
-
 returns-4 : tie.Need-returns-4
 returns-4 c = search edges-short
-
-all-within-requires : tie.Need-all-within-requires
-all-within-requires c κs = search needs
 
 returns-5 : tie.Need-returns-5
 returns-5 c = search looked
@@ -32,4 +23,4 @@ returns-5 c = search looked
 pub fit-spec : {M : Type 1} → statement M
 fit-spec =
     tie.close
-    (tie.spec returns returns-2 mul-if3 returns-3 mul-if4 returns-4 all-within-requires returns-5)
+    (tie.spec returns returns-2 (λ c. search needs) returns-3 (λ c. search needs) returns-4 (λ c κs. search needs) returns-5)

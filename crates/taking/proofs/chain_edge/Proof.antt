@@ -5,50 +5,11 @@ use Rattle.taking.proofs.Chaining.{from-low, from-in, to-low, to-in, fe
 use Rattle.taking.proofs.chain_edge.Statement.{statement}
 use Rattle.taking.proofs.chain_edge.Tie as tie
 
-mul-waits : tie.Need-mul-waits
-mul-waits c = search needs
-
-mul-waits-2 : tie.Need-mul-waits-2
-mul-waits-2 c = search needs
-
-shared-slice-read-waits : tie.Need-shared-slice-read-waits
-shared-slice-read-waits c = search needs
-
-node-row-requires : tie.Need-node-row-requires
-node-row-requires c κs = search needs
-
-mul-waits-3 : tie.Need-mul-waits-3
-mul-waits-3 c = search needs
-
-add-waits : tie.Need-add-waits
-add-waits c = search needs
-
-mul-waits-4 : tie.Need-mul-waits-4
-mul-waits-4 c = search needs
-
-shared-slice-read-waits-2 : tie.Need-shared-slice-read-waits-2
-shared-slice-read-waits-2 c = search needs
-
-node-row-requires-2 : tie.Need-node-row-requires-2
-node-row-requires-2 c κs = search needs
-
 mul-links : tie.Need-mul-links
 mul-links c = search (needs, from-low)
 
 slice-read-links : tie.Need-slice-read-links
 slice-read-links c = search (needs, from-in)
-
-mul-links-2 : tie.Need-mul-links-2
-mul-links-2 c = search needs
-
-slice-write-links : tie.Need-slice-write-links
-slice-write-links c = search needs
-
-cast-heads : tie.Need-cast-heads
-cast-heads c = search needs
-
-add-heads : tie.Need-add-heads
-add-heads c = search needs
 
 mul-heads : tie.Need-mul-heads
 mul-heads c = search (needs, from-low)
@@ -68,15 +29,6 @@ add-waits-2 c = search (needs, few-waits)
 slice-write-waits : tie.Need-slice-write-waits
 slice-write-waits c = search (needs, to-in)
 
-same-length : tie.Need-same-length
-same-length c = search needs
-
-same-length-2 : tie.Need-same-length-2
-same-length-2 c = search needs
-
-same-length-3 : tie.Need-same-length-3
-same-length-3 c = search needs
-
 returns : tie.Need-returns
 returns c = search chained
 
@@ -84,28 +36,28 @@ pub chain-edge-spec : {M : Type 1} → statement M
 chain-edge-spec =
     tie.close
     (tie.spec
-    mul-waits
-    mul-waits-2
-    shared-slice-read-waits
-    node-row-requires
-    mul-waits-3
-    add-waits
-    mul-waits-4
-    shared-slice-read-waits-2
-    node-row-requires-2
+    (λ c. search needs)
+    (λ c. search needs)
+    (λ c. search needs)
+    (λ c κs. search needs)
+    (λ c. search needs)
+    (λ c. search needs)
+    (λ c. search needs)
+    (λ c. search needs)
+    (λ c κs. search needs)
     mul-links
     slice-read-links
-    mul-links-2
-    slice-write-links
-    cast-heads
-    add-heads
+    (λ c. search needs)
+    (λ c. search needs)
+    (λ c. search needs)
+    (λ c. search needs)
     mul-heads
     slice-write-heads
     mul-waits-5
     slice-read-waits
     add-waits-2
     slice-write-waits
-    same-length
-    same-length-2
-    same-length-3
+    (λ c. search needs)
+    (λ c. search needs)
+    (λ c. search needs)
     returns)

@@ -7,17 +7,11 @@ use Rattle.text.proofs.Laws.{pair-room, comment-line, comment-block, co
 use Rattle.text.proofs.comment_end.Statement.{statement}
 use Rattle.text.proofs.comment_end.Tie as tie
 
-pair-at-requires : tie.Need-pair-at-requires
-pair-at-requires c κs = search needs
-
 add-run-end : tie.Need-add-run-end
 add-run-end c =
     let pair = c .before in
     let a = pair .before .before .args in
     omega (arith, pair-room (a .s .now) (a .at) 47 47 (omega arith) (sym (pair .pair-at .ensures) ∙ c .if1 .taken))
-
-run-end-requires : tie.Need-run-end-requires
-run-end-requires c κs = search needs
 
 returns : tie.Need-returns
 returns c =
@@ -26,17 +20,11 @@ returns c =
     let a = pair .before .before .args in
     c .run-end .ensures ∙ sym (comment-line (a .s .now) (a .at) (sym (pair .pair-at .ensures) ∙ if1 .if1 .taken))
 
-pair-at-requires-2 : tie.Need-pair-at-requires-2
-pair-at-requires-2 c κs = search needs
-
 add-block-end : tie.Need-add-block-end
 add-block-end c =
     let pair2 = c .before in
     let a = pair2 .before .before .before .before .args in
     omega (arith, pair-room (a .s .now) (a .at) 47 42 (omega arith) (sym (pair2 .pair-at2 .ensures) ∙ c .if2 .taken))
-
-block-end-requires : tie.Need-block-end-requires
-block-end-requires c κs = search needs
 
 returns-2 : tie.Need-returns-2
 returns-2 c =
@@ -60,12 +48,12 @@ pub comment-end-spec : {M : Type 1} → statement M
 comment-end-spec =
     tie.close
     (tie.spec
-    pair-at-requires
+    (λ c κs. search needs)
     add-run-end
-    run-end-requires
+    (λ c κs. search needs)
     returns
-    pair-at-requires-2
+    (λ c κs. search needs)
     add-block-end
-    block-end-requires
+    (λ c κs. search needs)
     returns-2
     returns-3)

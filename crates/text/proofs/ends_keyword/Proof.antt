@@ -8,9 +8,6 @@ use Rattle.text.proofs.KeywordLaws.{ends-mark, ends-not}
 use Rattle.text.proofs.ends_keyword.Statement.{statement}
 use Rattle.text.proofs.ends_keyword.Tie as tie
 
-class-requires : tie.Need-class-requires
-class-requires c κs = search needs
-
 returns : tie.Need-returns
 unfolding endsKeyword
 returns c = simp (yes (c .before .class .ensures) (c .if1 .taken))
@@ -22,4 +19,4 @@ returns-3 : tie.Need-returns-3
 returns-3 c = sym (ends-not (c .before .before .before .args .b) (no (c .before .before .class .ensures) (c .before .if1 .left)) (c .match .rest .1))
 
 pub ends-keyword-spec : {M : Type 1} → statement M
-ends-keyword-spec = tie.close (tie.spec class-requires returns returns-2 returns-3)
+ends-keyword-spec = tie.close (tie.spec (λ c κs. search needs) returns returns-2 returns-3)

@@ -7,9 +7,6 @@ use Rattle.text.proofs.Here.{yes, no}
 use Rattle.text.proofs.in_ident.Statement.{statement}
 use Rattle.text.proofs.in_ident.Tie as tie
 
-class-requires : tie.Need-class-requires
-class-requires c κs = search needs
-
 returns : tie.Need-returns
 unfolding inIdent
 returns c = simp (yes (c .before .class .ensures) (c .if1 .taken))
@@ -35,4 +32,4 @@ unfolding inIdent
 returns-6 c = let g = c .before .before .before .before .before .class .ensures in simp (no g (c .before .before .before .before .if1 .left), no g (c .before .before .before .if2 .left), ne-eqb _ _ (c .before .before .if3 .left), ne-eqb _ _ (c .before .if4 .left), ne-eqb _ _ (c .if5 .left))
 
 pub in-ident-spec : {M : Type 1} → statement M
-in-ident-spec = tie.close (tie.spec class-requires returns returns-2 returns-3 returns-4 returns-5 returns-6)
+in-ident-spec = tie.close (tie.spec (λ c κs. search needs) returns returns-2 returns-3 returns-4 returns-5 returns-6)

@@ -6,30 +6,6 @@ use Rattle.text.proofs.Laws.{run-white, run-line, run-ident, run-name, 
 use Rattle.text.proofs.in_run.Statement.{statement}
 use Rattle.text.proofs.in_run.Tie as tie
 
-enum-told : tie.Need-enum-told
-enum-told c = search needs
-
-class-requires : tie.Need-class-requires
-class-requires c κs = search needs
-
-enum-told-2 : tie.Need-enum-told-2
-enum-told-2 c = search needs
-
-enum-told-3 : tie.Need-enum-told-3
-enum-told-3 c = search needs
-
-in-ident-requires : tie.Need-in-ident-requires
-in-ident-requires c κs = search needs
-
-enum-told-4 : tie.Need-enum-told-4
-enum-told-4 c = search needs
-
-in-ident-requires-2 : tie.Need-in-ident-requires-2
-in-ident-requires-2 c κs = search needs
-
-enum-told-5 : tie.Need-enum-told-5
-enum-told-5 c = search needs
-
 returns : tie.Need-returns
 returns c =
     let ident = c .before in
@@ -62,15 +38,15 @@ pub in-run-spec : {M : Type 1} → statement M
 in-run-spec =
     tie.close
     (tie.spec
-    enum-told
-    class-requires
-    enum-told-2
-    enum-told-3
-    in-ident-requires
-    enum-told-4
-    in-ident-requires-2
+    (λ c. search needs)
+    (λ c κs. search needs)
+    (λ c. search needs)
+    (λ c. search needs)
+    (λ c κs. search needs)
+    (λ c. search needs)
+    (λ c κs. search needs)
     returns
-    enum-told-5
+    (λ c. search needs)
     returns-2
     returns-3
     returns-4

@@ -5,12 +5,6 @@ use borrow.Author.Needs.{needs}
 use Rattle.text.proofs.or_match.Statement.{statement}
 use Rattle.text.proofs.or_match.Tie as tie
 
-enum-told : tie.Need-enum-told
-enum-told c = search needs
-
-enum-told-2 : tie.Need-enum-told-2
-enum-told-2 c = search needs
-
 returns : tie.Need-returns
 unfolding orMatch
 returns c = search needs
@@ -20,4 +14,4 @@ unfolding orMatch
 returns-2 c = search needs
 
 pub or-match-spec : {M : Type 1} → statement M
-or-match-spec = tie.close (tie.spec enum-told enum-told-2 returns returns-2)
+or-match-spec = tie.close (tie.spec (λ c. search needs) (λ c. search needs) returns returns-2)

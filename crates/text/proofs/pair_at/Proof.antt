@@ -8,16 +8,10 @@ use Rattle.text.proofs.Laws.{pair-yes, pair-no, pair-no-more}
 use Rattle.text.proofs.pair_at.Statement.{statement}
 use Rattle.text.proofs.pair_at.Tie as tie
 
-peek-char-requires : tie.Need-peek-char-requires
-peek-char-requires c κs = search needs
-
 add-peek-char : tie.Need-add-peek-char
 add-peek-char c =
     let a = c .before .before .before .args in
     omega (arith, here (a .s .now) (a .at) (λ e. omega arith))
-
-peek-char-requires-2 : tie.Need-peek-char-requires-2
-peek-char-requires-2 c κs = search needs
 
 returns : tie.Need-returns
 returns c =
@@ -43,4 +37,4 @@ returns-3 c =
 
 pub pair-at-spec : {M : Type 1} → statement M
 pair-at-spec =
-    tie.close (tie.spec peek-char-requires add-peek-char peek-char-requires-2 returns returns-2 returns-3)
+    tie.close (tie.spec (λ c κs. search needs) add-peek-char (λ c κs. search needs) returns returns-2 returns-3)

@@ -7,9 +7,6 @@ use Rattle.text.proofs.Here.{inside, past}
 use Rattle.text.proofs.peek_char.Statement.{statement}
 use Rattle.text.proofs.peek_char.Tie as tie
 
-shared-slice-read-result : tie.Need-shared-slice-read-result
-shared-slice-read-result c = search needs
-
 cast-result : tie.Need-cast-result
 cast-result c = omega (arith, c .shared-slice-known .given (c .before .before .args .at))
 
@@ -20,4 +17,4 @@ returns-2 : tie.Need-returns-2
 returns-2 c = sym (past (c .before .args .s .now) (c .before .args .at) (c .if1 .left))
 
 pub peek-char-spec : {M : Type 1} → statement M
-peek-char-spec = tie.close (tie.spec shared-slice-read-result cast-result returns returns-2)
+peek-char-spec = tie.close (tie.spec (λ c. search needs) cast-result returns returns-2)

@@ -6,12 +6,6 @@ use borrow.Author.Needs.{needs}
 use Rattle.text.proofs.refusal_of.Statement.{statement}
 use Rattle.text.proofs.refusal_of.Tie as tie
 
-enum-told : tie.Need-enum-told
-enum-told c = search needs
-
-enum-known-d : tie.Need-enum-known-d
-enum-known-d c = search needs
-
 returns : tie.Need-returns
 unfolding refusalOf
 returns c = sym (ap refusalOf (c .enum-told .given .1))
@@ -21,4 +15,4 @@ unfolding refusalOf
 returns-2 c = sym (ap refusalOf (c .before .d .given .1))
 
 pub refusal-of-spec : {M : Type 1} → statement M
-refusal-of-spec = tie.close (tie.spec enum-told enum-known-d returns returns-2)
+refusal-of-spec = tie.close (tie.spec (λ c. search needs) (λ c. search needs) returns returns-2)

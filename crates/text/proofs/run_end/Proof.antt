@@ -22,9 +22,6 @@ loop-holds c = refl
 peek-char-requires : tie.Need-peek-char-requires Inv-loop μ-loop
 peek-char-requires c κs = tt
 
-in-run-requires : tie.Need-in-run-requires Inv-loop μ-loop
-in-run-requires c κs = search needs
-
 returns : tie.Need-returns Inv-loop μ-loop
 returns c =
     let at-loop = c .before .before .before .before in
@@ -51,4 +48,4 @@ returns-2 c =
 
 pub run-end-spec : {M : Type 1} → statement M
 run-end-spec =
-    tie.close (tie.spec Inv-loop μ-loop loop-holds peek-char-requires in-run-requires add-i loop-less loop-again returns returns-2)
+    tie.close (tie.spec Inv-loop μ-loop loop-holds peek-char-requires (λ c κs. search needs) add-i loop-less loop-again returns returns-2)

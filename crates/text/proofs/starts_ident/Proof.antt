@@ -9,9 +9,6 @@ use Rattle.text.proofs.Here.{yes, no}
 use Rattle.text.proofs.starts_ident.Statement.{statement}
 use Rattle.text.proofs.starts_ident.Tie as tie
 
-class-requires : tie.Need-class-requires
-class-requires c κs = search needs
-
 returns : tie.Need-returns
 unfolding startsIdent
 returns c = simp (yes (c .before .class .ensures) (c .if1 .taken))
@@ -25,4 +22,4 @@ unfolding startsIdent
 returns-3 c = simp (no (c .before .before .class .ensures) (c .before .if1 .left), ne-eqb _ _ (c .if2 .left))
 
 pub starts-ident-spec : {M : Type 1} → statement M
-starts-ident-spec = tie.close (tie.spec class-requires returns returns-2 returns-3)
+starts-ident-spec = tie.close (tie.spec (λ c κs. search needs) returns returns-2 returns-3)

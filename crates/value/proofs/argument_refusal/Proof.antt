@@ -6,12 +6,6 @@ use borrow.Author.Needs.{needs}
 use Rattle.value.proofs.argument_refusal.Statement.{statement}
 use Rattle.value.proofs.argument_refusal.Tie as tie
 
-enum-told : tie.Need-enum-told
-enum-told c = search needs
-
-enum-known-a : tie.Need-enum-known-a
-enum-known-a c = search needs
-
 returns : tie.Need-returns
 unfolding argumentRefusal
 returns c = sym (ap argumentRefusal (c .enum-told .given .1))
@@ -21,4 +15,4 @@ unfolding argumentRefusal
 returns-2 c = sym (ap argumentRefusal (c .before .a .given .1))
 
 pub argument-refusal-spec : {M : Type 1} → statement M
-argument-refusal-spec = tie.close (tie.spec enum-told enum-known-a returns returns-2)
+argument-refusal-spec = tie.close (tie.spec (λ c. search needs) (λ c. search needs) returns returns-2)

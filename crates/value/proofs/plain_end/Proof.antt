@@ -32,14 +32,8 @@ loop-holds c = (omega arith, refl)
 among-requires : tie.Need-among-requires Inv-loop μ-loop
 among-requires c κs = omega arith
 
-returns-2 : tie.Need-returns-2 Inv-loop μ-loop
-returns-2 c = search needs
-
 among-requires-2 : tie.Need-among-requires-2 Inv-loop μ-loop
 among-requires-2 c κs = omega arith
-
-returns-3 : tie.Need-returns-3 Inv-loop μ-loop
-returns-3 c = search needs
 
 add-i : tie.Need-add-i Inv-loop μ-loop
 add-i c = omega arith
@@ -57,9 +51,6 @@ loop-again c =
           ∙ at-loop .loop .inv .1,
     )
 
-returns-4 : tie.Need-returns-4 Inv-loop μ-loop
-returns-4 c = search needs
-
 pub plain-end-spec : {M : Type 1} → statement M
 plain-end-spec =
     tie.close
@@ -70,10 +61,10 @@ plain-end-spec =
     sub-last
     loop-holds
     among-requires
-    returns-2
+    (λ c. search needs)
     among-requires-2
-    returns-3
+    (λ c. search needs)
     add-i
     loop-less
     loop-again
-    returns-4)
+    (λ c. search needs))

@@ -6,18 +6,6 @@ use Rattle.value.proofs.ArgumentLaws.{line-refused, line-other, line-re
 use Rattle.value.proofs.read_argument.Statement.{statement}
 use Rattle.value.proofs.read_argument.Tie as tie
 
-read-value-requires : tie.Need-read-value-requires
-read-value-requires c κs = search needs
-
-enum-known-got : tie.Need-enum-known-got
-enum-known-got c = search needs
-
-enum-told : tie.Need-enum-told
-enum-told c = search needs
-
-same-length : tie.Need-same-length
-same-length c = search needs
-
 returns : tie.Need-returns
 returns c =
     let at-read = c .before .before .before .before in
@@ -25,21 +13,6 @@ returns c =
     let v = at-read .read-value in
     let k = c .enum-told .given in
     (sym (line-refused (a .s .now) (a .here .at) (a .used) (a .keyword) (a .b) (v .ensures .0) (k .0 .0) (k .1)), v .ensures .1)
-
-expect-char-requires : tie.Need-expect-char-requires
-expect-char-requires c κs = search needs
-
-enum-known-due : tie.Need-enum-known-due
-enum-known-due c = search needs
-
-enum-told-2 : tie.Need-enum-told-2
-enum-told-2 c = search needs
-
-refusal-of-requires : tie.Need-refusal-of-requires
-refusal-of-requires c κs = search needs
-
-same-length-2 : tie.Need-same-length-2
-same-length-2 c = search needs
 
 returns-2 : tie.Need-returns-2
 returns-2 c =
@@ -52,9 +25,6 @@ returns-2 c =
     let k = got .got .given in
     let d = told .enum-told2 .given in
     (sym (line-other (a .s .now) (a .here .at) (a .used) (a .keyword) (a .b) (v .ensures .0) (k .0 .0) (k .0 .1 .0) (k .1) (at-due .expect-char .ensures) (d .0 .0) (d .1) (c .refusal-of .ensures)), v .ensures .1)
-
-same-length-3 : tie.Need-same-length-3
-same-length-3 c = search needs
 
 returns-3 : tie.Need-returns-3
 returns-3 c =
@@ -72,16 +42,16 @@ pub read-argument-spec : {M : Type 1} → statement M
 read-argument-spec =
     tie.close
     (tie.spec
-    read-value-requires
-    enum-known-got
-    enum-told
-    same-length
+    (λ c κs. search needs)
+    (λ c. search needs)
+    (λ c. search needs)
+    (λ c. search needs)
     returns
-    expect-char-requires
-    enum-known-due
-    enum-told-2
-    refusal-of-requires
-    same-length-2
+    (λ c κs. search needs)
+    (λ c. search needs)
+    (λ c. search needs)
+    (λ c κs. search needs)
+    (λ c. search needs)
     returns-2
-    same-length-3
+    (λ c. search needs)
     returns-3)

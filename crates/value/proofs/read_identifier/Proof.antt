@@ -12,15 +12,6 @@ use Rattle.value.proofs.JoinLaws.{name-read, name-none, name-here}
 use Rattle.value.proofs.read_identifier.Statement.{statement}
 use Rattle.value.proofs.read_identifier.Tie as tie
 
-peek-char-requires : tie.Need-peek-char-requires
-peek-char-requires c κs = search needs
-
-starts-name-requires : tie.Need-starts-name-requires
-starts-name-requires c κs = search needs
-
-run-end-requires : tie.Need-run-end-requires
-run-end-requires c κs = search needs
-
 copy-part-requires : tie.Need-copy-part-requires
 copy-part-requires c κs =
     let if1 = c .before .before in
@@ -29,9 +20,6 @@ copy-part-requires c κs =
     let a = peek .before .before .before .args in
     let i = name-here (a .s .now) (a .here .at) (peek .peek-char .ensures) (starts .starts-name .ensures) (if1 .if1 .taken) in
     omega (arith, run-from Name (a .s .now) (a .here .at), run-within Name (a .s .now) (a .here .at) (omega arith))
-
-same-length : tie.Need-same-length
-same-length c = search needs
 
 returns : tie.Need-returns
 unfolding valueAnswer valueBytes
@@ -61,10 +49,10 @@ pub read-identifier-spec : {M : Type 1} → statement M
 read-identifier-spec =
     tie.close
     (tie.spec
-    peek-char-requires
-    starts-name-requires
-    run-end-requires
+    (λ c κs. search needs)
+    (λ c κs. search needs)
+    (λ c κs. search needs)
     copy-part-requires
-    same-length
+    (λ c. search needs)
     returns
     returns-2)

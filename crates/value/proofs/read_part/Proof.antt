@@ -13,12 +13,6 @@ use Rattle.value.proofs.ValueLaws.{more-plain, more-bare, more-added, m
 use Rattle.value.proofs.read_part.Statement.{statement}
 use Rattle.value.proofs.read_part.Tie as tie
 
-skip-whitespace-and-comments-requires : tie.Need-skip-whitespace-and-comments-requires
-skip-whitespace-and-comments-requires c κs = search needs
-
-peek-char-requires : tie.Need-peek-char-requires
-peek-char-requires c κs = search needs
-
 returns : tie.Need-returns
 unfolding moreAnswer moreBytes
 returns c =
@@ -33,29 +27,11 @@ add-next c =
     let gap = c .before .before in
     omega (arith, here (gap .before .before .before .args .s .now) (gap .skip-whitespace-and-comments .result .at) (λ e. omega arith))
 
-skip-whitespace-and-comments-requires-2 : tie.Need-skip-whitespace-and-comments-requires-2
-skip-whitespace-and-comments-requires-2 c κs = search needs
-
-peek-char-requires-2 : tie.Need-peek-char-requires-2
-peek-char-requires-2 c κs = search needs
-
-is-quote-requires : tie.Need-is-quote-requires
-is-quote-requires c κs = search needs
-
 read-quoted-string-requires : tie.Need-read-quoted-string-requires
 read-quoted-string-requires c κs =
     let gap = c .before .before .before .before .before .before .before in
     let a = gap .before .before .before .args in
     omega (arith, gap-from (a .s .now) (a .here .at), gap-from (a .s .now) (gap .skip-whitespace-and-comments .result .at + 1))
-
-enum-known-next : tie.Need-enum-known-next
-enum-known-next c = search needs
-
-enum-told : tie.Need-enum-told
-enum-told c = search needs
-
-same-length : tie.Need-same-length
-same-length c = search needs
 
 returns-2 : tie.Need-returns-2
 returns-2 c =
@@ -73,9 +49,6 @@ returns-2 c =
       read .ensures .1
           ∙ sym (ap (sets (a .store .now) (a .used)) (more-stored (a .s .now) (a .here .at) (gap .skip-whitespace-and-comments .ensures) (peek .peek-char .ensures) (if1 .if1 .left) (gap2 .skip-whitespace-and-comments2 .ensures) (peek2 .peek-char2 .ensures) (quote .is-quote .ensures) (if2 .if2 .taken) (a .used) (read .ensures .0))),
     )
-
-same-length-2 : tie.Need-same-length-2
-same-length-2 c = search needs
 
 returns-3 : tie.Need-returns-3
 returns-3 c =
@@ -113,18 +86,18 @@ pub read-part-spec : {M : Type 1} → statement M
 read-part-spec =
     tie.close
     (tie.spec
-    skip-whitespace-and-comments-requires
-    peek-char-requires
+    (λ c κs. search needs)
+    (λ c κs. search needs)
     returns
     add-next
-    skip-whitespace-and-comments-requires-2
-    peek-char-requires-2
-    is-quote-requires
+    (λ c κs. search needs)
+    (λ c κs. search needs)
+    (λ c κs. search needs)
     read-quoted-string-requires
-    enum-known-next
-    enum-told
-    same-length
+    (λ c. search needs)
+    (λ c. search needs)
+    (λ c. search needs)
     returns-2
-    same-length-2
+    (λ c. search needs)
     returns-3
     returns-4)

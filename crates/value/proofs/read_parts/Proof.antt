@@ -22,9 +22,6 @@ loop-holds c = join-begun (omega arith)
 read-part-requires : tie.Need-read-part-requires Inv-loop μ-loop
 read-part-requires c κs = (c .before .before .before .before .pre .0, omega (arith, join-long (c .before .loop .inv)))
 
-enum-known-next : tie.Need-enum-known-next Inv-loop μ-loop
-enum-known-next c = search needs
-
 loop-less : tie.Need-loop-less Inv-loop μ-loop
 loop-less c =
     let known = c .before in
@@ -42,9 +39,6 @@ loop-again c =
     let got = known .next .given in
     join-more (at-loop .loop .inv) (read .ensures .0) (read .ensures .1) (got .0 .0) (got .0 .1 .0) (got .1)
 
-enum-known-end : tie.Need-enum-known-end Inv-loop μ-loop
-enum-known-end c = search needs
-
 same-length : tie.Need-same-length Inv-loop μ-loop
 same-length c =
     let at-read = c .before .before .before .before .before in
@@ -58,9 +52,6 @@ returns c =
     let at-loop = at-read .before .before in
     let read = at-read .read-part in
     join-done (at-loop .loop .inv) (read .ensures .0) (read .ensures .1) (known .end .given .0 .0) (known .end .given .1)
-
-enum-known-end-2 : tie.Need-enum-known-end-2 Inv-loop μ-loop
-enum-known-end-2 c = search needs
 
 same-length-2 : tie.Need-same-length-2 Inv-loop μ-loop
 same-length-2 c =
@@ -84,12 +75,12 @@ read-parts-spec =
     μ-loop
     loop-holds
     read-part-requires
-    enum-known-next
+    (λ c. search needs)
     loop-less
     loop-again
-    enum-known-end
+    (λ c. search needs)
     same-length
     returns
-    enum-known-end-2
+    (λ c. search needs)
     same-length-2
     returns-2)

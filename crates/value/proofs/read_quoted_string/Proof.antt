@@ -10,21 +10,6 @@ use borrow.Author.Needs.{needs}
 use Rattle.value.proofs.read_quoted_string.Statement.{statement}
 use Rattle.value.proofs.read_quoted_string.Tie as tie
 
-shared-slice-read-q : tie.Need-shared-slice-read-q
-shared-slice-read-q c = search needs
-
-add-close-of : tie.Need-add-close-of
-add-close-of c = search needs
-
-close-of-requires : tie.Need-close-of-requires
-close-of-requires c κs = search needs
-
-enum-known-end : tie.Need-enum-known-end
-enum-known-end c = search needs
-
-enum-told : tie.Need-enum-told
-enum-told c = search needs
-
 returns : tie.Need-returns
 unfolding answerOf bytesOf
 returns c =
@@ -33,15 +18,6 @@ returns c =
     let a = if1 .before .before .before .args in
     let e = str-cut (a .s .now) (a .here .at) (if1 .if1 .taken) (sym (close .close-of .ensures) ∙ c .enum-told .given .1) in
     (sym (ap (answerOf (a .used)) e), sym (ap (λ t. sets (a .store .now) (a .used) (bytesOf t)) e))
-
-add-copy-string : tie.Need-add-copy-string
-add-copy-string c = search needs
-
-copy-string-requires : tie.Need-copy-string-requires
-copy-string-requires c κs = search needs
-
-same-length : tie.Need-same-length
-same-length c = search needs
 
 returns-2 : tie.Need-returns-2
 unfolding answerOf bytesOf
@@ -69,14 +45,14 @@ pub read-quoted-string-spec : {M : Type 1} → statement M
 read-quoted-string-spec =
     tie.close
     (tie.spec
-    shared-slice-read-q
-    add-close-of
-    close-of-requires
-    enum-known-end
-    enum-told
+    (λ c. search needs)
+    (λ c. search needs)
+    (λ c κs. search needs)
+    (λ c. search needs)
+    (λ c. search needs)
     returns
-    add-copy-string
-    copy-string-requires
-    same-length
+    (λ c. search needs)
+    (λ c κs. search needs)
+    (λ c. search needs)
     returns-2
     returns-3)

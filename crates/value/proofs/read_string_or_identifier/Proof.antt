@@ -12,28 +12,10 @@ use Rattle.value.proofs.JoinLaws.{whole-size, closed-answer, cut-answer
 use Rattle.value.proofs.read_string_or_identifier.Statement.{statement}
 use Rattle.value.proofs.read_string_or_identifier.Tie as tie
 
-skip-whitespace-and-comments-requires : tie.Need-skip-whitespace-and-comments-requires
-skip-whitespace-and-comments-requires c κs = search needs
-
-peek-char-requires : tie.Need-peek-char-requires
-peek-char-requires c κs = search needs
-
-is-quote-requires : tie.Need-is-quote-requires
-is-quote-requires c κs = search needs
-
 read-quoted-string-requires : tie.Need-read-quoted-string-requires
 read-quoted-string-requires c κs =
     let a = c .before .before .before .before .before .before .before .args in
     omega (arith, gap-from (a .s .now) (a .here .at))
-
-enum-known-next : tie.Need-enum-known-next
-enum-known-next c = search needs
-
-enum-told : tie.Need-enum-told
-enum-told c = search needs
-
-same-length : tie.Need-same-length
-same-length c = search needs
 
 returns : tie.Need-returns
 unfolding valueAnswer valueBytes
@@ -64,9 +46,6 @@ read-parts-requires c κs =
     let str = strAt (a .s .now) g in
     let m = closed-answer (a .used) str (got .0 .0) (got .0 .1 .0) (sym (read .ensures .0) ∙ got .1) in
     (start .pre .0, omega (arith, whole-size (a .s .now) g (bytesOf str) (got .0 .0 .at) (m .0), m .1, gap-from (a .s .now) (a .here .at), read .kept .1 .1 .0))
-
-same-length-2 : tie.Need-same-length-2
-same-length-2 c = search needs
 
 returns-2 : tie.Need-returns-2
 unfolding valueBytes
@@ -99,9 +78,6 @@ read-identifier-requires c κs =
     let a = start .args in
     (start .pre .0, omega (arith, gap-from (a .s .now) (a .here .at)))
 
-same-length-3 : tie.Need-same-length-3
-same-length-3 c = search needs
-
 returns-3 : tie.Need-returns-3
 returns-3 c =
     let at-name = c .before .before in
@@ -120,17 +96,17 @@ pub read-string-or-identifier-spec : {M : Type 1} → statement M
 read-string-or-identifier-spec =
     tie.close
     (tie.spec
-    skip-whitespace-and-comments-requires
-    peek-char-requires
-    is-quote-requires
+    (λ c κs. search needs)
+    (λ c κs. search needs)
+    (λ c κs. search needs)
     read-quoted-string-requires
-    enum-known-next
-    enum-told
-    same-length
+    (λ c. search needs)
+    (λ c. search needs)
+    (λ c. search needs)
     returns
     read-parts-requires
-    same-length-2
+    (λ c. search needs)
     returns-2
     read-identifier-requires
-    same-length-3
+    (λ c. search needs)
     returns-3)

@@ -9,9 +9,6 @@ use Rattle.value.specs.Value.{startsName}
 use Rattle.value.proofs.starts_name.Statement.{statement}
 use Rattle.value.proofs.starts_name.Tie as tie
 
-class-requires : tie.Need-class-requires
-class-requires c κs = search needs
-
 returns : tie.Need-returns
 unfolding startsName
 returns c = simp (yes (c .before .class .ensures) (c .if1 .taken))
@@ -31,4 +28,4 @@ returns-4 c =
     simp (no g (c .before .before .if1 .left), no g (c .before .if2 .left), ne-eqb _ _ (c .if3 .left))
 
 pub starts-name-spec : {M : Type 1} → statement M
-starts-name-spec = tie.close (tie.spec class-requires returns returns-2 returns-3 returns-4)
+starts-name-spec = tie.close (tie.spec (λ c κs. search needs) returns returns-2 returns-3 returns-4)

@@ -6,12 +6,6 @@ use Rattle.value.specs.Value.{valueEnd}
 use Rattle.value.proofs.value_end.Statement.{statement}
 use Rattle.value.proofs.value_end.Tie as tie
 
-enum-known-v : tie.Need-enum-known-v
-enum-known-v c = search needs
-
-enum-known-v-2 : tie.Need-enum-known-v-2
-enum-known-v-2 c = search needs
-
 returns : tie.Need-returns
 unfolding valueEnd
 returns c = sym (ap valueEnd (c .before .v .given .1))
@@ -21,4 +15,4 @@ unfolding valueEnd
 returns-2 c = sym (ap valueEnd (c .before .v2 .given .1))
 
 pub value-end-spec : {M : Type 1} → statement M
-value-end-spec = tie.close (tie.spec enum-known-v enum-known-v-2 returns returns-2)
+value-end-spec = tie.close (tie.spec (λ c. search needs) (λ c. search needs) returns returns-2)

@@ -35,608 +35,98 @@ abbrev walk-μ-loop : walk-lts.MeasureT-loop
 walk-μ-loop image bundle btab texts ntab n marks store₀ imports₀ includes₀ levels₀ edges₀ chains₀ left absent v count base k linked total₀ i₀ store imports includes levels edges chains total i =
     k - i
 
-walk-mul-base : (t : ℕ) → walk-lts.Need-mul-base (
-  visit-reads.Asked,
-  visit-reads.Learnt,
-  step-reads.Asked,
-  step-reads.Learnt,
-  nought-reads.Asked,
-  nought-reads.Learnt,
-  walk-below t,
-  walk.Post,
-) (walk-at t) walk.Post walk-Inv-loop walk-μ-loop
-walk-mul-base t c = search needs
+abbrev callees : ℕ → walk-lts.Claims
+callees t = (visit-reads.Asked, visit-reads.Learnt, step-reads.Asked, step-reads.Learnt, nought-reads.Asked, nought-reads.Learnt, walk-below t, walk.Post)
 
-walk-visit-requires : (t : ℕ) → walk-lts.Need-visit-requires (
-  visit-reads.Asked,
-  visit-reads.Learnt,
-  step-reads.Asked,
-  step-reads.Learnt,
-  nought-reads.Asked,
-  nought-reads.Learnt,
-  walk-below t,
-  walk.Post,
-) (walk-at t) walk.Post walk-Inv-loop walk-μ-loop
+walk-visit-requires : (t : ℕ) → walk-lts.Need-visit-requires (callees t) (walk-at t) walk.Post walk-Inv-loop walk-μ-loop
 walk-visit-requires t c κs = (c .before .before .before .before .before .before .before .before .before .before .before .before .before .before .before .before .before .pre .1 .0, visit-room (c .before .before .before .before .before .before .before .before .before .before .before .before .before .before .before .before .before .pre .1 .1), c .before .before .before .before .before .before .before .before .before .before .before .before .before .before .before .before .before .pre .1 .2)
 
-walk-enum-known-visited : (t : ℕ) → walk-lts.Need-enum-known-visited (
-  visit-reads.Asked,
-  visit-reads.Learnt,
-  step-reads.Asked,
-  step-reads.Learnt,
-  nought-reads.Asked,
-  nought-reads.Learnt,
-  walk-below t,
-  walk.Post,
-) (walk-at t) walk.Post walk-Inv-loop walk-μ-loop
-walk-enum-known-visited t c = search needs
-
-walk-enum-known-visited-2 : (t : ℕ) → walk-lts.Need-enum-known-visited-2 (
-  visit-reads.Asked,
-  visit-reads.Learnt,
-  step-reads.Asked,
-  step-reads.Learnt,
-  nought-reads.Asked,
-  nought-reads.Learnt,
-  walk-below t,
-  walk.Post,
-) (walk-at t) walk.Post walk-Inv-loop walk-μ-loop
-walk-enum-known-visited-2 t c = search needs
-
-walk-loop-holds : (t : ℕ) → walk-lts.Need-loop-holds (
-  visit-reads.Asked,
-  visit-reads.Learnt,
-  step-reads.Asked,
-  step-reads.Learnt,
-  nought-reads.Asked,
-  nought-reads.Learnt,
-  walk-below t,
-  walk.Post,
-) (walk-at t) walk.Post walk-Inv-loop walk-μ-loop
+walk-loop-holds : (t : ℕ) → walk-lts.Need-loop-holds (callees t) (walk-at t) walk.Post walk-Inv-loop walk-μ-loop
 walk-loop-holds t c = (begun (c .before .before .before .before .before .before .before .before .before .before .before .before .before .before .before .visit .ensures .0) (c .before .visited2 .given .1) (c .before .before .before .before .before .before .before .before .before .before .before .before .before .before .before .before .before .before .before .before .before .before .before .before .before .before .before .before .before .before .before .before .before .pre .1 .1) (c .before .before .before .before .before .before .before .before .before .before .before .before .before .before .before .visit .ensures .1), as-long _ _ _)
 
-walk-add-step : (t : ℕ) → walk-lts.Need-add-step (
-  visit-reads.Asked,
-  visit-reads.Learnt,
-  step-reads.Asked,
-  step-reads.Learnt,
-  nought-reads.Asked,
-  nought-reads.Learnt,
-  walk-below t,
-  walk.Post,
-) (walk-at t) walk.Post walk-Inv-loop walk-μ-loop
+walk-add-step : (t : ℕ) → walk-lts.Need-add-step (callees t) (walk-at t) walk.Post walk-Inv-loop walk-μ-loop
 walk-add-step t c = record { fits = omega (arith, in-level (c .before .loop .inv .0) (c .loop-test .taken), c .before .loop .inv .0 .long, c .before .before .before .before .before .before .before .before .before .before .before .before .before .before .before .before .before .visit .ensures .1 .levels-long, c .before .before .before .before .before .before .before .before .before .before .before .before .before .before .before .before .before .before .before .before .before .before .before .before .before .before .before .before .before .before .before .before .before .before .before .good .1 .1 .1 .1 .1 .1 .1 .1 .1 .1 .0 .0) }
 
-walk-mul-step : (t : ℕ) → walk-lts.Need-mul-step (
-  visit-reads.Asked,
-  visit-reads.Learnt,
-  step-reads.Asked,
-  step-reads.Learnt,
-  nought-reads.Asked,
-  nought-reads.Learnt,
-  walk-below t,
-  walk.Post,
-) (walk-at t) walk.Post walk-Inv-loop walk-μ-loop
+walk-mul-step : (t : ℕ) → walk-lts.Need-mul-step (callees t) (walk-at t) walk.Post walk-Inv-loop walk-μ-loop
 walk-mul-step t c = record { fits = omega (arith, in-level (c .before .loop .inv .0) (c .loop-test .taken), c .before .loop .inv .0 .long, c .before .before .before .before .before .before .before .before .before .before .before .before .before .before .before .before .before .visit .ensures .1 .levels-long, c .before .before .before .before .before .before .before .before .before .before .before .before .before .before .before .before .before .before .before .before .before .before .before .before .before .before .before .before .before .before .before .before .before .before .before .good .1 .1 .1 .1 .1 .1 .1 .1 .1 .1 .0 .1) }
 
-walk-slice-read-step : (t : ℕ) → walk-lts.Need-slice-read-step (
-  visit-reads.Asked,
-  visit-reads.Learnt,
-  step-reads.Asked,
-  step-reads.Learnt,
-  nought-reads.Asked,
-  nought-reads.Learnt,
-  walk-below t,
-  walk.Post,
-) (walk-at t) walk.Post walk-Inv-loop walk-μ-loop
-walk-slice-read-step t c = search needs
-
-walk-step-requires : (t : ℕ) → walk-lts.Need-step-requires (
-  visit-reads.Asked,
-  visit-reads.Learnt,
-  step-reads.Asked,
-  step-reads.Learnt,
-  nought-reads.Asked,
-  nought-reads.Learnt,
-  walk-below t,
-  walk.Post,
-) (walk-at t) walk.Post walk-Inv-loop walk-μ-loop
+walk-step-requires : (t : ℕ) → walk-lts.Need-step-requires (callees t) (walk-at t) walk.Post walk-Inv-loop walk-μ-loop
 walk-step-requires t c κs = (c .before .before .before .before .loop .inv .0 .filed, word-node (c .before .before .before .before .loop .inv .0) (c .before .before .before .before .before .before .before .before .before .before .before .before .before .before .before .before .before .before .before .before .before .before .before .before .before .before .before .before .before .before .before .before .before .before .before .before .before .before .pre .1 .0 .desk) (c .before .before .before .loop-test .taken), node-low _ _ _ _ (c .before .before .before .before .before .before .before .before .before .before .before .before .before .before .before .before .before .before .before .before .before .before .before .before .before .before .before .before .before .before .before .before .before .before .before .before .before .before .pre .1 .0 .desk) _ (c .before .before .before .before .before .before .before .before .before .before .before .before .before .before .before .before .before .before .before .before .before .before .before .before .before .before .before .before .before .before .before .before .before .before .before .before .before .before .pre .1 .2))
 
-walk-enum-known-number : (t : ℕ) → walk-lts.Need-enum-known-number (
-  visit-reads.Asked,
-  visit-reads.Learnt,
-  step-reads.Asked,
-  step-reads.Learnt,
-  nought-reads.Asked,
-  nought-reads.Learnt,
-  walk-below t,
-  walk.Post,
-) (walk-at t) walk.Post walk-Inv-loop walk-μ-loop
-walk-enum-known-number t c = search needs
-
-walk-nought-requires : (t : ℕ) → walk-lts.Need-nought-requires (
-  visit-reads.Asked,
-  visit-reads.Learnt,
-  step-reads.Asked,
-  step-reads.Learnt,
-  nought-reads.Asked,
-  nought-reads.Learnt,
-  walk-below t,
-  walk.Post,
-) (walk-at t) walk.Post walk-Inv-loop walk-μ-loop
-walk-nought-requires t c κs = search needs
-
-walk-same-length : (t : ℕ) → walk-lts.Need-same-length (
-  visit-reads.Asked,
-  visit-reads.Learnt,
-  step-reads.Asked,
-  step-reads.Learnt,
-  nought-reads.Asked,
-  nought-reads.Learnt,
-  walk-below t,
-  walk.Post,
-) (walk-at t) walk.Post walk-Inv-loop walk-μ-loop
-walk-same-length t c = search needs
-
-walk-same-length-2 : (t : ℕ) → walk-lts.Need-same-length-2 (
-  visit-reads.Asked,
-  visit-reads.Learnt,
-  step-reads.Asked,
-  step-reads.Learnt,
-  nought-reads.Asked,
-  nought-reads.Learnt,
-  walk-below t,
-  walk.Post,
-) (walk-at t) walk.Post walk-Inv-loop walk-μ-loop
-walk-same-length-2 t c = search needs
-
-walk-same-length-3 : (t : ℕ) → walk-lts.Need-same-length-3 (
-  visit-reads.Asked,
-  visit-reads.Learnt,
-  step-reads.Asked,
-  step-reads.Learnt,
-  nought-reads.Asked,
-  nought-reads.Learnt,
-  walk-below t,
-  walk.Post,
-) (walk-at t) walk.Post walk-Inv-loop walk-μ-loop
-walk-same-length-3 t c = search needs
-
-walk-same-length-4 : (t : ℕ) → walk-lts.Need-same-length-4 (
-  visit-reads.Asked,
-  visit-reads.Learnt,
-  step-reads.Asked,
-  step-reads.Learnt,
-  nought-reads.Asked,
-  nought-reads.Learnt,
-  walk-below t,
-  walk.Post,
-) (walk-at t) walk.Post walk-Inv-loop walk-μ-loop
-walk-same-length-4 t c = search needs
-
-walk-same-length-5 : (t : ℕ) → walk-lts.Need-same-length-5 (
-  visit-reads.Asked,
-  visit-reads.Learnt,
-  step-reads.Asked,
-  step-reads.Learnt,
-  nought-reads.Asked,
-  nought-reads.Learnt,
-  walk-below t,
-  walk.Post,
-) (walk-at t) walk.Post walk-Inv-loop walk-μ-loop
-walk-same-length-5 t c = search needs
-
-walk-same-length-6 : (t : ℕ) → walk-lts.Need-same-length-6 (
-  visit-reads.Asked,
-  visit-reads.Learnt,
-  step-reads.Asked,
-  step-reads.Learnt,
-  nought-reads.Asked,
-  nought-reads.Learnt,
-  walk-below t,
-  walk.Post,
-) (walk-at t) walk.Post walk-Inv-loop walk-μ-loop
-walk-same-length-6 t c = search needs
-
-walk-returns : (t : ℕ) → walk-lts.Need-returns (
-  visit-reads.Asked,
-  visit-reads.Learnt,
-  step-reads.Asked,
-  step-reads.Learnt,
-  nought-reads.Asked,
-  nought-reads.Learnt,
-  walk-below t,
-  walk.Post,
-) (walk-at t) walk.Post walk-Inv-loop walk-μ-loop
+walk-returns : (t : ℕ) → walk-lts.Need-returns (callees t) (walk-at t) walk.Post walk-Inv-loop walk-μ-loop
 walk-returns t c = (halted (c .before .before .before .before .before .before .before .before .before .before .before .before .before .loop .inv .0) (c .before .before .before .before .before .before .before .before .before .before .before .before .before .before .before .before .before .before .before .before .before .before .before .before .before .before .before .before .before .visit .ensures .0) (c .before .before .before .before .before .before .before .before .before .before .before .before .before .before .before .visited2 .given .1) (c .before .before .before .before .before .before .before .before .step .ensures) (c .before .before .before .before .before .before .before .before .before .before .before .before .loop-test .taken) (c .before .before .number .given .1) (c .nought .ensures), kept-out (c .before .before .before .before .before .before .before .before .before .before .before .before .before .loop .inv .0) (c .before .before .before .before .before .before .before .before .before .before .before .before .before .before .before .before .before .before .before .before .before .before .before .before .before .before .before .before .before .visit .ensures .1) (c .before .before .before .before .before .before .before .before .before .before .before .before .before .loop .inv .1))
 
-walk-enum-known-u : (t : ℕ) → walk-lts.Need-enum-known-u (
-  visit-reads.Asked,
-  visit-reads.Learnt,
-  step-reads.Asked,
-  step-reads.Learnt,
-  nought-reads.Asked,
-  nought-reads.Learnt,
-  walk-below t,
-  walk.Post,
-) (walk-at t) walk.Post walk-Inv-loop walk-μ-loop
-walk-enum-known-u t c = search needs
-
-walk-sub-walk : (t : ℕ) → walk-lts.Need-sub-walk (
-  visit-reads.Asked,
-  visit-reads.Learnt,
-  step-reads.Asked,
-  step-reads.Learnt,
-  nought-reads.Asked,
-  nought-reads.Learnt,
-  walk-below t,
-  walk.Post,
-) (walk-at t) walk.Post walk-Inv-loop walk-μ-loop
+walk-sub-walk : (t : ℕ) → walk-lts.Need-sub-walk (callees t) (walk-at t) walk.Post walk-Inv-loop walk-μ-loop
 walk-sub-walk t c = omega (arith, some-left (c .before .before .before .before .before .before .before .before .before .before .before .before .before .before .before .before .before .before .loop .inv .0) (c .before .before .before .before .before .before .before .before .before .before .before .before .before .step .ensures) (c .before .before .before .before .before .before .before .before .before .before .before .before .before .before .before .before .before .loop-test .taken) (c .before .before .before .before .before .before .before .u .given .1))
 
-walk-walk-requires : (t : ℕ) → walk-lts.Need-walk-requires (
-  visit-reads.Asked,
-  visit-reads.Learnt,
-  step-reads.Asked,
-  step-reads.Learnt,
-  nought-reads.Asked,
-  nought-reads.Learnt,
-  walk-below t,
-  walk.Post,
-) (walk-at t) walk.Post walk-Inv-loop walk-μ-loop
+walk-walk-requires : (t : ℕ) → walk-lts.Need-walk-requires (callees t) (walk-at t) walk.Post walk-Inv-loop walk-μ-loop
 walk-walk-requires t c κs = (omega (arith, c .before .before .before .before .before .before .before .before .before .before .before .before .before .before .before .before .before .before .before .before .before .before .before .before .before .before .before .before .before .before .before .before .before .before .before .before .before .before .before .before .before .before .before .before .before .before .before .before .before .before .before .before .pre .0, some-left (c .before .before .before .before .before .before .before .before .before .before .before .before .before .before .before .before .before .before .loop .inv .0) (c .before .before .before .before .before .before .before .before .before .before .before .before .before .step .ensures) (c .before .before .before .before .before .before .before .before .before .before .before .before .before .before .before .before .before .loop-test .taken) (c .before .before .before .before .before .before .before .u .given .1)), (c .before .before .before .before .before .before .before .before .before .before .before .before .before .before .before .before .before .before .before .before .before .before .before .before .before .before .before .before .before .before .before .before .before .before .before .before .before .before .before .before .before .before .before .before .before .before .before .before .before .before .before .before .pre .1 .0, child-room (c .before .before .before .before .before .before .before .before .before .before .before .before .before .before .before .before .before .before .loop .inv .0) (c .before .before .before .before .before .before .before .before .before .before .before .before .before .step .ensures) (c .before .before .before .before .before .before .before .before .before .before .before .before .before .before .before .before .before .loop-test .taken) (c .before .before .before .before .before .before .before .u .given .1) (c .before .before .before .before .before .before .before .before .before .before .before .before .before .before .before .before .before .before .before .before .before .before .before .before .before .before .before .before .before .before .before .before .before .before .before .before .before .before .before .before .before .before .before .before .before .before .before .before .before .before .before .before .pre .1 .1) (c .before .before .before .before .before .before .before .before .before .before .before .before .before .before .before .before .before .before .before .before .before .before .before .before .before .before .before .before .before .before .before .before .before .before .visit .ensures .1) (c .before .before .before .before .before .before .before .before .before .before .before .before .before .before .before .before .before .before .loop .inv .1), child-low (c .before .before .before .before .before .before .before .before .before .before .before .before .before .before .before .before .before .before .loop .inv .0) (c .before .before .before .before .before .before .before .before .before .before .before .before .before .step .ensures) (c .before .before .before .before .before .before .before .before .before .before .before .before .before .before .before .before .before .loop-test .taken) (c .before .before .before .before .before .before .before .u .given .1)))
 
-walk-enum-known-below : (t : ℕ) → walk-lts.Need-enum-known-below (
-  visit-reads.Asked,
-  visit-reads.Learnt,
-  step-reads.Asked,
-  step-reads.Learnt,
-  nought-reads.Asked,
-  nought-reads.Learnt,
-  walk-below t,
-  walk.Post,
-) (walk-at t) walk.Post walk-Inv-loop walk-μ-loop
-walk-enum-known-below t c = search needs
-
-walk-enum-told : (t : ℕ) → walk-lts.Need-enum-told (
-  visit-reads.Asked,
-  visit-reads.Learnt,
-  step-reads.Asked,
-  step-reads.Learnt,
-  nought-reads.Asked,
-  nought-reads.Learnt,
-  walk-below t,
-  walk.Post,
-) (walk-at t) walk.Post walk-Inv-loop walk-μ-loop
-walk-enum-told t c = search needs
-
-walk-same-length-7 : (t : ℕ) → walk-lts.Need-same-length-7 (
-  visit-reads.Asked,
-  visit-reads.Learnt,
-  step-reads.Asked,
-  step-reads.Learnt,
-  nought-reads.Asked,
-  nought-reads.Learnt,
-  walk-below t,
-  walk.Post,
-) (walk-at t) walk.Post walk-Inv-loop walk-μ-loop
+walk-same-length-7 : (t : ℕ) → walk-lts.Need-same-length-7 (callees t) (walk-at t) walk.Post walk-Inv-loop walk-μ-loop
 walk-same-length-7 t c = c .before .before .before .before .before .before .before .before .before .before .before .before .before .before .walk .ensures .1 .store-long ∙ c .before .before .before .before .before .before .before .before .before .before .before .before .before .before .before .before .before .before .before .before .before .before .before .before .before .before .before .before .before .before .before .before .before .loop .inv .1 .store-long ∙ c .before .before .before .before .before .before .before .before .before .before .before .before .before .before .before .before .before .before .before .before .before .before .before .before .before .before .before .before .before .before .before .before .before .before .before .before .before .before .before .before .before .before .before .before .before .before .before .before .before .visit .ensures .1 .store-long
 
-walk-same-length-8 : (t : ℕ) → walk-lts.Need-same-length-8 (
-  visit-reads.Asked,
-  visit-reads.Learnt,
-  step-reads.Asked,
-  step-reads.Learnt,
-  nought-reads.Asked,
-  nought-reads.Learnt,
-  walk-below t,
-  walk.Post,
-) (walk-at t) walk.Post walk-Inv-loop walk-μ-loop
+walk-same-length-8 : (t : ℕ) → walk-lts.Need-same-length-8 (callees t) (walk-at t) walk.Post walk-Inv-loop walk-μ-loop
 walk-same-length-8 t c = c .before .before .before .before .before .before .before .before .before .before .before .before .before .before .walk .ensures .1 .imports-long ∙ c .before .before .before .before .before .before .before .before .before .before .before .before .before .before .before .before .before .before .before .before .before .before .before .before .before .before .before .before .before .before .before .before .before .loop .inv .1 .imports-long ∙ c .before .before .before .before .before .before .before .before .before .before .before .before .before .before .before .before .before .before .before .before .before .before .before .before .before .before .before .before .before .before .before .before .before .before .before .before .before .before .before .before .before .before .before .before .before .before .before .before .before .visit .ensures .1 .imports-long
 
-walk-same-length-9 : (t : ℕ) → walk-lts.Need-same-length-9 (
-  visit-reads.Asked,
-  visit-reads.Learnt,
-  step-reads.Asked,
-  step-reads.Learnt,
-  nought-reads.Asked,
-  nought-reads.Learnt,
-  walk-below t,
-  walk.Post,
-) (walk-at t) walk.Post walk-Inv-loop walk-μ-loop
+walk-same-length-9 : (t : ℕ) → walk-lts.Need-same-length-9 (callees t) (walk-at t) walk.Post walk-Inv-loop walk-μ-loop
 walk-same-length-9 t c = c .before .before .before .before .before .before .before .before .before .before .before .before .before .before .walk .ensures .1 .includes-long ∙ c .before .before .before .before .before .before .before .before .before .before .before .before .before .before .before .before .before .before .before .before .before .before .before .before .before .before .before .before .before .before .before .before .before .loop .inv .1 .includes-long ∙ c .before .before .before .before .before .before .before .before .before .before .before .before .before .before .before .before .before .before .before .before .before .before .before .before .before .before .before .before .before .before .before .before .before .before .before .before .before .before .before .before .before .before .before .before .before .before .before .before .before .visit .ensures .1 .includes-long
 
-walk-same-length-10 : (t : ℕ) → walk-lts.Need-same-length-10 (
-  visit-reads.Asked,
-  visit-reads.Learnt,
-  step-reads.Asked,
-  step-reads.Learnt,
-  nought-reads.Asked,
-  nought-reads.Learnt,
-  walk-below t,
-  walk.Post,
-) (walk-at t) walk.Post walk-Inv-loop walk-μ-loop
+walk-same-length-10 : (t : ℕ) → walk-lts.Need-same-length-10 (callees t) (walk-at t) walk.Post walk-Inv-loop walk-μ-loop
 walk-same-length-10 t c = c .before .before .before .before .before .before .before .before .before .before .before .before .before .before .walk .ensures .1 .levels-long ∙ c .before .before .before .before .before .before .before .before .before .before .before .before .before .before .before .before .before .before .before .before .before .before .before .before .before .before .before .before .before .before .before .before .before .loop .inv .0 .long ∙ c .before .before .before .before .before .before .before .before .before .before .before .before .before .before .before .before .before .before .before .before .before .before .before .before .before .before .before .before .before .before .before .before .before .before .before .before .before .before .before .before .before .before .before .before .before .before .before .before .before .visit .ensures .1 .levels-long
 
-walk-same-length-11 : (t : ℕ) → walk-lts.Need-same-length-11 (
-  visit-reads.Asked,
-  visit-reads.Learnt,
-  step-reads.Asked,
-  step-reads.Learnt,
-  nought-reads.Asked,
-  nought-reads.Learnt,
-  walk-below t,
-  walk.Post,
-) (walk-at t) walk.Post walk-Inv-loop walk-μ-loop
+walk-same-length-11 : (t : ℕ) → walk-lts.Need-same-length-11 (callees t) (walk-at t) walk.Post walk-Inv-loop walk-μ-loop
 walk-same-length-11 t c = c .before .before .before .before .before .before .before .before .before .before .before .before .before .before .walk .ensures .0 .kept-edges ∙ c .before .before .before .before .before .before .before .before .before .before .before .before .before .before .before .before .before .before .before .before .before .before .before .before .before .before .before .before .step .ensures .kept-edges ∙ c .before .before .before .before .before .before .before .before .before .before .before .before .before .before .before .before .before .before .before .before .before .before .before .before .before .before .before .before .before .before .before .before .before .loop .inv .0 .long-edges ∙ c .before .before .before .before .before .before .before .before .before .before .before .before .before .before .before .before .before .before .before .before .before .before .before .before .before .before .before .before .before .before .before .before .before .before .before .before .before .before .before .before .before .before .before .before .before .before .before .before .before .visit .ensures .0 .kept-edges
 
-walk-same-length-12 : (t : ℕ) → walk-lts.Need-same-length-12 (
-  visit-reads.Asked,
-  visit-reads.Learnt,
-  step-reads.Asked,
-  step-reads.Learnt,
-  nought-reads.Asked,
-  nought-reads.Learnt,
-  walk-below t,
-  walk.Post,
-) (walk-at t) walk.Post walk-Inv-loop walk-μ-loop
+walk-same-length-12 : (t : ℕ) → walk-lts.Need-same-length-12 (callees t) (walk-at t) walk.Post walk-Inv-loop walk-μ-loop
 walk-same-length-12 t c = c .before .before .before .before .before .before .before .before .before .before .before .before .before .before .walk .ensures .0 .kept-chains ∙ c .before .before .before .before .before .before .before .before .before .before .before .before .before .before .before .before .before .before .before .before .before .before .before .before .before .before .before .before .step .ensures .kept-chains ∙ c .before .before .before .before .before .before .before .before .before .before .before .before .before .before .before .before .before .before .before .before .before .before .before .before .before .before .before .before .before .before .before .before .before .loop .inv .0 .long-chains ∙ c .before .before .before .before .before .before .before .before .before .before .before .before .before .before .before .before .before .before .before .before .before .before .before .before .before .before .before .before .before .before .before .before .before .before .before .before .before .before .before .before .before .before .before .before .before .before .before .before .before .visit .ensures .0 .kept-chains
 
-walk-returns-2 : (t : ℕ) → walk-lts.Need-returns-2 (
-  visit-reads.Asked,
-  visit-reads.Learnt,
-  step-reads.Asked,
-  step-reads.Learnt,
-  nought-reads.Asked,
-  nought-reads.Learnt,
-  walk-below t,
-  walk.Post,
-) (walk-at t) walk.Post walk-Inv-loop walk-μ-loop
+walk-returns-2 : (t : ℕ) → walk-lts.Need-returns-2 (callees t) (walk-at t) walk.Post walk-Inv-loop walk-μ-loop
 walk-returns-2 t c = (sent-up (c .before .before .before .before .before .before .before .before .before .before .before .before .before .before .before .before .before .before .before .before .before .before .before .before .before .before .before .before .before .before .before .before .before .loop .inv .0) (c .before .before .before .before .before .before .before .before .before .before .before .before .before .before .before .before .before .before .before .before .before .before .before .before .before .before .before .before .step .ensures) (c .before .before .before .before .before .before .before .before .before .before .before .before .before .before .before .before .before .before .before .before .before .before .before .before .before .before .before .before .before .before .before .before .loop-test .taken) (c .before .before .before .before .before .before .before .before .before .before .before .before .before .before .before .before .before .before .before .before .before .before .u .given .1) (c .before .before .before .before .before .before .before .before .before .before .before .before .before .before .walk .ensures .0) (c .before .before .before .before .before .before .before .before .before .before .before .before .before .before .before .before .before .before .before .before .before .before .before .before .before .before .before .before .before .before .before .before .before .before .before .before .before .before .before .before .before .before .before .before .before .before .before .before .before .visit .ensures .0) (c .before .before .before .before .before .before .before .before .before .before .before .before .before .before .before .before .before .before .before .before .before .before .before .before .before .before .before .before .before .before .before .before .before .before .before .visited2 .given .1) (c .enum-told .given .1), kept-sent (c .before .before .before .before .before .before .before .before .before .before .before .before .before .before .before .before .before .before .before .before .before .before .before .before .before .before .before .before .before .before .before .before .before .loop .inv .0) (c .before .before .before .before .before .before .before .before .before .before .before .before .before .before .before .before .before .before .before .before .before .before .before .before .before .before .before .before .step .ensures) (c .before .before .before .before .before .before .before .before .before .before .before .before .before .before .before .before .before .before .before .before .before .before .before .before .before .before .before .before .before .before .before .before .loop-test .taken) (c .before .before .before .before .before .before .before .before .before .before .before .before .before .before .before .before .before .before .before .before .before .before .u .given .1) (c .before .before .before .before .before .before .before .before .before .before .before .before .before .before .walk .ensures .0) (c .before .before .before .before .before .before .before .before .before .before .before .before .before .before .walk .ensures .1) (c .before .before .before .before .before .before .before .before .before .before .before .before .before .before .before .before .before .before .before .before .before .before .before .before .before .before .before .before .before .before .before .before .before .before .before .before .before .before .before .before .before .before .before .before .before .before .before .before .before .visit .ensures .1) (c .before .before .before .before .before .before .before .before .before .before .before .before .before .before .before .before .before .before .before .before .before .before .before .before .before .before .before .before .before .before .before .before .before .loop .inv .1))
 
-walk-add-i : (t : ℕ) → walk-lts.Need-add-i (
-  visit-reads.Asked,
-  visit-reads.Learnt,
-  step-reads.Asked,
-  step-reads.Learnt,
-  nought-reads.Asked,
-  nought-reads.Learnt,
-  walk-below t,
-  walk.Post,
-) (walk-at t) walk.Post walk-Inv-loop walk-μ-loop
+walk-add-i : (t : ℕ) → walk-lts.Need-add-i (callees t) (walk-at t) walk.Post walk-Inv-loop walk-μ-loop
 walk-add-i t c = record { fits = omega (arith, c .before .before .before .before .before .before .before .before .before .before .before .before .before .before .before .before .before .before .before .before .before .before .before .before .before .before .before .before .before .before .before .before .before .before .loop .inv .0 .few, c .before .before .before .before .before .before .before .before .before .before .before .before .before .before .before .before .before .before .before .before .before .before .before .before .before .before .before .before .before .before .before .before .before .loop-test .taken) }
 
-walk-loop-less : (t : ℕ) → walk-lts.Need-loop-less (
-  visit-reads.Asked,
-  visit-reads.Learnt,
-  step-reads.Asked,
-  step-reads.Learnt,
-  nought-reads.Asked,
-  nought-reads.Learnt,
-  walk-below t,
-  walk.Post,
-) (walk-at t) walk.Post walk-Inv-loop walk-μ-loop
+walk-loop-less : (t : ℕ) → walk-lts.Need-loop-less (callees t) (walk-at t) walk.Post walk-Inv-loop walk-μ-loop
 walk-loop-less t c = omega (arith, c .before .before .before .before .before .before .before .before .before .before .before .before .before .before .before .before .before .before .before .before .before .before .before .before .before .before .before .before .before .before .before .before .before .loop-test .taken)
 
-walk-loop-again : (t : ℕ) → walk-lts.Need-loop-again (
-  visit-reads.Asked,
-  visit-reads.Learnt,
-  step-reads.Asked,
-  step-reads.Learnt,
-  nought-reads.Asked,
-  nought-reads.Learnt,
-  walk-below t,
-  walk.Post,
-) (walk-at t) walk.Post walk-Inv-loop walk-μ-loop
+walk-loop-again : (t : ℕ) → walk-lts.Need-loop-again (callees t) (walk-at t) walk.Post walk-Inv-loop walk-μ-loop
 walk-loop-again t c = (went-on (c .before .before .before .before .before .before .before .before .before .before .before .before .before .before .before .before .before .before .before .before .before .before .before .before .before .before .before .before .before .before .before .before .before .before .loop .inv .0) (c .before .before .before .before .before .before .before .before .before .before .before .before .before .before .before .before .before .before .before .before .before .before .before .before .before .before .before .before .before .step .ensures) (c .before .before .before .before .before .before .before .before .before .before .before .before .before .before .before .before .before .before .before .before .before .before .before .before .before .before .before .before .before .before .before .before .before .loop-test .taken) (c .before .before .before .before .before .before .before .before .before .before .before .before .before .before .before .before .before .before .before .before .before .before .before .u .given .1) (c .before .before .before .before .before .before .before .before .before .before .before .before .before .before .before .walk .ensures .0) (c .before .before .before .before .before .before .before .before .before .before .before .before .before .before .before .walk .ensures .1) (c .before .below .given .1), longer (c .before .before .before .before .before .before .before .before .before .before .before .before .before .before .before .before .before .before .before .before .before .before .before .before .before .before .before .before .before .before .before .before .before .before .loop .inv .1) (c .before .before .before .before .before .before .before .before .before .before .before .before .before .before .before .walk .ensures .1))
 
-walk-same-length-13 : (t : ℕ) → walk-lts.Need-same-length-13 (
-  visit-reads.Asked,
-  visit-reads.Learnt,
-  step-reads.Asked,
-  step-reads.Learnt,
-  nought-reads.Asked,
-  nought-reads.Learnt,
-  walk-below t,
-  walk.Post,
-) (walk-at t) walk.Post walk-Inv-loop walk-μ-loop
-walk-same-length-13 t c = search needs
-
-walk-same-length-14 : (t : ℕ) → walk-lts.Need-same-length-14 (
-  visit-reads.Asked,
-  visit-reads.Learnt,
-  step-reads.Asked,
-  step-reads.Learnt,
-  nought-reads.Asked,
-  nought-reads.Learnt,
-  walk-below t,
-  walk.Post,
-) (walk-at t) walk.Post walk-Inv-loop walk-μ-loop
-walk-same-length-14 t c = search needs
-
-walk-same-length-15 : (t : ℕ) → walk-lts.Need-same-length-15 (
-  visit-reads.Asked,
-  visit-reads.Learnt,
-  step-reads.Asked,
-  step-reads.Learnt,
-  nought-reads.Asked,
-  nought-reads.Learnt,
-  walk-below t,
-  walk.Post,
-) (walk-at t) walk.Post walk-Inv-loop walk-μ-loop
-walk-same-length-15 t c = search needs
-
-walk-same-length-16 : (t : ℕ) → walk-lts.Need-same-length-16 (
-  visit-reads.Asked,
-  visit-reads.Learnt,
-  step-reads.Asked,
-  step-reads.Learnt,
-  nought-reads.Asked,
-  nought-reads.Learnt,
-  walk-below t,
-  walk.Post,
-) (walk-at t) walk.Post walk-Inv-loop walk-μ-loop
-walk-same-length-16 t c = search needs
-
-walk-same-length-17 : (t : ℕ) → walk-lts.Need-same-length-17 (
-  visit-reads.Asked,
-  visit-reads.Learnt,
-  step-reads.Asked,
-  step-reads.Learnt,
-  nought-reads.Asked,
-  nought-reads.Learnt,
-  walk-below t,
-  walk.Post,
-) (walk-at t) walk.Post walk-Inv-loop walk-μ-loop
-walk-same-length-17 t c = search needs
-
-walk-same-length-18 : (t : ℕ) → walk-lts.Need-same-length-18 (
-  visit-reads.Asked,
-  visit-reads.Learnt,
-  step-reads.Asked,
-  step-reads.Learnt,
-  nought-reads.Asked,
-  nought-reads.Learnt,
-  walk-below t,
-  walk.Post,
-) (walk-at t) walk.Post walk-Inv-loop walk-μ-loop
-walk-same-length-18 t c = search needs
-
-walk-returns-3 : (t : ℕ) → walk-lts.Need-returns-3 (
-  visit-reads.Asked,
-  visit-reads.Learnt,
-  step-reads.Asked,
-  step-reads.Learnt,
-  nought-reads.Asked,
-  nought-reads.Learnt,
-  walk-below t,
-  walk.Post,
-) (walk-at t) walk.Post walk-Inv-loop walk-μ-loop
+walk-returns-3 : (t : ℕ) → walk-lts.Need-returns-3 (callees t) (walk-at t) walk.Post walk-Inv-loop walk-μ-loop
 walk-returns-3 t c = (not-visited _ (c .before .before .before .before .before .before .before .before .before .before .before .before .before .before .before .visit .ensures .0) _ _ (c .before .visited .given .1), kept-up _ (c .before .before .before .before .before .before .before .before .before .before .before .before .before .before .before .visit .ensures .1))
 
-walk-same-length-19 : (t : ℕ) → walk-lts.Need-same-length-19 (
-  visit-reads.Asked,
-  visit-reads.Learnt,
-  step-reads.Asked,
-  step-reads.Learnt,
-  nought-reads.Asked,
-  nought-reads.Learnt,
-  walk-below t,
-  walk.Post,
-) (walk-at t) walk.Post walk-Inv-loop walk-μ-loop
-walk-same-length-19 t c = search needs
-
-walk-same-length-20 : (t : ℕ) → walk-lts.Need-same-length-20 (
-  visit-reads.Asked,
-  visit-reads.Learnt,
-  step-reads.Asked,
-  step-reads.Learnt,
-  nought-reads.Asked,
-  nought-reads.Learnt,
-  walk-below t,
-  walk.Post,
-) (walk-at t) walk.Post walk-Inv-loop walk-μ-loop
-walk-same-length-20 t c = search needs
-
-walk-same-length-21 : (t : ℕ) → walk-lts.Need-same-length-21 (
-  visit-reads.Asked,
-  visit-reads.Learnt,
-  step-reads.Asked,
-  step-reads.Learnt,
-  nought-reads.Asked,
-  nought-reads.Learnt,
-  walk-below t,
-  walk.Post,
-) (walk-at t) walk.Post walk-Inv-loop walk-μ-loop
-walk-same-length-21 t c = search needs
-
-walk-same-length-22 : (t : ℕ) → walk-lts.Need-same-length-22 (
-  visit-reads.Asked,
-  visit-reads.Learnt,
-  step-reads.Asked,
-  step-reads.Learnt,
-  nought-reads.Asked,
-  nought-reads.Learnt,
-  walk-below t,
-  walk.Post,
-) (walk-at t) walk.Post walk-Inv-loop walk-μ-loop
-walk-same-length-22 t c = search needs
-
-walk-same-length-23 : (t : ℕ) → walk-lts.Need-same-length-23 (
-  visit-reads.Asked,
-  visit-reads.Learnt,
-  step-reads.Asked,
-  step-reads.Learnt,
-  nought-reads.Asked,
-  nought-reads.Learnt,
-  walk-below t,
-  walk.Post,
-) (walk-at t) walk.Post walk-Inv-loop walk-μ-loop
-walk-same-length-23 t c = search needs
-
-walk-same-length-24 : (t : ℕ) → walk-lts.Need-same-length-24 (
-  visit-reads.Asked,
-  visit-reads.Learnt,
-  step-reads.Asked,
-  step-reads.Learnt,
-  nought-reads.Asked,
-  nought-reads.Learnt,
-  walk-below t,
-  walk.Post,
-) (walk-at t) walk.Post walk-Inv-loop walk-μ-loop
-walk-same-length-24 t c = search needs
-
-walk-returns-4 : (t : ℕ) → walk-lts.Need-returns-4 (
-  visit-reads.Asked,
-  visit-reads.Learnt,
-  step-reads.Asked,
-  step-reads.Learnt,
-  nought-reads.Asked,
-  nought-reads.Learnt,
-  walk-below t,
-  walk.Post,
-) (walk-at t) walk.Post walk-Inv-loop walk-μ-loop
+walk-returns-4 : (t : ℕ) → walk-lts.Need-returns-4 (callees t) (walk-at t) walk.Post walk-Inv-loop walk-μ-loop
 walk-returns-4 t c = (ended (c .before .loop .inv .0) (c .before .before .before .before .before .before .before .before .before .before .before .before .before .before .before .before .before .visit .ensures .0) (c .before .before .before .visited2 .given .1) (c .loop-test .left), kept-out (c .before .loop .inv .0) (c .before .before .before .before .before .before .before .before .before .before .before .before .before .before .before .before .before .visit .ensures .1) (c .before .loop .inv .1))
 
 pub +walk-spec : {M : Type 1} → statement M
-+walk-spec = close μ-walk λ t. walk-lts.spec (
-  visit-reads.Asked,
-  visit-reads.Learnt,
-  step-reads.Asked,
-  step-reads.Learnt,
-  nought-reads.Asked,
-  nought-reads.Learnt,
-  walk-below t,
-  walk.Post,
-)
++walk-spec = close μ-walk λ t. walk-lts.spec (callees t)
     (walk-at t)
     walk.Post
     walk-Inv-loop
     walk-μ-loop
-    (walk-mul-base t)
+    (λ c. search needs)
     (walk-visit-requires t)
-    (walk-enum-known-visited t)
-    (walk-enum-known-visited-2 t)
+    (λ c. search needs)
+    (λ c. search needs)
     (walk-loop-holds t)
     (walk-add-step t)
     (walk-mul-step t)
-    (walk-slice-read-step t)
+    (λ c. search needs)
     (walk-step-requires t)
-    (walk-enum-known-number t)
-    (walk-nought-requires t)
-    (walk-same-length t)
-    (walk-same-length-2 t)
-    (walk-same-length-3 t)
-    (walk-same-length-4 t)
-    (walk-same-length-5 t)
-    (walk-same-length-6 t)
+    (λ c. search needs)
+    (λ c κs. search needs)
+    (λ c. search needs)
+    (λ c. search needs)
+    (λ c. search needs)
+    (λ c. search needs)
+    (λ c. search needs)
+    (λ c. search needs)
     (walk-returns t)
-    (walk-enum-known-u t)
+    (λ c. search needs)
     (walk-sub-walk t)
     (walk-walk-requires t)
-    (walk-enum-known-below t)
-    (walk-enum-told t)
+    (λ c. search needs)
+    (λ c. search needs)
     (walk-same-length-7 t)
     (walk-same-length-8 t)
     (walk-same-length-9 t)
@@ -647,17 +137,17 @@ pub +walk-spec : {M : Type 1} → statement M
     (walk-add-i t)
     (walk-loop-less t)
     (walk-loop-again t)
-    (walk-same-length-13 t)
-    (walk-same-length-14 t)
-    (walk-same-length-15 t)
-    (walk-same-length-16 t)
-    (walk-same-length-17 t)
-    (walk-same-length-18 t)
+    (λ c. search needs)
+    (λ c. search needs)
+    (λ c. search needs)
+    (λ c. search needs)
+    (λ c. search needs)
+    (λ c. search needs)
     (walk-returns-3 t)
-    (walk-same-length-19 t)
-    (walk-same-length-20 t)
-    (walk-same-length-21 t)
-    (walk-same-length-22 t)
-    (walk-same-length-23 t)
-    (walk-same-length-24 t)
+    (λ c. search needs)
+    (λ c. search needs)
+    (λ c. search needs)
+    (λ c. search needs)
+    (λ c. search needs)
+    (λ c. search needs)
     (walk-returns-4 t)

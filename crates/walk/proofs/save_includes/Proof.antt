@@ -18,15 +18,6 @@ abbrev μ-loop : tie.MeasureT-loop
 loop-holds : tie.Need-loop-holds Inv-loop μ-loop
 loop-holds c = search saving-begins
 
-get-include-requires : tie.Need-get-include-requires Inv-loop μ-loop
-get-include-requires c κs = search needs
-
-value-in-requires : tie.Need-value-in-requires Inv-loop μ-loop
-value-in-requires c κs = search needs
-
-find-included-requires : tie.Need-find-included-requires Inv-loop μ-loop
-find-included-requires c κs = search needs
-
 code-of-requires : tie.Need-code-of-requires Inv-loop μ-loop
 code-of-requires c κs = search included-low
 
@@ -39,17 +30,8 @@ mul-levels c = record { fits = omega (arith, level-in _ _ _ _ _ _ _ _ _ (c .befo
 slice-write-levels : tie.Need-slice-write-levels Inv-loop μ-loop
 slice-write-levels c = search level-in
 
-add-i : tie.Need-add-i Inv-loop μ-loop
-add-i c = search needs
-
-loop-less : tie.Need-loop-less Inv-loop μ-loop
-loop-less c = search needs
-
 loop-again : tie.Need-loop-again Inv-loop μ-loop
 loop-again c = search saved-on
-
-same-length : tie.Need-same-length Inv-loop μ-loop
-same-length c = search needs
 
 returns : tie.Need-returns Inv-loop μ-loop
 returns c = search all-saved
@@ -61,15 +43,15 @@ save-includes-spec =
     Inv-loop
     μ-loop
     loop-holds
-    get-include-requires
-    value-in-requires
-    find-included-requires
+    (λ c κs. search needs)
+    (λ c κs. search needs)
+    (λ c κs. search needs)
     code-of-requires
     add-levels
     mul-levels
     slice-write-levels
-    add-i
-    loop-less
+    (λ c. search needs)
+    (λ c. search needs)
     loop-again
-    same-length
+    (λ c. search needs)
     returns)

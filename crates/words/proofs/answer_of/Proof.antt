@@ -6,9 +6,6 @@ use Rattle.words.proofs.WordsLaws.{good-fits, good-words, refused-fits,
 use Rattle.words.proofs.answer_of.Tie as tie
 use Rattle.words.proofs.answer_of.Statement.{statement}
 
-enum-known-parsed : tie.Need-enum-known-parsed
-enum-known-parsed c = search needs
-
 cast-t7 : tie.Need-cast-t7
 cast-t7 c = omega (arith, good-fits _ _ _ (c .before .parsed .given .1) (c .before .before .before .pre))
 
@@ -17,9 +14,6 @@ cast-t8 c = omega (arith, good-fits _ _ _ (c .before .parsed .given .1) (c .befo
 
 cast-t9 : tie.Need-cast-t9
 cast-t9 c = omega (arith, good-fits _ _ _ (c .before .parsed .given .1) (c .before .before .before .pre))
-
-enum-known-parsed-2 : tie.Need-enum-known-parsed-2
-enum-known-parsed-2 c = search needs
 
 cast-t10 : tie.Need-cast-t10
 cast-t10 c = omega (arith, refused-fits _ (c .before .before .parsed2 .given .1) (c .before .before .before .before .pre))
@@ -34,11 +28,11 @@ pub answer-of-spec : {M : Type 1} → statement M
 answer-of-spec =
     tie.close
     (tie.spec
-    enum-known-parsed
+    (λ c. search needs)
     cast-t7
     cast-t8
     cast-t9
-    enum-known-parsed-2
+    (λ c. search needs)
     cast-t10
     returns
     returns-2)

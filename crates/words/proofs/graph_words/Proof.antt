@@ -5,17 +5,11 @@ use Rattle.words.proofs.WordsLaws.{nodes-word, edges-word, entry-word, 
 use Rattle.words.proofs.graph_words.Statement.{statement}
 use Rattle.words.proofs.graph_words.Tie as tie
 
-enum-known-graphed : tie.Need-enum-known-graphed
-enum-known-graphed c = search needs
-
 cast-t9 : tie.Need-cast-t9
 cast-t9 c = search nodes-word
 
 cast-t10 : tie.Need-cast-t10
 cast-t10 c = search edges-word
-
-enum-known-graphed-2 : tie.Need-enum-known-graphed-2
-enum-known-graphed-2 c = search needs
 
 cast-t11 : tie.Need-cast-t11
 cast-t11 c = search entry-word
@@ -36,10 +30,10 @@ pub graph-words-spec : {M : Type 1} → statement M
 graph-words-spec =
     tie.close
     (tie.spec
-    enum-known-graphed
+    (λ c. search needs)
     cast-t9
     cast-t10
-    enum-known-graphed-2
+    (λ c. search needs)
     cast-t11
     cast-t12
     cast-t13

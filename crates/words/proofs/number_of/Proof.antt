@@ -5,12 +5,6 @@ use Rattle.words.proofs.WordsLaws.{good-number, refused-number}
 use Rattle.words.proofs.number_of.Tie as tie
 use Rattle.words.proofs.number_of.Statement.{statement}
 
-enum-told : tie.Need-enum-told
-enum-told c = search needs
-
-enum-known-parsed : tie.Need-enum-known-parsed
-enum-known-parsed c = search needs
-
 returns : tie.Need-returns
 returns c = search good-number
 
@@ -18,4 +12,4 @@ returns-2 : tie.Need-returns-2
 returns-2 c = search refused-number
 
 pub number-of-spec : {M : Type 1} → statement M
-number-of-spec = tie.close (tie.spec enum-told enum-known-parsed returns returns-2)
+number-of-spec = tie.close (tie.spec (λ c. search needs) (λ c. search needs) returns returns-2)

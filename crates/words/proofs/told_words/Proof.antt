@@ -5,17 +5,8 @@ use Rattle.words.proofs.WordsLaws.{broken-words, nothing-words, hit-wor
 use Rattle.words.proofs.told_words.Statement.{statement}
 use Rattle.words.proofs.told_words.Tie as tie
 
-enum-known-told : tie.Need-enum-known-told
-enum-known-told c = search needs
-
 cast-t7 : tie.Need-cast-t7
 cast-t7 c = search broken-word
-
-enum-told : tie.Need-enum-told
-enum-told c = search needs
-
-enum-known-told-2 : tie.Need-enum-known-told-2
-enum-known-told-2 c = search needs
 
 cast-t8 : tie.Need-cast-t8
 cast-t8 c = search hit-word
@@ -36,10 +27,10 @@ pub told-words-spec : {M : Type 1} → statement M
 told-words-spec =
     tie.close
     (tie.spec
-    enum-known-told
+    (λ c. search needs)
     cast-t7
-    enum-told
-    enum-known-told-2
+    (λ c. search needs)
+    (λ c. search needs)
     cast-t8
     cast-t9
     returns

@@ -5,12 +5,6 @@ use Rattle.yanglib.proofs.Going.{entry-more, entry-same}
 use Rattle.yanglib.proofs.next_entry.Statement.{statement}
 use Rattle.yanglib.proofs.next_entry.Tie as tie
 
-is-entry-requires : tie.Need-is-entry-requires
-is-entry-requires c κs = search needs
-
-add-result : tie.Need-add-result
-add-result c = search needs
-
 returns : tie.Need-returns
 returns c = search entry-more
 
@@ -18,4 +12,4 @@ returns-2 : tie.Need-returns-2
 returns-2 c = search entry-same
 
 pub next-entry-spec : {M : Type 1} → statement M
-next-entry-spec = tie.close (tie.spec is-entry-requires add-result returns returns-2)
+next-entry-spec = tie.close (tie.spec (λ c κs. search needs) (λ c. search needs) returns returns-2)

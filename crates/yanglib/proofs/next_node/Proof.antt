@@ -5,9 +5,6 @@ use Rattle.yanglib.proofs.Going.{entry-stands, node-own, node-kept, nod
 use Rattle.yanglib.proofs.next_node.Statement.{statement}
 use Rattle.yanglib.proofs.next_node.Tie as tie
 
-is-entry-requires : tie.Need-is-entry-requires
-is-entry-requires c κs = search needs
-
 node-at-requires : tie.Need-node-at-requires
 node-at-requires c κs = search entry-stands
 
@@ -18,4 +15,4 @@ returns-2 : tie.Need-returns-2
 returns-2 c = (search node-kept, search node-behind)
 
 pub next-node-spec : {M : Type 1} → statement M
-next-node-spec = tie.close (tie.spec is-entry-requires node-at-requires returns returns-2)
+next-node-spec = tie.close (tie.spec (λ c κs. search needs) node-at-requires returns returns-2)

@@ -21,12 +21,6 @@ place-of-requires c κs = search name-row
 cast-nodes : tie.Need-cast-nodes Inv-loop μ-loop
 cast-nodes c = search place-fits
 
-mul-nodes : tie.Need-mul-nodes Inv-loop μ-loop
-mul-nodes c = search needs
-
-mul-nodes-2 : tie.Need-mul-nodes-2 Inv-loop μ-loop
-mul-nodes-2 c = search needs
-
 slice-write-nodes : tie.Need-slice-write-nodes Inv-loop μ-loop
 slice-write-nodes c = search first-word
 
@@ -36,29 +30,11 @@ length-of-requires c κs = search name-row
 cast-nodes-2 : tie.Need-cast-nodes-2 Inv-loop μ-loop
 cast-nodes-2 c = search size-fits
 
-mul-nodes-3 : tie.Need-mul-nodes-3 Inv-loop μ-loop
-mul-nodes-3 c = search needs
-
-add-nodes : tie.Need-add-nodes Inv-loop μ-loop
-add-nodes c = search needs
-
-mul-nodes-4 : tie.Need-mul-nodes-4 Inv-loop μ-loop
-mul-nodes-4 c = search needs
-
 slice-write-nodes-2 : tie.Need-slice-write-nodes-2 Inv-loop μ-loop
 slice-write-nodes-2 c = search second-set
 
-add-i : tie.Need-add-i Inv-loop μ-loop
-add-i c = search needs
-
-loop-less : tie.Need-loop-less Inv-loop μ-loop
-loop-less c = search needs
-
 loop-again : tie.Need-loop-again Inv-loop μ-loop
 loop-again c = search naming-more
-
-same-length : tie.Need-same-length Inv-loop μ-loop
-same-length c = search needs
 
 returns : tie.Need-returns Inv-loop μ-loop
 returns c = search naming-all
@@ -72,17 +48,17 @@ put-nodes-spec =
     loop-holds
     place-of-requires
     cast-nodes
-    mul-nodes
-    mul-nodes-2
+    (λ c. search needs)
+    (λ c. search needs)
     slice-write-nodes
     length-of-requires
     cast-nodes-2
-    mul-nodes-3
-    add-nodes
-    mul-nodes-4
+    (λ c. search needs)
+    (λ c. search needs)
+    (λ c. search needs)
     slice-write-nodes-2
-    add-i
-    loop-less
+    (λ c. search needs)
+    (λ c. search needs)
     loop-again
-    same-length
+    (λ c. search needs)
     returns)

@@ -5,9 +5,6 @@ use Rattle.yanglib.proofs.Short.{short-nodes, short-edges, short-store,
 use Rattle.yanglib.proofs.too_short.Statement.{statement}
 use Rattle.yanglib.proofs.too_short.Tie as tie
 
-mul-if1 : tie.Need-mul-if1
-mul-if1 c = search needs
-
 returns : tie.Need-returns
 returns c = search short-nodes
 
@@ -17,14 +14,8 @@ returns-2 c = search short-edges
 returns-3 : tie.Need-returns-3
 returns-3 c = search short-store
 
-mul-if4 : tie.Need-mul-if4
-mul-if4 c = search needs
-
 returns-4 : tie.Need-returns-4
 returns-4 c = search short-imports
-
-mul-if5 : tie.Need-mul-if5
-mul-if5 c = search needs
 
 returns-5 : tie.Need-returns-5
 returns-5 c = search short-includes
@@ -35,4 +26,4 @@ returns-6 c = search short-levels
 pub too-short-spec : {M : Type 1} → statement M
 too-short-spec =
     tie.close
-    (tie.spec mul-if1 returns returns-2 returns-3 mul-if4 returns-4 mul-if5 returns-5 returns-6)
+    (tie.spec (λ c. search needs) returns returns-2 returns-3 (λ c. search needs) returns-4 (λ c. search needs) returns-5 returns-6)

@@ -25,9 +25,6 @@ parse-next-requires c κs =
     let l = read-long (at-loop .loop .inv) in
     (first .pre .0, read-room (at-loop .loop .inv), omega (arith, l), first .pre .2, omega (arith, l), omega (arith, l))
 
-enum-known-next : tie.Need-enum-known-next Inv-loop μ-loop
-enum-known-next c = search needs
-
 loop-less : tie.Need-loop-less Inv-loop μ-loop
 loop-less c =
     let step = c .before .before .before .before .before .before .before .before .before in
@@ -39,9 +36,6 @@ loop-again c =
     let step = c .before .before .before .before .before .before .before .before .before in
     let at-loop = step .before .before .before .before in
     read-more (at-loop .loop .inv) (step .parse-next .ensures) (c .before .next .given .0 .0) (c .before .next .given .1)
-
-enum-told : tie.Need-enum-told Inv-loop μ-loop
-enum-told c = search needs
 
 same-length : tie.Need-same-length Inv-loop μ-loop
 same-length c =
@@ -66,9 +60,6 @@ returns c =
     let step = c .before .before .before .before .before .before .before .before in
     let at-loop = step .before .before .before .before in
     read-done (at-loop .loop .inv) (step .parse-next .ensures) (c .enum-told .given .1)
-
-enum-known-r : tie.Need-enum-known-r Inv-loop μ-loop
-enum-known-r c = search needs
 
 same-length-4 : tie.Need-same-length-4 Inv-loop μ-loop
 same-length-4 c =
@@ -102,15 +93,15 @@ parse-spec =
     μ-loop
     loop-holds
     parse-next-requires
-    enum-known-next
+    (λ c. search needs)
     loop-less
     loop-again
-    enum-told
+    (λ c. search needs)
     same-length
     same-length-2
     same-length-3
     returns
-    enum-known-r
+    (λ c. search needs)
     same-length-4
     same-length-5
     same-length-6

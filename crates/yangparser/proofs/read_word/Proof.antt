@@ -6,18 +6,6 @@ use Rattle.yangparser.proofs.WordLaws.{word-none}
 use Rattle.yangparser.proofs.read_word.Statement.{statement}
 use Rattle.yangparser.proofs.read_word.Tie as tie
 
-peek-char-requires : tie.Need-peek-char-requires
-peek-char-requires c κs = search needs
-
-starts-ident-requires : tie.Need-starts-ident-requires
-starts-ident-requires c κs = search needs
-
-try-words-requires : tie.Need-try-words-requires
-try-words-requires c κs = search needs
-
-returns : tie.Need-returns
-returns c = search needs
-
 returns-2 : tie.Need-returns-2
 returns-2 c =
     let starts = c .before in
@@ -27,4 +15,4 @@ returns-2 c =
 
 pub read-word-spec : {M : Type 1} → statement M
 read-word-spec =
-    tie.close (tie.spec peek-char-requires starts-ident-requires try-words-requires returns returns-2)
+    tie.close (tie.spec (λ c κs. search needs) (λ c κs. search needs) (λ c κs. search needs) (λ c. search needs) returns-2)

@@ -5,53 +5,8 @@ use borrow.Author.Needs.{needs}
 use Rattle.yangparser.proofs.scan_lent.Statement.{statement}
 use Rattle.yangparser.proofs.scan_lent.Tie as tie
 
-clear-bytes-requires : tie.Need-clear-bytes-requires
-clear-bytes-requires c κs = search needs
-
-clear-words-requires : tie.Need-clear-words-requires
-clear-words-requires c κs = search needs
-
-clear-words-requires-2 : tie.Need-clear-words-requires-2
-clear-words-requires-2 c κs = search needs
-
-scan-over-requires : tie.Need-scan-over-requires
-scan-over-requires c κs = search needs
-
-enum-told : tie.Need-enum-told
-enum-told c = search needs
-
-enum-told-2 : tie.Need-enum-told-2
-enum-told-2 c = search needs
-
-clear-bytes-requires-2 : tie.Need-clear-bytes-requires-2
-clear-bytes-requires-2 c κs = search needs
-
-clear-words-requires-3 : tie.Need-clear-words-requires-3
-clear-words-requires-3 c κs = search needs
-
-clear-words-requires-4 : tie.Need-clear-words-requires-4
-clear-words-requires-4 c κs = search needs
-
-same-length : tie.Need-same-length
-same-length c = search needs
-
-same-length-2 : tie.Need-same-length-2
-same-length-2 c = search needs
-
-same-length-3 : tie.Need-same-length-3
-same-length-3 c = search needs
-
 returns : tie.Need-returns
 returns c = search entry-scanned
-
-same-length-4 : tie.Need-same-length-4
-same-length-4 c = search needs
-
-same-length-5 : tie.Need-same-length-5
-same-length-5 c = search needs
-
-same-length-6 : tie.Need-same-length-6
-same-length-6 c = search needs
 
 returns-2 : tie.Need-returns-2
 returns-2 c =
@@ -75,20 +30,20 @@ pub scan-lent-spec : {M : Type 1} → statement M
 scan-lent-spec =
     tie.close
     (tie.spec
-    clear-bytes-requires
-    clear-words-requires
-    clear-words-requires-2
-    scan-over-requires
-    enum-told
-    enum-told-2
-    clear-bytes-requires-2
-    clear-words-requires-3
-    clear-words-requires-4
-    same-length
-    same-length-2
-    same-length-3
+    (λ c κs. search needs)
+    (λ c κs. search needs)
+    (λ c κs. search needs)
+    (λ c κs. search needs)
+    (λ c. search needs)
+    (λ c. search needs)
+    (λ c κs. search needs)
+    (λ c κs. search needs)
+    (λ c κs. search needs)
+    (λ c. search needs)
+    (λ c. search needs)
+    (λ c. search needs)
     returns
-    same-length-4
-    same-length-5
-    same-length-6
+    (λ c. search needs)
+    (λ c. search needs)
+    (λ c. search needs)
     returns-2)

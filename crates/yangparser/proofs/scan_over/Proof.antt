@@ -5,18 +5,6 @@ use borrow.Author.Needs.{needs}
 use Rattle.yangparser.proofs.scan_over.Statement.{statement}
 use Rattle.yangparser.proofs.scan_over.Tie as tie
 
-classes-requires : tie.Need-classes-requires
-classes-requires c κs = search needs
-
-too-short-requires : tie.Need-too-short-requires
-too-short-requires c κs = search needs
-
-check-lent-requires : tie.Need-check-lent-requires
-check-lent-requires c κs = search needs
-
-enum-told : tie.Need-enum-told
-enum-told c = search needs
-
 parse-requires : tie.Need-parse-requires
 parse-requires c κs =
     let told = c .before .before .before .before in
@@ -28,18 +16,6 @@ parse-requires c κs =
     (short .too-short .ensures) (check .check-lent .ensures) (told .enum-told .given .1) in
     (classes .classes .ensures, k .0, k .1, k .2, k .3)
 
-enum-known-lent : tie.Need-enum-known-lent
-enum-known-lent c = search needs
-
-same-length : tie.Need-same-length
-same-length c = search needs
-
-same-length-2 : tie.Need-same-length-2
-same-length-2 c = search needs
-
-same-length-3 : tie.Need-same-length-3
-same-length-3 c = search needs
-
 returns : tie.Need-returns
 returns c = search over-scanned
 
@@ -50,14 +26,14 @@ pub scan-over-spec : {M : Type 1} → statement M
 scan-over-spec =
     tie.close
     (tie.spec
-    classes-requires
-    too-short-requires
-    check-lent-requires
-    enum-told
+    (λ c κs. search needs)
+    (λ c κs. search needs)
+    (λ c κs. search needs)
+    (λ c. search needs)
     parse-requires
-    enum-known-lent
-    same-length
-    same-length-2
-    same-length-3
+    (λ c. search needs)
+    (λ c. search needs)
+    (λ c. search needs)
+    (λ c. search needs)
     returns
     returns-2)

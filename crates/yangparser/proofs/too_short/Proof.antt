@@ -11,17 +11,11 @@ returns c = search short-else
 returns-2 : tie.Need-returns-2
 returns-2 c = search short-store
 
-mul-if3 : tie.Need-mul-if3
-mul-if3 c = search needs
-
 returns-3 : tie.Need-returns-3
 returns-3 c = search short-imports
-
-mul-result : tie.Need-mul-result
-mul-result c = search needs
 
 returns-4 : tie.Need-returns-4
 returns-4 c = search short-includes
 
 pub too-short-spec : {M : Type 1} → statement M
-too-short-spec = tie.close (tie.spec returns returns-2 mul-if3 returns-3 mul-result returns-4)
+too-short-spec = tie.close (tie.spec returns returns-2 (λ c. search needs) returns-3 (λ c. search needs) returns-4)

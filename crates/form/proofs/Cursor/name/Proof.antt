@@ -5,15 +5,6 @@ use borrow.Author.Needs.{needs}
 use Rattle.form.proofs.Cursor.name.Statement.{statement}
 use Rattle.form.proofs.Cursor.name.Tie as tie
 
-number-requires : tie.Need-number-requires
-number-requires c κs = search needs
-
-enum-known-len : tie.Need-enum-known-len
-enum-known-len c = search needs
-
-enum-told : tie.Need-enum-told
-enum-told c = search needs
-
 returns : tie.Need-returns
 returns c = search no-number
 
@@ -29,9 +20,6 @@ sub-if3 c = search first-in
 returns-4 : tie.Need-returns-4
 returns-4 c = search cut
 
-printable-requires : tie.Need-printable-requires
-printable-requires c κs = search needs
-
 returns-5 : tie.Need-returns-5
 returns-5 c = search whole
 
@@ -42,14 +30,14 @@ pub name-spec : {M : Type 1} → statement M
 name-spec =
     tie.close
     (tie.spec
-    number-requires
-    enum-known-len
-    enum-told
+    (λ c κs. search needs)
+    (λ c. search needs)
+    (λ c. search needs)
     returns
     returns-2
     returns-3
     sub-if3
     returns-4
-    printable-requires
+    (λ c κs. search needs)
     returns-5
     returns-6)

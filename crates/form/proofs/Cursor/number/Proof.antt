@@ -11,26 +11,14 @@ use Rattle.form.proofs.Numbers.{none, one, cut, padded, two, cut3, padd
 returns : tie.Need-returns
 returns c = search none
 
-shared-slice-read-a : tie.Need-shared-slice-read-a
-shared-slice-read-a c = search needs
-
 cast-a : tie.Need-cast-a
 cast-a c = search (byte-fits, c .shared-slice-known .given)
-
-add-t13 : tie.Need-add-t13
-add-t13 c = search needs
 
 returns-2 : tie.Need-returns-2
 returns-2 c = search one
 
-add-second : tie.Need-add-second
-add-second c = search needs
-
 returns-3 : tie.Need-returns-3
 returns-3 c = search cut
-
-shared-slice-read-b : tie.Need-shared-slice-read-b
-shared-slice-read-b c = search needs
 
 cast-b : tie.Need-cast-b
 cast-b c = search (byte-fits, c .shared-slice-known2 .given)
@@ -38,29 +26,17 @@ cast-b c = search (byte-fits, c .shared-slice-known2 .given)
 returns-4 : tie.Need-returns-4
 returns-4 c = search padded
 
-mul-t17 : tie.Need-mul-t17
-mul-t17 c = search needs
-
 add-t18 : tie.Need-add-t18
 add-t18 c =
     let at = c .before .before .before .before .before .before .before .args .self .at in
     let known = c .before .before .shared-slice-known2 .given in
     omega (arith, known at, known (at + 1))
 
-add-t19 : tie.Need-add-t19
-add-t19 c = search needs
-
 returns-5 : tie.Need-returns-5
 returns-5 c = search two
 
-add-third : tie.Need-add-third
-add-third c = search needs
-
 returns-6 : tie.Need-returns-6
 returns-6 c = search cut3
-
-shared-slice-read-c : tie.Need-shared-slice-read-c
-shared-slice-read-c c = search needs
 
 cast-c : tie.Need-cast-c
 cast-c c = search (byte-fits, c .shared-slice-known3 .given)
@@ -80,17 +56,11 @@ add-t25 c =
     let known = c .before .before .shared-slice-known3 .given in
     omega (arith, known at, known (at + 1))
 
-mul-t26 : tie.Need-mul-t26
-mul-t26 c = search needs
-
 add-t27 : tie.Need-add-t27
 add-t27 c =
     let at = c .before .before .before .before .before .before .before .before .before .before .before .args .self .at in
     let known = c .before .before .shared-slice-known3 .given in
     omega (arith, known at, known (at + 1), known (at + 1 + 1))
-
-add-t28 : tie.Need-add-t28
-add-t28 c = search needs
 
 returns-8 : tie.Need-returns-8
 returns-8 c = search three
@@ -103,28 +73,28 @@ number-spec =
     tie.close
     (tie.spec
     returns
-    shared-slice-read-a
+    (λ c. search needs)
     cast-a
-    add-t13
+    (λ c. search needs)
     returns-2
-    add-second
+    (λ c. search needs)
     returns-3
-    shared-slice-read-b
+    (λ c. search needs)
     cast-b
     returns-4
-    mul-t17
+    (λ c. search needs)
     add-t18
-    add-t19
+    (λ c. search needs)
     returns-5
-    add-third
+    (λ c. search needs)
     returns-6
-    shared-slice-read-c
+    (λ c. search needs)
     cast-c
     returns-7
     mul-t24
     add-t25
-    mul-t26
+    (λ c. search needs)
     add-t27
-    add-t28
+    (λ c. search needs)
     returns-8
     returns-9)

@@ -8,12 +8,6 @@ use borrow.Author.Needs.{needs}
 use Rattle.text.proofs.Cursor.expect_char.Statement.{statement}
 use Rattle.text.proofs.Cursor.expect_char.Tie as tie
 
-skip-whitespace-and-comments-requires : tie.Need-skip-whitespace-and-comments-requires
-skip-whitespace-and-comments-requires c κs = search needs
-
-peek-char-requires : tie.Need-peek-char-requires
-peek-char-requires c κs = search needs
-
 add-end : tie.Need-add-end
 add-end c =
     let gap = c .before .before in
@@ -43,4 +37,4 @@ returns-3 c =
     sym (due-other (a .s .now) (a .self .at) (a .b) (a .keyword) (gap .skip-whitespace-and-comments .ensures) (peek .peek-char .ensures) (if1 .if1 .left) (c .if2 .left))
 
 pub expect-char-spec : {M : Type 1} → statement M
-expect-char-spec = tie.close (tie.spec skip-whitespace-and-comments-requires peek-char-requires add-end returns returns-2 returns-3)
+expect-char-spec = tie.close (tie.spec (λ c κs. search needs) (λ c κs. search needs) add-end returns returns-2 returns-3)

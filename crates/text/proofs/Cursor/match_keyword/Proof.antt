@@ -8,21 +8,12 @@ use Rattle.text.proofs.KeywordLaws.{match-other, match-room, match-afte
 use Rattle.text.proofs.Cursor.match_keyword.Statement.{statement}
 use Rattle.text.proofs.Cursor.match_keyword.Tie as tie
 
-begins-requires : tie.Need-begins-requires
-begins-requires c κs = search needs
-
 add-end : tie.Need-add-end
 add-end c =
     let begins = c .before in
     let start = begins .before .before .before in
     let a = start .args in
     omega (arith, match-room (a .s .now) (a .self .at) (a .word .now) (start .pre .1) (begins .begins .ensures) (c .if1 .taken))
-
-peek-char-requires : tie.Need-peek-char-requires
-peek-char-requires c κs = search needs
-
-ends-keyword-requires : tie.Need-ends-keyword-requires
-ends-keyword-requires c κs = search needs
 
 returns : tie.Need-returns
 returns c =
@@ -53,4 +44,4 @@ returns-3 c =
 
 pub match-keyword-spec : {M : Type 1} → statement M
 match-keyword-spec =
-    tie.close (tie.spec begins-requires add-end peek-char-requires ends-keyword-requires returns returns-2 returns-3)
+    tie.close (tie.spec (λ c κs. search needs) add-end (λ c κs. search needs) (λ c κs. search needs) returns returns-2 returns-3)

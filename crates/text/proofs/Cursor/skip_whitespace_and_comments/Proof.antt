@@ -19,12 +19,6 @@ abbrev μ-loop : tie.MeasureT-loop
 loop-holds : tie.Need-loop-holds Inv-loop μ-loop
 loop-holds c = refl
 
-run-end-requires : tie.Need-run-end-requires Inv-loop μ-loop
-run-end-requires c κs = search needs
-
-comment-end-requires : tie.Need-comment-end-requires Inv-loop μ-loop
-comment-end-requires c κs = search needs
-
 returns : tie.Need-returns Inv-loop μ-loop
 returns c =
     let at-loop = c .before .before .before in
@@ -41,4 +35,4 @@ loop-again c =
     sym (gap-more (at-loop .before .before .args .s .now) (at-loop .loop .at) (c .before .before .run-end .ensures) (c .before .comment-end .ensures) (c .if1 .left)) ∙ at-loop .loop .inv
 
 pub skip-whitespace-and-comments-spec : {M : Type 1} → statement M
-skip-whitespace-and-comments-spec = tie.close (tie.spec Inv-loop μ-loop loop-holds run-end-requires comment-end-requires returns loop-less loop-again)
+skip-whitespace-and-comments-spec = tie.close (tie.spec Inv-loop μ-loop loop-holds (λ c κs. search needs) (λ c κs. search needs) returns loop-less loop-again)
