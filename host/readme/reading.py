@@ -9,10 +9,10 @@ from pathlib import Path
 CRATES = Path(__file__).resolve().parents[2] / "crates"
 # In reading order; a definition belongs to the first topic that has its crate or reaches it.
 TOPICS = [
-    ("bytes, gaps, keywords, values, skipping", {"text", "value", "skip"}, []),
+    ("bytes, gaps, keywords, values, skipping", {"text", "text_value", "text_skip"}, []),
     ("imports and includes of a text, their printed form", set(), ["nuvaleta/Host"]),
     ("the metadata of a text", set(), ["nuvaleta/Record"]),
-    ("image and bundle, the finds", {"form", "image", "index", "find", "bundle"}, ["nuvaleta/Finds"]),
+    ("image and bundle, the finds", {"library_form", "library_image", "library_index", "library_find", "library_bundle"}, ["nuvaleta/Finds"]),
     ("the graph", set(), ["nuvaleta/Graphs"]),
     ("the order of registration", set(), ["nuvaleta/Orders"]),
     ("demand 1: which refusals a call can give; one outcome of each", set(), ["demands/Demand1", "demands/OneOutcome"]),

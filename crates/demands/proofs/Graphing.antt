@@ -8,13 +8,13 @@ use mathlib.Core.Bool.{Bool, true, false, cond}
 use mathlib.Core.List.{List, [], _∷_, map, List·Memᴰ, List·Memᴰ·head, List·Memᴰ·tail, Perm}
 use native.Mathlib.Omega.{arith}
 use lib.ListN.{length, length-map}
-use Rattle.form.specs.Form.{Ans, good, bad}
-use Rattle.form.specs.Writer.{AllBytes}
-use Rattle.image.specs.Image.{imageBroken, imageAt}
-use Rattle.image.specs.Library.{Name, Library}
-use Rattle.bundle.specs.Bundle.{Text as BundleText, bundleBroken, bundleAt}
-use Rattle.bundle.specs.Reading.{longestText}
-use Rattle.items.specs.Table.{Reads}
+use Rattle.library_form.specs.Form.{Ans, good, bad}
+use Rattle.library_form.specs.Writer.{AllBytes}
+use Rattle.library_image.specs.Image.{imageBroken, imageAt}
+use Rattle.library_image.specs.Library.{Name, Library}
+use Rattle.library_bundle.specs.Bundle.{Text as BundleText, bundleBroken, bundleAt}
+use Rattle.library_bundle.specs.Reading.{longestText}
+use Rattle.library_items.specs.Table.{Reads}
 use Rattle.graph.specs.Nodes.{passOver}
 use Rattle.graph.specs.Graph.{nought, Edge, edge, Graph, graph, fault, graphOf}
 use Rattle.graph.specs.Numbers.{row, rowOf}
@@ -24,9 +24,9 @@ use Rattle.graph.proofs.Numbers.{at-mem, number-at, number-of-at}
 use Rattle.graph.proofs.Nodes.{nodes-only}
 use Rattle.graph.proofs.Spread.{perm-length}
 use Rattle.graph.proofs.Demand.{demand3}
-use Rattle.edges.specs.Edges.{mostEdges, rowsIn}
-use Rattle.nodes.specs.Adding.{mostNodes, plainAt, wordsAt, namesAt}
-use Rattle.texts.specs.Texts.{textOf}
+use Rattle.graph_edges.specs.Edges.{mostEdges, rowsIn}
+use Rattle.graph_nodes.specs.Adding.{mostNodes, plainAt, wordsAt, namesAt}
+use Rattle.graph_texts.specs.Texts.{textOf}
 use Rattle.yanglib.specs.ToGraph.{lentTooShort, Lengths, tooShort, Result, refusal, resultOf, onRead, graphed, lengthsOf, Graphs}
 use Rattle.yanglib.specs.declared.Graphed.the-variants.{Built}
 use Rattle.yanglib.proofs.Outcome.{revised-here}

@@ -19,20 +19,20 @@ use Rattle.text.specs.declared.Match.the-variants.{After as Matched, Not as Unm
 use Rattle.text.specs.declared.Refusal.{Refusal}
 use Rattle.text.specs.declared.Cursor.{Cursor}
 use Rattle.text.proofs.Here.{by-test, never}
-use Rattle.value.specs.Argument.{argumentAt}
-use Rattle.value.specs.Value.{valueAt, placeOf}
-use Rattle.value.specs.declared.Argument.{Argument}
-use Rattle.value.specs.declared.Argument.the-variants.{Read, Refused as NoArgument}
-use Rattle.buffers.specs.Lent.{lentAt}
-use Rattle.buffers.specs.declared.Lent.{Lent}
-use Rattle.buffers.specs.declared.Lent.the-variants.{Fit, Unfit}
-use Rattle.header.specs.Header.{dueFor, pastStatement, afterRevision, afterValue, passed, kept, withRest, fieldAt, laterPrefix, statementSaid, tagSaid, saidHere, saidAt}
-use Rattle.header.specs.Tag.{lastTag, orTag, dataAt, tagAt}
-use Rattle.header.specs.declared.Heard.{Heard}
-use Rattle.header.specs.declared.Heard.the-variants.{Value, Passed, Done, Refused}
-use Rattle.header.specs.declared.Tag.{Tag}
-use Rattle.header.specs.declared.Tag.the-variants.{Statement}
-use Rattle.metadata.specs.Metadata.{Metadata, nothing, Scan, good, bad, ended, afterHeard, metadataTurn, scanFrom, scanned, ifFit, metadata}
+use Rattle.text_value.specs.Argument.{argumentAt}
+use Rattle.text_value.specs.Value.{valueAt, placeOf}
+use Rattle.text_value.specs.declared.Argument.{Argument}
+use Rattle.text_value.specs.declared.Argument.the-variants.{Read, Refused as NoArgument}
+use Rattle.text_lent.specs.Lent.{lentAt}
+use Rattle.text_lent.specs.declared.Lent.{Lent}
+use Rattle.text_lent.specs.declared.Lent.the-variants.{Fit, Unfit}
+use Rattle.scan_header.specs.Header.{dueFor, pastStatement, afterRevision, afterValue, passed, kept, withRest, fieldAt, laterPrefix, statementSaid, tagSaid, saidHere, saidAt}
+use Rattle.scan_header.specs.Tag.{lastTag, orTag, dataAt, tagAt}
+use Rattle.scan_header.specs.declared.Heard.{Heard}
+use Rattle.scan_header.specs.declared.Heard.the-variants.{Value, Passed, Done, Refused}
+use Rattle.scan_header.specs.declared.Tag.{Tag}
+use Rattle.scan_header.specs.declared.Tag.the-variants.{Statement}
+use Rattle.scan_metadata.specs.Metadata.{Metadata, nothing, Scan, good, bad, ended, afterHeard, metadataTurn, scanFrom, scanned, ifFit, metadata}
 use Rattle.demands.specs.Demand1.{FirstRefusal, Fits, RefusedAs, first, read, MetadataRefusal, no-value, no-byte, no-name}
 use Rattle.demands.proofs.ScanNumbers.{isOne, refusal, of, DueIs, ArgumentIs, due-is, value-is, turns-all, LentIs, lent-is, first-unfit}
 

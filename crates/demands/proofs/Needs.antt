@@ -10,9 +10,9 @@ use native.Mathlib.Omega.{arith}
 use lib.ListN.{getD}
 use lib.Dec.{ltb}
 use borrow.Author.Tests.{ltb-true}
-use Rattle.form.specs.Writer.{AllBytes}
+use Rattle.library_form.specs.Writer.{AllBytes}
 use Rattle.text.specs.declared.Refusal.{Refusal}
-use Rattle.items.specs.Table.{Reads}
+use Rattle.library_items.specs.Table.{Reads}
 use Rattle.graph.specs.Demand3.{AlikeImport, Within, SameEntries, Permuted}
 use Rattle.graph.proofs.Tests.{both-bools, mem-memb}
 use Rattle.yanglib.specs.ToGraph.{tooShort, graphed}
@@ -23,28 +23,28 @@ use Rattle.text.specs.Due.{dueNumber, dueHere, dueAt}
 use Rattle.text.specs.Keyword.{startsIdent, endsKeyword, same, part, keywordAt, matchAt, orMatch}
 use Rattle.text.specs.Scan.{inIdent, inRun, span, runEnd, pairAt, closing, blockEnd, commentEnd, afterWhite, gapTurn, gapEnd}
 use Rattle.text.specs.Turns.{turns}
-use Rattle.value.specs.Argument.{argumentOf, argumentAt, afterDue}
-use Rattle.value.specs.Value.{isQuote, startsName, addedBy, afterPlus, joinedWith, joined as joinedValue, ofString, valueHere, valueAt, valueBytes}
-use Rattle.skip.specs.Skip.{closedToken, tokenHere}
-use Rattle.skip.specs.Statement.{statementAt, endedAt}
-use Rattle.buffers.specs.Lent.{lentAt}
-use Rattle.imports.specs.Block.{orRevision, orPrefix}
-use Rattle.imports.specs.Statement.{plainOf, blockOf, openOrPlain, afterValue, includeAt}
+use Rattle.text_value.specs.Argument.{argumentOf, argumentAt, afterDue}
+use Rattle.text_value.specs.Value.{isQuote, startsName, addedBy, afterPlus, joinedWith, joined as joinedValue, ofString, valueHere, valueAt, valueBytes}
+use Rattle.text_skip.specs.Skip.{closedToken, tokenHere}
+use Rattle.text_skip.specs.Statement.{statementAt, endedAt}
+use Rattle.text_lent.specs.Lent.{lentAt}
+use Rattle.scan_imports.specs.Block.{orRevision, orPrefix}
+use Rattle.scan_imports.specs.Statement.{plainOf, blockOf, openOrPlain, afterValue, includeAt}
 use Rattle.yangparser.specs.Dependencies.{joined, importStep, includeStep, unlessFull, importHere, includeHere, movedTo, wordStep, stepHere, stepAt, afterStep, scanTurn, scanFrom, scanned, ifFit, dependencies}
 use Rattle.yangparser.specs.Word.{lastAt, orWord, wordAt}
-use Rattle.form.specs.Form.{Ans, good, bad, groups, numberAt, many, printableAt, nameBody, nameAt}
-use Rattle.index.specs.Names.{among, addAll, newName}
-use Rattle.image.specs.Image.{countAt, counted, moduleAt, importOnlyAt, setAt, libraryAt, imageAt}
-use Rattle.image.specs.Library.{Name, PlainModule, PlainImportOnly, PlainLibrary, modulesOf, importOnlyOf, submodulesOf}
-use Rattle.items.specs.Items.{libraryOf}
-use Rattle.bundle.specs.Bundle.{bodyAt, filedAt, textsAt, bundleAt, lookUp}
-use Rattle.bundle.specs.Reading.{longestOf, longestText}
-use Rattle.rows.specs.Span.{valueIn}
-use Rattle.texts.specs.Texts.{importNames, includeNames, scanText, textOf}
+use Rattle.library_form.specs.Form.{Ans, good, bad, groups, numberAt, many, printableAt, nameBody, nameAt}
+use Rattle.library_index.specs.Names.{among, addAll, newName}
+use Rattle.library_image.specs.Image.{countAt, counted, moduleAt, importOnlyAt, setAt, libraryAt, imageAt}
+use Rattle.library_image.specs.Library.{Name, PlainModule, PlainImportOnly, PlainLibrary, modulesOf, importOnlyOf, submodulesOf}
+use Rattle.library_items.specs.Items.{libraryOf}
+use Rattle.library_bundle.specs.Bundle.{bodyAt, filedAt, textsAt, bundleAt, lookUp}
+use Rattle.library_bundle.specs.Reading.{longestOf, longestText}
+use Rattle.scan_rows.specs.Span.{valueIn}
+use Rattle.graph_texts.specs.Texts.{importNames, includeNames, scanText, textOf}
 use Rattle.graph.specs.Nodes.{addGroups, nodesBy}
 use Rattle.graph.specs.Graph.{nought, textSteps, memE, addBy, run, walkFrom, graphOf}
 use Rattle.graph.specs.Numbers.{numberOf}
-use Rattle.nodes.specs.Adding.{plainAt, wordsAt}
+use Rattle.graph_nodes.specs.Adding.{plainAt, wordsAt}
 use Rattle.demands.specs.Demand3.{names, WellFormed, Alike, both-refused, both-built}
 use Rattle.demands.specs.Demand3Needs.{lent, emptyFirst, fullFirst, includes, sFirst, tFirst, alone, Needed}
 

@@ -3,13 +3,13 @@
 use mathlib.Core.Path.{_≡_, refl, ap, _∙_}
 use mathlib.Core.List.{List, [], _∷_}
 use Prim.Native.Nat.{ℕ}
-use Rattle.rows.specs.Rows.{Each}
-use Rattle.rows.specs.Span.{valueIn}
-use Rattle.rows.proofs.Laws.{each-of}
-use Rattle.newest.specs.Newest.{Revision, Read, newest, First}
-use Rattle.newest.proofs.NewestLaws.{newest-none, newest-present, newest-greatest, newest-first, newest-valued}
-use Rattle.metadata.specs.Metadata.{Metadata, good, scanned}
-use Rattle.metadata.proofs.ScanLaws.{Kept, scan-placed}
+use Rattle.scan_rows.specs.Rows.{Each}
+use Rattle.scan_rows.specs.Span.{valueIn}
+use Rattle.scan_rows.proofs.Laws.{each-of}
+use Rattle.scan_newest.specs.Newest.{Revision, Read, newest, First}
+use Rattle.scan_newest.proofs.NewestLaws.{newest-none, newest-present, newest-greatest, newest-first, newest-valued}
+use Rattle.scan_metadata.specs.Metadata.{Metadata, good, scanned}
+use Rattle.scan_metadata.proofs.ScanLaws.{Kept, scan-placed}
 use Rattle.demands.specs.Newest.{NewestIsRight}
 
 some-present : (rs : List Revision) → Each Read rs → (rs ≡ [] → ⊥) → Read (newest rs)

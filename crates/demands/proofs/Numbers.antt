@@ -11,24 +11,24 @@ use lib.ListN.{length, take, drop}
 use Rattle.text.specs.Keyword.{same}
 use Rattle.text.proofs.Here.{never}
 use Rattle.text.specs.declared.Refusal.{Refusal}
-use Rattle.form.specs.Form.{Ans, good, bad, Word}
-use Rattle.form.specs.declared.LookUp.{LookUp}
-use Rattle.form.specs.declared.LookUp.the-variants.{Broken, Nothing, At}
-use Rattle.index.specs.Names.{firstBy}
-use Rattle.image.specs.Image.{imageAt}
-use Rattle.image.specs.Library.{Name, Module, ImportOnly, Library, modulesOf, submodulesOf, importOnlyOf}
-use Rattle.library.specs.Reading.{onAns}
-use Rattle.find.specs.Find.{firstModule, firstSubmodule, firstImportOnly, findIn, findModule, findSubmodule, findImportModule}
-use Rattle.bundle.specs.Bundle.{Text, bundleAt, placeOf, looked, lookIn, lookUp, partOf, textUnder}
-use Rattle.bundle.specs.Reading.{longestText}
-use Rattle.bundle.specs.declared.Place.{Place}
-use Rattle.bundle.specs.declared.Place.the-variants.{At as PlaceAt, Nothing as NoPlace}
+use Rattle.library_form.specs.Form.{Ans, good, bad, Word}
+use Rattle.library_form.specs.declared.LookUp.{LookUp}
+use Rattle.library_form.specs.declared.LookUp.the-variants.{Broken, Nothing, At}
+use Rattle.library_index.specs.Names.{firstBy}
+use Rattle.library_image.specs.Image.{imageAt}
+use Rattle.library_image.specs.Library.{Name, Module, ImportOnly, Library, modulesOf, submodulesOf, importOnlyOf}
+use Rattle.library_read.specs.Reading.{onAns}
+use Rattle.library_find.specs.Find.{firstModule, firstSubmodule, firstImportOnly, findIn, findModule, findSubmodule, findImportModule}
+use Rattle.library_bundle.specs.Bundle.{Text, bundleAt, placeOf, looked, lookIn, lookUp, partOf, textUnder}
+use Rattle.library_bundle.specs.Reading.{longestText}
+use Rattle.library_bundle.specs.declared.Place.{Place}
+use Rattle.library_bundle.specs.declared.Place.the-variants.{At as PlaceAt, Nothing as NoPlace}
 use Rattle.graph.specs.Nodes.{passOver}
 use Rattle.graph.specs.Graph.{ScanAnswer, nought, refusing, Entry, Graph, graph as drawing, fault}
 use Rattle.graph.specs.Meaning.{Fault, entry-missing, include-missing, scan-refused, import-unknown, listed-unknown, include-unknown, include-no-node, too-deep, Cause, names, by-fault, edges}
 use Rattle.graph.proofs.Demand.{demand3}
-use Rattle.nodes.specs.Adding.{plainAt, wordsAt}
-use Rattle.texts.specs.Texts.{scanSeen, scanText, lookText, textOf}
+use Rattle.graph_nodes.specs.Adding.{plainAt, wordsAt}
+use Rattle.graph_texts.specs.Texts.{scanSeen, scanText, lookText, textOf}
 use Rattle.yangparser.specs.Dependencies.{Dependencies, Scan, good as scanGood, bad as scanBad, dependencies}
 use Rattle.yanglib.specs.ToGraph.{Lengths, tooShort, Result, refusal, resultOf, graphed}
 use Rattle.yanglib.specs.declared.Graphed.the-variants.{Built, Refused}

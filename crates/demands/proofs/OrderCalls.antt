@@ -12,24 +12,24 @@ use lib.ListN.{length, length-append, length-replicate}
 use lib.Dec.{leb}
 use borrow.Author.Tests.{eq-eqb, ne-eqb, le-leb, lt-leb, lt-ltb, leb-true, leb-false}
 use Rattle.text.proofs.Here.{by-test}
-use Rattle.buffers.specs.Padded.{zeros, padded}
-use Rattle.form.specs.Writer.{AllBytes}
+use Rattle.text_lent.specs.Padded.{zeros, padded}
+use Rattle.library_form.specs.Writer.{AllBytes}
 use Rattle.graph.specs.Numbers.{Row}
 use Rattle.graph.proofs.Numbers.{mem-row}
-use Rattle.edges.specs.Edges.{rowsIn}
-use Rattle.bundle.specs.Reading.{longestText}
+use Rattle.graph_edges.specs.Edges.{rowsIn}
+use Rattle.library_bundle.specs.Reading.{longestText}
 use Rattle.yanglib.specs.ToGraph.{lengthsOf, tooShort, graphed, nodeWords, rowWords, AnswerFits, Graphs}
 use Rattle.yanglib.specs.declared.Graphed.the-variants.{Built}
 use Rattle.yanglib.proofs.Bounds.{answer-fits}
 use Rattle.yanglib.proofs.Short.{Enough, long-enough}
-use Rattle.tables.specs.Tables.{allWithin, fits}
-use Rattle.tables.proofs.Within.{fitting}
-use Rattle.taking.specs.Taking.{taken}
-use Rattle.taking.proofs.Taken.{taken-short}
-use Rattle.ring.specs.Ring.{ringOf}
-use Rattle.places.specs.Places.{placeOf}
-use Rattle.places.specs.declared.Place.{Place}
-use Rattle.places.specs.declared.Place.the-variants.{Right, WrongAt}
+use Rattle.order_tables.specs.Tables.{allWithin, fits}
+use Rattle.order_tables.proofs.Within.{fitting}
+use Rattle.order_take.specs.Taking.{taken}
+use Rattle.order_take.proofs.Taken.{taken-short}
+use Rattle.order_ring.specs.Ring.{ringOf}
+use Rattle.order_places.specs.Places.{placeOf}
+use Rattle.order_places.specs.declared.Place.{Place}
+use Rattle.order_places.specs.declared.Place.the-variants.{Right, WrongAt}
 use Rattle.order.specs.Order.{sorted, sortedOf, orderOf, checked, toldPlace, checkOf}
 use Rattle.demands.specs.Order.{Returns, RightOrder}
 use Rattle.demands.specs.OrderCalls.{OrderCause, unfit, too-short, chain-back, in-order, CheckCause, wrong, right, OrderAnswers, OrderCalls}

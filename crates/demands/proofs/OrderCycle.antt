@@ -9,11 +9,11 @@ use native.Mathlib.Numerals.{add-one}
 use lib.ListN.{length, getD}
 use borrow.Author.Tests.{not-true}
 use Rattle.graph.specs.Numbers.{Row, row, memR}
-use Rattle.tables.specs.Free.{Stuck}
-use Rattle.tables.specs.Tables.{allWithin}
-use Rattle.tables.proofs.Lowest.{lowest-has, lowest-low}
-use Rattle.ring.specs.Ring.{left, firstLeft, before, goBack, ringOf}
-use Rattle.ring.proofs.Round.{Along, Round, Led, Reached, first, further, Ringed, ring-ringed, first-lowest}
+use Rattle.order_tables.specs.Free.{Stuck}
+use Rattle.order_tables.specs.Tables.{allWithin}
+use Rattle.order_tables.proofs.Lowest.{lowest-has, lowest-low}
+use Rattle.order_ring.specs.Ring.{left, firstLeft, before, goBack, ringOf}
+use Rattle.order_ring.proofs.Round.{Along, Round, Led, Reached, first, further, Ringed, ring-ringed, first-lowest}
 use Rattle.demands.specs.Order as Order
 use Rattle.demands.specs.Order.{Chain, one, on, Returns, LowestLeft, LowestTo, BackCycle}
 use Rattle.demands.proofs.OrderLists.{distinct-nodup}

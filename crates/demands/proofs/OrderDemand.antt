@@ -9,10 +9,10 @@ use native.Mathlib.Omega.{arith}
 use native.Mathlib.Nat.{eq-or-lt-of-le}
 use lib.ListN.{length}
 use Rattle.graph.specs.Numbers.{Row}
-use Rattle.tables.specs.Tables.{allWithin}
-use Rattle.taking.specs.Taking.{taken}
-use Rattle.taking.proofs.Taken.{taken-in-turn, taken-short, taken-stuck}
-use Rattle.ring.specs.Ring.{ringOf}
+use Rattle.order_tables.specs.Tables.{allWithin}
+use Rattle.order_take.specs.Taking.{taken}
+use Rattle.order_take.proofs.Taken.{taken-in-turn, taken-short, taken-stuck}
+use Rattle.order_ring.specs.Ring.{ringOf}
 use Rattle.demands.specs.Order.{Returns, Valid, NotAfter, same, lower, later, First, BackCycle, RightOrder, OrderDemand}
 use Rattle.demands.proofs.OrderValid.{turn-valid, valid-no-chain}
 use Rattle.demands.proofs.OrderPlaces.{right-in-turn, valid-right, wrong-first-wrong, first-wrong-wrong}

@@ -14,10 +14,10 @@ use lib.Seq.{append-snoc, take-append-seam, take-append-le, getD-append-seam}
 use borrow.Author.Tests.{ltb-true, lt-ltb}
 use Rattle.text.proofs.Here.{by-test, never}
 use Rattle.graph.specs.Numbers.{Row}
-use Rattle.tables.specs.Free.{free}
-use Rattle.tables.proofs.Lowest.{lowest-has, lowest-low}
-use Rattle.taking.specs.Taking.{next, takeFrom, taken}
-use Rattle.taking.proofs.Taken.{free-below, take-ends, taken-distinct, taken-below}
+use Rattle.order_tables.specs.Free.{free}
+use Rattle.order_tables.proofs.Lowest.{lowest-has, lowest-low}
+use Rattle.order_take.specs.Taking.{next, takeFrom, taken}
+use Rattle.order_take.proofs.Taken.{free-below, take-ends, taken-distinct, taken-below}
 use Rattle.demands.specs.Order.{Valid, NotAfter, same, lower, later, Good, LowestGood}
 use Rattle.demands.proofs.OrderLists.{all-there}
 use Rattle.demands.proofs.OrderValid.{valid-free, valid-length}

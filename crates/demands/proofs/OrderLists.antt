@@ -14,12 +14,12 @@ use lib.Dec.{eqb}
 use lib.ListN.{length, length-append}
 use borrow.Author.Tests.{eqb-false, eq-eqb}
 use Rattle.text.proofs.Here.{by-test, never}
-use Rattle.index.proofs.Stores.{decide}
+use Rattle.library_index.proofs.Stores.{decide}
 use Rattle.graph.proofs.Spread.{perm-length}
-use Rattle.tables.specs.Free.{mem}
-use Rattle.tables.proofs.Mem.{mem-append, mem-snoc-old, mem-snoc-new, mem-snoc-else}
-use Rattle.tables.proofs.Distinct.{Distinct, none, more, distinct-snoc, short, mem-head, mem-tail, mem-other}
-use Rattle.ring.specs.Ring.{until}
+use Rattle.order_tables.specs.Free.{mem}
+use Rattle.order_tables.proofs.Mem.{mem-append, mem-snoc-old, mem-snoc-new, mem-snoc-else}
+use Rattle.order_tables.proofs.Distinct.{Distinct, none, more, distinct-snoc, short, mem-head, mem-tail, mem-other}
+use Rattle.order_ring.specs.Ring.{until}
 use Rattle.demands.specs.Order.{upTo}
 
 -- ---- membership by test, and as the library has it

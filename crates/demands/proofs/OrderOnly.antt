@@ -14,8 +14,8 @@ use lib.Seq.{ext-getD}
 use borrow.Author.Tests.{leb-true, leb-false}
 use Rattle.text.proofs.Here.{by-test}
 use Rattle.graph.specs.Numbers.{Row}
-use Rattle.tables.specs.Free.{mem}
-use Rattle.tables.proofs.Mem.{Placed, mem-place, place-mem}
+use Rattle.order_tables.specs.Free.{mem}
+use Rattle.order_tables.proofs.Mem.{Placed, mem-place, place-mem}
 use Rattle.demands.specs.Order.{LowestLeft, LowestTo, Reached, first, further, BackCycle}
 use Rattle.demands.proofs.OrderLists.{nodup-length}
 

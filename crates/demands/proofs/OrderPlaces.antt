@@ -13,11 +13,11 @@ use lib.Seq.{append-snoc, take-append-seam, getD-append-seam}
 use borrow.Author.Tests.{ltb-true, ltb-false, lt-ltb, le-ltb}
 use Rattle.text.proofs.Here.{by-test, never}
 use Rattle.graph.specs.Numbers.{Row}
-use Rattle.tables.specs.Free.{mem, free}
-use Rattle.tables.proofs.Ready.{Awaited, unready, ready-edge, ready-all}
-use Rattle.taking.proofs.Taken.{InTurn, start, then-one, free-below, free-new, free-ready}
-use Rattle.places.specs.Places.{placeFrom, placeOf}
-use Rattle.places.specs.declared.Place.the-variants.{Right, WrongAt}
+use Rattle.order_tables.specs.Free.{mem, free}
+use Rattle.order_tables.proofs.Ready.{Awaited, unready, ready-edge, ready-all}
+use Rattle.order_take.proofs.Taken.{InTurn, start, then-one, free-below, free-new, free-ready}
+use Rattle.order_places.specs.Places.{placeFrom, placeOf}
+use Rattle.order_places.specs.declared.Place.the-variants.{Right, WrongAt}
 use Rattle.demands.specs.Order.{Valid, Good, Fault, no-node, there-already, from-later, WrongHere, at-place, at-end, FirstWrong}
 use Rattle.demands.proofs.OrderValid.{valid-free, valid-length}
 

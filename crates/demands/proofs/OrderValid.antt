@@ -10,15 +10,15 @@ use native.Mathlib.Omega.{arith}
 use lib.ListN.{length}
 use borrow.Author.Tests.{lt-ltb}
 use Rattle.text.proofs.Here.{never}
-use Rattle.index.proofs.Stores.{decide}
+use Rattle.library_index.proofs.Stores.{decide}
 use Rattle.graph.specs.Numbers.{Row}
-use Rattle.tables.specs.Free.{mem, free}
-use Rattle.tables.specs.Tables.{allWithin}
-use Rattle.tables.proofs.Mem.{mem-append, mem-snoc-else}
-use Rattle.tables.proofs.Ready.{ready-edge, ready-all, within-edge}
-use Rattle.tables.proofs.Distinct.{mem-head}
-use Rattle.taking.proofs.Taken.{InTurn, start, then-one, free-new, free-ready, turn-distinct, turn-below}
-use Rattle.ring.specs.Ring.{until}
+use Rattle.order_tables.specs.Free.{mem, free}
+use Rattle.order_tables.specs.Tables.{allWithin}
+use Rattle.order_tables.proofs.Mem.{mem-append, mem-snoc-else}
+use Rattle.order_tables.proofs.Ready.{ready-edge, ready-all, within-edge}
+use Rattle.order_tables.proofs.Distinct.{mem-head}
+use Rattle.order_take.proofs.Taken.{InTurn, start, then-one, free-new, free-ready, turn-distinct, turn-below}
+use Rattle.order_ring.specs.Ring.{until}
 use Rattle.demands.specs.Order.{Edge, Chain, one, on, Valid}
 use Rattle.demands.proofs.OrderLists.{perm-distinct, perm-below, perm-full, all-there, all-perm, distinct-front, until-seam, until-front, until-less}
 

@@ -7,13 +7,13 @@ use mathlib.Core.List.{List, [], _∷_, _++_}
 use native.Mathlib.Omega.{arith}
 use lib.Dec.{ltb}
 use lib.ListN.{length, getD}
-use Rattle.buffers.specs.Padded.{zeros, padded}
+use Rattle.text_lent.specs.Padded.{zeros, padded}
 use Rattle.yangparser.specs.Dependencies.{Scan, importWordsOf, includeWordsOf, tooShort, pageShort, dependencies, parsedOf, keptOf}
 use Rattle.yangparser.specs.Promises.{Leaves}
 use Rattle.yangparser.specs.declared.Parsed.{Parsed}
-use Rattle.page.specs.Page.{pageOf}
-use Rattle.metadata.specs.Metadata as Metadata
-use Rattle.words.specs.Words.{numberOf, answerWords, recordWords, graphWords}
+use Rattle.scan_page.specs.Page.{pageOf}
+use Rattle.scan_metadata.specs.Metadata as Metadata
+use Rattle.host_words.specs.Words.{numberOf, answerWords, recordWords, graphWords}
 use Rattle.nuvaleta.specs.Finds.{Told}
 use Rattle.nuvaleta.specs.Graphs.{Drawn}
 use Rattle.nuvaleta.specs.Orders.{orderWords}
@@ -21,9 +21,9 @@ use Rattle.order.specs.declared.Ordered.{Ordered}
 use Rattle.order.specs.Order.{orderOf}
 use Rattle.yanglib.specs.ToGraph.{Lengths, lengthsOf, Result, graphed, nodeWords, rowWords, Leaves as GraphLeft}
 use Rattle.yanglib.specs.declared.Graphed.{Graphed}
-use Rattle.library.specs.Reading.{readSeen}
-use Rattle.library.specs.declared.Read.{Read}
-use Rattle.library.specs.declared.Read.the-variants.{End, Wrong}
+use Rattle.library_read.specs.Reading.{readSeen}
+use Rattle.library_read.specs.declared.Read.{Read}
+use Rattle.library_read.specs.declared.Read.the-variants.{End, Wrong}
 use Rattle.demands.specs.OneOutcome.{OneOutcome}
 
 -- ---- dependencies

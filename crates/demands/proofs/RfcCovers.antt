@@ -19,11 +19,11 @@ use Rattle.text.specs.Turns.{stop, on, after}
 use Rattle.text.specs.declared.Run.the-variants.{White, Line}
 use Rattle.text.proofs.Here.{by-test, never, both}
 use Rattle.text.proofs.Laws.{run-from, block-from, comment-line, comment-block, gap-stop, gap-more, gap-on}
-use Rattle.value.specs.Str.{escapes, strEnd, strBytes, whole, closedBy, strAt}
-use Rattle.value.specs.Value.{isQuote}
-use Rattle.value.proofs.JoinLaws.{at-is, closed-end, str-size}
-use Rattle.value.specs.declared.Close.{Close}
-use Rattle.value.specs.declared.Close.the-variants.{At, Open}
+use Rattle.text_value.specs.Str.{escapes, strEnd, strBytes, whole, closedBy, strAt}
+use Rattle.text_value.specs.Value.{isQuote}
+use Rattle.text_value.proofs.JoinLaws.{at-is, closed-end, str-size}
+use Rattle.text_value.specs.declared.Close.{Close}
+use Rattle.text_value.specs.declared.Close.the-variants.{At, Open}
 use Rattle.demands.specs.Rfc.{isBlank, areAt, toLineEnd, commentClose, pastComment, separator, pastGap, Read, reads, with, first, Piece, double, single, gap, singleBody, doubleBody, columnOf, stringAt, gapTo, gapAt, gapAndString, plusAndString, moreStrings, piecesAt}
 use Rattle.demands.specs.RfcDomain.{oddWhite, plain, legalIn, every, found, plainAt, legalAt}
 use Rattle.demands.specs.RfcQuoted.{plainWhite, Filled, done, white, line, block, Closed, Added, last, more, Quoted}

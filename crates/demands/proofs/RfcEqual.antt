@@ -11,10 +11,10 @@ use lib.Dec.{eqb}
 use borrow.Author.Tests.{not-true, eqb-true, eqb-false}
 use Rattle.text.specs.Scan.{gapEnd}
 use Rattle.text.proofs.Here.{by-test, never, both}
-use Rattle.value.specs.Str.{whole, strAt}
-use Rattle.value.specs.Value.{isQuote, added, ends, addedBy, moreAt, joinedWith, joined, Bytes, value, valueAt}
-use Rattle.value.proofs.ValueLaws.{more-plain, more-string}
-use Rattle.value.proofs.JoinLaws.{join-on, join-stop, value-string}
+use Rattle.text_value.specs.Str.{whole, strAt}
+use Rattle.text_value.specs.Value.{isQuote, added, ends, addedBy, moreAt, joinedWith, joined, Bytes, value, valueAt}
+use Rattle.text_value.proofs.ValueLaws.{more-plain, more-string}
+use Rattle.text_value.proofs.JoinLaws.{join-on, join-stop, value-string}
 use Rattle.demands.specs.Rfc.{Read, reads, nothing, first, Piece, double, single, gap, pastGap, stringAt, gapTo, gapAt, gapAndString, plusAndString, addedStrings, moreStrings, piecesAt, escape, joining, unescaped, meaning, meanings, endingAt, meant, rfcValue}
 use Rattle.demands.specs.RfcDomain.{oddWhite, legal, plain, legalIn, every, found, plainAt, legalAt}
 use Rattle.demands.proofs.RfcTrim.{trimmed-same}

@@ -3,7 +3,7 @@
 use mathlib.Core.Path.{_≡_}
 use mathlib.Core.List.{List}
 use Prim.Native.Nat.{ℕ}
-use Rattle.value.specs.Value.{value, valueAt}
+use Rattle.text_value.specs.Value.{value, valueAt}
 use Rattle.demands.specs.Rfc.{reads, rfcValue}
 use Rattle.demands.specs.RfcQuoted.{Quoted}
 use Rattle.demands.specs.RfcEquality.{RfcEquality}

@@ -6,8 +6,8 @@ use Prim.Native.Nat.{ℕ}
 use Rattle.text.specs.Class.{classOf}
 use Rattle.text.specs.Keyword.{part}
 use Rattle.text.specs.Scan.{inIdent, inRun, span, runEnd, pairAt, closing, blockEnd, commentEnd, afterWhite, gapTurn, gapEnd}
-use Rattle.value.specs.Str.{escaped, escapes, strEnd, strBytes, closedBy, strAt}
-use Rattle.value.specs.Value.{isQuote, startsName, addedBy, afterPlus, afterGap, moreAt, addTo, joinTurn, joinedWith, joined, ofString, valueHere, valueAt, value}
+use Rattle.text_value.specs.Str.{escaped, escapes, strEnd, strBytes, closedBy, strAt}
+use Rattle.text_value.specs.Value.{isQuote, startsName, addedBy, afterPlus, afterGap, moreAt, addTo, joinTurn, joinedWith, joined, ofString, valueHere, valueAt, value}
 use Rattle.text.specs.Turns.{turns}
 use Rattle.demands.specs.Rfc.{reads, isBlank, areAt, breakAt, toLineEnd, commentClose, rfcValue}
 use Rattle.demands.specs.RfcDomain.{oneLine, legal}

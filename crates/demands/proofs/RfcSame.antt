@@ -4,7 +4,7 @@ use mathlib.Core.Bool.{Bool, true, false, _&&_}
 use mathlib.Core.List.{List, [], _∷_}
 use Prim.Native.Nat.{ℕ}
 use lib.Dec.{eqb}
-use Rattle.value.specs.Value.{Val, value, none}
+use Rattle.text_value.specs.Value.{Val, value, none}
 use Rattle.demands.specs.Rfc.{Read, reads, nothing}
 
 abbrev pub same : List ℕ → List ℕ → Bool

@@ -11,9 +11,9 @@ use lib.ListN.{getD, drop}
 use lib.Dec.{eqb}
 use borrow.Author.Tests.{eqb-true}
 use Rattle.text.proofs.Here.{by-test}
-use Rattle.value.specs.Str.{escaped, escapes, strEnd, strBytes, whole, closedBy, strAt}
-use Rattle.value.specs.Value.{isQuote}
-use Rattle.value.specs.declared.Close.the-variants.{At}
+use Rattle.text_value.specs.Str.{escaped, escapes, strEnd, strBytes, whole, closedBy, strAt}
+use Rattle.text_value.specs.Value.{isQuote}
+use Rattle.text_value.specs.declared.Close.the-variants.{At}
 use Rattle.demands.specs.Rfc.{Read, reads, nothing, with, Piece, double, single, singleBody, doubleBody, columnOf, stringAt, escape, joining, unescaped, meaning}
 use Rattle.demands.specs.RfcDomain.{plain}
 use Rattle.demands.proofs.RfcTrim.{trimmed-same}

@@ -19,30 +19,30 @@ use Rattle.text.specs.declared.Refusal.{Refusal}
 use Rattle.text.specs.declared.Run.the-variants.{Low}
 use Rattle.text.proofs.Here.{by-test}
 use Rattle.text.proofs.Turns.{turns-rule}
-use Rattle.value.specs.Argument.{argumentOf, argumentAt, afterDue, afterArgument, lineAt}
-use Rattle.value.specs.Value.{Val, value, none, valueAt}
-use Rattle.value.specs.declared.Argument.{Argument}
-use Rattle.value.specs.declared.Argument.the-variants.{Read, Refused as NoArgument}
-use Rattle.buffers.specs.Lent.{lentAt}
-use Rattle.buffers.proofs.LentLaws.{lent-long, lent-short, lent-high, lent-fit}
-use Rattle.buffers.specs.declared.Lent.{Lent}
-use Rattle.buffers.specs.declared.Lent.the-variants.{Fit, Unfit}
-use Rattle.rows.specs.declared.Span.{Span}
-use Rattle.imports.specs.Left.{Left, nothing}
-use Rattle.imports.specs.Block.{lineKind, withPrefix, withRevision, afterKind, insideHere, insideAt, afterInside, blockTurn, blockFrom, begun, blockAt}
-use Rattle.imports.specs.Statement.{ofBody, importOf, withName, afterName, importAt, includeOf, plainOf, blockOf, openOrPlain, afterValue, includeAt}
-use Rattle.imports.specs.declared.Block.{Block}
-use Rattle.imports.specs.declared.Block.the-variants.{Whole, Broken}
-use Rattle.imports.specs.declared.Body.{Body}
-use Rattle.imports.specs.declared.Inside.{Inside}
-use Rattle.imports.specs.declared.Inside.the-variants.{On as OnInside, Closed, Refused as RefusedInside}
-use Rattle.imports.specs.declared.Line.{Line}
-use Rattle.imports.specs.declared.Line.the-variants.{Prefix, Revision, Other as OtherLine}
-use Rattle.imports.specs.declared.Imported.{Imported}
-use Rattle.imports.specs.declared.Imported.the-variants.{Import as ReadImport, NoImport}
-use Rattle.imports.specs.declared.Included.{Included}
-use Rattle.imports.specs.declared.Included.the-variants.{Include as ReadInclude, NoInclude}
-use Rattle.imports.proofs.BlockLaws.{block-falls}
+use Rattle.text_value.specs.Argument.{argumentOf, argumentAt, afterDue, afterArgument, lineAt}
+use Rattle.text_value.specs.Value.{Val, value, none, valueAt}
+use Rattle.text_value.specs.declared.Argument.{Argument}
+use Rattle.text_value.specs.declared.Argument.the-variants.{Read, Refused as NoArgument}
+use Rattle.text_lent.specs.Lent.{lentAt}
+use Rattle.text_lent.proofs.LentLaws.{lent-long, lent-short, lent-high, lent-fit}
+use Rattle.text_lent.specs.declared.Lent.{Lent}
+use Rattle.text_lent.specs.declared.Lent.the-variants.{Fit, Unfit}
+use Rattle.scan_rows.specs.declared.Span.{Span}
+use Rattle.scan_imports.specs.Left.{Left, nothing}
+use Rattle.scan_imports.specs.Block.{lineKind, withPrefix, withRevision, afterKind, insideHere, insideAt, afterInside, blockTurn, blockFrom, begun, blockAt}
+use Rattle.scan_imports.specs.Statement.{ofBody, importOf, withName, afterName, importAt, includeOf, plainOf, blockOf, openOrPlain, afterValue, includeAt}
+use Rattle.scan_imports.specs.declared.Block.{Block}
+use Rattle.scan_imports.specs.declared.Block.the-variants.{Whole, Broken}
+use Rattle.scan_imports.specs.declared.Body.{Body}
+use Rattle.scan_imports.specs.declared.Inside.{Inside}
+use Rattle.scan_imports.specs.declared.Inside.the-variants.{On as OnInside, Closed, Refused as RefusedInside}
+use Rattle.scan_imports.specs.declared.Line.{Line}
+use Rattle.scan_imports.specs.declared.Line.the-variants.{Prefix, Revision, Other as OtherLine}
+use Rattle.scan_imports.specs.declared.Imported.{Imported}
+use Rattle.scan_imports.specs.declared.Imported.the-variants.{Import as ReadImport, NoImport}
+use Rattle.scan_imports.specs.declared.Included.{Included}
+use Rattle.scan_imports.specs.declared.Included.the-variants.{Include as ReadInclude, NoInclude}
+use Rattle.scan_imports.proofs.BlockLaws.{block-falls}
 use Rattle.yangparser.specs.Dependencies as Deps
 use Rattle.yangparser.specs.Dependencies.{Step, importStep, includeStep, unlessFull, importHere, includeHere, wordStep, stepHere, stepAt, afterStep, scanTurn}
 use Rattle.yangparser.specs.Word.{wordAt}

@@ -5,19 +5,19 @@ use mathlib.Core.Path.{_≡_, refl, sym, ap, _∙_, subst}
 use mathlib.Core.Logic.{⊎-elim}
 use mathlib.Core.Bool.{Bool, true, false, cond, _&&_}
 use mathlib.Core.List.{List, [], _∷_, _++_, map, List·Memᴰ, List·Memᴰ·head, List·Memᴰ·tail, List·Memᴰ·eq-of-singleton, List·Memᴰ·append-cases, List·Memᴰ·not-nil}
-use Rattle.form.specs.Form.{Ans, good, Word, nameAt}
-use Rattle.form.specs.Writer.{AllBytes}
-use Rattle.form.proofs.Bounds.{opened}
-use Rattle.index.specs.Names.{among}
-use Rattle.image.specs.Image.{imageAt, countAt}
-use Rattle.image.specs.Library.{plainName}
-use Rattle.image.proofs.ImageLaws.{accepted}
-use Rattle.image.proofs.Steps.{on-good, carry}
-use Rattle.items.specs.Items.{ItemOf, itemsOf, libraryOf}
-use Rattle.items.specs.Table.{Items, andThen, each, eachCounted, nameRead, listRead, listsRead, revisionsRead, entryRead, entriesRead, setRead, setsRead, Reads}
-use Rattle.items.proofs.Told.{library-told}
-use Rattle.nodes.specs.Adding.{Adding, so, isEntry, isSub, addName, addItem, addItems, wordsAt, namesAt}
-use Rattle.nodes.proofs.Gathering.{added}
+use Rattle.library_form.specs.Form.{Ans, good, Word, nameAt}
+use Rattle.library_form.specs.Writer.{AllBytes}
+use Rattle.library_form.proofs.Bounds.{opened}
+use Rattle.library_index.specs.Names.{among}
+use Rattle.library_image.specs.Image.{imageAt, countAt}
+use Rattle.library_image.specs.Library.{plainName}
+use Rattle.library_image.proofs.ImageLaws.{accepted}
+use Rattle.library_image.proofs.Steps.{on-good, carry}
+use Rattle.library_items.specs.Items.{ItemOf, itemsOf, libraryOf}
+use Rattle.library_items.specs.Table.{Items, andThen, each, eachCounted, nameRead, listRead, listsRead, revisionsRead, entryRead, entriesRead, setRead, setsRead, Reads}
+use Rattle.library_items.proofs.Told.{library-told}
+use Rattle.graph_nodes.specs.Adding.{Adding, so, isEntry, isSub, addName, addItem, addItems, wordsAt, namesAt}
+use Rattle.graph_nodes.proofs.Gathering.{added}
 use Rattle.yanglib.proofs.Outcome.{nodes-named, image-here, revised-here}
 use Rattle.demands.specs.Demand3.{nameOf}
 

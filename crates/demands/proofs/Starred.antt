@@ -11,36 +11,36 @@ use Rattle.text.specs.Due.{dueNumber, dueHere, dueAt}
 use Rattle.text.specs.Keyword.{startsIdent, endsKeyword, same, part, keywordAt, matchAt, orMatch}
 use Rattle.text.specs.Scan.{inIdent, inRun, span, runEnd, pairAt, closing, blockEnd, commentEnd, afterWhite, gapTurn, gapEnd}
 use Rattle.text.specs.Turns.{turns}
-use Rattle.value.specs.Argument.{argumentOf, argumentAt, afterDue, afterArgument, lineAt}
-use Rattle.value.specs.Str.{escaped, escapes, strEnd, strBytes, closedBy, strAt}
-use Rattle.value.specs.Value.{isQuote, startsName, addedBy, afterPlus, afterGap, moreAt, addTo, joinTurn, joinedWith, joined as joinedValue, ofString, valueHere, valueAt, valueBytes}
-use Rattle.skip.specs.Skip.{closedToken, tokenHere, tokenAt, tokenEnd}
-use Rattle.skip.specs.Statement.{closes, quotedLen, quotedEnd, atSemicolon, atClose, partOf, partAt, ofPart, statementTurn, statementFrom, statementAt, endedAt}
-use Rattle.buffers.specs.Lent.{lentAt}
-use Rattle.newest.specs.Newest.{newer, newestFrom, newest, less}
-use Rattle.header.specs.Header.{pastStatement, dueFor, afterRevision, afterValue as afterHeaderValue, passed, kept, withRest, fieldAt, laterPrefix, statementSaid, tagSaid, saidHere, saidAt}
-use Rattle.header.specs.Tag.{dataAt, lastTag, orTag, tagAt}
-use Rattle.metadata.specs.Metadata as Metadata
-use Rattle.metadata.specs.Metadata.{told, firstOf, valuesOf, ended, afterHeard, metadataTurn, metadata}
-use Rattle.imports.specs.Block.{orRevision, orPrefix, lineKind, withPrefix, withRevision, afterKind, insideHere, insideAt, afterInside, blockTurn, blockFrom, blockAt}
-use Rattle.imports.specs.Statement.{ofBody, importOf, withName, afterName, importAt, includeOf, plainOf, blockOf, openOrPlain, afterValue, includeAt}
+use Rattle.text_value.specs.Argument.{argumentOf, argumentAt, afterDue, afterArgument, lineAt}
+use Rattle.text_value.specs.Str.{escaped, escapes, strEnd, strBytes, closedBy, strAt}
+use Rattle.text_value.specs.Value.{isQuote, startsName, addedBy, afterPlus, afterGap, moreAt, addTo, joinTurn, joinedWith, joined as joinedValue, ofString, valueHere, valueAt, valueBytes}
+use Rattle.text_skip.specs.Skip.{closedToken, tokenHere, tokenAt, tokenEnd}
+use Rattle.text_skip.specs.Statement.{closes, quotedLen, quotedEnd, atSemicolon, atClose, partOf, partAt, ofPart, statementTurn, statementFrom, statementAt, endedAt}
+use Rattle.text_lent.specs.Lent.{lentAt}
+use Rattle.scan_newest.specs.Newest.{newer, newestFrom, newest, less}
+use Rattle.scan_header.specs.Header.{pastStatement, dueFor, afterRevision, afterValue as afterHeaderValue, passed, kept, withRest, fieldAt, laterPrefix, statementSaid, tagSaid, saidHere, saidAt}
+use Rattle.scan_header.specs.Tag.{dataAt, lastTag, orTag, tagAt}
+use Rattle.scan_metadata.specs.Metadata as Metadata
+use Rattle.scan_metadata.specs.Metadata.{told, firstOf, valuesOf, ended, afterHeard, metadataTurn, metadata}
+use Rattle.scan_imports.specs.Block.{orRevision, orPrefix, lineKind, withPrefix, withRevision, afterKind, insideHere, insideAt, afterInside, blockTurn, blockFrom, blockAt}
+use Rattle.scan_imports.specs.Statement.{ofBody, importOf, withName, afterName, importAt, includeOf, plainOf, blockOf, openOrPlain, afterValue, includeAt}
 use Rattle.yangparser.specs.Dependencies.{joined, importStep, includeStep, unlessFull, importHere, includeHere, movedTo, wordStep, stepHere, stepAt, Scan, good, bad, afterStep, scanTurn, scanFrom, scanned, ifFit, dependencies}
 use Rattle.yangparser.specs.Word.{lastAt, orWord, wordAt}
-use Rattle.form.specs.Form.{groups, numberAt, many, printableAt, nameBody, nameAt}
-use Rattle.index.specs.Names.{among, addAll, newName}
-use Rattle.image.specs.Image.{countAt, counted, moduleAt, importOnlyAt, setAt, libraryAt, imageAt}
-use Rattle.image.specs.Library.{modulesOf, importOnlyOf, submodulesOf}
-use Rattle.items.specs.Items.{libraryOf}
-use Rattle.bundle.specs.Bundle.{bodyAt, filedAt, textsAt, bundleAt, lookUp}
-use Rattle.bundle.specs.Reading.{longestOf, longestText}
-use Rattle.rows.specs.Span.{valueIn}
-use Rattle.texts.specs.Texts.{importNames, includeNames, scanText, textOf}
+use Rattle.library_form.specs.Form.{groups, numberAt, many, printableAt, nameBody, nameAt}
+use Rattle.library_index.specs.Names.{among, addAll, newName}
+use Rattle.library_image.specs.Image.{countAt, counted, moduleAt, importOnlyAt, setAt, libraryAt, imageAt}
+use Rattle.library_image.specs.Library.{modulesOf, importOnlyOf, submodulesOf}
+use Rattle.library_items.specs.Items.{libraryOf}
+use Rattle.library_bundle.specs.Bundle.{bodyAt, filedAt, textsAt, bundleAt, lookUp}
+use Rattle.library_bundle.specs.Reading.{longestOf, longestText}
+use Rattle.scan_rows.specs.Span.{valueIn}
+use Rattle.graph_texts.specs.Texts.{importNames, includeNames, scanText, textOf}
 use Rattle.graph.specs.Nodes.{addGroups, nodesBy}
 use Rattle.graph.specs.Graph.{textSteps, memE, addBy, run, walkFrom, graphOf}
 use Rattle.graph.specs.Numbers.{numberOf}
-use Rattle.nodes.specs.Adding.{wordsAt}
+use Rattle.graph_nodes.specs.Adding.{wordsAt}
 use Rattle.yanglib.specs.ToGraph.{Lengths, tooShort, Result, graphed, nodeWords, rowWords}
-use Rattle.words.specs.Words.{graphWords, recordWords}
+use Rattle.host_words.specs.Words.{graphWords, recordWords}
 
 -- D: a text, and number, keyword, position, import rows and include rows
 -- M: a text, and number, keyword, position, mark, start and length of each of the six values, and the bytes stored

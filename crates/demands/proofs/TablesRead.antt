@@ -5,11 +5,11 @@ use mathlib.Core.Path.{_≡_, refl, sym, ap, ap₂, _∙_}
 use mathlib.Core.List.{List, [], _∷_, _++_, map}
 use native.Mathlib.Omega.{arith}
 use lib.ListN.{length, getD}
-use Rattle.buffers.specs.Padded.{padded}
-use Rattle.form.specs.Form.{Word}
-use Rattle.image.specs.Library.{Name}
+use Rattle.text_lent.specs.Padded.{padded}
+use Rattle.library_form.specs.Form.{Word}
+use Rattle.library_image.specs.Library.{Name}
 use Rattle.graph.specs.Numbers.{Row, row}
-use Rattle.edges.specs.Edges.{rowsIn}
+use Rattle.graph_edges.specs.Edges.{rowsIn}
 use Rattle.yanglib.specs.ToGraph.{nodeWords, rowWords}
 use Rattle.demands.specs.Demand3.{nameOf, tableNames}
 

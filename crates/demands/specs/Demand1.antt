@@ -11,21 +11,21 @@ use lib.ListN.{length}
 use Rattle.text.specs.Scan.{runEnd}
 use Rattle.text.specs.declared.Refusal.{Refusal}
 use Rattle.text.specs.declared.Run.the-variants.{Low}
-use Rattle.form.specs.Form.{bad}
-use Rattle.form.specs.declared.LookUp.the-variants.{Broken}
-use Rattle.image.specs.Image.{imageAt}
-use Rattle.image.specs.Library.{Name}
-use Rattle.find.specs.Find.{findModule, findSubmodule, findImportModule}
-use Rattle.bundle.specs.Bundle.{bundleAt, lookUp, textUnder}
-use Rattle.bundle.specs.Reading.{longestText}
+use Rattle.library_form.specs.Form.{bad}
+use Rattle.library_form.specs.declared.LookUp.the-variants.{Broken}
+use Rattle.library_image.specs.Image.{imageAt}
+use Rattle.library_image.specs.Library.{Name}
+use Rattle.library_find.specs.Find.{findModule, findSubmodule, findImportModule}
+use Rattle.library_bundle.specs.Bundle.{bundleAt, lookUp, textUnder}
+use Rattle.library_bundle.specs.Reading.{longestText}
 use Rattle.yangparser.specs.Dependencies as Dependencies
-use Rattle.metadata.specs.Metadata as Metadata
-use Rattle.items.specs.Table.{Reads}
+use Rattle.scan_metadata.specs.Metadata as Metadata
+use Rattle.library_items.specs.Table.{Reads}
 use Rattle.graph.specs.Nodes.{passOver}
 use Rattle.graph.specs.Graph.{nought}
 use Rattle.graph.specs.Meaning.{Sound, Cause}
-use Rattle.nodes.specs.Adding.{plainAt}
-use Rattle.texts.specs.Texts.{textOf}
+use Rattle.graph_nodes.specs.Adding.{plainAt}
+use Rattle.graph_texts.specs.Texts.{textOf}
 use Rattle.yanglib.specs.ToGraph.{Lengths, tooShort, graphed}
 use Rattle.yanglib.specs.declared.Graphed.the-variants.{Built, Refused}
 

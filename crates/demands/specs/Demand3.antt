@@ -8,19 +8,19 @@ use mathlib.Core.Logic.{_↔_}
 use mathlib.Core.List.{List, [], _∷_, _++_, map, List·Memᴰ, List·Nodup, Perm}
 use lib.ListN.{length, getD, take, drop}
 use Rattle.text.specs.declared.Refusal.{Refusal}
-use Rattle.form.specs.Form.{Word}
-use Rattle.form.specs.Writer.{AllBytes}
-use Rattle.image.specs.Image.{imageAt}
-use Rattle.image.specs.Library.{Name, PlainLibrary}
-use Rattle.items.specs.Table.{Reads}
+use Rattle.library_form.specs.Form.{Word}
+use Rattle.library_form.specs.Writer.{AllBytes}
+use Rattle.library_image.specs.Image.{imageAt}
+use Rattle.library_image.specs.Library.{Name, PlainLibrary}
+use Rattle.library_items.specs.Table.{Reads}
 use Rattle.graph.specs.Nodes.{passOver, nodesOf}
 use Rattle.graph.specs.Graph.{Text, Edge, edge}
 use Rattle.graph.specs.Numbers.{Row, row}
 use Rattle.graph.specs.Meaning.{IsEdge}
 use Rattle.graph.specs.Demand3.{allNames, Once, SameEntries, Permuted}
-use Rattle.edges.specs.Edges.{rowsIn}
-use Rattle.nodes.specs.Adding.{plainAt}
-use Rattle.texts.specs.Texts.{textOf}
+use Rattle.graph_edges.specs.Edges.{rowsIn}
+use Rattle.graph_nodes.specs.Adding.{plainAt}
+use Rattle.graph_texts.specs.Texts.{textOf}
 use Rattle.yanglib.specs.ToGraph.{Lengths, Result, graphed, Graphs}
 use Rattle.yanglib.specs.declared.Graphed.the-variants.{Built, Refused}
 

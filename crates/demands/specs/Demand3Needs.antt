@@ -5,9 +5,9 @@
 use Prim.Native.Nat.{ℕ}
 use mathlib.Core.Path.{_≡_}
 use mathlib.Core.List.{List, [], _∷_}
-use Rattle.image.specs.Library.{importOnlyOf}
+use Rattle.library_image.specs.Library.{importOnlyOf}
 use Rattle.graph.specs.Demand3.{SameEntries, Permuted}
-use Rattle.nodes.specs.Adding.{plainAt}
+use Rattle.graph_nodes.specs.Adding.{plainAt}
 use Rattle.yanglib.specs.ToGraph.{Lengths, graphed}
 use Rattle.demands.specs.Demand3.{WellFormed, Alike}
 

@@ -4,10 +4,10 @@
 use mathlib.Core.Path.{_≡_}
 use mathlib.Core.Bool.{true, false}
 use mathlib.Core.List.{[]}
-use Rattle.rows.specs.Rows.{Each}
-use Rattle.rows.specs.Span.{missing, valueIn}
-use Rattle.newest.specs.Newest.{less, newest, First}
-use Rattle.metadata.specs.Metadata.{Metadata}
+use Rattle.scan_rows.specs.Rows.{Each}
+use Rattle.scan_rows.specs.Span.{missing, valueIn}
+use Rattle.scan_newest.specs.Newest.{less, newest, First}
+use Rattle.scan_metadata.specs.Metadata.{Metadata}
 
 -- of what a metadata scan read
 pub record NewestIsRight (m : Metadata) : Type 0 where

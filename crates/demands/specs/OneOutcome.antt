@@ -6,21 +6,21 @@ use mathlib.Core.Path.{_≡_}
 use mathlib.Core.Bool.{Bool}
 use mathlib.Core.List.{List}
 use lib.ListN.{length}
-use Rattle.form.specs.declared.LookUp.{LookUp}
-use Rattle.image.specs.Image.{imageBroken, imageAt}
-use Rattle.library.specs.Reading.{done, readSeen}
-use Rattle.library.specs.declared.Read.{Read}
-use Rattle.find.specs.Find.{findModule, findSubmodule, findImportModule}
-use Rattle.bundle.specs.Bundle.{bundleBroken, lookUp, textUnder}
+use Rattle.library_form.specs.declared.LookUp.{LookUp}
+use Rattle.library_image.specs.Image.{imageBroken, imageAt}
+use Rattle.library_read.specs.Reading.{done, readSeen}
+use Rattle.library_read.specs.declared.Read.{Read}
+use Rattle.library_find.specs.Find.{findModule, findSubmodule, findImportModule}
+use Rattle.library_bundle.specs.Bundle.{bundleBroken, lookUp, textUnder}
 use Rattle.yangparser.specs.Promises as Dependencies
 use Rattle.yangparser.specs.declared.Parsed.{Parsed}
-use Rattle.page.specs.Page.{Prints}
-use Rattle.page.specs.declared.Page.{Page}
-use Rattle.metadata.specs.Promises as Metadata
-use Rattle.metadata.specs.declared.YangModuleMetadata.{YangModuleMetadata}
+use Rattle.scan_page.specs.Page.{Prints}
+use Rattle.scan_page.specs.declared.Page.{Page}
+use Rattle.scan_metadata.specs.Promises as Metadata
+use Rattle.scan_metadata.specs.declared.YangModuleMetadata.{YangModuleMetadata}
 use Rattle.nuvaleta.specs.Host.{DependenciesAnswered, PrintedAnswered}
 use Rattle.nuvaleta.specs.Record.{MetadataAnswered}
-use Rattle.words.specs.Words.{toldWords}
+use Rattle.host_words.specs.Words.{toldWords}
 use Rattle.nuvaleta.specs.Finds.{Told}
 use Rattle.nuvaleta.specs.Graphs.{GraphAnswered}
 use Rattle.yanglib.specs.ToGraph.{lengthsOf, Graphs}

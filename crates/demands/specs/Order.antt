@@ -1,6 +1,6 @@
 -- The order of registration, beside the words of the request. A graph has n nodes, the numbers below n, and edges es; `row u v` is the edge from u to v.
--- What is computed is defined where code promises it: `taken` the order (crate taking), `ringOf` the cycle that is written out (crate ring), `placeOf` the
--- answer of the check (crate places). Here stands what these are, said by edges alone.
+-- What is computed is defined where code promises it: `taken` the order (crate order_take), `ringOf` the cycle that is written out (crate order_ring), `placeOf` the
+-- answer of the check (crate order_places). Here stands what these are, said by edges alone.
 -- Assumes nothing.
 use Prim.Native.Nat.{ℕ, zero, suc, _+_, _-_, _≤_, _<_}
 use mathlib.Core.Path.{_≡_}
@@ -8,12 +8,12 @@ use mathlib.Core.Bool.{true, false}
 use mathlib.Core.List.{List, [], _∷_, _++_, List·Nodup, Perm}
 use lib.ListN.{length, getD, take}
 use Rattle.graph.specs.Numbers.{Row, row, memR}
-use Rattle.tables.specs.Free.{mem}
-use Rattle.tables.specs.Tables.{allWithin}
-use Rattle.taking.specs.Taking.{taken}
-use Rattle.ring.specs.Ring.{until, ringOf}
-use Rattle.places.specs.Places.{placeOf}
-use Rattle.places.specs.declared.Place.the-variants.{Right, WrongAt}
+use Rattle.order_tables.specs.Free.{mem}
+use Rattle.order_tables.specs.Tables.{allWithin}
+use Rattle.order_take.specs.Taking.{taken}
+use Rattle.order_ring.specs.Ring.{until, ringOf}
+use Rattle.order_places.specs.Places.{placeOf}
+use Rattle.order_places.specs.declared.Place.the-variants.{Right, WrongAt}
 
 -- ---- edges and chains of edges
 

@@ -7,17 +7,17 @@ use mathlib.Core.Bool.{true, false}
 use mathlib.Core.Logic.{_↔_}
 use mathlib.Core.List.{List, []}
 use lib.ListN.{length, getD, take}
-use Rattle.form.specs.Writer.{AllBytes}
+use Rattle.library_form.specs.Writer.{AllBytes}
 use Rattle.graph.specs.Meaning.{IsEdge}
-use Rattle.edges.specs.Edges.{rowsIn}
-use Rattle.nodes.specs.Adding.{plainAt}
-use Rattle.texts.specs.Texts.{textOf}
+use Rattle.graph_edges.specs.Edges.{rowsIn}
+use Rattle.graph_nodes.specs.Adding.{plainAt}
+use Rattle.graph_texts.specs.Texts.{textOf}
 use Rattle.yanglib.specs.ToGraph.{Graphs}
 use Rattle.yanglib.specs.declared.Graphed.the-variants.{Built}
-use Rattle.tables.specs.Tables.{fits}
-use Rattle.tables.specs.Free.{mem}
-use Rattle.taking.specs.Taking.{taken}
-use Rattle.ring.specs.Ring.{until}
+use Rattle.order_tables.specs.Tables.{fits}
+use Rattle.order_tables.specs.Free.{mem}
+use Rattle.order_take.specs.Taking.{taken}
+use Rattle.order_ring.specs.Ring.{until}
 use Rattle.order.specs.Order.{orderOf, checked, checkOf}
 use Rattle.demands.specs.Demand3.{named, tableNames}
 use Rattle.demands.specs.Order.{Returns, Valid, First, LowestGood, BackCycle, FirstWrong}

@@ -5,7 +5,7 @@ use mathlib.Core.Bool.{true}
 use mathlib.Core.List.{List}
 use Prim.Native.Nat.{ℕ}
 use Rattle.text.specs.Turns.{after}
-use Rattle.value.specs.Value.{value, valueAt}
+use Rattle.text_value.specs.Value.{value, valueAt}
 use Rattle.demands.specs.Rfc.{reads, first, separator, pastGap, gapAt, plusAndString, moreStrings, trimmed, rfcValue}
 use Rattle.demands.specs.RfcDomain.{oneLine, plainAt, legalAt}
 use Rattle.demands.specs.RfcQuoted.{Quoted}

@@ -11,8 +11,8 @@ use lib.Dec.{eqb}
 use Rattle.text.specs.Bytes.{tab, newline, space, quote, star, plus, slash, look}
 use Rattle.text.specs.Keyword.{part}
 use Rattle.text.specs.Scan.{gapEnd}
-use Rattle.value.specs.Str.{whole, strAt}
-use Rattle.value.specs.Value.{isQuote}
+use Rattle.text_value.specs.Str.{whole, strAt}
+use Rattle.text_value.specs.Value.{isQuote}
 use Rattle.demands.specs.Rfc.{areAt, toLineEnd, commentClose}
 use Rattle.demands.specs.RfcDomain.{oneLine, legal}
 

@@ -24,7 +24,7 @@ fn say(s: &[u8]) {
     let mut imports = [0u32; 1792];
     let mut includes = [0u32; 1280];
     let mut page = [0u8; 39712];
-    let printed = page::print_yang_dependencies(
+    let printed = scan_page::print_yang_dependencies(
         s,
         &mut store,
         &mut imports,
@@ -38,7 +38,7 @@ fn say(s: &[u8]) {
             includes: _,
             used: _,
         } => {
-            io::write_all(STDOUT_FILENO, buffers::first(&page, printed.length));
+            io::write_all(STDOUT_FILENO, text_lent::first(&page, printed.length));
         }
         Parsed::Refused(r) => {
             say_refused(r);
@@ -53,5 +53,5 @@ fn main() {
         io::write_all(STDOUT_FILENO, b"input too long\n");
         return;
     }
-    say(buffers::first(&input, n));
+    say(text_lent::first(&input, n));
 }

@@ -11,7 +11,7 @@ use native.Mathlib.Omega.{arith}
 use lib.ListN.{length}
 use lib.Dec.{ltb}
 use borrow.Author.Tests.{ltb-true, ltb-false, le-ltb}
-use Rattle.image.specs.Library.{Name, PlainLibrary}
+use Rattle.library_image.specs.Library.{Name, PlainLibrary}
 use Rattle.graph.specs.Nodes.{Mode, nodesOf}
 use Rattle.graph.specs.Graph.{ScanAnswer, nought, Text, tooManyNodes, Edge, edge, Step, arc, stop, Entry, entries, entrySteps, world, graph, fault, walkOf, graphOf}
 use Rattle.graph.specs.Numbers.{rowOf}

@@ -8,7 +8,7 @@ use mathlib.Core.Bool.{Bool, true, false, cond}
 use mathlib.Core.List.{List, [], _∷_, _++_, map, map-append, List·Memᴰ, List·Memᴰ·head, List·Memᴰ·tail, List·Memᴰ·append-cases, List·Memᴰ·eq-of-singleton, List·Memᴰ·not-nil}
 use lib.ListN.{length}
 use lib.Dec.{leb}
-use Rattle.image.specs.Library.{Name, PlainLibrary}
+use Rattle.library_image.specs.Library.{Name, PlainLibrary}
 use Rattle.graph.specs.Nodes.{Mode, nodesOf}
 use Rattle.graph.specs.Graph.{nought, Text, missing, refusing, deps, noEntryText, noIncludedText, unknownModule, unknownSubmodule, noNode, tooDeep, tooManyEdges, deepest, Edge, edge, memE, World, Entry, entries, entrySteps, world, Out, built, refused, thenO, addBy, run, fault, onOut, walkFrom, walkOf}
 use Rattle.graph.specs.Numbers.{numberOf, Row, rowOf, addRow, moduleCode, submoduleCode, codesOf, eachO, importCode, givenCode, includeCode, visitCodes, walkCodes, walkEntryCodes, Drawing, drawn, faulty, drawFrom, codesAt, entryCode, drawingIn, drawingOf, numbered}

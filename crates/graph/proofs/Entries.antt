@@ -4,7 +4,7 @@ use mathlib.Core.Path.{_≡_, sym, ap}
 use mathlib.Core.Logic.{_⊎_, inl, inr, ⊎-elim}
 use mathlib.Core.Bool.{true}
 use mathlib.Core.List.{map, List·Memᴰ, List·Memᴰ·append-cases, Memᴰ·append-left, Memᴰ·append-right, Memᴰ·cast, Memᴰ·map, Memᴰ·of-map}
-use Rattle.image.specs.Library.{Name, PlainModule, PlainImportOnly, PlainSet, PlainLibrary, modulesOf, importOnlyOf}
+use Rattle.library_image.specs.Library.{Name, PlainModule, PlainImportOnly, PlainSet, PlainLibrary, modulesOf, importOnlyOf}
 use Rattle.graph.specs.Nodes.{Mode, nodesOf, memb}
 use Rattle.graph.specs.Graph.{Entry, moduleEntry, importEntry, setEntries, entries, entryNames}
 use Rattle.graph.specs.Meaning.{Revised}

@@ -5,8 +5,8 @@ use mathlib.Core.List.{List, [], _∷_, map, flatMap}
 use mathlib.Core.Bool.{cond}
 use Prim.Native.Nat.{ℕ}
 use Rattle.text.specs.Keyword.{same}
-use Rattle.image.specs.Library.{Name, PlainModule, PlainImportOnly, PlainSet, PlainLibrary, modulesOf, importOnlyOf, submodulesOf}
-use Rattle.index.specs.Names.{among, addAll}
+use Rattle.library_image.specs.Library.{Name, PlainModule, PlainImportOnly, PlainSet, PlainLibrary, modulesOf, importOnlyOf, submodulesOf}
+use Rattle.library_index.specs.Names.{among, addAll}
 use Rattle.graph.specs.Nodes.{passOver, addGroups, nodesBy}
 use Rattle.graph.specs.Graph.{ScanAnswer, nought, Text, missing, refusing, deps, noEntryText, noIncludedText, scanRefused, unknownModule, unknownSubmodule, noNode, tooDeep, tooManyNodes, tooManyEdges, textSteps, edge, memE, addBy, run, Graph, graph, fault, walkFrom, graphOf}
 use Rattle.graph.specs.Numbers.{numberOf, row, memR, eachO, walkCodes, walkEntryCodes, drawn, drawFrom, codesAt, drawingIn, drawingOf}

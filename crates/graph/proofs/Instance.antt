@@ -7,8 +7,8 @@ use mathlib.Core.HLevel.{⊥-prop}
 use mathlib.Core.Bool.{Bool, true, false, cond}
 use mathlib.Mathlib.Data.List.Nodup.{cons as nodup-cons}
 use Rattle.text.specs.Keyword.{same}
-use Rattle.image.specs.Library.{Name, PlainModule, PlainImportOnly, PlainLibrary, modulesOf, importOnlyOf, submodulesOf}
-use Rattle.index.specs.Names.{among, addAll}
+use Rattle.library_image.specs.Library.{Name, PlainModule, PlainImportOnly, PlainLibrary, modulesOf, importOnlyOf, submodulesOf}
+use Rattle.library_index.specs.Names.{among, addAll}
 use Rattle.graph.specs.Nodes.{passOver, addGroups, nodesBy, memb}
 use Rattle.graph.specs.Graph.{Text, deps, textSteps, edge, memE, addBy, run, graph, walkFrom, graphOf}
 use Rattle.graph.specs.Demand3.{allNames, Once, Permuted, Agree}

@@ -7,7 +7,7 @@ use mathlib.Core.Logic.{_⊎_, ⊎-elim}
 use mathlib.Core.Bool.{Bool, true, false, cond}
 use Prim.Native.Nat.{ℕ, zero, suc}
 use native.Mathlib.Omega.{arith}
-use Rattle.image.specs.Library.{Name, PlainModule, PlainLibrary, modulesOf}
+use Rattle.library_image.specs.Library.{Name, PlainModule, PlainLibrary, modulesOf}
 use Rattle.graph.specs.Nodes.{Mode, nodesOf}
 use Rattle.graph.specs.Graph.{ScanAnswer, nought, Text, missing, refusing, deps, noEntryText, noIncludedText, unknownModule, unknownSubmodule, noNode, tooDeep, deepest, Edge, edge, Step, arc, stop, halt, World, imported, given, included, reading, textSteps, Entry, entries, entrySteps, entryNames, world}
 use Rattle.graph.specs.Meaning.{Imports, Includes, Reads, entry, included as included-by, IsEdge, imports, includes, augments, deviates}

@@ -10,8 +10,8 @@ use mathlib.Mathlib.Data.List.Nodup.{concat as nodup-snoc, of-append-right, disj
 use Prim.Native.Nat.{_≤_}
 use native.Mathlib.Omega.{arith}
 use lib.ListN.{length, length-append}
-use Rattle.image.specs.Library.{Name, PlainModule, PlainImportOnly, PlainSet, PlainLibrary, modulesOf, importOnlyOf}
-use Rattle.index.specs.Names.{among, addNew, addAll}
+use Rattle.library_image.specs.Library.{Name, PlainModule, PlainImportOnly, PlainSet, PlainLibrary, modulesOf, importOnlyOf}
+use Rattle.library_index.specs.Names.{among, addNew, addAll}
 use Rattle.graph.specs.Nodes.{Mode, passOver, Group, moduleGroup, revisionGroups, setGroups, groups, addGroup, addGroups, nodesBy, itself, nodesOf, memb}
 use Rattle.graph.specs.Graph.{entryNames}
 use Rattle.graph.specs.Meaning.{Revised}

@@ -13,7 +13,7 @@ use lib.Dec.{eqb}
 use borrow.Author.Tests.{eqb-true, eq-eqb}
 use Rattle.text.specs.Keyword.{same}
 use Rattle.text.proofs.KeywordLaws.{same-eq}
-use Rattle.image.specs.Library.{Name}
+use Rattle.library_image.specs.Library.{Name}
 use Rattle.graph.specs.Graph.{Edge, edge, memE}
 use Rattle.graph.specs.Numbers.{numberOf, Row, row, rowOf, eqR, memR}
 use Rattle.graph.proofs.Tests.{both-bools, same-refl, memE-mem, mem-memE, edgeᴰ}

@@ -7,7 +7,7 @@ use mathlib.Core.Logic.{∥∥₁-map, ∥∥₁-elim, ∥∥₁-prop}
 use mathlib.Core.HLevel.{⊥-prop}
 use Prim.Native.Nat.{ℕ}
 use native.Mathlib.Omega.{arith}
-use Rattle.image.specs.Library.{Name, PlainLibrary, modulesOf, importOnlyOf}
+use Rattle.library_image.specs.Library.{Name, PlainLibrary, modulesOf, importOnlyOf}
 use Rattle.graph.specs.Nodes.{Mode, moduleGroup, revisionGroups, setGroups, groups}
 use Rattle.graph.specs.Graph.{Text, graphOf}
 use Rattle.graph.specs.Demand3.{groupNames, Once, Within, Permuted, Agree}

@@ -4,10 +4,10 @@ use mathlib.Core.Path.{_≡_, refl, sym, ap, ap₂, _∙_}
 use mathlib.Core.Bool.{_||_}
 use mathlib.Core.List.{List, [], _∷_, _++_, map, map-append, flatMap}
 use Rattle.text.specs.Keyword.{same}
-use Rattle.form.specs.Form.{Word}
-use Rattle.image.specs.Library.{Name, Module, ImportOnly, PlainModule, PlainImportOnly, Library, plainName, plainModule, plainImportOnly, plain, modulesOf, importOnlyOf, submodulesOf}
-use Rattle.index.specs.Names.{among}
-use Rattle.index.proofs.First.{among-append, among-map}
+use Rattle.library_form.specs.Form.{Word}
+use Rattle.library_image.specs.Library.{Name, Module, ImportOnly, PlainModule, PlainImportOnly, Library, plainName, plainModule, plainImportOnly, plain, modulesOf, importOnlyOf, submodulesOf}
+use Rattle.library_index.specs.Names.{among}
+use Rattle.library_index.proofs.First.{among-append, among-map}
 use Rattle.graph.specs.Nodes.{itself, memb}
 use Rattle.graph.specs.Graph.{EntryOf, Entry, moduleEntry, importEntry, setEntries, entries, entryNames, submoduleNames}
 use Rattle.graph.proofs.WordNodes.{among-names}

@@ -6,12 +6,12 @@ use mathlib.Core.Logic.{⊎-elim}
 use mathlib.Core.List.{List, [], _∷_, _++_, List·Memᴰ, List·Memᴰ·head, List·Memᴰ·cases-cons, List·Memᴰ·not-nil}
 use native.Mathlib.Omega.{arith}
 use lib.ListN.{length}
-use Rattle.form.specs.Form.{good}
-use Rattle.form.specs.Writer.{AllBytes}
-use Rattle.image.specs.Image.{imageAt}
-use Rattle.image.specs.ImageWriter.{EachOf, FormedSet, FormedImportOnly, Formed}
-use Rattle.image.specs.Library.{PlainLibrary, Library, plain}
-use Rattle.image.proofs.ImageLaws.{image-formed}
+use Rattle.library_form.specs.Form.{good}
+use Rattle.library_form.specs.Writer.{AllBytes}
+use Rattle.library_image.specs.Image.{imageAt}
+use Rattle.library_image.specs.ImageWriter.{EachOf, FormedSet, FormedImportOnly, Formed}
+use Rattle.library_image.specs.Library.{PlainLibrary, Library, plain}
+use Rattle.library_image.proofs.ImageLaws.{image-formed}
 use Rattle.graph.specs.Meaning.{Revised}
 use Rattle.graph.proofs.Sets.{importOnly-out}
 

@@ -12,7 +12,7 @@ use native.Mathlib.Omega.{arith}
 use lib.ListN.{length, length-append}
 use lib.Dec.{leb}
 use borrow.Author.Tests.{leb-true, leb-false}
-use Rattle.image.specs.Library.{Name}
+use Rattle.library_image.specs.Library.{Name}
 use Rattle.graph.specs.Graph.{ScanAnswer, nought, Edge, memE, Step, arc, stop, tooManyEdges, Out, built, refused, thenO, addBy, step, run, graph, fault, onOut, walkFrom}
 use Rattle.graph.proofs.Tests.{both-bools, memE-mem, mem-memE}
 

@@ -2,7 +2,7 @@
 -- Assumes nothing.
 use mathlib.Core.Path.{_≡_, refl, sym, ap, subst}
 use mathlib.Core.List.{List, [], _∷_, _++_, flatMap, List·Memᴰ}
-use Rattle.image.specs.Library.{ModuleOf, ImportOnlyOf, SetOf, LibraryOf, modulesOf, importOnlyOf, submodulesOf}
+use Rattle.library_image.specs.Library.{ModuleOf, ImportOnlyOf, SetOf, LibraryOf, modulesOf, importOnlyOf, submodulesOf}
 use Rattle.graph.proofs.Tests.{each-in, each-out}
 
 module _ {A : Type 0} where

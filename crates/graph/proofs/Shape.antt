@@ -5,7 +5,7 @@ use mathlib.Core.Path.{_≡_, refl, sym, ap, _∙_}
 use mathlib.Core.List.{List, [], _∷_, flatMap}
 use mathlib.Core.Bool.{Bool, true, false, cond}
 use Prim.Native.Nat.{ℕ, zero, suc}
-use Rattle.image.specs.Library.{Name}
+use Rattle.library_image.specs.Library.{Name}
 use Rattle.graph.specs.Graph.{nought, Text, missing, refusing, deps, noEntryText, noIncludedText, scanRefused, unknownModule, unknownSubmodule, noNode, tooDeep, deepest, Edge, edge, memE, Step, arc, halt, World, imported, given, included, reading, textSteps, Entry, entrySteps, Out, built, refused, thenO, addBy, run}
 use Rattle.graph.proofs.Runs.{run-append}
 

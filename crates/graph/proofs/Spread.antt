@@ -11,7 +11,7 @@ use native.Mathlib.Omega.{arith}
 use native.Mathlib.Nat.{ℕ-set}
 use lib.ListN.{length}
 use lib.Dec.{ltb}
-use Rattle.image.specs.Library.{Name, PlainModule, PlainImportOnly, PlainLibrary, modulesOf, importOnlyOf}
+use Rattle.library_image.specs.Library.{Name, PlainModule, PlainImportOnly, PlainLibrary, modulesOf, importOnlyOf}
 use Rattle.graph.specs.Nodes.{Mode, Group, groups, nodesOf, memb}
 use Rattle.graph.specs.Graph.{nought, Text, noEntryText, tooManyNodes, deepest, Edge, Step, arc, stop, World, given, textSteps, Entry, moduleEntry, importEntry, entries, entrySteps, entryNames, submoduleNames, world, Graph, graph, fault, walkOf, graphOf}
 use Rattle.graph.specs.Demand3.{groupNames, allNames, Once, AlikeModule, AlikeImport, Within, SameEntries, Agree, both-refused, both-built}

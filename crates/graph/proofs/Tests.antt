@@ -6,8 +6,8 @@ use mathlib.Core.Bool.{Bool, true, false, cond, _&&_, _||_, true≢false, Bool-s
 use mathlib.Core.List.{List, [], _∷_, _++_, append-assoc, flatMap, List·Mem, List·Memᴰ, List·Memᴰ·head, List·Memᴰ·tail, List·Memᴰ·append-cases, List·Memᴰ·not-nil, Memᴰ·append-left, Memᴰ·append-right}
 use Rattle.text.specs.Keyword.{same}
 use Rattle.text.proofs.KeywordLaws.{same-eq, same-yes}
-use Rattle.image.specs.Library.{Name}
-use Rattle.index.specs.Names.{among}
+use Rattle.library_image.specs.Library.{Name}
+use Rattle.library_index.specs.Names.{among}
 use Rattle.graph.specs.Nodes.{memb}
 use Rattle.graph.specs.Graph.{Edge, eqE, memE}
 

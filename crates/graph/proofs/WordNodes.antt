@@ -4,10 +4,10 @@ use mathlib.Core.Path.{_≡_, refl, sym, ap, ap₂, _∙_}
 use mathlib.Core.Bool.{Bool, true, false, cond, _||_}
 use mathlib.Core.List.{List, [], _∷_, _++_, map, map-append, flatMap}
 use Rattle.text.specs.Keyword.{same}
-use Rattle.form.specs.Form.{Word}
-use Rattle.image.specs.Library.{Name, Module, ImportOnly, Library, plainName, plainModule, plainImportOnly, plain}
-use Rattle.index.specs.Names.{among, addNew, addAll}
-use Rattle.index.proofs.First.{among-map}
+use Rattle.library_form.specs.Form.{Word}
+use Rattle.library_image.specs.Library.{Name, Module, ImportOnly, Library, plainName, plainModule, plainImportOnly, plain}
+use Rattle.library_index.specs.Names.{among, addNew, addAll}
+use Rattle.library_index.proofs.First.{among-map}
 use Rattle.graph.specs.Nodes.{Mode, passOver, Group, moduleGroup, revisionGroups, setGroups, groups, addGroup, addGroups, nodesBy, itself, memb, wordNodes, nodesOf}
 
 abbrev texts : List Word → List Name

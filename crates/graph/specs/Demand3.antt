@@ -6,7 +6,7 @@ use mathlib.Core.Path.{_≡_}
 use mathlib.Core.Logic.{_↔_}
 use mathlib.Core.List.{List, [], _∷_, map, flatMap, flatten, List·Memᴰ, List·Nodup, Perm}
 use lib.ListN.{length}
-use Rattle.image.specs.Library.{Name, PlainModule, PlainImportOnly, PlainLibrary, modulesOf, importOnlyOf}
+use Rattle.library_image.specs.Library.{Name, PlainModule, PlainImportOnly, PlainLibrary, modulesOf, importOnlyOf}
 use Rattle.graph.specs.Nodes.{Mode, Group, groups, nodesOf}
 use Rattle.graph.specs.Graph.{ScanAnswer, Text, Edge, edge, Graph, graph, fault, graphOf}
 use Rattle.graph.specs.Numbers.{numberOf, Row, row, rowOf}

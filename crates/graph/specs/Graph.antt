@@ -11,7 +11,7 @@ use lib.ListN.{length}
 use lib.Dec.{ltb, leb}
 use Rattle.text.specs.Keyword.{same}
 use Rattle.text.specs.declared.Refusal.{Refusal}
-use Rattle.image.specs.Library.{ModuleOf, ImportOnlyOf, SetOf, Name, PlainModule, PlainImportOnly, PlainLibrary, modulesOf, importOnlyOf, submodulesOf}
+use Rattle.library_image.specs.Library.{ModuleOf, ImportOnlyOf, SetOf, Name, PlainModule, PlainImportOnly, PlainLibrary, modulesOf, importOnlyOf, submodulesOf}
 use Rattle.graph.specs.Nodes.{Mode, nodesOf, memb}
 
 -- ---- what there is under a name: no text, a text whose scan is refused, or a text and the names that it imports and includes

@@ -3,9 +3,9 @@
 -- Assumes nothing.
 use mathlib.Core.Bool.{Bool, cond}
 use mathlib.Core.List.{List, [], _∷_, _++_, map, flatMap}
-use Rattle.form.specs.Form.{Word}
-use Rattle.index.specs.Names.{among, addAll}
-use Rattle.image.specs.Library.{ModuleOf, ImportOnlyOf, SetOf, LibraryOf, Name, PlainLibrary, Library, plainName}
+use Rattle.library_form.specs.Form.{Word}
+use Rattle.library_index.specs.Names.{among, addAll}
+use Rattle.library_image.specs.Library.{ModuleOf, ImportOnlyOf, SetOf, LibraryOf, Name, PlainLibrary, Library, plainName}
 
 -- what becomes of a module whose name is already a node: it is passed over, as the Rust does
 pub data Mode : Type 0 where

@@ -6,7 +6,7 @@ use mathlib.Core.List.{List, [], _∷_, map}
 use lib.Dec.{eqb}
 use lib.ListN.{getD}
 use Rattle.text.specs.Keyword.{same}
-use Rattle.image.specs.Library.{Name, PlainLibrary}
+use Rattle.library_image.specs.Library.{Name, PlainLibrary}
 use Rattle.graph.specs.Nodes.{Mode, nodesOf}
 use Rattle.graph.specs.Graph.{ScanAnswer, nought, Text, missing, refusing, deps, noIncludedText, scanRefused, unknownModule, unknownSubmodule, noNode, tooDeep, noEntryText, deepest, Edge, World, Entry, Out, built, refused, thenO, addBy, onOut, entries, world, Graph, graph, fault}
 

@@ -1,6 +1,6 @@
 // Replays recorded finds of the Rust, and answers a few questions that document 01 calls easy to get wrong.
-use form::LookUp;
 use libc::STDOUT_FILENO;
+use library_form::LookUp;
 
 fn is_word(n: usize, word: u32) -> bool {
     n == word as usize
@@ -26,14 +26,22 @@ fn record_agrees(data: &[u8], at: usize) -> bool {
     let image = replay::field(data, at);
     let name = replay::field(data, name_at);
     let told = replay::field(data, replay::after(data, name_at));
-    if !agrees(find::find_module(image, name), replay::word(told, 0), 0) {
+    if !agrees(
+        library_find::find_module(image, name),
+        replay::word(told, 0),
+        0,
+    ) {
         return false;
     }
-    if !agrees(find::find_submodule(image, name), replay::word(told, 4), 0) {
+    if !agrees(
+        library_find::find_submodule(image, name),
+        replay::word(told, 4),
+        0,
+    ) {
         return false;
     }
     agrees(
-        find::find_import_module(image, name),
+        library_find::find_import_module(image, name),
         replay::word(told, 8),
         replay::word(told, 12),
     )
@@ -96,14 +104,14 @@ fn main() {
     replay_all(&space[..n]);
     trap(
         b"a submodule of an import-only module is not found",
-        found_nothing(find::find_submodule(b"\x01\x00\x01\x01i\x01\x01\x01s", b"s")),
+        found_nothing(library_find::find_submodule(b"\x01\x00\x01\x01i\x01\x01\x01s", b"s")),
     );
     trap(
         b"a count of sets without its sets is wrong at the end",
-        broken_at(find::find_module(b"\x01", b"m"), 1),
+        broken_at(library_find::find_module(b"\x01", b"m"), 1),
     );
     trap(
         b"an empty name is not found",
-        found_nothing(find::find_module(b"\x01\x01\x01m\x00\x00\x00\x00", b"")),
+        found_nothing(library_find::find_module(b"\x01\x01\x01m\x00\x00\x00\x00", b"")),
     );
 }

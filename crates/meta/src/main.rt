@@ -1,7 +1,7 @@
 // Reads one text from standard input and writes its metadata, a line for each value that is present, or why it is refused.
 use libc::STDIN_FILENO;
 use libc::STDOUT_FILENO;
-use rows::Span;
+use scan_rows::Span;
 use text::Refusal;
 
 // The longest input, and room for one byte more, which tells that there is more.
@@ -10,7 +10,7 @@ const MOST: usize = 131072;
 fn say_value(label: &[u8], store: &[u8], x: Span) {
     if x.present {
         io::write_all(STDOUT_FILENO, label);
-        io::write_all(STDOUT_FILENO, rows::value_in(store, x));
+        io::write_all(STDOUT_FILENO, scan_rows::value_in(store, x));
         io::write_all(STDOUT_FILENO, b"\n");
     }
 }
@@ -29,19 +29,31 @@ fn say_refused(r: Refusal) {
 
 fn say(s: &[u8]) {
     let mut store = [0u8; 131072];
-    let read = metadata::extract_yang_metadata(s, &mut store);
+    let read = scan_metadata::extract_yang_metadata(s, &mut store);
     let answer = read.answer;
     if answer.number != text::NO_REFUSAL {
         say_refused(answer);
         return;
     }
     let values = read.values;
-    say_value(b"name: ", &store, values[metadata::NAME_VALUE]);
-    say_value(b"belongs to: ", &store, values[metadata::PARENT_VALUE]);
-    say_value(b"namespace: ", &store, values[metadata::NAMESPACE_VALUE]);
-    say_value(b"prefix: ", &store, values[metadata::PREFIX_VALUE]);
-    say_value(b"first revision: ", &store, values[metadata::FIRST_VALUE]);
-    say_value(b"newest revision: ", &store, values[metadata::NEWEST_VALUE]);
+    say_value(b"name: ", &store, values[scan_metadata::NAME_VALUE]);
+    say_value(b"belongs to: ", &store, values[scan_metadata::PARENT_VALUE]);
+    say_value(
+        b"namespace: ",
+        &store,
+        values[scan_metadata::NAMESPACE_VALUE],
+    );
+    say_value(b"prefix: ", &store, values[scan_metadata::PREFIX_VALUE]);
+    say_value(
+        b"first revision: ",
+        &store,
+        values[scan_metadata::FIRST_VALUE],
+    );
+    say_value(
+        b"newest revision: ",
+        &store,
+        values[scan_metadata::NEWEST_VALUE],
+    );
 }
 
 fn main() {
@@ -51,5 +63,5 @@ fn main() {
         io::write_all(STDOUT_FILENO, b"input too long\n");
         return;
     }
-    say(buffers::first(&input, n));
+    say(text_lent::first(&input, n));
 }

@@ -11,15 +11,15 @@ use lib.ListN.{length}
 use borrow.Author.Tests.{ltb-true, ltb-false}
 use Rattle.text.specs.declared.Refusal.{Refusal}
 use Rattle.text.proofs.Here.{by-test}
-use Rattle.buffers.proofs.LentLaws.{lent-long}
-use Rattle.page.specs.declared.Page.{Page}
-use Rattle.page.specs.Page.{PageLeft}
-use Rattle.page.proofs.PageLaws.{good-sound, page-fits}
+use Rattle.text_lent.proofs.LentLaws.{lent-long}
+use Rattle.scan_page.specs.declared.Page.{Page}
+use Rattle.scan_page.specs.Page.{PageLeft}
+use Rattle.scan_page.proofs.PageLaws.{good-sound, page-fits}
 use Rattle.yangparser.specs.Dependencies.{Dependencies, none, Scan, good, bad, scanned, ifFit, dependencies, parsedOf}
 use Rattle.yangparser.specs.Promises.{Leaves}
 use Rattle.yangparser.specs.declared.Parsed.{Parsed}
 use Rattle.yangparser.proofs.KeptLaws.{entry-good, entry-refusal}
-use Rattle.words.specs.Words.{numberOf, answerWords, WordsFit}
+use Rattle.host_words.specs.Words.{numberOf, answerWords, WordsFit}
 use Rattle.nuvaleta.specs.Host.{Answered, AnsweredPage}
 
 -- ---- a word for each count and place

@@ -10,20 +10,20 @@ use lib.ListN.{length}
 use borrow.Author.Tests.{ltb-true, ltb-false}
 use Rattle.text.specs.declared.Refusal.{Refusal}
 use Rattle.text.proofs.Here.{by-test}
-use Rattle.buffers.specs.Lent.{lentAt}
-use Rattle.buffers.specs.declared.Lent.{Lent}
-use Rattle.buffers.specs.declared.Lent.the-variants.{Fit, Unfit}
-use Rattle.buffers.proofs.LentLaws.{lent-long, lent-within, fit-said}
-use Rattle.rows.specs.Rows.{Each}
-use Rattle.rows.specs.Span.{missing, Fits, Within}
-use Rattle.rows.specs.declared.Span.{Span}
-use Rattle.rows.proofs.Laws.{each-of}
-use Rattle.metadata.specs.Metadata.{valuesOf, Scan, good, bad, scanned, ifFit, metadata, refusedWith, answerOf}
-use Rattle.metadata.specs.Promises.{Leaves}
-use Rattle.metadata.specs.declared.YangModuleMetadata.{YangModuleMetadata}
-use Rattle.metadata.proofs.ScanLaws.{scan-good, scan-bad}
-use Rattle.metadata.proofs.ValuesLaws.{values-six}
-use Rattle.words.specs.Words.{recordWords}
+use Rattle.text_lent.specs.Lent.{lentAt}
+use Rattle.text_lent.specs.declared.Lent.{Lent}
+use Rattle.text_lent.specs.declared.Lent.the-variants.{Fit, Unfit}
+use Rattle.text_lent.proofs.LentLaws.{lent-long, lent-within, fit-said}
+use Rattle.scan_rows.specs.Rows.{Each}
+use Rattle.scan_rows.specs.Span.{missing, Fits, Within}
+use Rattle.scan_rows.specs.declared.Span.{Span}
+use Rattle.scan_rows.proofs.Laws.{each-of}
+use Rattle.scan_metadata.specs.Metadata.{valuesOf, Scan, good, bad, scanned, ifFit, metadata, refusedWith, answerOf}
+use Rattle.scan_metadata.specs.Promises.{Leaves}
+use Rattle.scan_metadata.specs.declared.YangModuleMetadata.{YangModuleMetadata}
+use Rattle.scan_metadata.proofs.ScanLaws.{scan-good, scan-bad}
+use Rattle.scan_metadata.proofs.ValuesLaws.{values-six}
+use Rattle.host_words.specs.Words.{recordWords}
 use Rattle.nuvaleta.specs.Record.{Described}
 
 -- ---- what an answer tells

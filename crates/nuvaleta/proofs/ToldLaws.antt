@@ -5,13 +5,13 @@ use mathlib.Core.List.{List}
 use Prim.Native.Nat.{ℕ}
 use native.Mathlib.Omega.{arith}
 use lib.ListN.{getD}
-use Rattle.form.specs.declared.LookUp.{LookUp}
-use Rattle.form.specs.declared.LookUp.the-variants.{Broken, Nothing, At}
-use Rattle.find.specs.Find.{findModule, findSubmodule, findImportModule}
-use Rattle.find.proofs.FindBounds.{PlacesIn, module-in, submodule-in, import-in}
-use Rattle.bundle.specs.Bundle.{lookUp}
-use Rattle.bundle.proofs.LookBounds.{broken-in, stands-in}
-use Rattle.words.specs.Words.{toldWords, ToldFits}
+use Rattle.library_form.specs.declared.LookUp.{LookUp}
+use Rattle.library_form.specs.declared.LookUp.the-variants.{Broken, Nothing, At}
+use Rattle.library_find.specs.Find.{findModule, findSubmodule, findImportModule}
+use Rattle.library_find.proofs.FindBounds.{PlacesIn, module-in, submodule-in, import-in}
+use Rattle.library_bundle.specs.Bundle.{lookUp}
+use Rattle.library_bundle.proofs.LookBounds.{broken-in, stands-in}
+use Rattle.host_words.specs.Words.{toldWords, ToldFits}
 use Rattle.nuvaleta.specs.Finds.{Told}
 
 -- ---- what is told fits its words

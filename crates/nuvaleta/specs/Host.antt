@@ -6,11 +6,11 @@ use mathlib.Core.Bool.{false}
 use mathlib.Core.Path.{_≡_}
 use mathlib.Core.List.{List, [], _∷_, _++_}
 use lib.ListN.{length}
-use Rattle.buffers.specs.Padded.{padded}
-use Rattle.page.specs.Page.{pageOf}
+use Rattle.text_lent.specs.Padded.{padded}
+use Rattle.scan_page.specs.Page.{pageOf}
 use Rattle.yangparser.specs.Dependencies.{Scan, tooShort, pageShort, dependencies, parsedOf}
 use Rattle.yangparser.specs.Promises.{Leaves}
-use Rattle.words.specs.Words.{numberOf, answerWords}
+use Rattle.host_words.specs.Words.{numberOf, answerWords}
 
 -- the answer to a scan x, beside what it leaves
 pub record Answered (x : Scan) (d t u : List ℕ) (r : ℕ) (e f g a : List ℕ) : Type 0 where

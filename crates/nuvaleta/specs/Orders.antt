@@ -5,7 +5,7 @@ use Prim.Native.Nat.{ℕ}
 use mathlib.Core.Path.{_≡_}
 use mathlib.Core.List.{List, [], _∷_}
 use lib.ListN.{length}
-use Rattle.buffers.specs.Padded.{padded}
+use Rattle.text_lent.specs.Padded.{padded}
 use Rattle.order.specs.declared.Checked.{Checked}
 use Rattle.order.specs.Order.{Sorted, orderOf, checkOf}
 use Rattle.nuvaleta.specs.Finds.{Told}

@@ -6,9 +6,9 @@ use mathlib.Core.Path.{_≡_}
 use mathlib.Core.List.{List, [], _∷_}
 use lib.Dec.{ltb}
 use lib.ListN.{length}
-use Rattle.buffers.specs.Padded.{padded}
-use Rattle.words.specs.Words.{recordWords}
-use Rattle.metadata.specs.Metadata.{Scan, metadata, answerOf, keptOf}
+use Rattle.text_lent.specs.Padded.{padded}
+use Rattle.host_words.specs.Words.{recordWords}
+use Rattle.scan_metadata.specs.Metadata.{Scan, metadata, answerOf, keptOf}
 
 -- the answer to a scan x; d and e: the store at entry and exit, w: the record, a: the answer
 pub record Described (x : Scan) (d : List ℕ) (r : ℕ) (e w a : List ℕ) : Type 0 where

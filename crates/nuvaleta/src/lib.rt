@@ -1,9 +1,9 @@
 // What a C or Rust host calls, as include/nuvaleta.h declares it: one function a call, with the promises of the function that it calls.
 ghost use Rattle.nuvaleta.specs.Host.{DependenciesAnswered, PrintedAnswered};
-ghost use Rattle.image.specs.Image.{imageBroken};
-ghost use Rattle.bundle.specs.Bundle.{bundleBroken, lookUp};
-ghost use Rattle.find.specs.Find.{findModule, findSubmodule, findImportModule};
-ghost use Rattle.words.specs.Words.{toldWords};
+ghost use Rattle.library_image.specs.Image.{imageBroken};
+ghost use Rattle.library_bundle.specs.Bundle.{bundleBroken, lookUp};
+ghost use Rattle.library_find.specs.Find.{findModule, findSubmodule, findImportModule};
+ghost use Rattle.host_words.specs.Words.{toldWords};
 ghost use Rattle.nuvaleta.specs.Finds.{Told};
 ghost use Rattle.nuvaleta.specs.Graphs.{GraphAnswered};
 ghost use Rattle.nuvaleta.specs.Orders.{OrderAnswered, CheckAnswered};
@@ -21,8 +21,8 @@ pub extern "C" fn nuvaleta_dependencies(
     ensures { λ r. ⌜ DependenciesAnswered (now (text .entry)) (now (store .entry)) (now (imports .entry)) (now (includes .entry)) r (now (store .exit)) (now (imports .exit)) (now (includes .exit)) (now (answer .exit)) ⌝ }
 {
     let parsed = yangparser::extract_yang_dependencies(text, store, imports, includes);
-    *answer = words::answer_of(parsed);
-    words::number_of(parsed)
+    *answer = host_words::answer_of(parsed);
+    host_words::number_of(parsed)
 }
 
 // The imports and includes of a text, and their printed form.
@@ -37,11 +37,11 @@ pub extern "C" fn nuvaleta_printed(
 ) -> u32
     ensures { λ r. ⌜ PrintedAnswered (now (text .entry)) (now (store .entry)) (now (imports .entry)) (now (includes .entry)) (now (page .entry)) r (now (store .exit)) (now (imports .exit)) (now (includes .exit)) (now (page .exit)) (now (answer .exit)) ⌝ }
 {
-    let printed = page::print_yang_dependencies(text, store, imports, includes, page);
+    let printed = scan_page::print_yang_dependencies(text, store, imports, includes, page);
     let parsed = printed.parsed;
     let length = printed.length;
-    *answer = words::page_answer_of(parsed, length);
-    words::number_of(parsed)
+    *answer = host_words::page_answer_of(parsed, length);
+    host_words::number_of(parsed)
 }
 
 // The metadata of a text.
@@ -54,12 +54,12 @@ pub extern "C" fn nuvaleta_metadata(
 ) -> u32
     ensures { λ r. ⌜ MetadataAnswered (now (text .entry)) (now (store .entry)) r (now (store .exit)) (now (words .exit)) (now (answer .exit)) ⌝ }
 {
-    let read = metadata::extract_yang_metadata(text, store);
+    let read = scan_metadata::extract_yang_metadata(text, store);
     let values = read.values;
     let told = read.answer;
     let used = read.used;
-    *words = words::record_of(values);
-    *answer = words::metadata_answer_of(told, used);
+    *words = host_words::record_of(values);
+    *answer = host_words::metadata_answer_of(told, used);
     told.number
 }
 
@@ -68,7 +68,10 @@ pub extern "C" fn nuvaleta_metadata(
 pub extern "C" fn nuvaleta_find_module(image: &[u8], name: &[u8], answer: &mut [u32; 5]) -> u32
     ensures { λ r. ⌜ Told (toldWords imageBroken (findModule (now (image .entry)) (now (name .entry)))) r (now (answer .exit)) ⌝ }
 {
-    let words = words::told_words(library::IMAGE_BROKEN, find::find_module(image, name));
+    let words = host_words::told_words(
+        library_read::IMAGE_BROKEN,
+        library_find::find_module(image, name),
+    );
     *answer = words;
     words[0]
 }
@@ -78,7 +81,10 @@ pub extern "C" fn nuvaleta_find_module(image: &[u8], name: &[u8], answer: &mut [
 pub extern "C" fn nuvaleta_find_submodule(image: &[u8], name: &[u8], answer: &mut [u32; 5]) -> u32
     ensures { λ r. ⌜ Told (toldWords imageBroken (findSubmodule (now (image .entry)) (now (name .entry)))) r (now (answer .exit)) ⌝ }
 {
-    let words = words::told_words(library::IMAGE_BROKEN, find::find_submodule(image, name));
+    let words = host_words::told_words(
+        library_read::IMAGE_BROKEN,
+        library_find::find_submodule(image, name),
+    );
     *answer = words;
     words[0]
 }
@@ -92,7 +98,10 @@ pub extern "C" fn nuvaleta_find_import_module(
 ) -> u32
     ensures { λ r. ⌜ Told (toldWords imageBroken (findImportModule (now (image .entry)) (now (name .entry)))) r (now (answer .exit)) ⌝ }
 {
-    let words = words::told_words(library::IMAGE_BROKEN, find::find_import_module(image, name));
+    let words = host_words::told_words(
+        library_read::IMAGE_BROKEN,
+        library_find::find_import_module(image, name),
+    );
     *answer = words;
     words[0]
 }
@@ -102,7 +111,10 @@ pub extern "C" fn nuvaleta_find_import_module(
 pub extern "C" fn nuvaleta_text(bundle: &[u8], name: &[u8], answer: &mut [u32; 5]) -> u32
     ensures { λ r. ⌜ Told (toldWords bundleBroken (lookUp (now (bundle .entry)) (now (name .entry)))) r (now (answer .exit)) ⌝ }
 {
-    let words = words::told_words(bundle::BUNDLE_BROKEN, bundle::find_text(bundle, name));
+    let words = host_words::told_words(
+        library_bundle::BUNDLE_BROKEN,
+        library_bundle::find_text(bundle, name),
+    );
     *answer = words;
     words[0]
 }
@@ -132,7 +144,7 @@ pub extern "C" fn nuvaleta_graph(
         includes,
         levels,
     );
-    let words = words::graph_words(graphed);
+    let words = host_words::graph_words(graphed);
     *answer = words;
     words[0]
 }

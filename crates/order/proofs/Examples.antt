@@ -3,9 +3,9 @@
 use mathlib.Core.Path.{_≡_, refl}
 use mathlib.Core.List.{[], _∷_}
 use Rattle.graph.specs.Numbers.{row, memR}
-use Rattle.tables.specs.Free.{mem, ready, lowestFrom}
-use Rattle.taking.specs.Taking.{takeFrom}
-use Rattle.ring.specs.Ring.{until, since, goBack, leastOf, lowestFirst}
+use Rattle.order_tables.specs.Free.{mem, ready, lowestFrom}
+use Rattle.order_take.specs.Taking.{takeFrom}
+use Rattle.order_ring.specs.Ring.{until, since, goBack, leastOf, lowestFirst}
 use Rattle.order.specs.Order.{sorted, sortedOf}
 
 no-nodes : sortedOf 0 [] ≡ sorted 0 []

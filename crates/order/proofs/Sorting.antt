@@ -9,21 +9,21 @@ use native.Mathlib.Omega.{arith}
 use lib.ListN.{length, take, length-replicate}
 use lib.Seq.{sets, take-at, length-sets}
 use borrow.Author.Tests.{eq-eqb, ne-eqb, le-leb, lt-leb, not-true, not-false}
-use Rattle.buffers.specs.Padded.{zeros, padded}
-use Rattle.buffers.proofs.Clears.{written-zero, padded-none}
+use Rattle.text_lent.specs.Padded.{zeros, padded}
+use Rattle.text_lent.proofs.Clears.{written-zero, padded-none}
 use Rattle.graph.specs.Numbers.{Row}
-use Rattle.edges.specs.Edges.{rowsIn}
-use Rattle.tables.specs.Tables.{fits, Fit}
-use Rattle.tables.specs.Free.{Stuck}
-use Rattle.tables.proofs.Distinct.{short}
-use Rattle.tables.proofs.Within.{fitting}
-use Rattle.taking.specs.Taking.{taken}
-use Rattle.taking.proofs.Taken.{taken-short, taken-stuck}
-use Rattle.ring.specs.Ring.{ringOf}
-use Rattle.ring.proofs.Round.{ring-ringed}
-use Rattle.places.specs.Places.{placeOf}
-use Rattle.places.specs.declared.Place.{Place}
-use Rattle.places.specs.declared.Place.the-variants.{Right, WrongAt}
+use Rattle.graph_edges.specs.Edges.{rowsIn}
+use Rattle.order_tables.specs.Tables.{fits, Fit}
+use Rattle.order_tables.specs.Free.{Stuck}
+use Rattle.order_tables.proofs.Distinct.{short}
+use Rattle.order_tables.proofs.Within.{fitting}
+use Rattle.order_take.specs.Taking.{taken}
+use Rattle.order_take.proofs.Taken.{taken-short, taken-stuck}
+use Rattle.order_ring.specs.Ring.{ringOf}
+use Rattle.order_ring.proofs.Round.{ring-ringed}
+use Rattle.order_places.specs.Places.{placeOf}
+use Rattle.order_places.specs.declared.Place.{Place}
+use Rattle.order_places.specs.declared.Place.the-variants.{Right, WrongAt}
 use Rattle.order.specs.declared.Ordered.{Ordered}
 use Rattle.order.specs.declared.Checked.{Checked}
 use Rattle.order.specs.Order.{sortedOf, orderOf, Sorts, Orders, checked, toldPlace, checkOf}

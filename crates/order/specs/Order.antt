@@ -7,15 +7,15 @@ use mathlib.Core.Bool.{cond}
 use mathlib.Core.List.{List, []}
 use lib.Dec.{eqb, leb}
 use lib.ListN.{length}
-use Rattle.buffers.specs.Padded.{padded}
+use Rattle.text_lent.specs.Padded.{padded}
 use Rattle.graph.specs.Numbers.{Row}
-use Rattle.edges.specs.Edges.{rowsIn}
-use Rattle.tables.specs.Tables.{fits, tablesUnfit}
-use Rattle.taking.specs.Taking.{taken}
-use Rattle.ring.specs.Ring.{ringOf}
-use Rattle.places.specs.Places.{placeOf}
-use Rattle.places.specs.declared.Place.{Place}
-use Rattle.places.specs.declared.Place.the-variants.{Right, WrongAt}
+use Rattle.graph_edges.specs.Edges.{rowsIn}
+use Rattle.order_tables.specs.Tables.{fits, tablesUnfit}
+use Rattle.order_take.specs.Taking.{taken}
+use Rattle.order_ring.specs.Ring.{ringOf}
+use Rattle.order_places.specs.Places.{placeOf}
+use Rattle.order_places.specs.declared.Place.{Place}
+use Rattle.order_places.specs.declared.Place.the-variants.{Right, WrongAt}
 use Rattle.order.specs.declared.Ordered.{Ordered}
 use Rattle.order.specs.declared.Checked.{Checked}
 

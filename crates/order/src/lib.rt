@@ -1,11 +1,11 @@
 // The order of registration from a built graph's tables, and the check of a list.
-use places::Place;
+use order_places::Place;
 ghost use mathlib.Core.Path.{_≡_};
 ghost use Prim.Native.Nat.{_≤_};
 ghost use lib.ListN.{length};
-ghost use Rattle.buffers.specs.Padded.{zeros};
-ghost use Rattle.edges.specs.Edges.{rowsIn};
-ghost use Rattle.tables.specs.Tables.{Fit};
+ghost use Rattle.text_lent.specs.Padded.{zeros};
+ghost use Rattle.graph_edges.specs.Edges.{rowsIn};
+ghost use Rattle.order_tables.specs.Tables.{Fit};
 ghost use Rattle.order.specs.Order.{Sorts, Orders, toldPlace, checkOf};
 
 // Refusals of this layer, beside 43.
@@ -32,14 +32,14 @@ fn sort(n: usize, edges: &[u32], m: usize, table: &mut [u32]) -> Ordered
     requires { ⌜ Fit n (now edges) m × (n ≤ length (now table)) × (now table ≡ zeros (length (now table))) ⌝ }
     ensures { λ r. ⌜ Sorts n (rowsIn m (now (edges .entry))) (length (now (table .entry))) r (now (table .exit)) ⌝ }
 {
-    let count = taking::take_all(edges, n, m, table);
+    let count = order_take::take_all(edges, n, m, table);
     if count == n {
         return Ordered {
             number: 0,
             length: count as u32,
         };
     }
-    let length = ring::write_ring(edges, n, m, table, count);
+    let length = order_ring::write_ring(edges, n, m, table, count);
     Ordered {
         number: CYCLE_MET,
         length: length as u32,
@@ -51,10 +51,10 @@ fn sort(n: usize, edges: &[u32], m: usize, table: &mut [u32]) -> Ordered
 pub fn order(nodes: &[u32], n: usize, edges: &[u32], m: usize, table: &mut [u32]) -> Ordered
     ensures { λ r. ⌜ Orders (now (nodes .entry)) n (now (edges .entry)) m (now (table .entry)) r (now (table .exit)) ⌝ }
 {
-    buffers::clear_words(table);
-    if !tables::fit(nodes, n, edges, m) {
+    text_lent::clear_words(table);
+    if !order_tables::fit(nodes, n, edges, m) {
         return Ordered {
-            number: tables::TABLES_UNFIT,
+            number: order_tables::TABLES_UNFIT,
             length: 0,
         };
     }
@@ -86,11 +86,11 @@ fn told_place(place: Place) -> Checked
 pub fn order_check(nodes: &[u32], n: usize, edges: &[u32], m: usize, list: &[u32]) -> Checked
     ensures { λ r. ⌜ r ≡ checkOf (length (now (nodes .entry))) n (now (edges .entry)) m (now (list .entry)) ⌝ }
 {
-    if !tables::fit(nodes, n, edges, m) {
+    if !order_tables::fit(nodes, n, edges, m) {
         return Checked {
-            number: tables::TABLES_UNFIT,
+            number: order_tables::TABLES_UNFIT,
             place: 0,
         };
     }
-    told_place(places::check_list(edges, n, m, list))
+    told_place(order_places::check_list(edges, n, m, list))
 }

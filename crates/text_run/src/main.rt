@@ -2,8 +2,8 @@
 use libc::STDOUT_FILENO;
 use text::Cursor;
 use text::Match;
-use value::Argument;
-use value::Value;
+use text_value::Argument;
+use text_value::Value;
 ghost use mathlib.Core.Path.{_≡_};
 ghost use Rattle.text.specs.Class.{classTable};
 
@@ -24,7 +24,7 @@ fn agrees(read: Argument, store: &[u8], answer: &[u8], kept: &[u8]) -> bool {
             if number != 0 {
                 return false;
             }
-            check::same(buffers::first(store, used), kept)
+            check::same(text_lent::first(store, used), kept)
         }
         Argument::Refused(r) => {
             if number != r.number {
@@ -46,7 +46,15 @@ fn value_agrees(here: Cursor, keyword: u32, s: &[u8], answer: &[u8], kept: &[u8]
         return false;
     }
     let classes = text::classes();
-    let read = value::read_argument(here, &classes, s, &mut store, 0, keyword, text::SEMICOLON);
+    let read = text_value::read_argument(
+        here,
+        &classes,
+        s,
+        &mut store,
+        0,
+        keyword,
+        text::SEMICOLON,
+    );
     agrees(read, &store, answer, kept)
 }
 
@@ -69,8 +77,8 @@ fn next_token(from: Cursor, classes: &[u8; 128], s: &[u8]) -> Found
     match prefix {
         Match::After(c) => Found::At(c),
         Match::Not => {
-            let token = skip::skip_one_token(here, classes, s);
-            let end = skip::token_end(token);
+            let token = text_skip::skip_one_token(here, classes, s);
+            let end = text_skip::token_end(token);
             Found::On(end)
         }
     }
@@ -108,8 +116,8 @@ fn tokens_from(classes: &[u8; 128], s: &[u8]) -> Cursor
     match belongs {
         Match::After(_) => {
             let rest = Cursor { at: 21 };
-            let skipped = skip::skip_statement(rest, classes, s);
-            skip::ended_at(skipped)
+            let skipped = text_skip::skip_statement(rest, classes, s);
+            text_skip::ended_at(skipped)
         }
         Match::Not => opened,
     }
@@ -191,8 +199,8 @@ fn replay_file(name: &[u8], values: bool) {
 fn statement_ends(s: &[u8], at: usize) -> bool {
     let classes = text::classes();
     let start = Cursor { at: 0 };
-    let skipped = skip::skip_statement(start, &classes, s);
-    let end = skip::ended_at(skipped);
+    let skipped = text_skip::skip_statement(start, &classes, s);
+    let end = text_skip::ended_at(skipped);
     end.at == at
 }
 
@@ -204,18 +212,18 @@ fn value_is(s: &[u8], kept: &[u8], at: usize) -> bool {
     }
     let classes = text::classes();
     let start = Cursor { at: 0 };
-    let read = value::read_string_or_identifier(start, &classes, s, &mut store, 0);
+    let read = text_value::read_string_or_identifier(start, &classes, s, &mut store, 0);
     let Value::Read { next, used } = read else {
         return false;
     };
     if next.at != at {
         return false;
     }
-    let passed = skip::skip_value(start, &classes, s);
+    let passed = text_skip::skip_value(start, &classes, s);
     if passed.at != at {
         return false;
     }
-    check::same(buffers::first(&store, used), kept)
+    check::same(text_lent::first(&store, used), kept)
 }
 
 // What document 01 calls easy to get wrong, as far as this layer goes.

@@ -9,30 +9,30 @@ use native.Mathlib.Omega.{arith}
 use lib.ListN.{length, length-append, length-map, take, drop, length-drop}
 use lib.Seq.{length-take-le}
 use Rattle.text.specs.declared.Refusal.{Refusal}
-use Rattle.form.specs.Form.{Ans, good, bad}
-use Rattle.form.specs.Writer.{AllBytes}
-use Rattle.form.specs.declared.LookUp.{LookUp}
-use Rattle.form.specs.declared.LookUp.the-variants.{Broken, Nothing, At}
+use Rattle.library_form.specs.Form.{Ans, good, bad}
+use Rattle.library_form.specs.Writer.{AllBytes}
+use Rattle.library_form.specs.declared.LookUp.{LookUp}
+use Rattle.library_form.specs.declared.LookUp.the-variants.{Broken, Nothing, At}
 use Rattle.yangparser.specs.Dependencies.{Scan, good as scanGood, bad as scanBad, dependencies}
 use Rattle.yangparser.proofs.KeptLaws.{entry-refusal}
-use Rattle.image.specs.Library.{Name, Library, PlainSet, PlainLibrary, plain}
-use Rattle.image.specs.Image.{imageBroken, imageAt}
-use Rattle.image.specs.ImageWriter.{EachOf, FormedSet}
-use Rattle.image.proofs.ImageLaws.{image-formed}
-use Rattle.find.specs.Find.{firstModule, findModule}
-use Rattle.find.proofs.FindBounds.{module-in}
-use Rattle.library.specs.Reading.{onAns}
-use Rattle.bundle.specs.Bundle.{Text, bundleBroken, bundleAt, lookIn, lookUp}
-use Rattle.bundle.specs.Reading.{longestText}
-use Rattle.bundle.proofs.LookBounds.{broken-in, stands-in}
+use Rattle.library_image.specs.Library.{Name, Library, PlainSet, PlainLibrary, plain}
+use Rattle.library_image.specs.Image.{imageBroken, imageAt}
+use Rattle.library_image.specs.ImageWriter.{EachOf, FormedSet}
+use Rattle.library_image.proofs.ImageLaws.{image-formed}
+use Rattle.library_find.specs.Find.{firstModule, findModule}
+use Rattle.library_find.proofs.FindBounds.{module-in}
+use Rattle.library_read.specs.Reading.{onAns}
+use Rattle.library_bundle.specs.Bundle.{Text, bundleBroken, bundleAt, lookIn, lookUp}
+use Rattle.library_bundle.specs.Reading.{longestText}
+use Rattle.library_bundle.proofs.LookBounds.{broken-in, stands-in}
 use Rattle.graph.specs.Nodes.{passOver, nodesOf}
 use Rattle.graph.specs.Graph.{ScanAnswer, nought, Text as Words, refusing, Entry, moduleEntry, importEntry, setEntries, entries, Graph, graph, fault, graphOf}
 use Rattle.graph.specs.Meaning.{FirstAt, Fault, entry-missing, include-missing, scan-refused, import-unknown, listed-unknown, include-unknown, include-no-node, too-deep, Cause, names, by-fault, edges}
 use Rattle.graph.proofs.Demand.{demand3}
-use Rattle.edges.specs.Edges.{mostEdges}
-use Rattle.items.specs.Table.{Reads}
-use Rattle.nodes.specs.Adding.{mostNodes, plainAt, wordsAt}
-use Rattle.texts.specs.Texts.{scanSeen, scanText, lookText, textOf}
+use Rattle.graph_edges.specs.Edges.{mostEdges}
+use Rattle.library_items.specs.Table.{Reads}
+use Rattle.graph_nodes.specs.Adding.{mostNodes, plainAt, wordsAt}
+use Rattle.graph_texts.specs.Texts.{scanSeen, scanText, lookText, textOf}
 use Rattle.yanglib.specs.ToGraph.{lentTooShort, Lengths, tooShort, Result, refusal, resultOf, onRead, graphed, AnswerFits}
 use Rattle.yanglib.proofs.Outcome.{image-here}
 

@@ -5,15 +5,15 @@ use Prim.Native.Nat.{ℕ, _+_}
 use mathlib.Core.Path.{_≡_, refl, sym, ap, ap₂, _∙_}
 use mathlib.Core.Bool.{Bool, true, false, cond}
 use mathlib.Core.List.{List, [], _∷_, _++_, map, map-append, flatMap, append-nil, append-assoc}
-use Rattle.form.specs.Form.{Word}
-use Rattle.image.specs.Library.{Name, Module, ImportOnly, ModuleSet, plainName, plainModule, plainImportOnly, plainSet}
-use Rattle.items.specs.Items.{moduleKind, submoduleKind, augmentingKind, deviationKind, importOnlyKind, firstSubKind, laterSubKind, ItemOf, item, moduleItems, laterItems, revisionItems, importItems, setItems, itemsOf, libraryOf, itemsAt}
+use Rattle.library_form.specs.Form.{Word}
+use Rattle.library_image.specs.Library.{Name, Module, ImportOnly, ModuleSet, plainName, plainModule, plainImportOnly, plainSet}
+use Rattle.library_items.specs.Items.{moduleKind, submoduleKind, augmentingKind, deviationKind, importOnlyKind, firstSubKind, laterSubKind, ItemOf, item, moduleItems, laterItems, revisionItems, importItems, setItems, itemsOf, libraryOf, itemsAt}
 use Rattle.graph.specs.Graph.{ScanAnswer, noEntryText, deepest, Entry, moduleEntry, importEntry, setEntries, entries, Out, built, refused, thenO, onOut}
 use Rattle.graph.specs.Numbers.{Row, numberOf, Codes, moduleCode, eachO, givenCode, walkCodes, walkEntryCodes, Drawing, faulty, EntryCode, drawFrom, codesAt, entryCode, drawingIn}
-use Rattle.edges.specs.Edges.{mostEdges}
-use Rattle.nodes.specs.Adding.{isEntry, plainAt, namesAt}
-use Rattle.nodes.specs.Marks.{knownAt}
-use Rattle.walk.specs.Walk.{worldOf, codesHere}
+use Rattle.graph_edges.specs.Edges.{mostEdges}
+use Rattle.graph_nodes.specs.Adding.{isEntry, plainAt, namesAt}
+use Rattle.graph_nodes.specs.Marks.{knownAt}
+use Rattle.graph_walk.specs.Walk.{worldOf, codesHere}
 use Rattle.yanglib.specs.Entries.{isListed, itemWalk, drawItems}
 
 -- ---- one after another

@@ -8,26 +8,26 @@ use mathlib.Core.List.{List, [], _∷_, _++_, flatMap}
 use native.Mathlib.Omega.{arith}
 use lib.ListN.{length, take, drop}
 use Rattle.text.specs.declared.Refusal.{Refusal}
-use Rattle.form.specs.Form.{Word, wordAt}
-use Rattle.form.proofs.Bounds.{part-word}
-use Rattle.image.specs.Library.{Name, Module, ImportOnly, ModuleSet, Library}
-use Rattle.items.specs.declared.Item.{Item}
-use Rattle.items.specs.Items.{ItemOf, moduleItems, importItems, setItems, itemsOf, libraryOf, itemsAt}
-use Rattle.items.specs.Table.{itemIn, itemWord, itemsIn, itemsFrom, ItemFits, Itemized}
-use Rattle.items.proofs.Through.{items-from, items-all}
+use Rattle.library_form.specs.Form.{Word, wordAt}
+use Rattle.library_form.proofs.Bounds.{part-word}
+use Rattle.library_image.specs.Library.{Name, Module, ImportOnly, ModuleSet, Library}
+use Rattle.library_items.specs.declared.Item.{Item}
+use Rattle.library_items.specs.Items.{ItemOf, moduleItems, importItems, setItems, itemsOf, libraryOf, itemsAt}
+use Rattle.library_items.specs.Table.{itemIn, itemWord, itemsIn, itemsFrom, ItemFits, Itemized}
+use Rattle.library_items.proofs.Through.{items-from, items-all}
 use Rattle.graph.specs.Graph.{Out, built, onOut}
 use Rattle.graph.specs.Nodes.{passOver, memb}
 use Rattle.graph.specs.Numbers.{Row, numberOf, Drawing, faulty, givenCode, walkCodes}
 use Rattle.graph.proofs.Tests.{both-bools, same-refl}
 use Rattle.graph.proofs.Entries.{known-among}
-use Rattle.edges.specs.Edges.{mostEdges, rowsIn, Filed}
-use Rattle.nodes.specs.Adding.{isEntry, plainAt, namesAt}
-use Rattle.nodes.specs.Marks.{amongKind, knownAt, Stands}
-use Rattle.nodes.proofs.OfKind.{kind-append, known-items, or-right}
-use Rattle.nodes.proofs.Looking.{Bytes, revised-at}
-use Rattle.walk.specs.Walk.{codesHere, Ground, Tables, walkSeen, Drew, Kept}
-use Rattle.walk.specs.declared.Walked.{Walked}
-use Rattle.walk.specs.declared.Walked.the-variants.{Built, Refused}
+use Rattle.graph_edges.specs.Edges.{mostEdges, rowsIn, Filed}
+use Rattle.graph_nodes.specs.Adding.{isEntry, plainAt, namesAt}
+use Rattle.graph_nodes.specs.Marks.{amongKind, knownAt, Stands}
+use Rattle.graph_nodes.proofs.OfKind.{kind-append, known-items, or-right}
+use Rattle.graph_nodes.proofs.Looking.{Bytes, revised-at}
+use Rattle.graph_walk.specs.Walk.{codesHere, Ground, Tables, walkSeen, Drew, Kept}
+use Rattle.graph_walk.specs.declared.Walked.{Walked}
+use Rattle.graph_walk.specs.declared.Walked.the-variants.{Built, Refused}
 use Rattle.yanglib.specs.Entries.{isListed, itemNode, itemWalk, nextNode, nextEntry, drawItems, allLevels, Next, Placed, Walks}
 use Rattle.yanglib.specs.declared.Drawn.the-variants.{Built as DrawnBuilt, Refused as DrawnRefused}
 

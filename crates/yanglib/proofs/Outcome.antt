@@ -6,13 +6,13 @@ use mathlib.Core.Bool.{Bool, true, false, cond}
 use mathlib.Core.List.{List, [], map}
 use lib.ListN.{length, length-map}
 use lib.Dec.{ltb}
-use Rattle.form.specs.Form.{Word}
-use Rattle.form.specs.Writer.{AllBytes}
-use Rattle.image.specs.Library.{Name, plainName, plain}
-use Rattle.image.specs.Image.{imageAt}
-use Rattle.library.specs.Reading.{onAns}
-use Rattle.items.specs.Items.{libraryOf, itemsAt}
-use Rattle.items.specs.Table.{Reads}
+use Rattle.library_form.specs.Form.{Word}
+use Rattle.library_form.specs.Writer.{AllBytes}
+use Rattle.library_image.specs.Library.{Name, plainName, plain}
+use Rattle.library_image.specs.Image.{imageAt}
+use Rattle.library_read.specs.Reading.{onAns}
+use Rattle.library_items.specs.Items.{libraryOf, itemsAt}
+use Rattle.library_items.specs.Table.{Reads}
 use Rattle.graph.specs.Nodes.{passOver, nodesOf}
 use Rattle.graph.specs.Graph.{nought, tooManyNodes, Edge, entries, entrySteps, world, Graph, graph, fault, walkOf, graphOf}
 use Rattle.graph.specs.Numbers.{rowOf, Drawing, drawn, faulty, drawingOf, numbered}
@@ -21,10 +21,10 @@ use Rattle.graph.proofs.WordNodes.{node-names}
 use Rattle.graph.proofs.Revised.{image-revised}
 use Rattle.graph.proofs.Runs.{walk-run}
 use Rattle.graph.proofs.Drawing.{drawing}
-use Rattle.edges.specs.Edges.{mostEdges}
-use Rattle.nodes.specs.Adding.{mostNodes, plainAt, wordsAt, namesAt}
-use Rattle.texts.specs.Texts.{textOf}
-use Rattle.walk.specs.Walk.{worldOf}
+use Rattle.graph_edges.specs.Edges.{mostEdges}
+use Rattle.graph_nodes.specs.Adding.{mostNodes, plainAt, wordsAt, namesAt}
+use Rattle.graph_texts.specs.Texts.{textOf}
+use Rattle.graph_walk.specs.Walk.{worldOf}
 use Rattle.yanglib.specs.Entries.{drawItems}
 use Rattle.yanglib.specs.ToGraph.{Result, refusal, resultOf}
 use Rattle.yanglib.specs.declared.Graphed.the-variants.{Built}

@@ -9,12 +9,12 @@ use lib.ListN.{length, getD, set, take, drop, length-set, length-drop, length-re
 use lib.Seq.{ext-getD, getD-drop, getD-set-other, length-take-le, take-suc, take-suc-set}
 use mir.Syntax.{w32}
 use mir.Val.{Fits}
-use Rattle.buffers.specs.Padded.{zeros, padded}
-use Rattle.form.specs.Form.{Word}
-use Rattle.index.specs.Names.{rowOf, rowWords as nameWords, nameIn, namesIn}
+use Rattle.text_lent.specs.Padded.{zeros, padded}
+use Rattle.library_form.specs.Form.{Word}
+use Rattle.library_index.specs.Names.{rowOf, rowWords as nameWords, nameIn, namesIn}
 use Rattle.graph.specs.Numbers.{Row}
-use Rattle.edges.specs.Edges.{rowAt, rowsIn, Blank, Filed}
-use Rattle.edges.proofs.Rows.{zeros-zero}
+use Rattle.graph_edges.specs.Edges.{rowAt, rowsIn, Blank, Filed}
+use Rattle.graph_edges.proofs.Rows.{zeros-zero}
 use Rattle.yanglib.specs.ToGraph.{nodeWords, rowWords}
 use Rattle.yanglib.specs.NodeTable.{Puts, Named}
 

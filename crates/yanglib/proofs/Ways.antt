@@ -10,29 +10,29 @@ use lib.ListN.{length}
 use lib.Dec.{ltb}
 use borrow.Author.Tests.{lt-ltb, le-ltb}
 use Rattle.text.specs.declared.Refusal.{Refusal}
-use Rattle.buffers.specs.Padded.{zeros, padded}
-use Rattle.form.specs.Form.{Ans, good, bad}
-use Rattle.form.specs.Writer.{AllBytes}
-use Rattle.index.proofs.Chain.{length-names}
-use Rattle.image.specs.Library.{Library}
-use Rattle.image.specs.Image.{imageBroken, imageAt}
-use Rattle.image.proofs.ImageLaws.{accepted}
-use Rattle.bundle.specs.Bundle.{Text, bundleBroken, bundleAt}
-use Rattle.bundle.specs.Reading.{counted, openedSeen, Held, OpenedAs, longestText}
-use Rattle.bundle.specs.declared.Opened.{Opened}
-use Rattle.bundle.specs.declared.Opened.the-variants.{Wrong as WrongBundle}
-use Rattle.library.specs.Reading.{done, readSeen}
-use Rattle.library.specs.declared.Read.{Read}
-use Rattle.library.specs.declared.Read.the-variants.{End, Wrong}
-use Rattle.library.proofs.Counting.{done-bad}
-use Rattle.items.specs.Items.{itemsAt}
-use Rattle.items.specs.Table.{Reads}
+use Rattle.text_lent.specs.Padded.{zeros, padded}
+use Rattle.library_form.specs.Form.{Ans, good, bad}
+use Rattle.library_form.specs.Writer.{AllBytes}
+use Rattle.library_index.proofs.Chain.{length-names}
+use Rattle.library_image.specs.Library.{Library}
+use Rattle.library_image.specs.Image.{imageBroken, imageAt}
+use Rattle.library_image.proofs.ImageLaws.{accepted}
+use Rattle.library_bundle.specs.Bundle.{Text, bundleBroken, bundleAt}
+use Rattle.library_bundle.specs.Reading.{counted, openedSeen, Held, OpenedAs, longestText}
+use Rattle.library_bundle.specs.declared.Opened.{Opened}
+use Rattle.library_bundle.specs.declared.Opened.the-variants.{Wrong as WrongBundle}
+use Rattle.library_read.specs.Reading.{done, readSeen}
+use Rattle.library_read.specs.declared.Read.{Read}
+use Rattle.library_read.specs.declared.Read.the-variants.{End, Wrong}
+use Rattle.library_read.proofs.Counting.{done-bad}
+use Rattle.library_items.specs.Items.{itemsAt}
+use Rattle.library_items.specs.Table.{Reads}
 use Rattle.graph.specs.Nodes.{passOver}
 use Rattle.graph.specs.Graph.{nought, tooManyNodes, graphOf}
-use Rattle.edges.specs.Edges.{mostEdges, rowsIn}
-use Rattle.edges.proofs.Rows.{rows-length}
-use Rattle.nodes.specs.Adding.{mostNodes, plainAt, wordsAt, Holding}
-use Rattle.texts.specs.Texts.{textOf}
+use Rattle.graph_edges.specs.Edges.{mostEdges, rowsIn}
+use Rattle.graph_edges.proofs.Rows.{rows-length}
+use Rattle.graph_nodes.specs.Adding.{mostNodes, plainAt, wordsAt, Holding}
+use Rattle.graph_texts.specs.Texts.{textOf}
 use Rattle.yanglib.specs.Entries.{drawItems, drawnSeen}
 use Rattle.yanglib.specs.NodeTable.{Puts, Named}
 use Rattle.yanglib.specs.ToGraph.{lentTooShort, Lengths, tooShort, Result, refusal, resultOf, onRead, graphed, nodeWords}

@@ -8,29 +8,29 @@ use mathlib.Core.List.{List, []}
 use native.Mathlib.Omega.{arith}
 use lib.ListN.{length, getD, length-replicate}
 use Rattle.text.specs.declared.Refusal.{Refusal}
-use Rattle.buffers.specs.Padded.{zeros, padded}
-use Rattle.buffers.proofs.Clears.{padded-none}
-use Rattle.edges.proofs.Rows.{zeros-zero}
-use Rattle.form.specs.Writer.{AllBytes}
-use Rattle.image.specs.Image.{imageAt}
-use Rattle.image.proofs.ImageLaws.{accepted}
-use Rattle.bundle.specs.Reading.{OpenedAs, longestText}
-use Rattle.bundle.specs.declared.Opened.{Opened}
-use Rattle.bundle.specs.declared.Opened.the-variants.{Wrong as WrongBundle, Texts}
-use Rattle.library.specs.Reading.{done, readSeen}
-use Rattle.library.specs.declared.Read.{Read}
-use Rattle.library.specs.declared.Read.the-variants.{End, Wrong}
-use Rattle.items.specs.Items.{itemsAt}
-use Rattle.items.specs.Table.{Itemized}
+use Rattle.text_lent.specs.Padded.{zeros, padded}
+use Rattle.text_lent.proofs.Clears.{padded-none}
+use Rattle.graph_edges.proofs.Rows.{zeros-zero}
+use Rattle.library_form.specs.Writer.{AllBytes}
+use Rattle.library_image.specs.Image.{imageAt}
+use Rattle.library_image.proofs.ImageLaws.{accepted}
+use Rattle.library_bundle.specs.Reading.{OpenedAs, longestText}
+use Rattle.library_bundle.specs.declared.Opened.{Opened}
+use Rattle.library_bundle.specs.declared.Opened.the-variants.{Wrong as WrongBundle, Texts}
+use Rattle.library_read.specs.Reading.{done, readSeen}
+use Rattle.library_read.specs.declared.Read.{Read}
+use Rattle.library_read.specs.declared.Read.the-variants.{End, Wrong}
+use Rattle.library_items.specs.Items.{itemsAt}
+use Rattle.library_items.specs.Table.{Itemized}
 use Rattle.graph.specs.Graph.{nought}
-use Rattle.edges.specs.Edges.{rowsIn, Filed}
-use Rattle.edges.proofs.Chains.{empty-filed}
-use Rattle.nodes.specs.Adding.{mostNodes, wordsAt, Holding, Constructed}
-use Rattle.nodes.specs.Marks.{Marked}
-use Rattle.nodes.specs.declared.Nodes.{Nodes}
-use Rattle.nodes.specs.declared.Nodes.the-variants.{Count, TooMany}
-use Rattle.nodes.proofs.Looking.{Bytes}
-use Rattle.walk.specs.Walk.{Ground, Tables}
+use Rattle.graph_edges.specs.Edges.{rowsIn, Filed}
+use Rattle.graph_edges.proofs.Chains.{empty-filed}
+use Rattle.graph_nodes.specs.Adding.{mostNodes, wordsAt, Holding, Constructed}
+use Rattle.graph_nodes.specs.Marks.{Marked}
+use Rattle.graph_nodes.specs.declared.Nodes.{Nodes}
+use Rattle.graph_nodes.specs.declared.Nodes.the-variants.{Count, TooMany}
+use Rattle.graph_nodes.proofs.Looking.{Bytes}
+use Rattle.graph_walk.specs.Walk.{Ground, Tables}
 use Rattle.yanglib.specs.Entries.{Walks, drawnSeen}
 use Rattle.yanglib.specs.NodeTable.{Puts, Named}
 use Rattle.yanglib.specs.ToGraph.{Lengths, lengthsOf, tooShort, Result, refusal, graphed, nodeWords, rowWords, Leaves}

@@ -4,18 +4,18 @@ use Prim.Native.Nat.{ℕ, _≤_}
 use mathlib.Core.Path.{_≡_}
 use mathlib.Core.List.{List, []}
 use lib.ListN.{length}
-use Rattle.buffers.specs.Padded.{zeros, padded}
-use Rattle.image.specs.Image.{imageAt}
-use Rattle.bundle.specs.Reading.{Held, longestText}
-use Rattle.items.specs.Items.{itemsAt}
-use Rattle.items.specs.Table.{Reads, Itemized}
+use Rattle.text_lent.specs.Padded.{zeros, padded}
+use Rattle.library_image.specs.Image.{imageAt}
+use Rattle.library_bundle.specs.Reading.{Held, longestText}
+use Rattle.library_items.specs.Items.{itemsAt}
+use Rattle.library_items.specs.Table.{Reads, Itemized}
 use Rattle.graph.specs.Nodes.{passOver}
 use Rattle.graph.specs.Graph.{graphOf}
 use Rattle.graph.specs.Numbers.{Row}
-use Rattle.edges.specs.Edges.{edgeTable, mostEdges, rowsIn}
-use Rattle.nodes.specs.Adding.{mostNodes, plainAt, wordsAt, Holding}
-use Rattle.texts.specs.Texts.{textOf, ScanRoom}
-use Rattle.walk.specs.Walk.{Kept}
+use Rattle.graph_edges.specs.Edges.{edgeTable, mostEdges, rowsIn}
+use Rattle.graph_nodes.specs.Adding.{mostNodes, plainAt, wordsAt, Holding}
+use Rattle.graph_texts.specs.Texts.{textOf, ScanRoom}
+use Rattle.graph_walk.specs.Walk.{Kept}
 use Rattle.yanglib.specs.Entries.{drawItems, drawnSeen, allLevels}
 use Rattle.yanglib.specs.ToGraph.{Result, resultOf, nodeWords, rowWords}
 use Rattle.yanglib.specs.declared.Drawn.{Drawn}

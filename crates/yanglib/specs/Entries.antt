@@ -7,17 +7,17 @@ use mathlib.Core.Bool.{Bool, true, false, cond, _||_}
 use mathlib.Core.List.{List, [], _∷_}
 use lib.ListN.{length}
 use lib.Dec.{eqb}
-use Rattle.form.specs.Form.{Word, wordAt}
-use Rattle.items.specs.declared.Item.{Item}
-use Rattle.items.specs.Table.{itemWord, ItemFits}
-use Rattle.items.specs.Items.{augmentingKind, deviationKind, ItemOf, itemsAt}
+use Rattle.library_form.specs.Form.{Word, wordAt}
+use Rattle.library_items.specs.declared.Item.{Item}
+use Rattle.library_items.specs.Table.{itemWord, ItemFits}
+use Rattle.library_items.specs.Items.{augmentingKind, deviationKind, ItemOf, itemsAt}
 use Rattle.graph.specs.Graph.{noEntryText, deepest, Out, built, onOut}
 use Rattle.graph.specs.Nodes.{memb}
 use Rattle.graph.specs.Numbers.{Row, numberOf, givenCode, walkCodes, Drawing, drawn, faulty}
-use Rattle.edges.specs.Edges.{mostEdges, rowsIn, Filed}
-use Rattle.nodes.specs.Adding.{isEntry, wordsAt, namesAt, Holding}
-use Rattle.nodes.specs.Marks.{knownAt}
-use Rattle.walk.specs.Walk.{codesHere, Kept}
+use Rattle.graph_edges.specs.Edges.{mostEdges, rowsIn, Filed}
+use Rattle.graph_nodes.specs.Adding.{isEntry, wordsAt, namesAt, Holding}
+use Rattle.graph_nodes.specs.Marks.{knownAt}
+use Rattle.graph_walk.specs.Walk.{codesHere, Kept}
 use Rattle.yanglib.specs.declared.Drawn.{Drawn}
 use Rattle.yanglib.specs.declared.Drawn.the-variants.{Built, Refused}
 

@@ -9,17 +9,17 @@ use mathlib.Core.List.{List, [], _∷_, map}
 use lib.ListN.{length}
 use lib.Dec.{ltb}
 use Rattle.text.specs.declared.Refusal.{Refusal}
-use Rattle.buffers.specs.Padded.{zeros, padded}
-use Rattle.form.specs.Form.{Ans, good, bad, Word}
-use Rattle.image.specs.Image.{imageBroken, imageAt}
-use Rattle.bundle.specs.Bundle.{bundleBroken, bundleAt}
-use Rattle.bundle.specs.Reading.{longestText}
+use Rattle.text_lent.specs.Padded.{zeros, padded}
+use Rattle.library_form.specs.Form.{Ans, good, bad, Word}
+use Rattle.library_image.specs.Image.{imageBroken, imageAt}
+use Rattle.library_bundle.specs.Bundle.{bundleBroken, bundleAt}
+use Rattle.library_bundle.specs.Reading.{longestText}
 use Rattle.graph.specs.Nodes.{passOver}
 use Rattle.graph.specs.Graph.{nought, Graph, graph, fault, graphOf}
 use Rattle.graph.specs.Numbers.{Row, rowOf}
-use Rattle.edges.specs.Edges.{mostEdges}
-use Rattle.nodes.specs.Adding.{mostNodes, plainAt, wordsAt}
-use Rattle.texts.specs.Texts.{textOf}
+use Rattle.graph_edges.specs.Edges.{mostEdges}
+use Rattle.graph_nodes.specs.Adding.{mostNodes, plainAt, wordsAt}
+use Rattle.graph_texts.specs.Texts.{textOf}
 use Rattle.yanglib.specs.declared.Graphed.{Graphed}
 use Rattle.yanglib.specs.declared.Graphed.the-variants.{Built, Refused}
 

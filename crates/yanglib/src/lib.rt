@@ -1,20 +1,20 @@
-// The graph of a library: construct_nodes is crate nodes, the walk of one text crate walk; here are the entries and the call that a host makes.
-use bundle::Opened;
-use edges::NodeIndex;
-use items::Item;
-use library::Read;
-use nodes::Nodes;
+// The graph of a library: construct_nodes is crate graph_nodes, the walk of one text crate graph_walk; here are the entries and the call that a host makes.
+use graph_edges::NodeIndex;
+use graph_nodes::Nodes;
+use graph_walk::Walked;
+use library_bundle::Opened;
+use library_items::Item;
+use library_read::Read;
 use text::Refusal;
-use walk::Walked;
 ghost use mathlib.Core.Path.{_≡_};
 ghost use mathlib.Core.Bool.{cond};
 ghost use lib.ListN.{length};
-ghost use Rattle.buffers.specs.Padded.{zeros};
+ghost use Rattle.text_lent.specs.Padded.{zeros};
 ghost use Prim.Native.Nat.{_+_, _<_};
-ghost use Rattle.items.specs.Table.{mostItems, itemWord, Itemized};
-ghost use Rattle.nodes.specs.Adding.{isEntry};
-ghost use Rattle.edges.specs.Edges.{rowsIn};
-ghost use Rattle.walk.specs.Walk.{Ground, Tables, Drew, Kept};
+ghost use Rattle.library_items.specs.Table.{mostItems, itemWord, Itemized};
+ghost use Rattle.graph_nodes.specs.Adding.{isEntry};
+ghost use Rattle.graph_edges.specs.Edges.{rowsIn};
+ghost use Rattle.graph_walk.specs.Walk.{Ground, Tables, Drew, Kept};
 ghost use Rattle.yanglib.specs.Entries.{isListed, itemWalk, nextNode, allLevels, Next, Placed, Walks};
 ghost use Rattle.yanglib.specs.ToGraph.{tooShort, lengthsOf, graphed, Graphs};
 ghost use Rattle.yanglib.specs.NodeTable.{Puts, Named};
@@ -47,10 +47,10 @@ pub enum Graphed {
 fn is_listed(kind: usize) -> bool
     ensures { λ r. ⌜ r ≡ isListed kind ⌝ }
 {
-    if kind == items::AUGMENTING {
+    if kind == library_items::AUGMENTING {
         return true;
     }
-    kind == items::DEVIATION
+    kind == library_items::DEVIATION
 }
 
 // Entries are numbered from 1: which one an item belongs to.
@@ -58,7 +58,7 @@ fn next_entry(kind: usize, entry: usize) -> usize
     requires { ⌜ entry < mostItems ⌝ }
     ensures { λ r. ⌜ r ≡ cond (isEntry kind) (entry + 1) entry ⌝ }
 {
-    if nodes::is_entry(kind) {
+    if graph_nodes::is_entry(kind) {
         return entry + 1;
     }
     entry
@@ -69,8 +69,8 @@ fn next_node(image: &[u8], ntab: &[u32], n: usize, x: Item, v: NodeIndex) -> Nod
     requires { ⌜ Next (now image) (now ntab) n x (v .0) ⌝ }
     ensures { λ r. ⌜ (r .0 ≡ nextNode (now (image .entry)) (itemWord (now (image .entry)) x) (v .0)) × (r .0 < n) ⌝ }
 {
-    if nodes::is_entry(x.kind) {
-        return nodes::node_at(image, ntab, n, x.place, x.size);
+    if graph_nodes::is_entry(x.kind) {
+        return graph_nodes::node_at(image, ntab, n, x.place, x.size);
     }
     v
 }
@@ -97,8 +97,8 @@ fn walk_item(
     requires { ⌜ Ground (now image) (now bundle) (now btab) texts (now ntab) n (now marks) × Tables (now bundle) (now store) (now imports) (now includes) (now levels) (now edges) (now chains) 8 count × Placed (now image) n x (v .0) ⌝ }
     ensures { λ r. ⌜ Drew (itemWalk (now (image .entry)) (now (bundle .entry)) (itemWord (now (image .entry)) x) (v .0) (rowsIn count (now (edges .entry)))) (now (edges .entry)) (now (chains .entry)) r (now (edges .exit)) (now (chains .exit)) × Kept allLevels (now (store .entry)) (now (imports .entry)) (now (includes .entry)) (now (levels .entry)) (now (store .exit)) (now (imports .exit)) (now (includes .exit)) (now (levels .exit)) ⌝ }
 {
-    if nodes::is_entry(x.kind) {
-        return walk::walk(
+    if graph_nodes::is_entry(x.kind) {
+        return graph_walk::walk(
             image,
             bundle,
             btab,
@@ -113,7 +113,7 @@ fn walk_item(
             edges,
             chains,
             DEEPEST,
-            walk::NO_ENTRY_TEXT,
+            graph_walk::NO_ENTRY_TEXT,
             v,
             count,
         );
@@ -121,7 +121,7 @@ fn walk_item(
     if is_listed(x.kind) {
         let place = x.place;
         let end = place + x.size;
-        return walk::link_known(
+        return graph_walk::link_known(
             image,
             ntab,
             n,
@@ -163,7 +163,7 @@ fn walk_items(
     let mut v = NodeIndex(0);
     let mut i = 0;
     while i < items {
-        let x = items::get_item(table, i);
+        let x = library_items::get_item(table, i);
         entry = next_entry(x.kind, entry);
         v = next_node(image, ntab, n, x, v);
         match walk_item(
@@ -208,19 +208,19 @@ fn too_short(
 ) -> bool
     ensures { λ r. ⌜ r ≡ tooShort longest (record { nodes = nodes; edges = edges; store = store; imports = imports; includes = includes; levels = levels }) ⌝ }
 {
-    if nodes < 2 * edges::MOST_NODES {
+    if nodes < 2 * graph_edges::MOST_NODES {
         return true;
     }
-    if edges < edges::EDGE_TABLE {
+    if edges < graph_edges::EDGE_TABLE {
         return true;
     }
     if store < longest {
         return true;
     }
-    if imports < rows::MOST_ROWS * rows::IMPORT_SIZE {
+    if imports < scan_rows::MOST_ROWS * scan_rows::IMPORT_SIZE {
         return true;
     }
-    if includes < rows::MOST_ROWS * rows::INCLUDE_SIZE {
+    if includes < scan_rows::MOST_ROWS * scan_rows::INCLUDE_SIZE {
         return true;
     }
     levels < LEVELS
@@ -233,8 +233,8 @@ fn put_nodes(ntab: &[u32], n: usize, nodes: &mut [u32])
 {
     let mut i = 0;
     while i < n {
-        nodes[i * 2] = index::place_of(ntab, i) as u32;
-        nodes[i * 2 + 1] = index::length_of(ntab, i) as u32;
+        nodes[i * 2] = library_index::place_of(ntab, i) as u32;
+        nodes[i * 2 + 1] = library_index::length_of(ntab, i) as u32;
         i += 1;
     }
 }
@@ -259,7 +259,7 @@ fn draw_edges(
     ensures { λ r. ⌜ Edged (now (image .entry)) (now (bundle .entry)) (now (store .entry)) (now (imports .entry)) (now (includes .entry)) (now (levels .entry)) (now (edges .entry)) r (now (store .exit)) (now (imports .exit)) (now (includes .exit)) (now (levels .exit)) (now (edges .exit)) ⌝ }
 {
     let mut marks: [u32; 2048] = [0; 2048];
-    nodes::mark_nodes(image, table, count, ntab, n, &mut marks);
+    graph_nodes::mark_nodes(image, table, count, ntab, n, &mut marks);
     // A head for each chain, behind them a link for each edge.
     let mut chains: [u16; 16384] = [0; 16384];
     let drawn = walk_items(
@@ -280,7 +280,7 @@ fn draw_edges(
         &mut chains,
     );
     let Drawn::Built(m) = drawn else {
-        buffers::clear_words(edges);
+        text_lent::clear_words(edges);
         return drawn;
     };
     Drawn::Built(m)
@@ -303,10 +303,10 @@ fn draw(
     ensures { λ r. ⌜ Holds (drawResult (now (image .entry)) (now (bundle .entry))) (now (nodes .entry)) (now (edges .entry)) (now (store .entry)) (now (imports .entry)) (now (includes .entry)) (now (levels .entry)) r (now (nodes .exit)) (now (edges .exit)) (now (store .exit)) (now (imports .exit)) (now (includes .exit)) (now (levels .exit)) ⌝ }
 {
     let mut table: [u32; 65536] = [0; 65536];
-    let count = items::list_items(image, &mut table);
+    let count = library_items::list_items(image, &mut table);
     let mut ntab: [u32; 5123] = [0; 5123];
-    let Nodes::Count(n) = nodes::construct_nodes(image, &table, count, &mut ntab) else {
-        return Graphed::Refused(TOO_MANY_NODES, 0, walk::nought(), 0);
+    let Nodes::Count(n) = graph_nodes::construct_nodes(image, &table, count, &mut ntab) else {
+        return Graphed::Refused(TOO_MANY_NODES, 0, graph_walk::nought(), 0);
     };
     match draw_edges(
         image,
@@ -345,15 +345,20 @@ fn read_and_draw(
     requires { ⌜ (now nodes ≡ zeros (length (now nodes))) × (now edges ≡ zeros (length (now edges))) ⌝ }
     ensures { λ r. ⌜ Holds (graphed (now (image .entry)) (now (bundle .entry)) (lengthsOf (now (nodes .entry)) (now (edges .entry)) (now (store .entry)) (now (imports .entry)) (now (includes .entry)) (now (levels .entry)))) (now (nodes .entry)) (now (edges .entry)) (now (store .entry)) (now (imports .entry)) (now (includes .entry)) (now (levels .entry)) r (now (nodes .exit)) (now (edges .exit)) (now (store .exit)) (now (imports .exit)) (now (includes .exit)) (now (levels .exit)) ⌝ }
 {
-    let read = library::read_image(image);
+    let read = library_read::read_image(image);
     if let Read::Wrong(p) = read {
-        return Graphed::Refused(library::IMAGE_BROKEN, 0, walk::nought(), p);
+        return Graphed::Refused(library_read::IMAGE_BROKEN, 0, graph_walk::nought(), p);
     }
     let mut btab: [u32; 8192] = [0; 8192];
-    match bundle::open(bundle, &mut btab) {
-        Opened::Wrong(p) => Graphed::Refused(bundle::BUNDLE_BROKEN, 0, walk::nought(), p),
+    match library_bundle::open(bundle, &mut btab) {
+        Opened::Wrong(p) => Graphed::Refused(
+            library_bundle::BUNDLE_BROKEN,
+            0,
+            graph_walk::nought(),
+            p,
+        ),
         Opened::Texts(texts) => {
-            let longest = bundle::longest(bundle, &btab, texts);
+            let longest = library_bundle::longest(bundle, &btab, texts);
             if too_short(
                 longest,
                 nodes.len(),
@@ -363,7 +368,7 @@ fn read_and_draw(
                 includes.len(),
                 levels.len(),
             ) {
-                return Graphed::Refused(LENT_TOO_SHORT, 0, walk::nought(), 0);
+                return Graphed::Refused(LENT_TOO_SHORT, 0, graph_walk::nought(), 0);
             }
             draw(
                 image,
@@ -394,8 +399,8 @@ pub fn to_graph(
 ) -> Graphed
     ensures { λ r. ⌜ Graphs (now (image .entry)) (now (bundle .entry)) (now (nodes .entry)) (now (edges .entry)) (now (store .entry)) (now (imports .entry)) (now (includes .entry)) (now (levels .entry)) r (now (nodes .exit)) (now (edges .exit)) (now (store .exit)) (now (imports .exit)) (now (includes .exit)) (now (levels .exit)) ⌝ }
 {
-    buffers::clear_words(nodes);
-    buffers::clear_words(edges);
+    text_lent::clear_words(nodes);
+    text_lent::clear_words(edges);
     let graphed = read_and_draw(
         image,
         bundle,
@@ -406,9 +411,9 @@ pub fn to_graph(
         includes,
         levels,
     );
-    buffers::clear_bytes(store);
-    buffers::clear_words(imports);
-    buffers::clear_words(includes);
-    buffers::clear_words(levels);
+    text_lent::clear_bytes(store);
+    text_lent::clear_words(imports);
+    text_lent::clear_words(includes);
+    text_lent::clear_words(levels);
     graphed
 }

@@ -11,18 +11,18 @@ use lib.Seq.{sets}
 use borrow.Author.Tests.{le-leb, lt-leb}
 use Rattle.text.specs.declared.Cursor.{Cursor}
 use Rattle.text.specs.declared.Refusal.{Refusal}
-use Rattle.rows.specs.Span.{Fits}
-use Rattle.rows.specs.Rows.{importWords, includeWords, importTable, includeTable, table, FitsImport, FitsInclude}
-use Rattle.rows.specs.declared.Span.{Span}
-use Rattle.rows.specs.declared.YangImport.{YangImport}
-use Rattle.rows.specs.declared.YangInclude.{YangInclude}
-use Rattle.imports.specs.Statement.{importAt, includeAt}
-use Rattle.imports.specs.declared.Imported.{Imported}
-use Rattle.imports.specs.declared.Imported.the-variants.{Import as ReadImport, NoImport}
-use Rattle.imports.specs.declared.Included.{Included}
-use Rattle.imports.specs.declared.Included.the-variants.{Include as ReadInclude, NoInclude}
-use Rattle.imports.proofs.ReachLaws.{import-room, import-lies, include-room, include-lies}
-use Rattle.imports.proofs.Spans.{MayLie, Lies, may-end}
+use Rattle.scan_rows.specs.Span.{Fits}
+use Rattle.scan_rows.specs.Rows.{importWords, includeWords, importTable, includeTable, table, FitsImport, FitsInclude}
+use Rattle.scan_rows.specs.declared.Span.{Span}
+use Rattle.scan_rows.specs.declared.YangImport.{YangImport}
+use Rattle.scan_rows.specs.declared.YangInclude.{YangInclude}
+use Rattle.scan_imports.specs.Statement.{importAt, includeAt}
+use Rattle.scan_imports.specs.declared.Imported.{Imported}
+use Rattle.scan_imports.specs.declared.Imported.the-variants.{Import as ReadImport, NoImport}
+use Rattle.scan_imports.specs.declared.Included.{Included}
+use Rattle.scan_imports.specs.declared.Included.the-variants.{Include as ReadInclude, NoInclude}
+use Rattle.scan_imports.proofs.ReachLaws.{import-room, import-lies, include-room, include-lies}
+use Rattle.scan_imports.proofs.Spans.{MayLie, Lies, may-end}
 use Rattle.yangparser.specs.Dependencies.{Dependencies, none, importWordsOf, includeWordsOf, Step, importStep, includeStep, unlessFull, importHere, includeHere}
 use Rattle.yangparser.specs.Promises.{Adds, AddsImport, AddsInclude}
 use Rattle.yangparser.specs.declared.Next.{Next}

@@ -7,13 +7,13 @@ use Prim.Native.Nat.{ℕ, _*_, _<_, _≤_}
 use native.Mathlib.Omega.{arith}
 use lib.ListN.{length}
 use Rattle.text.specs.declared.Refusal.{Refusal}
-use Rattle.buffers.specs.Lent.{lentAt}
-use Rattle.buffers.specs.Padded.{zeros, padded}
-use Rattle.buffers.specs.declared.Lent.{Lent}
-use Rattle.buffers.specs.declared.Lent.the-variants.{Fit, Unfit}
-use Rattle.buffers.proofs.Clears.{written-zero, padded-none}
-use Rattle.buffers.proofs.LentLaws.{fit-said}
-use Rattle.rows.specs.Rows.{importTable, includeTable, table}
+use Rattle.text_lent.specs.Lent.{lentAt}
+use Rattle.text_lent.specs.Padded.{zeros, padded}
+use Rattle.text_lent.specs.declared.Lent.{Lent}
+use Rattle.text_lent.specs.declared.Lent.the-variants.{Fit, Unfit}
+use Rattle.text_lent.proofs.Clears.{written-zero, padded-none}
+use Rattle.text_lent.proofs.LentLaws.{fit-said}
+use Rattle.scan_rows.specs.Rows.{importTable, includeTable, table}
 use Rattle.yangparser.specs.Dependencies.{Dependencies, none, importWordsOf, includeWordsOf, Scan, good, bad, scanned, tooShort, ifFit, dependencies, parsedOf, readOf, keptOf}
 use Rattle.yangparser.specs.Promises.{Holds, Parses, Leaves, lentScan, Scans, Extracts}
 use Rattle.yangparser.specs.declared.Parsed.{Parsed}

@@ -11,14 +11,14 @@ use borrow.Author.Tests.{leb-true, leb-false}
 use Rattle.text.specs.Scan.{gapEnd}
 use Rattle.text.proofs.Here.{by-test}
 use Rattle.text.proofs.Laws.{gap-from}
-use Rattle.skip.specs.Skip.{tokenAt, tokenEnd}
-use Rattle.skip.proofs.SkipLaws.{token-far, token-within}
-use Rattle.imports.specs.Statement.{importAt, includeAt}
-use Rattle.imports.specs.declared.Imported.{Imported}
-use Rattle.imports.specs.declared.Imported.the-variants.{Import as ReadImport, NoImport}
-use Rattle.imports.specs.declared.Included.{Included}
-use Rattle.imports.specs.declared.Included.the-variants.{Include as ReadInclude, NoInclude}
-use Rattle.imports.proofs.ReachLaws.{ImportSaid, import-said, IncludeSaid, include-said}
+use Rattle.text_skip.specs.Skip.{tokenAt, tokenEnd}
+use Rattle.text_skip.proofs.SkipLaws.{token-far, token-within}
+use Rattle.scan_imports.specs.Statement.{importAt, includeAt}
+use Rattle.scan_imports.specs.declared.Imported.{Imported}
+use Rattle.scan_imports.specs.declared.Imported.the-variants.{Import as ReadImport, NoImport}
+use Rattle.scan_imports.specs.declared.Included.{Included}
+use Rattle.scan_imports.specs.declared.Included.the-variants.{Include as ReadInclude, NoInclude}
+use Rattle.scan_imports.proofs.ReachLaws.{ImportSaid, import-said, IncludeSaid, include-said}
 use Rattle.yangparser.specs.Dependencies.{Dependencies, none, Step, importStep, includeStep, unlessFull, importHere, includeHere, movedTo, wordStep, stepAt}
 use Rattle.yangparser.specs.Word.{wordAt}
 use Rattle.yangparser.specs.declared.Next.{Next}

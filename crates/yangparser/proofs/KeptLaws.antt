@@ -7,13 +7,13 @@ use Prim.Native.Nat.{ℕ, _-_, _*_, _≤_}
 use native.Mathlib.Omega.{arith}
 use lib.ListN.{length}
 use Rattle.text.specs.declared.Refusal.{Refusal}
-use Rattle.buffers.specs.Lent.{lentAt}
-use Rattle.buffers.specs.Padded.{padded}
-use Rattle.buffers.specs.declared.Lent.{Lent}
-use Rattle.buffers.specs.declared.Lent.the-variants.{Fit, Unfit}
-use Rattle.buffers.proofs.LentLaws.{fit-said, lent-within}
-use Rattle.rows.specs.Rows.{importsIn, includesIn}
-use Rattle.rows.proofs.Reading.{imports-back, includes-back, imports-written, includes-written}
+use Rattle.text_lent.specs.Lent.{lentAt}
+use Rattle.text_lent.specs.Padded.{padded}
+use Rattle.text_lent.specs.declared.Lent.{Lent}
+use Rattle.text_lent.specs.declared.Lent.the-variants.{Fit, Unfit}
+use Rattle.text_lent.proofs.LentLaws.{fit-said, lent-within}
+use Rattle.scan_rows.specs.Rows.{importsIn, includesIn}
+use Rattle.scan_rows.proofs.Reading.{imports-back, includes-back, imports-written, includes-written}
 use Rattle.yangparser.specs.Dependencies.{Dependencies, importWordsOf, includeWordsOf, Scan, good, bad, scanned, ifFit, dependencies, parsedOf}
 use Rattle.yangparser.specs.Promises.{Holds}
 use Rattle.yangparser.specs.declared.Parsed.the-variants.{Good, Refused}

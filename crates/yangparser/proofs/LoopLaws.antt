@@ -7,9 +7,9 @@ use native.Mathlib.Omega.{arith}
 use lib.ListN.{length, length-append}
 use lib.Seq.{sets, length-sets}
 use Rattle.text.specs.declared.Refusal.{Refusal}
-use Rattle.value.proofs.JoinLaws.{sets-twice}
-use Rattle.rows.specs.Rows.{table, importTable, includeTable, importWords, includeWords}
-use Rattle.rows.proofs.Laws.{imports-length, includes-length}
+use Rattle.text_value.proofs.JoinLaws.{sets-twice}
+use Rattle.scan_rows.specs.Rows.{table, importTable, includeTable, importWords, includeWords}
+use Rattle.scan_rows.proofs.Laws.{imports-length, includes-length}
 use Rattle.yangparser.specs.Dependencies.{Dependencies, none, joined, importWordsOf, includeWordsOf, stepAt, Scanning, Scan, good, bad, scanFrom, start, scanned, parsedOf, readOf}
 use Rattle.yangparser.specs.Promises.{Steps, Holds, Parses}
 use Rattle.yangparser.specs.declared.Next.{Next}

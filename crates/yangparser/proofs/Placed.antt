@@ -7,14 +7,14 @@ use mathlib.Core.Bool.{cond}
 use mathlib.Core.List.{List, [], _∷_, _++_}
 use Prim.Native.Nat.{ℕ, _+_, _≤_}
 use native.Mathlib.Omega.{arith}
-use Rattle.rows.proofs.Laws.{each-of}
-use Rattle.rows.specs.Rows.{There, Plain, PlainImport, PlainInclude, Each}
-use Rattle.rows.specs.Sizes.{total, importValues, includeValues}
-use Rattle.rows.specs.Span.{held, missing}
-use Rattle.rows.specs.declared.Span.{Span}
-use Rattle.rows.specs.declared.YangImport.{YangImport}
-use Rattle.rows.specs.declared.YangInclude.{YangInclude}
-use Rattle.imports.proofs.Spans.{Lies, MayLie, lies-more, may-more}
+use Rattle.scan_rows.proofs.Laws.{each-of}
+use Rattle.scan_rows.specs.Rows.{There, Plain, PlainImport, PlainInclude, Each}
+use Rattle.scan_rows.specs.Sizes.{total, importValues, includeValues}
+use Rattle.scan_rows.specs.Span.{held, missing}
+use Rattle.scan_rows.specs.declared.Span.{Span}
+use Rattle.scan_rows.specs.declared.YangImport.{YangImport}
+use Rattle.scan_rows.specs.declared.YangInclude.{YangInclude}
+use Rattle.scan_imports.proofs.Spans.{Lies, MayLie, lies-more, may-more}
 use Rattle.yangparser.specs.Dependencies.{Dependencies, joined}
 
 -- ---- lists of any kind

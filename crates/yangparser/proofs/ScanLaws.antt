@@ -9,8 +9,8 @@ use lib.ListN.{length, length-append}
 use Rattle.text.specs.Turns.{stop, on}
 use Rattle.text.specs.declared.Refusal.{Refusal}
 use Rattle.text.proofs.Turns.{turns-stop, turns-on, turns-rule}
-use Rattle.rows.proofs.Laws.{each-of}
-use Rattle.rows.specs.Rows.{PlainImport, PlainInclude, Each}
+use Rattle.scan_rows.proofs.Laws.{each-of}
+use Rattle.scan_rows.specs.Rows.{PlainImport, PlainInclude, Each}
 use Rattle.yangparser.specs.Dependencies.{Dependencies, none, joined, Step, stepAt, Scanning, Scan, good, bad, afterStep, scanTurn, scanFrom, start, scanned, readOf}
 use Rattle.yangparser.specs.declared.Next.{Next}
 use Rattle.yangparser.specs.declared.Next.the-variants.{On, Done, Stop}

@@ -12,14 +12,14 @@ use Rattle.text.specs.Scan.{gapEnd}
 use Rattle.text.specs.declared.Cursor.{Cursor}
 use Rattle.text.proofs.Here.{by-test}
 use Rattle.text.proofs.Laws.{gap-from}
-use Rattle.skip.specs.Skip.{tokenAt, tokenEnd}
-use Rattle.skip.specs.declared.Token.{Token}
-use Rattle.rows.specs.Rows.{importTable, includeTable, table}
-use Rattle.imports.specs.Statement.{importAt, includeAt}
-use Rattle.imports.specs.declared.Imported.{Imported}
-use Rattle.imports.specs.declared.Imported.the-variants.{Import as ReadImport, NoImport}
-use Rattle.imports.specs.declared.Included.{Included}
-use Rattle.imports.specs.declared.Included.the-variants.{Include as ReadInclude, NoInclude}
+use Rattle.text_skip.specs.Skip.{tokenAt, tokenEnd}
+use Rattle.text_skip.specs.declared.Token.{Token}
+use Rattle.scan_rows.specs.Rows.{importTable, includeTable, table}
+use Rattle.scan_imports.specs.Statement.{importAt, includeAt}
+use Rattle.scan_imports.specs.declared.Imported.{Imported}
+use Rattle.scan_imports.specs.declared.Imported.the-variants.{Import as ReadImport, NoImport}
+use Rattle.scan_imports.specs.declared.Included.{Included}
+use Rattle.scan_imports.specs.declared.Included.the-variants.{Include as ReadInclude, NoInclude}
 use Rattle.yangparser.specs.Dependencies.{Dependencies, none, importWordsOf, includeWordsOf, Step, importStep, includeStep, unlessFull, importHere, includeHere, movedTo, wordStep, stepHere, stepAt}
 use Rattle.yangparser.specs.Promises.{AddsImport, AddsInclude, Steps}
 use Rattle.yangparser.specs.Word.{wordAt}

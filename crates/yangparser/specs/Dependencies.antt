@@ -9,18 +9,18 @@ use Rattle.text.specs.Scan.{gapEnd}
 use Rattle.text.specs.Turns.{Turn, stop, on, turns}
 use Rattle.text.specs.Words.{importKeyword, includeKeyword}
 use Rattle.text.specs.declared.Refusal.{Refusal}
-use Rattle.skip.specs.Skip.{tokenAt, tokenEnd}
-use Rattle.buffers.specs.Lent.{lentAt}
-use Rattle.buffers.specs.declared.Lent.{Lent}
-use Rattle.buffers.specs.declared.Lent.the-variants.{Fit, Unfit}
-use Rattle.rows.specs.Rows.{importSize, includeSize, mostRows, importTable, includeTable}
-use Rattle.rows.specs.declared.YangImport.{YangImport}
-use Rattle.rows.specs.declared.YangInclude.{YangInclude}
-use Rattle.imports.specs.Statement.{importAt, includeAt}
-use Rattle.imports.specs.declared.Imported.{Imported}
-use Rattle.imports.specs.declared.Imported.the-variants.{Import as ReadImport, NoImport}
-use Rattle.imports.specs.declared.Included.{Included}
-use Rattle.imports.specs.declared.Included.the-variants.{Include as ReadInclude, NoInclude}
+use Rattle.text_skip.specs.Skip.{tokenAt, tokenEnd}
+use Rattle.text_lent.specs.Lent.{lentAt}
+use Rattle.text_lent.specs.declared.Lent.{Lent}
+use Rattle.text_lent.specs.declared.Lent.the-variants.{Fit, Unfit}
+use Rattle.scan_rows.specs.Rows.{importSize, includeSize, mostRows, importTable, includeTable}
+use Rattle.scan_rows.specs.declared.YangImport.{YangImport}
+use Rattle.scan_rows.specs.declared.YangInclude.{YangInclude}
+use Rattle.scan_imports.specs.Statement.{importAt, includeAt}
+use Rattle.scan_imports.specs.declared.Imported.{Imported}
+use Rattle.scan_imports.specs.declared.Imported.the-variants.{Import as ReadImport, NoImport}
+use Rattle.scan_imports.specs.declared.Included.{Included}
+use Rattle.scan_imports.specs.declared.Included.the-variants.{Include as ReadInclude, NoInclude}
 use Rattle.yangparser.specs.Word.{wordAt}
 use Rattle.yangparser.specs.declared.Next.{Next}
 use Rattle.yangparser.specs.declared.Next.the-variants.{On, Done, Stop}

@@ -6,8 +6,8 @@ use mathlib.Core.Bool.{Bool}
 use mathlib.Core.List.{List}
 use lib.ListN.{length}
 use lib.Seq.{sets}
-use Rattle.buffers.specs.Padded.{padded}
-use Rattle.rows.specs.Rows.{importSize, includeSize}
+use Rattle.text_lent.specs.Padded.{padded}
+use Rattle.scan_rows.specs.Rows.{importSize, includeSize}
 use Rattle.yangparser.specs.Dependencies.{Dependencies, importWordsOf, includeWordsOf, Step, importHere, includeHere, Scan, tooShort, dependencies, parsedOf, readOf, keptOf}
 use Rattle.yangparser.specs.declared.Next.{Next}
 use Rattle.yangparser.specs.declared.Parsed.{Parsed}

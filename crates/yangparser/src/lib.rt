@@ -1,10 +1,10 @@
 // The dependency scan: import and include statements, their values in the store that the caller lends, their rows in its tables.
-use buffers::Lent;
-use imports::Imported;
-use imports::Included;
+use scan_imports::Imported;
+use scan_imports::Included;
 use text::Cursor;
 use text::Match;
 use text::Refusal;
+use text_lent::Lent;
 ghost use mathlib.Core.Path.{_≡_};
 ghost use mathlib.Core.Bool.{false};
 ghost use Prim.Native.Nat.{_+_, _-_, _*_, _≤_, _<_};
@@ -12,7 +12,7 @@ ghost use lib.ListN.{length};
 ghost use Rattle.text.specs.Class.{classTable};
 ghost use Rattle.text.specs.Keyword.{matchAt};
 ghost use Rattle.text.specs.Words.{importWord, includeWord, organizationWord, contactWord, descriptionWord, referenceWord};
-ghost use Rattle.rows.specs.Rows.{importSize, includeSize, mostRows};
+ghost use Rattle.scan_rows.specs.Rows.{importSize, includeSize, mostRows};
 ghost use Rattle.yangparser.specs.Word.{lastAt, wordAt};
 ghost use Rattle.yangparser.specs.Dependencies.{tooShort, stepAt, scanned};
 ghost use Rattle.yangparser.specs.Promises.{AddsImport, AddsInclude, Steps, Parses, Scans, Extracts};
@@ -52,9 +52,9 @@ pub fn scan_lent(
 ) -> Parsed
     ensures { λ r. ⌜ Extracts (now (s .entry)) short (now (store .entry)) (now (imports .entry)) (now (includes .entry)) r (now (store .exit)) (now (imports .exit)) (now (includes .exit)) ⌝ }
 {
-    buffers::clear_bytes(store);
-    buffers::clear_words(imports);
-    buffers::clear_words(includes);
+    text_lent::clear_bytes(store);
+    text_lent::clear_words(imports);
+    text_lent::clear_words(includes);
     let parsed = scan_over(s, short, store, imports, includes);
     match parsed {
         Parsed::Good {
@@ -63,9 +63,9 @@ pub fn scan_lent(
             used: _,
         } => parsed,
         Parsed::Refused(_) => {
-            buffers::clear_bytes(store);
-            buffers::clear_words(imports);
-            buffers::clear_words(includes);
+            text_lent::clear_bytes(store);
+            text_lent::clear_words(imports);
+            text_lent::clear_words(includes);
             parsed
         }
     }
@@ -83,7 +83,7 @@ pub fn scan_over(
 {
     let classes = text::classes();
     let unfit = too_short(short, s.len(), store.len(), imports.len(), includes.len());
-    let lent = buffers::check_lent(&classes, s, unfit);
+    let lent = text_lent::check_lent(&classes, s, unfit);
     match lent {
         Lent::Fit => parse(&classes, s, store, imports, includes),
         Lent::Unfit(r) => Parsed::Refused(r),
@@ -100,10 +100,10 @@ fn too_short(short: bool, text: usize, store: usize, imports: usize, includes: u
     if store < text {
         return true;
     }
-    if imports < rows::MOST_ROWS * rows::IMPORT_SIZE {
+    if imports < scan_rows::MOST_ROWS * scan_rows::IMPORT_SIZE {
         return true;
     }
-    includes < rows::MOST_ROWS * rows::INCLUDE_SIZE
+    includes < scan_rows::MOST_ROWS * scan_rows::INCLUDE_SIZE
 }
 
 // Where the scan stands, the store's next place, and the rows so far.
@@ -181,8 +181,8 @@ fn parse_next(
         Word::Include(c) => add_include(far, c, classes, s, store, includes),
         Word::Last(_) => Next::Done,
         Word::Other => {
-            let token = skip::skip_one_token(here, classes, s);
-            let end = skip::token_end(token);
+            let token = text_skip::skip_one_token(here, classes, s);
+            let end = text_skip::token_end(token);
             Next::On(Sofar {
                 at: end.at,
                 used: far.used,
@@ -261,17 +261,17 @@ fn add_import(
     ensures { λ r. ⌜ AddsImport (now (s .entry)) far (here .at) (now (store .entry)) (now (imports .entry)) r (now (store .exit)) (now (imports .exit)) ⌝ }
 {
     let rows = far.imports;
-    if rows::MOST_ROWS <= rows {
+    if scan_rows::MOST_ROWS <= rows {
         return Next::Stop(Refusal {
             number: TOO_MANY,
             keyword: text::IMPORT,
             at: here.at,
         });
     }
-    let read = imports::parse_import(here, classes, s, store, far.used);
+    let read = scan_imports::parse_import(here, classes, s, store, far.used);
     match read {
         Imported::Import { next, used, import } => {
-            rows::put_import(imports, rows, import);
+            scan_rows::put_import(imports, rows, import);
             let more = rows + 1;
             Next::On(Sofar {
                 at: next.at,
@@ -297,21 +297,21 @@ fn add_include(
     ensures { λ r. ⌜ AddsInclude (now (s .entry)) far (here .at) (now (store .entry)) (now (includes .entry)) r (now (store .exit)) (now (includes .exit)) ⌝ }
 {
     let rows = far.includes;
-    if rows::MOST_ROWS <= rows {
+    if scan_rows::MOST_ROWS <= rows {
         return Next::Stop(Refusal {
             number: TOO_MANY,
             keyword: text::INCLUDE,
             at: here.at,
         });
     }
-    let read = imports::parse_include(here, classes, s, store, far.used);
+    let read = scan_imports::parse_include(here, classes, s, store, far.used);
     match read {
         Included::Include {
             next,
             used,
             include,
         } => {
-            rows::put_include(includes, rows, include);
+            scan_rows::put_include(includes, rows, include);
             let more = rows + 1;
             Next::On(Sofar {
                 at: next.at,

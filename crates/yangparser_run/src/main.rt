@@ -1,7 +1,7 @@
 // Replays recorded answers of the Rust for whole texts: dependencies and their printed form, and metadata.
 use libc::STDOUT_FILENO;
-use page::Page;
-use rows::Span;
+use scan_page::Page;
+use scan_rows::Span;
 use text::Refusal;
 use yangparser::Parsed;
 
@@ -35,7 +35,7 @@ fn value_agrees(store: &[u8], x: Span, data: &[u8], at: usize) -> bool {
         return !x.present;
     }
     if x.present {
-        return check::same(rows::value_in(store, x), replay::field(data, at));
+        return check::same(scan_rows::value_in(store, x), replay::field(data, at));
     }
     false
 }
@@ -47,13 +47,13 @@ enum Walk {
 }
 
 fn import_agrees(store: &[u8], table: &[u32], row: usize, data: &[u8], at: usize) -> Walk {
-    if table.len() < rows::MOST_ROWS * rows::IMPORT_SIZE {
+    if table.len() < scan_rows::MOST_ROWS * scan_rows::IMPORT_SIZE {
         return Walk::Different;
     }
-    if rows::MOST_ROWS <= row {
+    if scan_rows::MOST_ROWS <= row {
         return Walk::Different;
     }
-    let import = rows::get_import(table, row);
+    let import = scan_rows::get_import(table, row);
     let prefix_at = replay::after(data, at);
     let revision_at = replay::after(data, prefix_at);
     if !value_agrees(store, import.module_name, data, at) {
@@ -69,13 +69,13 @@ fn import_agrees(store: &[u8], table: &[u32], row: usize, data: &[u8], at: usize
 }
 
 fn include_agrees(store: &[u8], table: &[u32], row: usize, data: &[u8], at: usize) -> Walk {
-    if table.len() < rows::MOST_ROWS * rows::INCLUDE_SIZE {
+    if table.len() < scan_rows::MOST_ROWS * scan_rows::INCLUDE_SIZE {
         return Walk::Different;
     }
-    if rows::MOST_ROWS <= row {
+    if scan_rows::MOST_ROWS <= row {
         return Walk::Different;
     }
-    let include = rows::get_include(table, row);
+    let include = scan_rows::get_include(table, row);
     let revision_at = replay::after(data, at);
     if !value_agrees(store, include.submodule_name, data, at) {
         return Walk::Different;
@@ -155,7 +155,7 @@ fn record_agrees(data: &[u8], at: usize) -> bool {
     let answer_at = replay::after(data, at);
     let answer = replay::field(data, answer_at);
     let values_at = replay::after(data, answer_at);
-    let printed = page::print_yang_dependencies(
+    let printed = scan_page::print_yang_dependencies(
         s,
         &mut store,
         &mut imports,
@@ -172,7 +172,7 @@ fn record_agrees(data: &[u8], at: usize) -> bool {
             if replay::word(answer, 0) != 0 {
                 return false;
             }
-            let shown = buffers::first(&page, printed.length);
+            let shown = text_lent::first(&page, printed.length);
             read_agrees(&store, &imports, m, &includes, n, shown, data, values_at)
         }
         Parsed::Refused(r) => refusal_agrees(answer, r),
@@ -207,7 +207,7 @@ fn behind_record(data: &[u8], at: usize) -> usize {
 fn values_agree(store: &[u8], values: [Span; 6], data: &[u8], at: usize) -> bool {
     let mut next = at;
     let mut i: usize = 0;
-    while i < metadata::NEWEST_VALUE {
+    while i < scan_metadata::NEWEST_VALUE {
         let x = values[i];
         if !value_agrees(store, x, data, next) {
             return false;
@@ -225,7 +225,7 @@ fn metadata_agrees(data: &[u8], at: usize) -> bool {
     let answer_at = replay::after(data, at);
     let answer = replay::field(data, answer_at);
     let values_at = replay::after(data, answer_at);
-    let read = metadata::extract_yang_metadata(s, &mut store);
+    let read = scan_metadata::extract_yang_metadata(s, &mut store);
     let r = read.answer;
     if r.number != text::NO_REFUSAL {
         return refusal_agrees(answer, r);

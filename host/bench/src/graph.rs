@@ -70,7 +70,7 @@ fn listed(what: &str, modules: usize, others: impl Fn(usize) -> Vec<usize>) -> I
     Input::of(what.to_string(), &library)
 }
 
-/// Many edges to a few nodes, many from a few, and edges that all come into 64 of the 8,192 chains in which the port looks for an edge (crates/edges).
+/// Many edges to a few nodes, many from a few, and edges that all come into 64 of the 8,192 chains in which the port looks for an edge (crates/graph_edges).
 pub fn adverse() -> [Input; 3] {
     let filed_together = |i: usize| (0..64).map(|k| (128 * k + 8_192 * 20 - 131 * i) % 8_192).filter(|to| *to < 1_024 && *to != i).collect();
     [

@@ -1,0 +1,125 @@
+-- One edge more, and one include up to the walk of its text: one law for each way out.
+-- Assumes nothing.
+use Prim.Native.Nat.{ℕ, zero, suc, _+_, _-_, _<_}
+use mathlib.Core.Path.{_≡_, refl, sym, ap, _∙_}
+use mathlib.Core.Bool.{Bool, true, false, cond}
+use mathlib.Core.List.{List}
+use native.Mathlib.Omega.{arith}
+use native.Mathlib.Nat.{pos-of-ne-zero}
+use mir.Syntax.{w32}
+use mir.Val.{Fits}
+use Rattle.text.specs.declared.Refusal.{Refusal}
+use Rattle.graph.specs.Graph.{nought, Out, built, refused, thenO}
+use Rattle.graph.specs.Numbers.{Row, row, addRow, importCode, givenCode, includeCode}
+use Rattle.graph_edges.specs.Edges.{mostEdges, linkSeen, Linked, rowsIn}
+use Rattle.graph_edges.specs.declared.Link.{Link}
+use Rattle.graph_edges.specs.declared.Link.the-variants.{Count, Full}
+use Rattle.graph_edges.specs.declared.NodeIndex.{NodeIndex}
+use Rattle.graph_nodes.specs.Adding.{mostNodes}
+use Rattle.graph_nodes.specs.Marks.{Desk, knownAt, resolvedCode, includedCode, ResolvedNode, IncludedNode}
+use Rattle.graph_nodes.specs.declared.Resolved.{Resolved}
+use Rattle.graph_nodes.specs.declared.Resolved.the-variants.{Unknown, Node}
+use Rattle.graph_nodes.specs.declared.Included.{Included}
+use Rattle.graph_nodes.specs.declared.Included.the-variants.{Node as Below}
+use Rattle.graph_walk.specs.Walk.{belowOf, linkWalked, Drew, Stepped}
+use Rattle.graph_walk.specs.declared.Walked.{Walked}
+use Rattle.graph_walk.specs.declared.Walked.the-variants.{Built, Refused}
+use Rattle.graph_walk.specs.declared.Stepping.the-variants.{Down, Stopped as Halted}
+
+-- ---- the word of an include
+
+pub code-fits : (r : Included) (v : NodeIndex) → r ≡ Below v → IncludedNode r mostNodes → Fits w32 (v .0 + 2)
+code-fits r v e h = let k : v .0 < mostNodes = rw e at h in record { fits = omega arith }
+
+pub code-is : (r : Included) (v : NodeIndex) → r ≡ Below v → v .0 + 2 ≡ includedCode r
+code-is r v e = let q : v .0 + 2 ≡ suc (suc (v .0)) = omega arith in q ∙ sym (ap includedCode e)
+
+-- ---- an edge
+
+pub counted : (l : Link) (n : ℕ) → l ≡ Count n → Built n ≡ linkWalked l
+counted l n e = sym (ap linkWalked e)
+
+pub filled : (l : Link) (a : Refusal) → a ≡ nought → l ≡ Full → Refused 31 a ≡ linkWalked l
+filled l a z e = ap (Refused 31) z ∙ sym (ap linkWalked e)
+
+drew : (x : Link) (rs : List Row) (r : Row) (edges chains edges₁ chains₁ : List ℕ) (w : Walked) → Linked rs r edges chains x edges₁ chains₁ → w ≡ linkWalked x
+    → Drew (addRow mostEdges rs r) edges chains w edges₁ chains₁
+drew (Count n) rs r edges chains edges₁ chains₁ w l e = record { seen = rw e (l .seen); filed = rw e (l .filed); kept-edges = l .kept-edges; kept-chains = l .kept-chains }
+drew Full rs r edges chains edges₁ chains₁ w l e = record { seen = rw e (l .seen); filed = rw e tt; kept-edges = l .kept-edges; kept-chains = l .kept-chains }
+
+module _ (s tab : List ℕ) (n : ℕ) (marks : List ℕ) (d : Desk s tab n marks) where
+  pub known-low : (r : Resolved) (u : NodeIndex) → r ≡ Node u → ResolvedNode r n → u .0 < mostNodes
+  known-low r u e h = let k : u .0 < n = rw e at h in omega (arith, d .holding .few)
+
+  pub node-low : (v : NodeIndex) → v .0 < n → v .0 < mostNodes
+  node-low v h = omega (arith, d .holding .few)
+
+module _ (s u : List ℕ) (r : Resolved) (k : resolvedCode r ≡ knownAt s u) (given : Bool) (v : ℕ) (rs : List Row) (edges chains : List ℕ) where
+  pub unknown : (a : Refusal) → r ≡ Unknown → a ≡ nought
+      → Drew (cond given (givenCode mostEdges v (knownAt s u) rs) (importCode mostEdges v (knownAt s u) rs)) edges chains (Refused 26 a) edges chains
+  unknown a e z = record { seen = rw (q, z) (go given); filed = tt; kept-edges = refl; kept-chains = refl }
+    where
+      q : knownAt s u ≡ 0
+      q = sym k ∙ ap resolvedCode e
+
+      go : (b : Bool) → _≡_ {A = Out Row} (refused 26 nought) (cond b (refused 26 nought) (refused 26 nought))
+      go true = refl
+      go false = refl
+
+  module _ (y : NodeIndex) (e : r ≡ Node y) (edges₁ chains₁ : List ℕ) (x : Link) (w : Walked) (o : w ≡ linkWalked x) where
+    code : knownAt s u ≡ suc (y .0)
+    code = sym k ∙ ap resolvedCode e
+
+    pub listed-drew : Linked rs (row v (y .0)) edges chains x edges₁ chains₁ → given ≡ true
+        → Drew (cond given (givenCode mostEdges v (knownAt s u) rs) (importCode mostEdges v (knownAt s u) rs)) edges chains w edges₁ chains₁
+    listed-drew l g = rw (g, code) (drew x rs (row v (y .0)) edges chains edges₁ chains₁ w l o)
+
+    pub import-drew : Linked rs (row (y .0) v) edges chains x edges₁ chains₁ → given ≡ false
+        → Drew (cond given (givenCode mostEdges v (knownAt s u) rs) (importCode mostEdges v (knownAt s u) rs)) edges chains w edges₁ chains₁
+    import-drew l g = rw (g, code) (drew x rs (row (y .0) v) edges chains edges₁ chains₁ w l o)
+
+-- ---- an include
+
+module _ (word left v : ℕ) (rs : List Row) (edges chains : List ℕ) where
+  pub no-submodule : word ≡ 0 → Stepped word left v rs edges chains (Halted 27) edges chains
+  no-submodule e = record { seen = λ at. rw e; ready = tt; kept-edges = refl; kept-chains = refl }
+
+  pub no-node : word ≡ 1 → Stepped word left v rs edges chains (Halted 28) edges chains
+  no-node e = record { seen = λ at. rw e; ready = tt; kept-edges = refl; kept-chains = refl }
+
+-- a word that is a node
+by-node : (word v : ℕ) (rs : List Row) (below : ℕ → List Row → Out Row) → (word ≡ 0 → ⊥) → (word ≡ 1 → ⊥)
+    → includeCode mostEdges below v word rs ≡ thenO (addRow mostEdges rs (row (word - 2) v)) (below (word - 2))
+by-node zero v rs below h k = absurd (h refl)
+by-node (suc zero) v rs below h k = absurd (k refl)
+by-node (suc (suc u)) v rs below h k = let q : suc (suc u) - 2 ≡ u = omega arith in rw q
+
+module _ (word left v : ℕ) (rs : List Row) (edges chains edges₁ chains₁ : List ℕ) (x : Link) (l : Linked rs (row (word - 2) v) edges chains x edges₁ chains₁)
+    (h : word ≡ 0 → ⊥) (k : word ≡ 1 → ⊥) where
+  pub no-room : x ≡ Full → Stepped word left v rs edges chains (Halted 31) edges₁ chains₁
+  no-room e =
+      let q : addRow mostEdges rs (row (word - 2) v) ≡ refused 31 nought = sym (l .seen) ∙ ap (λ x. linkSeen x edges₁) e in
+      record { seen = λ at. sym (by-node word v rs (belowOf at left) h k ∙ rw q); ready = tt; kept-edges = l .kept-edges; kept-chains = l .kept-chains }
+
+  module _ (m : ℕ) (e : x ≡ Count m) where
+    added : (below : ℕ → List Row → Out Row) → includeCode mostEdges below v word rs ≡ below (word - 2) (rowsIn m edges₁)
+    added below =
+        let q : addRow mostEdges rs (row (word - 2) v) ≡ built (rowsIn m edges₁) = sym (l .seen) ∙ ap (λ x. linkSeen x edges₁) e in
+        by-node word v rs below h k ∙ rw q
+
+    pub too-deep : left ≡ 0 → Stepped word left v rs edges chains (Halted 29) edges₁ chains₁
+    unfolding belowOf
+    too-deep z = record { seen = λ at. sym (added (belowOf at left) ∙ rw z); ready = tt; kept-edges = l .kept-edges; kept-chains = l .kept-chains }
+
+    pub down : (u : NodeIndex) → u .0 ≡ word - 2 → (left ≡ 0 → ⊥) → Stepped word left v rs edges chains (Down u m) edges₁ chains₁
+    down u z d = record {
+      seen = λ at. ap (λ j. belowOf at left j (rowsIn m edges₁)) z ∙ sym (added (belowOf at left));
+      ready = record { node = go word h k z; deep = pos-of-ne-zero d; filed = rw e at (l .filed) };
+      kept-edges = l .kept-edges;
+      kept-chains = l .kept-chains;
+    }
+      where
+        go : (w : ℕ) → (w ≡ 0 → ⊥) → (w ≡ 1 → ⊥) → u .0 ≡ w - 2 → u .0 + 2 ≡ w
+        go zero h k z = absurd (h refl)
+        go (suc zero) h k z = absurd (k refl)
+        go (suc (suc w)) h k z = omega arith

@@ -1,0 +1,60 @@
+-- `graph_walk::visit`. Each way out is one law of Visiting.
+-- Assumes nothing.
+use borrow.Author.Needs.{needs}
+use Rattle.graph_walk.proofs.Visiting.{text-missing, text-refused, import-refused, called, import-rows, include-rows, kept-levels, kept-above}
+use Rattle.graph_walk.proofs.visit.Statement.{statement}
+use Rattle.graph_walk.proofs.visit.Tie as tie
+
+link-imports-requires : tie.Need-link-imports-requires
+link-imports-requires c κs = (c .before .before .before .before .before .before .before .before .before .before .before .before .before .before .before .before .before .before .before .before .before .before .before .before .before .before .before .before .before .pre .0 .desk, import-rows _ _ _ _ _ _ _ _ (c .before .before .before .before .before .before .before .before .before .before .before .before .before .read-text .ensures) _ _ _ (c .before .before .before .before .before .m .given .1) (c .before .before .before .before .before .before .before .before .before .before .before .before .before .before .before .before .before .before .before .before .before .before .before .before .before .before .before .before .before .pre .1 .scan), c .before .before .before .before .before .before .before .before .before .before .before .before .before .before .before .before .before .before .before .before .before .before .before .before .before .before .before .before .before .pre .1 .edges-so-far, search needs)
+
+save-includes-requires : tie.Need-save-includes-requires
+save-includes-requires c κs = (c .before .before .before .before .before .before .before .before .before .before .before .before .before .before .before .before .before .before .before .before .before .before .before .before .before .before .before .before .before .before .before .before .before .before .before .before .before .before .before .before .pre .0 .desk, include-rows _ _ _ _ _ _ _ _ (c .before .before .before .before .before .before .before .before .before .before .before .before .before .before .before .before .before .before .before .before .before .before .before .before .read-text .ensures) _ _ _ _ _ (c .before .before .before .before .before .before .before .before .before .before .before .before .before .before .before .before .m .given .1) (c .before .before .before .before .before .before .before .before .before .before .before .before .before .before .before .before .before .before .before .before .before .before .before .before .before .before .before .before .before .before .before .before .before .before .before .before .before .before .before .before .pre .1 .scan) (c .before .before .before .before .before .before .before .before .before .before .before .before .before .before .before .before .before .before .before .before .before .before .before .before .before .before .before .before .before .before .before .before .before .before .before .before .before .before .before .before .pre .1 .level-room))
+
+returns : tie.Need-returns
+returns c = (search text-missing, search kept-levels)
+
+returns-2 : tie.Need-returns-2
+returns-2 c = (search text-refused, search kept-levels)
+
+returns-3 : tie.Need-returns-3
+returns-3 c = (search import-refused, search kept-levels)
+
+returns-4 : tie.Need-returns-4
+returns-4 c = (called _ _ _ _ (c .before .before .before .before .before .before .before .before .before .before .before .before .before .before .before .before .before .before .before .before .before .before .before .before .before .before .before .before .before .before .before .name-of .ensures) _ _ _ _ _ _ _ (c .before .before .before .before .before .before .before .before .before .before .before .before .before .before .before .before .before .before .before .before .before .before .before .before .before .before .before .read-text .ensures) _ _ _ _ _ _ _ _ (c .before .before .before .before .before .before .before .before .before .before .before .before .before .before .before .before .before .before .before .m .given .1) _ _ _ (c .before .before .before .before .before .before .before .before .before .before .before .before .before .link-imports .ensures) _ _ _ (c .before .before .save-includes .ensures) (c .before .before .before .before .before .before .before .total .given .1), search kept-above)
+
+pub visit-spec : {M : Type 1} → statement M
+visit-spec =
+    tie.close
+    (tie.spec
+    (λ c κs. search needs)
+    (λ c κs. search needs)
+    (λ c. search needs)
+    (λ c κs. search needs)
+    (λ c. search needs)
+    (λ c. search needs)
+    link-imports-requires
+    (λ c. search needs)
+    (λ c. search needs)
+    save-includes-requires
+    (λ c. search needs)
+    (λ c. search needs)
+    (λ c. search needs)
+    returns
+    (λ c. search needs)
+    (λ c. search needs)
+    (λ c. search needs)
+    returns-2
+    (λ c. search needs)
+    (λ c. search needs)
+    (λ c. search needs)
+    (λ c. search needs)
+    (λ c. search needs)
+    returns-3
+    (λ c. search needs)
+    (λ c. search needs)
+    (λ c. search needs)
+    (λ c. search needs)
+    (λ c. search needs)
+    (λ c. search needs)
+    returns-4)

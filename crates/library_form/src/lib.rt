@@ -1,0 +1,130 @@
+// Numbers and names of the library image, read at a place: seven-bit groups, and a number with as many bytes after it.
+ghost use mathlib.Core.Path.{_≡_};
+ghost use Prim.Native.Nat.{_+_, _≤_};
+ghost use lib.ListN.{length};
+ghost use Rattle.library_form.specs.Form.{numberAt, numberSeen, printableAt, nameAt, nameSeen};
+
+// A byte from here on has its top bit set: another group follows. A 1 in the second group is worth as much.
+const TOP_BIT: usize = 128;
+
+// What a 1 in the third group is worth.
+const THIRD: usize = 16384;
+
+// How many bytes a name has at the most.
+pub const MOST_NAME: usize = 128;
+
+// The bytes of a name are from the first of these to the second.
+const LEAST_BYTE: u8 = 33;
+
+const MOST_BYTE: u8 = 126;
+
+// A place in the image.
+pub struct Cursor {
+    pub at: usize,
+}
+
+// What a number's reading finds: the value and the place behind it, or the place where it is wrong.
+pub enum Number {
+    Value(usize, Cursor),
+    Wrong(usize),
+}
+
+// What a name's reading finds: its first byte's place and its length, or where it is wrong. What follows it starts at their sum.
+pub enum Name {
+    Bytes(usize, usize),
+    Wrong(usize),
+}
+
+// What a search for a name finds in an image or a bundle: the place where that breaks its form; nothing; or where the hit is, and one number more.
+pub enum LookUp {
+    Broken(usize),
+    Nothing,
+    At(usize, usize),
+}
+
+// Whether all of the `count` bytes from `from` on are bytes of a name.
+fn printable(s: &[u8], from: usize, count: usize) -> bool
+    requires { ⌜ from + count ≤ length (now s) ⌝ }
+    ensures { λ r. ⌜ r ≡ printableAt count (now (s .entry)) from ⌝ }
+{
+    let mut at = from;
+    let mut left = count;
+    while 0 < left {
+        let b = s[at];
+        if b < LEAST_BYTE {
+            return false;
+        }
+        if MOST_BYTE < b {
+            return false;
+        }
+        at += 1;
+        left -= 1;
+    }
+    true
+}
+
+impl Cursor {
+    // The number that starts here. It is wrong where it starts.
+    pub fn number(self, s: &[u8]) -> Number
+        ensures { λ r. ⌜ numberSeen r ≡ numberAt (now (s .entry)) (self .at) ⌝ }
+    {
+        let at = self.at;
+        if s.len() <= at {
+            return Number::Wrong(at);
+        }
+        let a = s[at] as usize;
+        if a < TOP_BIT {
+            return Number::Value(a, Cursor { at: at + 1 });
+        }
+        let second = at + 1;
+        if s.len() <= second {
+            return Number::Wrong(at);
+        }
+        let b = s[second] as usize;
+        if b == 0 {
+            return Number::Wrong(at);
+        }
+        if b < TOP_BIT {
+            return Number::Value(a - TOP_BIT + TOP_BIT * b, Cursor { at: second + 1 });
+        }
+        let third = second + 1;
+        if s.len() <= third {
+            return Number::Wrong(at);
+        }
+        let c = s[third] as usize;
+        if c == 0 {
+            return Number::Wrong(at);
+        }
+        if c < TOP_BIT {
+            return Number::Value(
+                a - TOP_BIT + TOP_BIT * (b - TOP_BIT) + THIRD * c,
+                Cursor { at: third + 1 },
+            );
+        }
+        Number::Wrong(at)
+    }
+
+    // The name whose length starts here. Whatever is wrong with it, it is wrong where its length starts.
+    pub fn name(self, s: &[u8]) -> Name
+        ensures { λ r. ⌜ nameSeen (now (s .entry)) r ≡ nameAt (now (s .entry)) (self .at) ⌝ }
+    {
+        let at = self.at;
+        let Number::Value(len, next) = self.number(s) else {
+            return Name::Wrong(at);
+        };
+        let first = next.at;
+        if len < 1 {
+            return Name::Wrong(at);
+        }
+        if MOST_NAME < len {
+            return Name::Wrong(at);
+        }
+        if s.len() - first < len {
+            return Name::Wrong(at);
+        }
+        if printable(s, first, len) {
+            return Name::Bytes(first, len);
+        }
+        Name::Wrong(at)
+    }
+}

@@ -1,0 +1,89 @@
+-- A refusal of the scan's step has a number above 0: it is that of a value that is missing or of a byte that is due, and each of these has one.
+-- Assumes nothing.
+use mathlib.Core.Path.{_≡_, subst}
+use mathlib.Core.Bool.{Bool, _&&_}
+use mathlib.Core.List.{List}
+use Prim.Native.Nat.{ℕ, _<_}
+use native.Mathlib.Omega.{arith}
+use lib.Dec.{eqb, leb}
+use lib.ListN.{length, getD}
+use Rattle.text.specs.Due.{dueNumber, dueHere, dueAt}
+use Rattle.text.specs.Scan.{gapEnd}
+use Rattle.text.specs.declared.Due.{Due}
+use Rattle.text.specs.declared.Due.the-variants.{After, Not}
+use Rattle.text.specs.declared.Refusal.{Refusal}
+use Rattle.text.proofs.Here.{by-test}
+use Rattle.text_value.specs.Argument.{argumentOf, argumentAt}
+use Rattle.text_value.specs.Value.{Val, value, none, valueAt}
+use Rattle.scan_header.specs.Header.{laterPrefix, pastStatement, dueFor, afterRevision, afterValue, passed, kept, withRest, fieldAt, statementSaid, tagSaid, saidHere, saidAt}
+use Rattle.scan_header.specs.Tag.{tagAt}
+use Rattle.scan_header.specs.declared.Heard.{Heard}
+use Rattle.scan_header.specs.declared.Heard.the-variants.{Value, Passed, Done, Refused}
+use Rattle.scan_header.specs.declared.Tag.{Tag}
+use Rattle.scan_header.specs.declared.Tag.the-variants.{Statement, Last, Other}
+
+-- ---- a byte that is due, and what follows a value
+
+abbrev DueNumbered : Due → Type 0
+DueNumbered (After c) = Unit {0}
+DueNumbered (Not r) = 0 < r .number
+
+due-numbered : (s : List ℕ) (at b k : ℕ) → DueNumbered (dueAt s at b k)
+unfolding dueAt dueHere dueNumber
+due-numbered s at b k =
+    let c = getD s (gapEnd s at) 256 in
+    by-test (eqb c b) (λ t. rw t tt) (λ t. rw t (by-test (eqb c 256) (λ u. rw u (omega arith)) (λ u. rw u (omega arith))))
+
+revision-numbered : (s : List ℕ) (at : ℕ) → DueNumbered (afterRevision s at)
+unfolding afterRevision pastStatement
+revision-numbered s at = by-test (eqb (getD s at 256) 123) (λ t. rw t tt) (λ t. rw t (due-numbered s at 59 7))
+
+value-numbered : (s : List ℕ) (at k : ℕ) → DueNumbered (afterValue s at k)
+unfolding afterValue pastStatement
+value-numbered s at k =
+    by-test (eqb k 3) (λ t. rw t tt)
+    (λ t. rw t (by-test (eqb k 7) (λ u. rw u (revision-numbered s (gapEnd s at))) (λ u. rw u (due-numbered s at (dueFor k) k))))
+
+-- ---- a step
+
+abbrev Numbered : Heard → Type 0
+Numbered (Value k x c n) = Unit {0}
+Numbered (Passed c) = Unit {0}
+Numbered (Done c) = Unit {0}
+Numbered (Refused r) = 0 < r .number
+
+passed-numbered : (d : Due) → DueNumbered d → Numbered (passed d)
+unfolding passed
+passed-numbered (After c) h = tt
+passed-numbered (Not r) h = h
+
+kept-numbered : (k u n : ℕ) (d : Due) → DueNumbered d → Numbered (kept k u n d)
+unfolding kept
+kept-numbered k u n (After c) h = tt
+kept-numbered k u n (Not r) h = h
+
+rest-numbered : (s : List ℕ) (k u : ℕ) (w : Val) → Numbered (withRest s k u (argumentOf u k w))
+unfolding withRest argumentOf
+rest-numbered s k u (value bs end) = kept-numbered k u _ (afterValue s end k) (value-numbered s end k)
+rest-numbered s k u (none at) = omega arith
+
+statement-numbered : (s : List ℕ) (at k u : ℕ) (p : Bool) → Numbered (statementSaid s at k u p .answer)
+unfolding statementSaid fieldAt argumentAt pastStatement
+statement-numbered s at k u p =
+    by-test (eqb k 6) (λ t. rw t (passed-numbered (afterValue s _ k) (value-numbered s _ k)))
+    (λ t. rw t (by-test (laterPrefix k p) (λ v. rw v (passed-numbered (After _) tt)) (λ v. rw v (rest-numbered s k u (valueAt s at)))))
+
+tag-numbered : (s : List ℕ) (at u : ℕ) (p : Bool) (t : Tag) → Numbered (tagSaid s at u p t .answer)
+unfolding tagSaid
+tag-numbered s at u p (Statement k c) = statement-numbered s (c .at) k u p
+tag-numbered s at u p (Last c) = tt
+tag-numbered s at u p Other = tt
+
+said-numbered : (s : List ℕ) (at u : ℕ) (p : Bool) → Numbered (saidAt s at u p .answer)
+unfolding saidAt saidHere
+said-numbered s at u p =
+    let g = gapEnd s at in
+    by-test (leb (length s) g) (λ t. rw t tt) (λ t. rw t (tag-numbered s g u p (tagAt s g)))
+
+pub said-number : (s : List ℕ) (at u : ℕ) (p : Bool) (r : Refusal) → saidAt s at u p .answer ≡ Refused r → 0 < r .number
+said-number s at u p r h = subst Numbered h (said-numbered s at u p)

@@ -1,0 +1,66 @@
+-- Which keyword of the header stands at a place: each is an answer of a keyword's own match, so it ends behind its first byte and within the
+-- text, and where no identifier begins there is none.
+-- Assumes nothing.
+use mathlib.Core.Path.{_≡_, refl, subst}
+use mathlib.Core.Bool.{Bool, false}
+use mathlib.Core.List.{List}
+use Prim.Native.Nat.{ℕ, _<_, _≤_}
+use lib.ListN.{length, getD}
+use Rattle.text.specs.Keyword.{startsIdent, matchAt, orMatch}
+use Rattle.text.specs.Words.{moduleWord, submoduleWord, belongsToWord, namespaceWord, prefixWord, yangVersionWord, revisionWord, containerWord, listWord, leafWord, groupingWord, typedefWord, identityWord, augmentWord, rpcWord, notificationWord}
+use Rattle.text.specs.declared.Cursor.{Cursor}
+use Rattle.text.specs.declared.Match.{Match}
+use Rattle.text.specs.declared.Match.the-variants.{After, Not}
+use Rattle.text.proofs.KeywordLaws.{Far, match-none, match-far, or-match-far}
+use Rattle.scan_header.specs.Tag.{dataAt, lastTag, orTag, tagAt}
+use Rattle.scan_header.specs.declared.Tag.{Tag}
+use Rattle.scan_header.specs.declared.Tag.the-variants.{Statement, Last, Other}
+
+-- ---- where it ends
+
+data-far : (s : List ℕ) (at : ℕ) → Far s at (dataAt s at)
+unfolding dataAt
+data-far s at =
+    let by : (word : List ℕ) → Far s at (matchAt s at word) = match-far s at in
+    or-match-far s at _ _ (by containerWord) (or-match-far s at _ _ (by listWord) (or-match-far s at _ _ (by leafWord)
+    (or-match-far s at _ _ (by groupingWord) (or-match-far s at _ _ (by typedefWord) (or-match-far s at _ _ (by identityWord)
+    (or-match-far s at _ _ (by augmentWord) (or-match-far s at _ _ (by rpcWord) (by notificationWord))))))))
+
+abbrev TagFar : List ℕ → ℕ → Tag → Type 0
+TagFar s at (Statement k c) = (at < c .at) × (c .at ≤ length s)
+TagFar s at (Last c) = (at < c .at) × (c .at ≤ length s)
+TagFar s at Other = Unit {0}
+
+last-tag-far : (s : List ℕ) (at : ℕ) (m : Match) → Far s at m → TagFar s at (lastTag m)
+unfolding lastTag
+last-tag-far s at (After c) f = f c refl
+last-tag-far s at Not f = tt
+
+or-tag-far : (s : List ℕ) (at k : ℕ) (m : Match) (t : Tag) → Far s at m → TagFar s at t → TagFar s at (orTag k m t)
+unfolding orTag
+or-tag-far s at k (After c) t f g = f c refl
+or-tag-far s at k Not t f g = g
+
+tag-goes : (s : List ℕ) (at : ℕ) → TagFar s at (tagAt s at)
+unfolding tagAt
+tag-goes s at =
+    let by : (word : List ℕ) → Far s at (matchAt s at word) = match-far s at in
+    or-tag-far s at _ _ _ (by moduleWord) (or-tag-far s at _ _ _ (by submoduleWord) (or-tag-far s at _ _ _ (by belongsToWord)
+    (or-tag-far s at _ _ _ (by namespaceWord) (or-tag-far s at _ _ _ (by prefixWord) (or-tag-far s at _ _ _ (by yangVersionWord)
+    (or-tag-far s at _ _ _ (by revisionWord) (last-tag-far s at _ (data-far s at))))))))
+
+pub tag-far : (s : List ℕ) (at k : ℕ) (c : Cursor) → tagAt s at ≡ Statement k c → (at < c .at) × (c .at ≤ length s)
+tag-far s at k c h = subst (TagFar s at) h (tag-goes s at)
+
+pub tag-last-far : (s : List ℕ) (at : ℕ) (c : Cursor) → tagAt s at ≡ Last c → (at < c .at) × (c .at ≤ length s)
+tag-last-far s at c h = subst (TagFar s at) h (tag-goes s at)
+
+-- ---- where none stands
+
+-- p stands here, and no identifier begins so
+pub tag-none : (s : List ℕ) (at : ℕ) {p : ℕ} {t : Bool} → p ≡ getD s at 256 → t ≡ startsIdent p → t ≡ false → tagAt s at ≡ Other
+unfolding tagAt orTag lastTag dataAt orMatch
+tag-none s at pe te n =
+    let no : (word : List ℕ) → matchAt s at word ≡ Not = λ word. match-none s at word pe te n in
+    rw (no moduleWord, no submoduleWord, no belongsToWord, no namespaceWord, no prefixWord, no yangVersionWord, no revisionWord)
+    (rw (no containerWord, no listWord, no leafWord, no groupingWord, no typedefWord, no identityWord, no augmentWord, no rpcWord, no notificationWord) refl)

@@ -1,0 +1,94 @@
+-- Metadata: `module` or `submodule` value `{`; `belongs-to` value, statement skipped; `namespace` value `;`; `prefix` value `;` (first wins, later
+-- statements skipped); `yang-version`, value if there is one, `;`; `revision` value, then a block skipped or `;`. Other tokens are skipped.
+-- Assumes nothing.
+use Prim.Native.Nat.{ℕ, _-_}
+use mathlib.Core.Bool.{Bool, cond, _&&_, _||_}
+use mathlib.Core.List.{List, []}
+use lib.Dec.{eqb, leb}
+use lib.ListN.{length}
+use Rattle.text.specs.Bytes.{semicolon, openBrace, look}
+use Rattle.text.specs.Due.{dueAt}
+use Rattle.text.specs.Scan.{gapEnd}
+use Rattle.text.specs.Words.{moduleKeyword, submoduleKeyword, belongsToKeyword, prefixKeyword, yangVersionKeyword, revisionKeyword}
+use Rattle.text.specs.declared.Due.{Due}
+use Rattle.text.specs.declared.Due.the-variants.{After, Not}
+use Rattle.text_value.specs.Argument.{argumentAt}
+use Rattle.text_value.specs.Value.{valueAt, valueBytes, placeOf}
+use Rattle.text_value.specs.declared.Argument.{Argument}
+use Rattle.text_value.specs.declared.Argument.the-variants.{Read, Refused as NoArgument}
+use Rattle.text_skip.specs.Skip.{tokenAt, tokenEnd}
+use Rattle.text_skip.specs.Statement.{statementAt, endedAt}
+use Rattle.scan_rows.specs.Span.{held}
+use Rattle.scan_header.specs.Tag.{tagAt}
+use Rattle.scan_header.specs.declared.Heard.{Heard}
+use Rattle.scan_header.specs.declared.Heard.the-variants.{Value, Passed, Done, Refused}
+use Rattle.scan_header.specs.declared.Tag.{Tag}
+use Rattle.scan_header.specs.declared.Tag.the-variants.{Statement, Last, Other}
+
+-- ---- what follows a value; k: the keyword, at: the place after the value
+
+-- past a statement
+unfoldable pub pastStatement : List ℕ → ℕ → Due
+pastStatement s at = After (record { at = endedAt (statementAt s at) })
+
+-- { after a module's name, else ;
+unfoldable pub dueFor : ℕ → ℕ
+dueFor k = cond (eqb k moduleKeyword || eqb k submoduleKeyword) openBrace semicolon
+
+-- a revision's block, or ;
+unfoldable pub afterRevision : List ℕ → ℕ → Due
+afterRevision s at = cond (eqb (look s at) openBrace) (pastStatement s at) (dueAt s at semicolon revisionKeyword)
+
+unfoldable pub afterValue : List ℕ → ℕ → ℕ → Due
+afterValue s at k =
+    cond (eqb k belongsToKeyword) (pastStatement s at)
+    (cond (eqb k revisionKeyword) (afterRevision s (gapEnd s at)) (dueAt s at (dueFor k) k))
+
+-- ---- one statement read, or one token skipped: the answer and the bytes stored; u: the store's next place
+
+pub record Said : Type 0 where
+  pub answer : Heard
+  pub bytes : List ℕ
+
+abbrev pub said : Heard → Said
+said r = record { answer = r; bytes = [] }
+
+-- nothing is kept
+unfoldable pub passed : Due → Heard
+passed (After c) = Passed c
+passed (Not r) = Refused r
+
+-- a value that ends before the store's place n
+unfoldable pub kept : ℕ → ℕ → ℕ → Due → Heard
+kept k u n (After c) = Value k (held u (n - u)) c n
+kept k u n (Not r) = Refused r
+
+unfoldable pub withRest : List ℕ → ℕ → ℕ → Argument → Heard
+withRest s k u (Read c n) = kept k u n (afterValue s (c .at) k)
+withRest s k u (NoArgument r) = Refused r
+
+-- a keyword with its value
+unfoldable pub fieldAt : List ℕ → ℕ → ℕ → ℕ → Said
+fieldAt s at k u = record { answer = withRest s k u (argumentAt s at u k); bytes = valueBytes (valueAt s at) }
+
+-- hasPrefix: whether a prefix was read before
+unfoldable pub laterPrefix : ℕ → Bool → Bool
+laterPrefix k hasPrefix = eqb k prefixKeyword && hasPrefix
+
+-- behind the keyword k
+unfoldable pub statementSaid : List ℕ → ℕ → ℕ → ℕ → Bool → Said
+statementSaid s at k u hasPrefix =
+    cond (eqb k yangVersionKeyword) (said (passed (afterValue s (placeOf (valueAt s at)) k)))
+    (cond (laterPrefix k hasPrefix) (said (passed (pastStatement s at))) (fieldAt s at k u))
+
+unfoldable pub tagSaid : List ℕ → ℕ → ℕ → Bool → Tag → Said
+tagSaid s at u hasPrefix (Statement k c) = statementSaid s (c .at) k u hasPrefix
+tagSaid s at u hasPrefix (Last c) = said (Done c)
+tagSaid s at u hasPrefix Other = said (Passed (record { at = tokenEnd (tokenAt s at) }))
+
+-- at the place after the gap
+unfoldable pub saidHere : List ℕ → ℕ → ℕ → Bool → Said
+saidHere s at u hasPrefix = cond (leb (length s) at) (said (Done (record { at = at }))) (tagSaid s at u hasPrefix (tagAt s at))
+
+unfoldable pub saidAt : List ℕ → ℕ → ℕ → Bool → Said
+saidAt s at u hasPrefix = saidHere s (gapEnd s at) u hasPrefix

@@ -1,0 +1,287 @@
+// The statements of a module's header that the metadata scan reads, one at a time.
+use scan_rows::Span;
+use text::Cursor;
+use text::Due;
+use text::Match;
+use text::Refusal;
+use text_value::Argument;
+ghost use mathlib.Core.Path.{_≡_};
+ghost use mathlib.Core.Bool.{true};
+ghost use Prim.Native.Nat.{_+_, _-_, _≤_};
+ghost use lib.ListN.{length};
+ghost use lib.Seq.{sets};
+ghost use Rattle.text.specs.Class.{classTable};
+ghost use Rattle.text.specs.Keyword.{wordly, matchAt, orMatch};
+ghost use Rattle.scan_header.specs.Tag.{laterDataAt, dataAt, lastTag, orTag, laterTagAt, tagAt};
+ghost use Rattle.scan_header.specs.Header.{dueFor, pastStatement, afterRevision, afterValue, passed, fieldAt, laterPrefix, statementSaid, saidAt};
+
+// A value was read for a keyword; or something was passed that is not kept; or the scan is over; or a refusal.
+pub enum Heard {
+    Value {
+        keyword: u32,
+        value: Span,
+        next: Cursor,
+        used: usize,
+    },
+    Passed(Cursor),
+    Done(Cursor),
+    Refused(Refusal),
+}
+
+// Reads the statement, or skips the token, that stands after a gap. `prefixed`: a prefix was read before.
+pub fn hear(
+    from: Cursor,
+    classes: &[u8; 128],
+    s: &[u8],
+    store: &mut [u8],
+    used: usize,
+    prefixed: bool,
+) -> Heard
+    requires { ⌜ (now classes ≡ classTable) × (used + (length (now s) - from .at) ≤ length (now store)) ⌝ }
+    ensures { λ r. ⌜ (r ≡ saidAt (now (s .entry)) (from .at) used prefixed .answer) × (now (store .exit) ≡ sets (now (store .entry)) used (saidAt (now (s .entry)) (from .at) used prefixed .bytes)) ⌝ }
+{
+    let here = from.skip_whitespace_and_comments(classes, s);
+    let at = here.at;
+    if s.len() <= at {
+        return Heard::Done(here);
+    }
+    let tag = read_tag(here, classes, s);
+    match tag {
+        Tag::Statement { keyword, after } => read_statement(
+            after,
+            classes,
+            s,
+            store,
+            used,
+            keyword,
+            prefixed,
+        ),
+        Tag::Last(c) => Heard::Done(c),
+        Tag::Other => {
+            let token = text_skip::skip_one_token(here, classes, s);
+            Heard::Passed(text_skip::token_end(token))
+        }
+    }
+}
+
+// Reads what follows a keyword. A later prefix and the value of yang-version are not kept.
+fn read_statement(
+    here: Cursor,
+    classes: &[u8; 128],
+    s: &[u8],
+    store: &mut [u8],
+    used: usize,
+    keyword: u32,
+    prefixed: bool,
+) -> Heard
+    requires { ⌜ (now classes ≡ classTable) × (used + (length (now s) - here .at) ≤ length (now store)) ⌝ }
+    ensures { λ r. ⌜ (r ≡ statementSaid (now (s .entry)) (here .at) keyword used prefixed .answer) × (now (store .exit) ≡ sets (now (store .entry)) used (statementSaid (now (s .entry)) (here .at) keyword used prefixed .bytes)) ⌝ }
+{
+    if keyword == text::YANG_VERSION {
+        let end = text_skip::skip_value(here, classes, s);
+        return passed(after_value(end, classes, s, keyword));
+    }
+    if later_prefix(keyword, prefixed) {
+        return passed(past_statement(here, classes, s));
+    }
+    read_field(here, classes, s, store, used, keyword)
+}
+
+// Whether a prefix was read before this one.
+fn later_prefix(keyword: u32, prefixed: bool) -> bool
+    ensures { λ r. ⌜ r ≡ laterPrefix keyword prefixed ⌝ }
+{
+    if keyword == text::PREFIX {
+        return prefixed;
+    }
+    false
+}
+
+// Reads a keyword's value, and what is due after it.
+fn read_field(
+    here: Cursor,
+    classes: &[u8; 128],
+    s: &[u8],
+    store: &mut [u8],
+    used: usize,
+    keyword: u32,
+) -> Heard
+    requires { ⌜ (now classes ≡ classTable) × (used + (length (now s) - here .at) ≤ length (now store)) ⌝ }
+    ensures { λ r. ⌜ (r ≡ fieldAt (now (s .entry)) (here .at) keyword used .answer) × (now (store .exit) ≡ sets (now (store .entry)) used (fieldAt (now (s .entry)) (here .at) keyword used .bytes)) ⌝ }
+{
+    let got = text_value::read_value(here, classes, s, store, used, keyword);
+    let Argument::Read { next, used: n } = got else {
+        return Heard::Refused(text_value::argument_refusal(got));
+    };
+    let due = after_value(next, classes, s, keyword);
+    let Due::After(end) = due else {
+        return Heard::Refused(text::refusal_of(due));
+    };
+    let size = n - used;
+    Heard::Value {
+        keyword,
+        value: scan_rows::held(used, size),
+        next: end,
+        used: n,
+    }
+}
+
+// What was passed is not kept.
+fn passed(d: Due) -> Heard
+    ensures { λ r. ⌜ r ≡ passed d ⌝ }
+{
+    match d {
+        Due::After(c) => Heard::Passed(c),
+        Due::Not(r) => Heard::Refused(r),
+    }
+}
+
+// What is due after a keyword's value.
+fn after_value(here: Cursor, classes: &[u8; 128], s: &[u8], keyword: u32) -> Due
+    requires { ⌜ now classes ≡ classTable ⌝ }
+    ensures { λ r. ⌜ r ≡ afterValue (now (s .entry)) (here .at) keyword ⌝ }
+{
+    if keyword == text::BELONGS_TO {
+        return past_statement(here, classes, s);
+    }
+    if keyword == text::REVISION {
+        let end = here.skip_whitespace_and_comments(classes, s);
+        return after_revision(end, classes, s);
+    }
+    here.expect_char(classes, s, due_for(keyword), keyword)
+}
+
+// Past a statement, however it ended.
+fn past_statement(here: Cursor, classes: &[u8; 128], s: &[u8]) -> Due
+    requires { ⌜ now classes ≡ classTable ⌝ }
+    ensures { λ r. ⌜ r ≡ pastStatement (now (s .entry)) (here .at) ⌝ }
+{
+    let ended = text_skip::skip_statement(here, classes, s);
+    Due::After(text_skip::ended_at(ended))
+}
+
+// A revision's block, or a semicolon.
+fn after_revision(here: Cursor, classes: &[u8; 128], s: &[u8]) -> Due
+    requires { ⌜ now classes ≡ classTable ⌝ }
+    ensures { λ r. ⌜ r ≡ afterRevision (now (s .entry)) (here .at) ⌝ }
+{
+    let at = here.at;
+    if text::peek_char(s, at) == text::OPEN_BRACE {
+        return past_statement(here, classes, s);
+    }
+    here.expect_char(classes, s, text::SEMICOLON, text::REVISION)
+}
+
+// A brace after a module's name, else a semicolon.
+fn due_for(keyword: u32) -> u16
+    ensures { λ r. ⌜ r ≡ dueFor keyword ⌝ }
+{
+    if keyword == text::MODULE {
+        return text::OPEN_BRACE;
+    }
+    if keyword == text::SUBMODULE {
+        return text::OPEN_BRACE;
+    }
+    text::SEMICOLON
+}
+
+// What stands at a place: a keyword of the header, one of the nine that end the scan, or neither.
+pub enum Tag {
+    Statement { keyword: u32, after: Cursor },
+    Last(Cursor),
+    Other,
+}
+
+// No keyword is tried where no identifier begins.
+fn read_tag(here: Cursor, classes: &[u8; 128], s: &[u8]) -> Tag
+    requires { ⌜ now classes ≡ classTable ⌝ }
+    ensures { λ r. ⌜ r ≡ tagAt (now (s .entry)) (here .at) ⌝ }
+{
+    let at = here.at;
+    let b = text::peek_char(s, at);
+    if text::starts_ident(classes, b) {
+        return try_tags(here, classes, s);
+    }
+    Tag::Other
+}
+
+// At most one keyword matches, so all can be tried in a row.
+fn try_tags(here: Cursor, classes: &[u8; 128], s: &[u8]) -> Tag
+    requires { ⌜ now classes ≡ classTable ⌝ }
+    ensures { λ r. ⌜ r ≡ tagAt (now (s .entry)) (here .at) ⌝ }
+{
+    let later = try_later_tags(here, classes, s);
+    let namespace = or_tag(here, classes, s, b"namespace", text::NAMESPACE, later);
+    let belongs_to = or_tag(here, classes, s, b"belongs-to", text::BELONGS_TO, namespace);
+    let submodule = or_tag(here, classes, s, b"submodule", text::SUBMODULE, belongs_to);
+    or_tag(here, classes, s, b"module", text::MODULE, submodule)
+}
+
+fn try_later_tags(here: Cursor, classes: &[u8; 128], s: &[u8]) -> Tag
+    requires { ⌜ now classes ≡ classTable ⌝ }
+    ensures { λ r. ⌜ r ≡ laterTagAt (now (s .entry)) (here .at) ⌝ }
+{
+    let last = last_tag(match_data(here, classes, s));
+    let revision = or_tag(here, classes, s, b"revision", text::REVISION, last);
+    let version = or_tag(
+        here,
+        classes,
+        s,
+        b"yang-version",
+        text::YANG_VERSION,
+        revision,
+    );
+    or_tag(here, classes, s, b"prefix", text::PREFIX, version)
+}
+
+// The keyword, if its word stands here.
+fn or_tag(here: Cursor, classes: &[u8; 128], s: &[u8], word: &[u8], keyword: u32, t: Tag) -> Tag
+    requires { ⌜ (now classes ≡ classTable) × (wordly (now word) ≡ true) ⌝ }
+    ensures { λ r. ⌜ r ≡ orTag keyword (matchAt (now (s .entry)) (here .at) (now (word .entry))) t ⌝ }
+{
+    let m = here.match_keyword(classes, s, word);
+    match m {
+        Match::After(after) => Tag::Statement { keyword, after },
+        Match::Not => t,
+    }
+}
+
+fn last_tag(m: Match) -> Tag
+    ensures { λ r. ⌜ r ≡ lastTag m ⌝ }
+{
+    match m {
+        Match::After(c) => Tag::Last(c),
+        Match::Not => Tag::Other,
+    }
+}
+
+// Past one of the nine keywords that end the scan.
+fn match_data(here: Cursor, classes: &[u8; 128], s: &[u8]) -> Match
+    requires { ⌜ now classes ≡ classTable ⌝ }
+    ensures { λ r. ⌜ r ≡ dataAt (now (s .entry)) (here .at) ⌝ }
+{
+    let later = match_later_data(here, classes, s);
+    let grouping = or_word(here, classes, s, b"grouping", later);
+    let leaf = or_word(here, classes, s, b"leaf", grouping);
+    let list = or_word(here, classes, s, b"list", leaf);
+    or_word(here, classes, s, b"container", list)
+}
+
+fn match_later_data(here: Cursor, classes: &[u8; 128], s: &[u8]) -> Match
+    requires { ⌜ now classes ≡ classTable ⌝ }
+    ensures { λ r. ⌜ r ≡ laterDataAt (now (s .entry)) (here .at) ⌝ }
+{
+    let notification = here.match_keyword(classes, s, b"notification");
+    let rpc = or_word(here, classes, s, b"rpc", notification);
+    let augment = or_word(here, classes, s, b"augment", rpc);
+    let identity = or_word(here, classes, s, b"identity", augment);
+    or_word(here, classes, s, b"typedef", identity)
+}
+
+// Past the word, if it stands here, else what is given.
+fn or_word(here: Cursor, classes: &[u8; 128], s: &[u8], word: &[u8], m: Match) -> Match
+    requires { ⌜ (now classes ≡ classTable) × (wordly (now word) ≡ true) ⌝ }
+    ensures { λ r. ⌜ r ≡ orMatch (matchAt (now (s .entry)) (here .at) (now (word .entry))) m ⌝ }
+{
+    text::or_match(here.match_keyword(classes, s, word), m)
+}

@@ -1,0 +1,148 @@
+-- What a proof uses of one statement of a block: which one it is, and what reading or skipping it answers. Each law takes what the calls on
+-- the way answered.
+-- Assumes nothing.
+use mathlib.Core.Path.{_≡_, refl, sym, ap, ap₂, _∙_}
+use mathlib.Core.Bool.{Bool, false}
+use mathlib.Core.List.{List}
+use Prim.Native.Nat.{ℕ, _+_, _-_, _<_, _≤_}
+use native.Mathlib.Omega.{arith}
+use lib.ListN.{length, getD}
+use lib.Seq.{sets}
+use lib.Dec.{eqb}
+use borrow.Author.Tests.{eq-eqb, ne-eqb}
+use Rattle.text.specs.Keyword.{startsIdent, matchAt}
+use Rattle.text.specs.Scan.{gapEnd}
+use Rattle.text.specs.Words.{prefixWord, revisionDateWord}
+use Rattle.text.specs.declared.Cursor.{Cursor}
+use Rattle.text.specs.declared.Match.{Match}
+use Rattle.text.specs.declared.Match.the-variants.{After, Not}
+use Rattle.text.specs.declared.Refusal.{Refusal}
+use Rattle.text.proofs.Here.{by-test}
+use Rattle.text.proofs.KeywordLaws.{match-none}
+use Rattle.text_value.specs.Argument.{lineAt, argumentRefusal}
+use Rattle.text_value.specs.Value.{valueAt, valueBytes}
+use Rattle.text_value.specs.declared.Argument.{Argument}
+use Rattle.text_value.specs.declared.Argument.the-variants.{Read, Refused as RefusedLine}
+use Rattle.text_value.proofs.ArgumentLaws.{refusal-is, line-far, line-room}
+use Rattle.text_skip.specs.Statement.{statementAt, endedAt}
+use Rattle.scan_rows.specs.Span.{held, missing}
+use Rattle.scan_rows.specs.declared.Span.{Span}
+use Rattle.scan_imports.specs.Left.{Left, nothing}
+use Rattle.scan_imports.specs.Block.{orRevision, orPrefix, lineKind, withPrefix, withRevision, begun, moved, afterKind, insideHere, insideAt}
+use Rattle.scan_imports.specs.declared.Body.{Body}
+use Rattle.scan_imports.specs.declared.Line.{Line}
+use Rattle.scan_imports.specs.declared.Line.the-variants.{Prefix, Revision, Other}
+use Rattle.scan_imports.specs.declared.Inside.the-variants.{On, Closed, Refused}
+
+-- ---- what is answered, and what is left in the store: it was d and is e, from the place u on
+
+module _ {A : Type 0} where
+  abbrev pub Leaves : Left A → List ℕ → ℕ → A → List ℕ → Type 0
+  Leaves x d u r e = (r ≡ x .answer) × (e ≡ sets d u (x .bytes))
+
+  pub leaves : {x y : Left A} → x ≡ y → (d : List ℕ) (u : ℕ) {r : A} {e : List ℕ} → Leaves y d u r e → Leaves x d u r e
+  leaves p d u l = (l .0 ∙ ap (λ z. z .answer) (sym p), l .1 ∙ ap (λ z. sets d u (z .bytes)) (sym p))
+
+pub begun-is : (at u : ℕ) {p q : Span} → p ≡ missing → q ≡ missing → record { at = at; used = u; prefix = p; revision = q } ≡ begun at u
+begun-is at u h k = ap₂ (λ p q. record { at = at; used = u; prefix = p; revision = q }) h k
+
+-- ---- which statement it is
+
+module _ (s : List ℕ) (at : ℕ) {m : Match} where
+  pub revision-after : m ≡ matchAt s at revisionDateWord → (c : Cursor) → m ≡ After c → Revision c ≡ orRevision (matchAt s at revisionDateWord)
+  unfolding orRevision
+  revision-after e c h = sym (ap orRevision (sym e ∙ h))
+
+  pub revision-not : m ≡ matchAt s at revisionDateWord → m ≡ Not → Other ≡ orRevision (matchAt s at revisionDateWord)
+  unfolding orRevision
+  revision-not e h = sym (ap orRevision (sym e ∙ h))
+
+  pub prefix-after : m ≡ matchAt s at prefixWord → (c : Cursor) → m ≡ After c → Prefix c ≡ orPrefix s at (matchAt s at prefixWord)
+  unfolding orPrefix
+  prefix-after e c h = sym (ap (orPrefix s at) (sym e ∙ h))
+
+  pub prefix-not : m ≡ matchAt s at prefixWord → m ≡ Not → {l : Line} → l ≡ orRevision (matchAt s at revisionDateWord)
+      → l ≡ orPrefix s at (matchAt s at prefixWord)
+  unfolding orPrefix
+  prefix-not e h q = q ∙ sym (ap (orPrefix s at) (sym e ∙ h))
+
+module _ (s : List ℕ) (at k : ℕ) where
+  pub kind-import : k ≡ 8 → {l : Line} → l ≡ orPrefix s at (matchAt s at prefixWord) → l ≡ lineKind s at k
+  unfolding lineKind
+  kind-import h q = rw (eq-eqb k 8 h) q
+
+  pub kind-include : (k ≡ 8 → ⊥) → {l : Line} → l ≡ orRevision (matchAt s at revisionDateWord) → l ≡ lineKind s at k
+  unfolding lineKind
+  kind-include h q = rw (ne-eqb k 8 h) q
+
+  -- where no identifier begins, no keyword matches
+  pub kind-none : {b : ℕ} {t : Bool} → b ≡ getD s at 256 → t ≡ startsIdent b → t ≡ false → Other ≡ lineKind s at k
+  unfolding lineKind orPrefix orRevision
+  kind-none be te f =
+      rw (match-none s at prefixWord be te f, match-none s at revisionDateWord be te f)
+      (by-test (eqb k 8) (λ t. rw t refl) (λ t. rw t refl))
+
+-- ---- a value read
+
+pub line-grows : (s : List ℕ) (at u k b : ℕ) (c : Cursor) (n : ℕ) → b < 256 → {l : Argument} → l ≡ lineAt s at u k b → l ≡ Read c n → u ≤ n
+line-grows s at u k b c n small e h = omega (arith, line-far s at u k b c n small (sym e ∙ h))
+
+-- room in the store for the rest of the text stays
+pub room-left : (s : List ℕ) (at u k b m : ℕ) (c : Cursor) (n : ℕ) → b < 256 → {l : Argument} → l ≡ lineAt s at u k b → l ≡ Read c n
+    → u + (length s - at) ≤ m → n + (length s - c .at) ≤ m
+room-left s at u k b m c n small e h r = line-room s at u k b m c n small (sym e ∙ h) r
+
+module _ (s : List ℕ) (at : ℕ) (b : Body) {l : Argument} (e : l ≡ lineAt s at (b .used) 5 59) where
+  pub prefix-refused : (r : Refusal) → l ≡ RefusedLine r → {q : Refusal} → q ≡ argumentRefusal l → Refused q ≡ withPrefix b (lineAt s at (b .used) 5 59)
+  unfolding withPrefix
+  prefix-refused r h p = ap Refused (refusal-is h p) ∙ sym (ap (withPrefix b) (sym e ∙ h))
+
+  pub prefix-read : (c : Cursor) (n : ℕ) → l ≡ Read c n → {x : Span} → x ≡ held (b .used) (n - b .used)
+      → On (record { at = c .at; used = n; prefix = x; revision = b .revision }) ≡ withPrefix b (lineAt s at (b .used) 5 59)
+  unfolding withPrefix
+  prefix-read c n h p =
+      ap (λ x. On (record { at = c .at; used = n; prefix = x; revision = b .revision })) p ∙ sym (ap (withPrefix b) (sym e ∙ h))
+
+module _ (s : List ℕ) (at : ℕ) (b : Body) {l : Argument} (e : l ≡ lineAt s at (b .used) 10 59) where
+  pub revision-refused : (r : Refusal) → l ≡ RefusedLine r → {q : Refusal} → q ≡ argumentRefusal l → Refused q ≡ withRevision b (lineAt s at (b .used) 10 59)
+  unfolding withRevision
+  revision-refused r h p = ap Refused (refusal-is h p) ∙ sym (ap (withRevision b) (sym e ∙ h))
+
+  pub revision-read : (c : Cursor) (n : ℕ) → l ≡ Read c n → {x : Span} → x ≡ held (b .used) (n - b .used)
+      → On (record { at = c .at; used = n; prefix = b .prefix; revision = x }) ≡ withRevision b (lineAt s at (b .used) 10 59)
+  unfolding withRevision
+  revision-read c n h p =
+      ap (λ x. On (record { at = c .at; used = n; prefix = b .prefix; revision = x })) p ∙ sym (ap (withRevision b) (sym e ∙ h))
+
+-- ---- a statement, or the end of the block
+
+-- g after the gap, p what stands there
+module _ (s : List ℕ) (k : ℕ) (b : Body) {g p : ℕ} (ge : g ≡ gapEnd s (b .at)) (pe : p ≡ getD s g 256) where
+  pub inside-end : p ≡ 256 → insideAt s k b ≡ nothing (Refused (record { number = 8; keyword = k; at = g }))
+  unfolding insideAt insideHere
+  inside-end h = rw (← ge) (rw (eq-eqb (getD s g 256) 256 (sym pe ∙ h)) refl)
+
+  module _ (n : p ≡ 256 → ⊥) where
+    pub inside-close : p ≡ 125 → insideAt s k b ≡ nothing (Closed (moved b (g + 1)))
+    unfolding insideAt insideHere
+    inside-close h = rw (← ge) (rw (ne-eqb (getD s g 256) 256 (λ z. n (pe ∙ z))) (rw (eq-eqb (getD s g 256) 125 (sym pe ∙ h)) refl))
+
+    module _ (m : p ≡ 125 → ⊥) {l : Line} (le : l ≡ lineKind s g k) where
+      pub inside-kind : insideAt s k b ≡ afterKind s g b l
+      unfolding insideAt insideHere
+      inside-kind =
+          rw (← ge) (rw (ne-eqb (getD s g 256) 256 (λ z. n (pe ∙ z))) (rw (ne-eqb (getD s g 256) 125 (λ z. m (pe ∙ z))) (rw (← le) refl)))
+
+      pub inside-prefix : (c : Cursor) → l ≡ Prefix c
+          → insideAt s k b ≡ record { answer = withPrefix b (lineAt s (c .at) (b .used) 5 59); bytes = valueBytes (valueAt s (c .at)) }
+      unfolding afterKind
+      inside-prefix c h = inside-kind ∙ ap (afterKind s g b) h
+
+      pub inside-revision : (c : Cursor) → l ≡ Revision c
+          → insideAt s k b ≡ record { answer = withRevision b (lineAt s (c .at) (b .used) 10 59); bytes = valueBytes (valueAt s (c .at)) }
+      unfolding afterKind
+      inside-revision c h = inside-kind ∙ ap (afterKind s g b) h
+
+      pub inside-other : l ≡ Other → {e : ℕ} → e ≡ endedAt (statementAt s g) → insideAt s k b ≡ nothing (On (moved b e))
+      unfolding afterKind
+      inside-other h q = inside-kind ∙ ap (afterKind s g b) h ∙ sym (ap (λ i. nothing (On (moved b i))) q)

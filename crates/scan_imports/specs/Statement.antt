@@ -1,0 +1,81 @@
+-- Import: value, `{`, then until `}` its block. Prefix is required. Include: value, then `;`, or `{` with its block.
+-- 7: import closed without prefix.
+-- Assumes nothing.
+use Prim.Native.Nat.{ℕ, _+_, _-_}
+use mathlib.Core.Bool.{cond}
+use mathlib.Core.List.{List, _++_}
+use lib.Dec.{eqb}
+use Rattle.text.specs.Bytes.{openBrace, semicolon, look}
+use Rattle.text.specs.Due.{dueHere}
+use Rattle.text.specs.Scan.{gapEnd}
+use Rattle.text.specs.Words.{importKeyword, includeKeyword}
+use Rattle.text.specs.declared.Due.{Due}
+use Rattle.text.specs.declared.Due.the-variants.{After, Not}
+use Rattle.text_value.specs.Value.{valueAt, valueBytes}
+use Rattle.text_value.specs.Argument.{argumentAt, lineAt}
+use Rattle.text_value.specs.declared.Argument.{Argument}
+use Rattle.text_value.specs.declared.Argument.the-variants.{Read as ReadValue, Refused as RefusedValue}
+use Rattle.scan_imports.specs.Block.{blockAt}
+use Rattle.scan_imports.specs.Left.{Left}
+use Rattle.scan_rows.specs.Span.{held, missing}
+use Rattle.scan_imports.specs.declared.Block.{Block}
+use Rattle.scan_imports.specs.declared.Block.the-variants.{Whole, Broken}
+use Rattle.scan_imports.specs.declared.Body.{Body}
+use Rattle.scan_imports.specs.declared.Imported.{Imported}
+use Rattle.scan_imports.specs.declared.Imported.the-variants.{Import, NoImport}
+use Rattle.scan_imports.specs.declared.Included.{Included}
+use Rattle.scan_imports.specs.declared.Included.the-variants.{Include, NoInclude}
+use Rattle.scan_rows.specs.declared.Span.{Span}
+
+abbrev pub noPrefix : ℕ
+noPrefix = 7
+
+-- ---- an import, behind its keyword, at the store's place u
+
+-- prefix is required
+unfoldable pub ofBody : Span → Body → Imported
+ofBody name b =
+    cond (b .prefix .present)
+    (Import (record { at = b .at }) (b .used) (record { «module_name» = name; prefix = b .prefix; «revision_date» = b .revision }))
+    (NoImport (record { number = noPrefix; keyword = importKeyword; at = b .at }))
+
+unfoldable pub importOf : Span → Block → Imported
+importOf name (Whole b) = ofBody name b
+importOf name (Broken r) = NoImport r
+
+unfoldable pub withName : Span → List ℕ → Left Block → Left Imported
+withName name bytes b = record { answer = importOf name (b .answer); bytes = bytes ++ b .bytes }
+
+unfoldable pub afterName : List ℕ → ℕ → List ℕ → Argument → Left Imported
+afterName s u bytes (ReadValue c n) = withName (held u (n - u)) bytes (blockAt s (c .at) n importKeyword)
+afterName s u bytes (RefusedValue r) = record { answer = NoImport r; bytes = bytes }
+
+unfoldable pub importAt : List ℕ → ℕ → ℕ → Left Imported
+importAt s at u = afterName s u (valueBytes (valueAt s at)) (lineAt s at u importKeyword openBrace)
+
+-- ---- an include
+
+unfoldable pub includeOf : Span → Block → Included
+includeOf name (Whole b) =
+    Include (record { at = b .at }) (b .used) (record { «submodule_name» = name; «revision_date» = b .revision })
+includeOf name (Broken r) = NoInclude r
+
+unfoldable pub plainOf : Span → ℕ → Due → Included
+plainOf name n (After c) = Include c n (record { «submodule_name» = name; «revision_date» = missing })
+plainOf name n (Not r) = NoInclude r
+
+unfoldable pub blockOf : Span → List ℕ → Left Block → Left Included
+blockOf name bytes b = record { answer = includeOf name (b .answer); bytes = bytes ++ b .bytes }
+
+-- at the place after the value and its gap
+unfoldable pub openOrPlain : List ℕ → ℕ → ℕ → Span → List ℕ → Left Included
+openOrPlain s at n name bytes =
+    cond (eqb (look s at) openBrace) (blockOf name bytes (blockAt s (at + 1) n includeKeyword))
+    (record { answer = plainOf name n (dueHere s at semicolon includeKeyword); bytes = bytes })
+
+unfoldable pub afterValue : List ℕ → ℕ → List ℕ → Argument → Left Included
+afterValue s u bytes (ReadValue c n) = openOrPlain s (gapEnd s (c .at)) n (held u (n - u)) bytes
+afterValue s u bytes (RefusedValue r) = record { answer = NoInclude r; bytes = bytes }
+
+unfoldable pub includeAt : List ℕ → ℕ → ℕ → Left Included
+includeAt s at u = afterValue s u (valueBytes (valueAt s at)) (argumentAt s at u includeKeyword)

@@ -1,0 +1,403 @@
+// Import and include statements: their values in the store that the caller lends, and what they say as spans of it.
+use scan_rows::Span;
+use scan_rows::YangImport;
+use scan_rows::YangInclude;
+use text::Cursor;
+use text::Due;
+use text::Match;
+use text::Refusal;
+use text_value::Argument;
+ghost use mathlib.Core.Path.{_≡_};
+ghost use Prim.Native.Nat.{_+_, _-_, _≤_};
+ghost use lib.ListN.{length};
+ghost use lib.Seq.{sets};
+ghost use Rattle.text.specs.Bytes.{semicolon};
+ghost use Rattle.text.specs.Class.{classTable};
+ghost use Rattle.text.specs.Keyword.{matchAt};
+ghost use Rattle.text.specs.Words.{prefixWord, revisionDateWord, prefixKeyword, includeKeyword, revisionDateKeyword};
+ghost use Rattle.text_value.specs.Argument.{lineAt};
+ghost use Rattle.text_value.specs.Value.{valueAt, valueBytes};
+ghost use Rattle.scan_imports.specs.Block.{orRevision, orPrefix, lineKind, withPrefix, withRevision, begun, moved, insideAt, blockRefusal, blockAt};
+ghost use Rattle.scan_imports.specs.Statement.{ofBody, importAt, includeOf, includeAt};
+
+// Refusals: an import closed without prefix, and the end inside a block.
+pub const NO_PREFIX: u32 = 7;
+
+pub const OPEN_ENDED: u32 = 8;
+
+// An import with the cursor after it and the store's next place, or a refusal.
+pub enum Imported {
+    Import {
+        next: Cursor,
+        used: usize,
+        import: YangImport,
+    },
+    NoImport(Refusal),
+}
+
+// Reads what follows the keyword import.
+pub fn parse_import(
+    here: Cursor,
+    classes: &[u8; 128],
+    s: &[u8],
+    store: &mut [u8],
+    used: usize,
+) -> Imported
+    requires { ⌜ (now classes ≡ classTable) × (used + (length (now s) - here .at) ≤ length (now store)) ⌝ }
+    ensures { λ r. ⌜ (r ≡ importAt (now (s .entry)) (here .at) used .answer) × (now (store .exit) ≡ sets (now (store .entry)) used (importAt (now (s .entry)) (here .at) used .bytes)) ⌝ }
+{
+    let name = text_value::read_argument(
+        here,
+        classes,
+        s,
+        store,
+        used,
+        text::IMPORT,
+        text::OPEN_BRACE,
+    );
+    let Argument::Read { next, used: n } = name else {
+        return Imported::NoImport(text_value::argument_refusal(name));
+    };
+    let size = n - used;
+    let module_name = scan_rows::held(used, size);
+    let block = parse_block(next, classes, s, store, n, text::IMPORT);
+    let Block::Whole(body) = block else {
+        return Imported::NoImport(block_refusal(block));
+    };
+    import_of(module_name, body)
+}
+
+// The import of a name and its block. A prefix is required.
+fn import_of(name: Span, body: Body) -> Imported
+    ensures { λ r. ⌜ r ≡ ofBody name body ⌝ }
+{
+    let prefix = body.prefix;
+    let revision_date = body.revision;
+    if prefix.present {
+        return Imported::Import {
+            next: Cursor { at: body.at },
+            used: body.used,
+            import: YangImport {
+                module_name: name,
+                prefix,
+                revision_date,
+            },
+        };
+    }
+    Imported::NoImport(Refusal {
+        number: NO_PREFIX,
+        keyword: text::IMPORT,
+        at: body.at,
+    })
+}
+
+// An include with the cursor after it and the store's next place, or a refusal.
+pub enum Included {
+    Include {
+        next: Cursor,
+        used: usize,
+        include: YangInclude,
+    },
+    NoInclude(Refusal),
+}
+
+// Reads what follows the keyword include.
+pub fn parse_include(
+    here: Cursor,
+    classes: &[u8; 128],
+    s: &[u8],
+    store: &mut [u8],
+    used: usize,
+) -> Included
+    requires { ⌜ (now classes ≡ classTable) × (used + (length (now s) - here .at) ≤ length (now store)) ⌝ }
+    ensures { λ r. ⌜ (r ≡ includeAt (now (s .entry)) (here .at) used .answer) × (now (store .exit) ≡ sets (now (store .entry)) used (includeAt (now (s .entry)) (here .at) used .bytes)) ⌝ }
+{
+    let name = text_value::read_value(here, classes, s, store, used, text::INCLUDE);
+    let Argument::Read { next, used: n } = name else {
+        return Included::NoInclude(text_value::argument_refusal(name));
+    };
+    let size = n - used;
+    let submodule_name = scan_rows::held(used, size);
+    let end = next.skip_whitespace_and_comments(classes, s);
+    let at = end.at;
+    if text::peek_char(s, at) == text::OPEN_BRACE {
+        let inner = at + 1;
+        return include_block(submodule_name, Cursor { at: inner }, classes, s, store, n);
+    }
+    let due = end.expect_char(classes, s, text::SEMICOLON, text::INCLUDE);
+    let Due::After(after) = due else {
+        return Included::NoInclude(text::refusal_of(due));
+    };
+    Included::Include {
+        next: after,
+        used: n,
+        include: YangInclude {
+            submodule_name,
+            revision_date: scan_rows::missing(),
+        },
+    }
+}
+
+// Reads the block of an include with this name.
+fn include_block(
+    name: Span,
+    here: Cursor,
+    classes: &[u8; 128],
+    s: &[u8],
+    store: &mut [u8],
+    used: usize,
+) -> Included
+    requires { ⌜ (now classes ≡ classTable) × (used + (length (now s) - here .at) ≤ length (now store)) ⌝ }
+    ensures { λ r. ⌜ (r ≡ includeOf name (blockAt (now (s .entry)) (here .at) used includeKeyword .answer)) × (now (store .exit) ≡ sets (now (store .entry)) used (blockAt (now (s .entry)) (here .at) used includeKeyword .bytes)) ⌝ }
+{
+    let block = parse_block(here, classes, s, store, used, text::INCLUDE);
+    let Block::Whole(body) = block else {
+        return Included::NoInclude(block_refusal(block));
+    };
+    let revision_date = body.revision;
+    Included::Include {
+        next: Cursor { at: body.at },
+        used: body.used,
+        include: YangInclude {
+            submodule_name: name,
+            revision_date,
+        },
+    }
+}
+
+// What a block gave so far: where it stands, the store's next place, and the last values read.
+pub struct Body {
+    pub at: usize,
+    pub used: usize,
+    pub prefix: Span,
+    pub revision: Span,
+}
+
+// Nothing was read yet.
+fn begun(here: Cursor, used: usize) -> Body
+    ensures { λ r. ⌜ r ≡ begun (here .at) used ⌝ }
+{
+    let prefix = scan_rows::missing();
+    let revision = scan_rows::missing();
+    Body {
+        at: here.at,
+        used,
+        prefix,
+        revision,
+    }
+}
+
+// The same from another place.
+fn moved(body: Body, at: usize) -> Body
+    ensures { λ r. ⌜ r ≡ moved body at ⌝ }
+{
+    let prefix = body.prefix;
+    let revision = body.revision;
+    Body {
+        at,
+        used: body.used,
+        prefix,
+        revision,
+    }
+}
+
+// A block that its brace closed, or a refusal.
+pub enum Block {
+    Whole(Body),
+    Broken(Refusal),
+}
+
+// Reads the block of an import or include, from behind its opening brace. The keyword tells which.
+fn parse_block(
+    here: Cursor,
+    classes: &[u8; 128],
+    s: &[u8],
+    store: &mut [u8],
+    used: usize,
+    keyword: u32,
+) -> Block
+    requires { ⌜ (now classes ≡ classTable) × (used + (length (now s) - here .at) ≤ length (now store)) ⌝ }
+    ensures { λ r. ⌜ (r ≡ blockAt (now (s .entry)) (here .at) used keyword .answer) × (now (store .exit) ≡ sets (now (store .entry)) used (blockAt (now (s .entry)) (here .at) used keyword .bytes)) ⌝ }
+{
+    let mut body = begun(here, used);
+    loop {
+        match parse_inside(body, classes, s, store, keyword) {
+            Inside::On(next) => {
+                body = next;
+            }
+            Inside::Closed(end) => {
+                return Block::Whole(end);
+            }
+            Inside::Refused(r) => {
+                return Block::Broken(r);
+            }
+        }
+    }
+}
+
+// The refusal of a block; 0, 0, 0 where there is none.
+fn block_refusal(b: Block) -> Refusal
+    ensures { λ r. ⌜ r ≡ blockRefusal b ⌝ }
+{
+    match b {
+        Block::Whole(_) => Refusal {
+            number: text::NO_REFUSAL,
+            keyword: 0,
+            at: 0,
+        },
+        Block::Broken(r) => r,
+    }
+}
+
+// After a statement of a block; or the block is closed; or a refusal.
+pub enum Inside {
+    On(Body),
+    Closed(Body),
+    Refused(Refusal),
+}
+
+// Reads or skips the statement of a block that stands after a gap, or its closing brace.
+fn parse_inside(body: Body, classes: &[u8; 128], s: &[u8], store: &mut [u8], keyword: u32) -> Inside
+    requires { ⌜ (now classes ≡ classTable) × (body .used + (length (now s) - body .at) ≤ length (now store)) ⌝ }
+    ensures { λ r. ⌜ (r ≡ insideAt (now (s .entry)) keyword body .answer) × (now (store .exit) ≡ sets (now (store .entry)) (body .used) (insideAt (now (s .entry)) keyword body .bytes)) ⌝ }
+{
+    let from = Cursor { at: body.at };
+    let here = from.skip_whitespace_and_comments(classes, s);
+    let at = here.at;
+    let b = text::peek_char(s, at);
+    if b == text::END {
+        return Inside::Refused(Refusal {
+            number: OPEN_ENDED,
+            keyword,
+            at,
+        });
+    }
+    if b == text::CLOSE_BRACE {
+        let end = at + 1;
+        return Inside::Closed(moved(body, end));
+    }
+    match line_kind(here, classes, s, keyword) {
+        Line::Prefix(c) => read_prefix(body, c, classes, s, store),
+        Line::Revision(c) => read_revision(body, c, classes, s, store),
+        Line::Other => {
+            let end = text_skip::ended_at(text_skip::skip_statement(here, classes, s));
+            Inside::On(moved(body, end.at))
+        }
+    }
+}
+
+// Reads the value of a prefix and its semicolon.
+fn read_prefix(body: Body, here: Cursor, classes: &[u8; 128], s: &[u8], store: &mut [u8]) -> Inside
+    requires { ⌜ (now classes ≡ classTable) × (body .used + (length (now s) - here .at) ≤ length (now store)) ⌝ }
+    ensures { λ r. ⌜ (r ≡ withPrefix body (lineAt (now (s .entry)) (here .at) (body .used) prefixKeyword semicolon)) × (now (store .exit) ≡ sets (now (store .entry)) (body .used) (valueBytes (valueAt (now (s .entry)) (here .at)))) ⌝ }
+{
+    let used = body.used;
+    let revision = body.revision;
+    let line = text_value::read_argument(
+        here,
+        classes,
+        s,
+        store,
+        used,
+        text::PREFIX,
+        text::SEMICOLON,
+    );
+    let Argument::Read { next, used: n } = line else {
+        return Inside::Refused(text_value::argument_refusal(line));
+    };
+    let size = n - used;
+    let prefix = scan_rows::held(used, size);
+    Inside::On(Body {
+        at: next.at,
+        used: n,
+        prefix,
+        revision,
+    })
+}
+
+// Reads the value of a revision-date and its semicolon.
+fn read_revision(
+    body: Body,
+    here: Cursor,
+    classes: &[u8; 128],
+    s: &[u8],
+    store: &mut [u8],
+) -> Inside
+    requires { ⌜ (now classes ≡ classTable) × (body .used + (length (now s) - here .at) ≤ length (now store)) ⌝ }
+    ensures { λ r. ⌜ (r ≡ withRevision body (lineAt (now (s .entry)) (here .at) (body .used) revisionDateKeyword semicolon)) × (now (store .exit) ≡ sets (now (store .entry)) (body .used) (valueBytes (valueAt (now (s .entry)) (here .at)))) ⌝ }
+{
+    let used = body.used;
+    let prefix = body.prefix;
+    let line = text_value::read_argument(
+        here,
+        classes,
+        s,
+        store,
+        used,
+        text::REVISION_DATE,
+        text::SEMICOLON,
+    );
+    let Argument::Read { next, used: n } = line else {
+        return Inside::Refused(text_value::argument_refusal(line));
+    };
+    let size = n - used;
+    let revision = scan_rows::held(used, size);
+    Inside::On(Body {
+        at: next.at,
+        used: n,
+        prefix,
+        revision,
+    })
+}
+
+// What stands in a block: the prefix of an import, a revision-date, or any other statement.
+pub enum Line {
+    Prefix(Cursor),
+    Revision(Cursor),
+    Other,
+}
+
+// What the statement is that stands here. No keyword is tried where no identifier begins.
+fn line_kind(here: Cursor, classes: &[u8; 128], s: &[u8], keyword: u32) -> Line
+    requires { ⌜ now classes ≡ classTable ⌝ }
+    ensures { λ r. ⌜ r ≡ lineKind (now (s .entry)) (here .at) keyword ⌝ }
+{
+    let at = here.at;
+    if text::starts_ident(classes, text::peek_char(s, at)) {
+        if keyword == text::IMPORT {
+            return import_line(here, classes, s);
+        }
+        return revision_line(here, classes, s);
+    }
+    Line::Other
+}
+
+// In an import's block.
+fn import_line(here: Cursor, classes: &[u8; 128], s: &[u8]) -> Line
+    requires { ⌜ now classes ≡ classTable ⌝ }
+    ensures { λ r. ⌜ r ≡ orPrefix (now (s .entry)) (here .at) (matchAt (now (s .entry)) (here .at) prefixWord) ⌝ }
+{
+    match text::match_prefix(here, classes, s) {
+        Match::After(c) => Line::Prefix(c),
+        Match::Not => revision_line(here, classes, s),
+    }
+}
+
+// In an include's block.
+fn revision_line(here: Cursor, classes: &[u8; 128], s: &[u8]) -> Line
+    requires { ⌜ now classes ≡ classTable ⌝ }
+    ensures { λ r. ⌜ r ≡ orRevision (matchAt (now (s .entry)) (here .at) revisionDateWord) ⌝ }
+{
+    match match_revision_date(here, classes, s) {
+        Match::After(c) => Line::Revision(c),
+        Match::Not => Line::Other,
+    }
+}
+
+// Past the keyword revision-date.
+fn match_revision_date(here: Cursor, classes: &[u8; 128], s: &[u8]) -> Match
+    requires { ⌜ now classes ≡ classTable ⌝ }
+    ensures { λ r. ⌜ r ≡ matchAt (now (s .entry)) (here .at) revisionDateWord ⌝ }
+{
+    here.match_keyword(classes, s, b"revision-date")
+}

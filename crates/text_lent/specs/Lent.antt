@@ -1,0 +1,31 @@
+-- What is checked before a scan. 1: text over 1,048,576 bytes. 2: store, table or page too short. 3: a byte is 128 or more (keyword 0, first such
+-- place).
+-- Assumes nothing.
+use Prim.Native.Nat.{ℕ}
+use mathlib.Core.Bool.{Bool, cond}
+use mathlib.Core.List.{List}
+use lib.Dec.{ltb}
+use lib.ListN.{length}
+use Rattle.text.specs.Scan.{runEnd}
+use Rattle.text.specs.declared.Run.the-variants.{Low}
+use Rattle.text_lent.specs.declared.Lent.{Lent}
+use Rattle.text_lent.specs.declared.Lent.the-variants.{Fit, Unfit}
+
+abbrev pub textTooLong : ℕ
+textTooLong = 1
+
+abbrev pub lentTooShort : ℕ
+lentTooShort = 2
+
+abbrev pub highByteMet : ℕ
+highByteMet = 3
+
+abbrev pub mostText : ℕ
+mostText = 1048576
+
+-- short: whether something lent is too short
+unfoldable pub lentAt : List ℕ → Bool → Lent
+lentAt s short =
+    cond (ltb mostText (length s)) (Unfit (record { number = textTooLong; keyword = 0; at = 0 }))
+    (cond short (Unfit (record { number = lentTooShort; keyword = 0; at = 0 }))
+    (cond (ltb (runEnd Low s 0) (length s)) (Unfit (record { number = highByteMet; keyword = 0; at = runEnd Low s 0 })) Fit))

@@ -1,0 +1,84 @@
+// Lent slices: cleared, each loop one memset, and the part of one that is in use. Whether a text can be scanned with what was lent.
+use text::Refusal;
+ghost use mathlib.Core.Path.{_≡_};
+ghost use lib.ListN.{length, take};
+ghost use Rattle.text.specs.Class.{classTable};
+ghost use Rattle.text_lent.specs.Lent.{lentAt};
+ghost use Rattle.text_lent.specs.Padded.{zeros};
+
+// Refusals of this layer.
+pub const TEXT_TOO_LONG: u32 = 1;
+
+pub const LENT_TOO_SHORT: u32 = 2;
+
+pub const HIGH_BYTE: u32 = 3;
+
+// The longest text.
+pub const MOST_TEXT: usize = 1048576;
+
+pub fn clear_bytes(t: &mut [u8])
+    ensures { λ _. ⌜ now (t .exit) ≡ zeros (length (now (t .entry))) ⌝ }
+{
+    let mut i: usize = 0;
+    while i < t.len() {
+        t[i] = 0;
+        i += 1;
+    }
+}
+
+pub fn clear_words(t: &mut [u32])
+    ensures { λ _. ⌜ now (t .exit) ≡ zeros (length (now (t .entry))) ⌝ }
+{
+    let mut i: usize = 0;
+    while i < t.len() {
+        t[i] = 0;
+        i += 1;
+    }
+}
+
+// The first n bytes, or all where there are fewer.
+pub fn first(s: &[u8], n: usize) -> &[u8]
+    ensures { λ r. ⌜ now r ≡ take n (now (s .entry)) ⌝ }
+{
+    if s.len() < n {
+        return s;
+    }
+    let start: usize = 0;
+    &s[start..n]
+}
+
+// Whether a text can be scanned with what was lent, or a refusal.
+pub enum Lent {
+    Fit,
+    Unfit(Refusal),
+}
+
+// 1, then 2, then 3. short: whether something lent is too short.
+pub fn check_lent(classes: &[u8; 128], s: &[u8], short: bool) -> Lent
+    requires { ⌜ now classes ≡ classTable ⌝ }
+    ensures { λ r. ⌜ r ≡ lentAt (now (s .entry)) short ⌝ }
+{
+    if MOST_TEXT < s.len() {
+        return Lent::Unfit(Refusal {
+            number: TEXT_TOO_LONG,
+            keyword: 0,
+            at: 0,
+        });
+    }
+    if short {
+        return Lent::Unfit(Refusal {
+            number: LENT_TOO_SHORT,
+            keyword: 0,
+            at: 0,
+        });
+    }
+    let at = text::first_high(classes, s);
+    if at < s.len() {
+        return Lent::Unfit(Refusal {
+            number: HIGH_BYTE,
+            keyword: 0,
+            at,
+        });
+    }
+    Lent::Fit
+}

@@ -1,0 +1,249 @@
+// Skipping: a token, a value, and a statement. A token's string closes by the rules of a value; a statement's string has a rule of its own.
+use text::Cursor;
+use text::Run;
+use text_value::Close;
+ghost use mathlib.Core.Path.{_≡_};
+ghost use Prim.Native.Nat.{_≤_};
+ghost use Rattle.text.specs.Class.{classTable};
+ghost use Rattle.text_value.specs.Value.{moreAt, joined, valueAt, placeOf};
+ghost use Rattle.text_skip.specs.Skip.{tokenAt, tokenEnd, tailOf};
+ghost use Rattle.text_skip.specs.Statement.{closes, quotedEnd, atSemicolon, atClose, partAt, statementAt, endedAt};
+
+// A token was passed; or it is a string that never closes, and the text has ended.
+pub enum Token {
+    Past(Cursor),
+    Cut(Cursor),
+}
+
+// Skips a token: a whole string, a whole name that begins with a letter or _, or one byte. At the end nothing is skipped.
+pub fn skip_one_token(here: Cursor, classes: &[u8; 128], s: &[u8]) -> Token
+    requires { ⌜ now classes ≡ classTable ⌝ }
+    ensures { λ r. ⌜ r ≡ tokenAt (now (s .entry)) (here .at) ⌝ }
+{
+    let at = here.at;
+    if s.len() <= at {
+        return Token::Past(here);
+    }
+    let b = text::peek_char(s, at);
+    let after = at + 1;
+    if text_value::is_quote(b) {
+        let q = s[at];
+        let Close::At(end) = text_value::close_of(s, after, q) else {
+            return Token::Cut(Cursor { at: s.len() });
+        };
+        return Token::Past(Cursor { at: end });
+    }
+    if text::starts_ident(classes, b) {
+        let end = text::run_end(classes, Run::Name, s, at);
+        return Token::Past(Cursor { at: end });
+    }
+    Token::Past(Cursor { at: after })
+}
+
+// Where a token ends.
+pub fn token_end(t: Token) -> Cursor
+    ensures { λ r. ⌜ r .at ≡ tokenEnd t ⌝ }
+{
+    match t {
+        Token::Past(c) => c,
+        Token::Cut(c) => c,
+    }
+}
+
+// Skips the value that stands after a gap, and stores nothing: the cursor after it, or where there is none.
+pub fn skip_value(here: Cursor, classes: &[u8; 128], s: &[u8]) -> Cursor
+    requires { ⌜ now classes ≡ classTable ⌝ }
+    ensures { λ r. ⌜ r .at ≡ placeOf (valueAt (now (s .entry)) (here .at)) ⌝ }
+{
+    let first = here.skip_whitespace_and_comments(classes, s);
+    let at = first.at;
+    let b = text::peek_char(s, at);
+    if text_value::is_quote(b) {
+        let Token::Past(end) = skip_one_token(first, classes, s) else {
+            return Cursor { at: s.len() };
+        };
+        return skip_added(end, classes, s);
+    }
+    if text_value::starts_name(classes, b) {
+        let name_end = text::run_end(classes, Run::Name, s, at);
+        return Cursor { at: name_end };
+    }
+    first
+}
+
+// Skips all that is added to a string.
+fn skip_added(here: Cursor, classes: &[u8; 128], s: &[u8]) -> Cursor
+    requires { ⌜ now classes ≡ classTable ⌝ }
+    ensures { λ r. ⌜ r .at ≡ joined (now (s .entry)) (here .at) .end ⌝ }
+{
+    let mut at = here.at;
+    loop {
+        let from = Cursor { at };
+        match skip_string(from, classes, s) {
+            Tail::More(next) => {
+                at = next.at;
+            }
+            Tail::Last(end) => {
+                return end;
+            }
+        }
+    }
+}
+
+// A string that is added was passed; or the value ends here.
+pub enum Tail {
+    More(Cursor),
+    Last(Cursor),
+}
+
+// What follows a string: a gap, and if `+` follows, a gap and a string.
+fn skip_string(here: Cursor, classes: &[u8; 128], s: &[u8]) -> Tail
+    requires { ⌜ now classes ≡ classTable ⌝ }
+    ensures { λ r. ⌜ r ≡ tailOf (moreAt (now (s .entry)) (here .at)) ⌝ }
+{
+    let plus = here.skip_whitespace_and_comments(classes, s);
+    let p = plus.at;
+    if text::peek_char(s, p) != text::PLUS {
+        return Tail::Last(plus);
+    }
+    let next = p + 1;
+    let after = Cursor { at: next };
+    let quote = after.skip_whitespace_and_comments(classes, s);
+    let q = quote.at;
+    if text_value::is_quote(text::peek_char(s, q)) {
+        let Token::Past(end) = skip_one_token(quote, classes, s) else {
+            return Tail::Last(Cursor { at: s.len() });
+        };
+        return Tail::More(end);
+    }
+    Tail::Last(quote)
+}
+
+// How a statement ended: by its semicolon, by its block, before a closing brace that is not its own, or by the text's end.
+pub enum Ended {
+    Semicolon(Cursor),
+    Block(Cursor),
+    Before(Cursor),
+    Text(Cursor),
+}
+
+// Skips a statement.
+pub fn skip_statement(here: Cursor, classes: &[u8; 128], s: &[u8]) -> Ended
+    requires { ⌜ now classes ≡ classTable ⌝ }
+    ensures { λ r. ⌜ r ≡ statementAt (now (s .entry)) (here .at) ⌝ }
+{
+    let mut at = here.at;
+    let mut depth: usize = 0;
+    loop {
+        let from = Cursor { at };
+        let place = from.skip_whitespace_and_comments(classes, s);
+        match skip_part(place, s, depth) {
+            Part::On { next, depth: d } => {
+                at = next.at;
+                depth = d;
+            }
+            Part::Stop(end) => {
+                return end;
+            }
+        }
+    }
+}
+
+// Where it ended.
+pub fn ended_at(e: Ended) -> Cursor
+    ensures { λ r. ⌜ r .at ≡ endedAt e ⌝ }
+{
+    match e {
+        Ended::Semicolon(c) => c,
+        Ended::Block(c) => c,
+        Ended::Before(c) => c,
+        Ended::Text(c) => c,
+    }
+}
+
+// A part of a statement was passed, and the depth after it; or the statement ended.
+pub enum Part {
+    On { next: Cursor, depth: usize },
+    Stop(Ended),
+}
+
+// The part of a statement that stands here, at a depth: each brace that opened took a byte.
+fn skip_part(here: Cursor, s: &[u8], depth: usize) -> Part
+    requires { ⌜ depth ≤ here .at ⌝ }
+    ensures { λ r. ⌜ r ≡ partAt (now (s .entry)) (here .at) depth ⌝ }
+{
+    let at = here.at;
+    if s.len() <= at {
+        return Part::Stop(Ended::Text(here));
+    }
+    let after = at + 1;
+    let next = Cursor { at: after };
+    let b = s[at];
+    match b {
+        b'"' | b'\'' => {
+            let end = quoted_end(s, after, b);
+            Part::On {
+                next: Cursor { at: end },
+                depth,
+            }
+        }
+        b';' => at_semicolon(next, depth),
+        b'{' => {
+            let inner = depth + 1;
+            Part::On { next, depth: inner }
+        }
+        b'}' => at_close(here, next, depth),
+        _ => Part::On { next, depth },
+    }
+}
+
+// After a semicolon: at depth 0 it ends the statement.
+fn at_semicolon(next: Cursor, depth: usize) -> Part
+    ensures { λ r. ⌜ r ≡ atSemicolon (next .at) depth ⌝ }
+{
+    if depth == 0 {
+        return Part::Stop(Ended::Semicolon(next));
+    }
+    Part::On { next, depth }
+}
+
+// At a closing brace, and after it: at depth 0 it is another's, at depth 1 it ends the statement.
+fn at_close(here: Cursor, next: Cursor, depth: usize) -> Part
+    ensures { λ r. ⌜ r ≡ atClose (here .at) (next .at) depth ⌝ }
+{
+    if depth == 0 {
+        return Part::Stop(Ended::Before(here));
+    }
+    if depth == 1 {
+        return Part::Stop(Ended::Block(next));
+    }
+    let outer = depth - 1;
+    Part::On { next, depth: outer }
+}
+
+// The place after the string whose bytes start at a place, in quotes q.
+fn quoted_end(s: &[u8], at: usize, q: u8) -> usize
+    ensures { λ r. ⌜ r ≡ quotedEnd (now (s .entry)) at q ⌝ }
+{
+    let mut i = at;
+    let mut before = q;
+    while i < s.len() {
+        let b = s[i];
+        if closes(q, before, b) {
+            return i + 1;
+        }
+        before = b;
+        i += 1;
+    }
+    i
+}
+
+// Whether the byte b closes a string in quotes q, where the byte before it is p.
+fn closes(q: u8, p: u8, b: u8) -> bool
+    ensures { λ r. ⌜ r ≡ closes q p b ⌝ }
+{
+    if b == q {
+        return p != b'\\';
+    }
+    false
+}

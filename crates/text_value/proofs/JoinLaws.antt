@@ -1,0 +1,456 @@
+-- What a proof uses of all that is added to a string, and of a whole value. Each addition takes its bytes and more, so the turns end and
+-- there is room.
+-- Assumes nothing.
+use mathlib.Core.Path.{_≡_, refl, sym, ap, _∙_}
+use mathlib.Core.Bool.{Bool, true, false}
+use mathlib.Core.List.{List, [], _∷_, _++_}
+use Prim.Native.Nat.{ℕ, suc, _+_, _-_, _<_, _≤_}
+use native.Mathlib.Omega.{arith}
+use lib.ListN.{length, getD, drop, length-drop, length-append}
+use lib.Seq.{sets, length-sets}
+use lib.Dec.{eqb}
+use borrow.Author.Tests.{eqb-true, eqb-false}
+use Rattle.text.specs.Scan.{inIdent, gapEnd, runEnd}
+use Rattle.text.specs.Class.{classOf}
+use Rattle.text.specs.Keyword.{part}
+use Rattle.text.specs.declared.Run.the-variants.{Name}
+use Rattle.text.specs.Turns.{stop, on}
+use Rattle.text.proofs.Turns.{turns-stop, turns-on, turns-rule}
+use Rattle.text.proofs.Here.{by-test, here, never}
+use Rattle.text.proofs.Laws.{in-name, gap-from, gap-within, run-more, run-from, run-within}
+use Rattle.text_value.specs.Str.{Str, whole, cut, strEnd, strBytes, strAt, closedBy, escapes, answerOf, bytesOf}
+use Rattle.text_value.specs.Value.{isQuote, More, added, ends, broken, addedBy, moreAt, Bytes, addTo, joinTurn, joinedWith, joined, moreAnswer, moreBytes, joinAnswer, Val, value, none, ofString, nameAt, valueHere, valueAt, startsName, valueAnswer, valueEnd, placeOf}
+use Rattle.text.specs.declared.Cursor.{Cursor}
+use Rattle.text.proofs.Writing.{sets-append}
+use Rattle.text_value.specs.declared.Joined.{Joined}
+use Rattle.text_value.specs.declared.Quoted.the-variants.{Closed, Unclosed}
+use Rattle.text_value.specs.declared.Value.the-variants.{Read}
+use Rattle.text_value.specs.declared.Part.{Part}
+use Rattle.text_value.specs.declared.Part.the-variants.{Added, Last, Cut}
+use Rattle.text_value.specs.declared.Close.{Close}
+use Rattle.text_value.specs.declared.Close.the-variants.{At, Open}
+use Rattle.text_value.proofs.ValueLaws.{part-length, more-plain, more-bare, more-string}
+
+-- ---- how much a string takes
+
+abbrev pub Size : List ℕ → ℕ → ℕ → ℕ → Type 0
+Size bs at e n = (at + length bs < e) × (e ≤ at + n)
+
+pub at-is : {k : Close} (a b : ℕ) → k ≡ At a → k ≡ At b → a ≡ b
+at-is a b e f = cc
+
+open-not : {k : Close} (a : ℕ) → k ≡ Open → k ≡ At a → ⊥
+open-not a e f = let z : _≡_ {A = ℕ} 0 1 = cc in omega arith
+
+pub str-size : (q : ℕ) (esc : Bool) (xs : List ℕ) (at e : ℕ) → strEnd q esc xs at ≡ At e → Size (strBytes q esc xs) at e (length xs)
+unfolding strEnd strBytes
+str-size q esc [] at e h = absurd (open-not e refl h)
+str-size q true (b ∷ xs) at e h = omega (arith, str-size q false xs (at + 1) e h)
+str-size q false (b ∷ xs) at e h =
+    by-test (eqb b q)
+    (λ t. let k = at-is (at + 1) e refl (rw t at h) in rw t (omega arith))
+    (λ t. let k = rw t at h in
+    by-test (escapes q b)
+    (λ u. let m = str-size q true xs (at + 1) e (rw u at k) in rw t (rw u (omega arith)))
+    (λ u. let m = str-size q false xs (at + 1) e (rw u at k) in rw t (rw u (omega arith))))
+
+pub closed-end : (bs : List ℕ) (k : Close) (cs : List ℕ) (e : ℕ) → closedBy bs k ≡ whole cs e → (k ≡ At e) × (bs ≡ cs)
+unfolding closedBy
+closed-end bs (At a) cs e h = (cc, cc)
+closed-end bs Open cs e h = (cc, cc)
+
+pub whole-size : (s : List ℕ) (at : ℕ) (cs : List ℕ) (e : ℕ) → strAt s at ≡ whole cs e → (at + 1 + length cs < e) × (e ≤ length s)
+unfolding strAt
+whole-size s at cs e h =
+    let q = getD s at 256 in
+    let xs = drop (at + 1) s in
+    let k = closed-end (strBytes q false xs) (strEnd q false xs (at + 1)) cs e h in
+    omega (arith, str-size q false xs (at + 1) e (k .0), length-drop (at + 1) s, ap length (k .1))
+
+added-is : (s : List ℕ) (t : Str) (cs : List ℕ) (e : ℕ) → addedBy s t ≡ added cs e → t ≡ whole cs e
+unfolding addedBy
+added-is s (whole bs end) cs e h = cc
+added-is s cut cs e h = cc
+
+ends-not : {m : More} {k : ℕ} {cs : List ℕ} {e : ℕ} → m ≡ ends k → m ≡ added cs e → ⊥
+ends-not f g = let z : _≡_ {A = ℕ} 0 1 = cc in omega arith
+
+-- an addition stands within the text and takes its bytes and more
+pub more-size : (s : List ℕ) (at : ℕ) (cs : List ℕ) (e : ℕ) → moreAt s at ≡ added cs e → (at + length cs < e) × (e ≤ length s)
+more-size s at cs e h =
+    let g = gapEnd s at in
+    let w = gapEnd s (g + 1) in
+    by-test (eqb (getD s g 256) 43)
+    (λ p. by-test (isQuote (getD s w 256))
+    (λ q. omega (arith, whole-size s w cs e (added-is s (strAt s w) cs e (sym (more-string s at refl refl (eqb-true _ _ p) refl refl refl q) ∙ h)), gap-from s at, gap-from s (g + 1)))
+    (λ q. absurd (ends-not (more-bare s at refl refl (eqb-true _ _ p) refl refl refl q) h)))
+    (λ p. absurd (ends-not (more-plain s at refl refl (eqb-false _ _ p)) h))
+
+-- ---- the turns
+
+to-on : (bs : List ℕ) (m : More) (b : Bytes) → addTo bs m ≡ on b → (cs : List ℕ) × (m ≡ added cs (b .end))
+unfolding addTo
+to-on bs (added cs e) b h = (cs, cc)
+to-on bs (ends e) b h = ([], cc)
+to-on bs (broken e) b h = ([], cc)
+
+join-falls : (s : List ℕ) (a b : Bytes) → joinTurn s a ≡ on b → length s - b .end < length s - a .end
+unfolding joinTurn
+join-falls s a b h =
+    let m = to-on (a .bytes) (moreAt s (a .end)) b h in
+    omega (arith, more-size s (a .end) (m .0) (b .end) (m .1))
+
+module _ (s bs : List ℕ) (at : ℕ) where
+  -- a string is added
+  pub join-on : (cs : List ℕ) (e : ℕ) → moreAt s at ≡ added cs e → joinedWith s bs at ≡ joinedWith s (bs ++ cs) e
+  unfolding joinedWith joinTurn addTo
+  join-on cs e h =
+      turns-on (joinTurn s) (record { bytes = []; end = 0 }) (λ b. length s - b .end) (join-falls s)
+      (suc (length s)) (suc (length s)) (record { bytes = bs; end = at }) (record { bytes = bs ++ cs; end = e })
+      (omega arith) (omega arith) (ap (addTo bs) h)
+
+  -- nothing more
+  pub join-stop : (e : ℕ) → moreAt s at ≡ ends e → joinedWith s bs at ≡ record { bytes = bs; end = e }
+  unfolding joinedWith joinTurn addTo
+  join-stop e h =
+      turns-stop (joinTurn s) (record { bytes = []; end = 0 }) (λ b. length s - b .end) (join-falls s)
+      (suc (length s)) (record { bytes = bs; end = at }) (record { bytes = bs; end = e }) (omega arith) (ap (addTo bs) h)
+
+  -- a string that never closes
+  pub join-broken : (e : ℕ) → moreAt s at ≡ broken e → joinedWith s bs at ≡ record { bytes = bs; end = e }
+  unfolding joinedWith joinTurn addTo
+  join-broken e h =
+      turns-stop (joinTurn s) (record { bytes = []; end = 0 }) (λ b. length s - b .end) (join-falls s)
+      (suc (length s)) (record { bytes = bs; end = at }) (record { bytes = bs; end = e }) (omega arith) (ap (addTo bs) h)
+
+-- ---- what an answer says
+
+pub added-answer : (n : ℕ) (m : More) (c : Cursor) (k : ℕ) → moreAnswer n m ≡ Added c k → (m ≡ added (moreBytes m) (c .at)) × (k ≡ n + length (moreBytes m))
+unfolding moreAnswer moreBytes
+added-answer n (added cs e) c k h = (cc, cc)
+added-answer n (ends e) c k h = (cc, cc)
+added-answer n (broken e) c k h = (cc, cc)
+
+pub last-answer : (n : ℕ) (m : More) (c : Cursor) → moreAnswer n m ≡ Last c → (m ≡ ends (c .at)) × (moreBytes m ≡ [])
+unfolding moreAnswer moreBytes
+last-answer n (added cs e) c h = (cc, cc)
+last-answer n (ends e) c h = (cc, refl)
+last-answer n (broken e) c h = (cc, refl)
+
+pub broken-answer : (n : ℕ) (m : More) (c : Cursor) → moreAnswer n m ≡ Cut c → (m ≡ broken (c .at)) × (moreBytes m ≡ [])
+unfolding moreAnswer moreBytes
+broken-answer n (added cs e) c h = (cc, cc)
+broken-answer n (ends e) c h = (cc, refl)
+broken-answer n (broken e) c h = (cc, refl)
+
+-- a list stored after another
+pub sets-twice : (d e f : List ℕ) (u n : ℕ) (bs cs : List ℕ) → e ≡ sets d u bs → n ≡ u + length bs → f ≡ sets e n cs → f ≡ sets d u (bs ++ cs)
+sets-twice d e f u n bs cs h k g = g ∙ ap (λ l. sets l n cs) h ∙ ap (λ i. sets (sets d u bs) i cs) k ∙ sym (sets-append d u bs cs)
+
+-- ---- the loop that reads them
+
+-- the store was d and is e; the bytes of all that was added up to the place `at` stand in it from u up to n
+pub record Joining (s d : List ℕ) (u from : ℕ) (e : List ℕ) (at n : ℕ) : Type 0 where
+  pub bytes : List ℕ
+  pub same : joinedWith s bytes at ≡ joined s from
+  pub kept : e ≡ sets d u bytes
+  pub count : n ≡ u + length bytes
+  pub room : n + (length s - at) ≤ length d
+
+module _ {s d : List ℕ} {u from : ℕ} where
+  pub join-begun : u + (length s - from) ≤ length d → Joining s d u from d from u
+  unfolding joined
+  join-begun h = record { bytes = []; same = refl; kept = refl; count = omega arith; room = h }
+
+  pub join-long : {e : List ℕ} {at n : ℕ} → Joining s d u from e at n → length e ≡ length d
+  join-long j = ap length (j .kept) ∙ length-sets d u (j .bytes)
+
+  -- p: what reading the next part answered
+  module _ {e : List ℕ} {at n : ℕ} (j : Joining s d u from e at n) {p : Part} (pe : p ≡ moreAnswer n (moreAt s at)) where
+    pub join-nearer : (next : Cursor) (k : ℕ) → p ≡ Added next k → length s - next .at < length s - at
+    join-nearer next k h = omega (arith, more-size s at (moreBytes (moreAt s at)) (next .at) (added-answer n (moreAt s at) next k (sym pe ∙ h) .0))
+
+    -- f: the store after it
+    module _ {f : List ℕ} (fe : f ≡ sets e n (moreBytes (moreAt s at))) where
+      pub join-more : (next : Cursor) (k : ℕ) → p ≡ Added next k → Joining s d u from f (next .at) k
+      join-more next k h =
+          let cs = moreBytes (moreAt s at) in
+          let m = added-answer n (moreAt s at) next k (sym pe ∙ h) in
+          record {
+            bytes = j .bytes ++ cs;
+            same = sym (join-on s (j .bytes) at cs (next .at) (m .0)) ∙ j .same;
+            kept = sets-twice d e f u n (j .bytes) cs (j .kept) (j .count) fe;
+            count = omega (arith, m .1, j .count, length-append (j .bytes) cs);
+            room = omega (arith, m .1, j .room, more-size s at cs (next .at) (m .0));
+          }
+
+      -- nothing is added: the loop is at its end
+      join-ended : (end : Cursor) → joinedWith s (j .bytes) at ≡ record { bytes = j .bytes; end = end .at } → moreBytes (moreAt s at) ≡ []
+          → (record { next = end; used = n } ≡ joinAnswer u (joined s from)) × (f ≡ sets d u (joined s from .bytes))
+      unfolding joinAnswer
+      join-ended end w z =
+          let r : joined s from ≡ record { bytes = j .bytes; end = end .at } = sym (j .same) ∙ w in
+          (rw r (ap (λ k. record { next = end; used = k }) (j .count)), fe ∙ ap (sets e n) z ∙ j .kept ∙ rw r)
+
+      pub join-done : (end : Cursor) → p ≡ Last end → (record { next = end; used = n } ≡ joinAnswer u (joined s from)) × (f ≡ sets d u (joined s from .bytes))
+      join-done end h =
+          let m = last-answer n (moreAt s at) end (sym pe ∙ h) in
+          join-ended end (join-stop s (j .bytes) at (end .at) (m .0)) (m .1)
+
+      pub join-cut : (end : Cursor) → p ≡ Cut end → (record { next = end; used = n } ≡ joinAnswer u (joined s from)) × (f ≡ sets d u (joined s from .bytes))
+      join-cut end h =
+          let m = broken-answer n (moreAt s at) end (sym pe ∙ h) in
+          join-ended end (join-broken s (j .bytes) at (end .at) (m .0)) (m .1)
+
+-- ---- a value
+
+-- what reading its first string answered
+pub closed-answer : (u : ℕ) (t : Str) (c : Cursor) (n : ℕ) → answerOf u t ≡ Closed c n → (t ≡ whole (bytesOf t) (c .at)) × (n ≡ u + length (bytesOf t))
+unfolding answerOf bytesOf
+closed-answer u (whole bs e) c n h = (cc, cc)
+closed-answer u cut c n h = (cc, cc)
+
+pub cut-answer : (u : ℕ) (t : Str) → answerOf u t ≡ Unclosed → (t ≡ cut) × (bytesOf t ≡ [])
+unfolding answerOf bytesOf
+cut-answer u (whole bs e) h = (cc, cc)
+cut-answer u cut h = (refl, refl)
+
+-- b stands here, n whether a name begins so
+module _ (s : List ℕ) (g : ℕ) {b : ℕ} {n : Bool} (be : b ≡ getD s g 256) (ne : n ≡ startsName b) where
+  pub name-read : n ≡ true → {e : ℕ} → e ≡ runEnd Name s g → nameAt s g ≡ value (part s g e) e
+  name-read m ee = let r : startsName (getD s g 256) ≡ true = cc in rw r (rw (← ee) refl)
+
+  pub name-none : n ≡ false → nameAt s g ≡ none g
+  name-none m = let r : startsName (getD s g 256) ≡ false = cc in rw r refl
+
+-- Each law takes what the calls on the way answered, in their order: g after the gap, b what stands there, t whether that is a quote, n
+-- whether a name begins so.
+module _ (s : List ℕ) (at : ℕ) {g b : ℕ} {t : Bool} (ge : g ≡ gapEnd s at) (be : b ≡ getD s g 256) (te : t ≡ isQuote b) where
+  module _ (y : t ≡ true) where
+    pub value-string : (bs : List ℕ) (e : ℕ) → strAt s g ≡ whole bs e → valueAt s at ≡ value (bs ++ joined s e .bytes) (joined s e .end)
+    unfolding valueAt valueHere ofString
+    value-string bs e h = let q : isQuote (getD s g 256) ≡ true = cc in rw (← ge) (rw q (rw h))
+
+    pub value-cut : strAt s g ≡ cut → valueAt s at ≡ none (length s)
+    unfolding valueAt valueHere ofString
+    value-cut h = let q : isQuote (getD s g 256) ≡ true = cc in rw (← ge) (rw q (rw h))
+
+  -- no quote: the value is a name, or none
+  pub value-other : t ≡ false → valueAt s at ≡ nameAt s g
+  unfolding valueAt valueHere
+  value-other f = let q : isQuote (getD s g 256) ≡ false = cc in rw (← ge) (rw q refl)
+
+  module _ (f : t ≡ false) {n : Bool} (ne : n ≡ startsName b) where
+    pub value-name : n ≡ true → {e : ℕ} → e ≡ runEnd Name s g → valueAt s at ≡ value (part s g e) e
+    value-name m ee = value-other f ∙ name-read s g be ne m ee
+
+    pub value-none : n ≡ false → valueAt s at ≡ none g
+    value-none m = value-other f ∙ name-none s g be ne m
+
+pub name-here : (s : List ℕ) (i : ℕ) {b : ℕ} {n : Bool} → b ≡ getD s i 256 → n ≡ startsName b → n ≡ true → i < length s
+unfolding startsName classOf
+name-here s i be ne y = here s i (λ e. never (ne ∙ ap startsName (be ∙ e)) y)
+
+-- a string and what was added to it
+pub read-joined : (u n : ℕ) (bs : List ℕ) (j : Bytes) (r : Joined) → r ≡ joinAnswer n j → n ≡ u + length bs
+    → Read (r .next) (r .used) ≡ valueAnswer u (value (bs ++ j .bytes) (j .end))
+unfolding joinAnswer valueAnswer
+read-joined u n bs j r h k =
+    let m : n + length (j .bytes) ≡ u + length (bs ++ j .bytes) = omega (arith, length-append bs (j .bytes)) in
+    ap (λ (x : Joined). Read (x .next) (x .used)) h ∙ ap (Read (record { at = j .end })) m
+
+-- ---- how much a value takes
+
+ends-is : {m : More} (a b : ℕ) → m ≡ ends a → m ≡ ends b → a ≡ b
+ends-is a b e f = cc
+
+ended-not : (s : List ℕ) (t : Str) (e : ℕ) → addedBy s t ≡ ends e → ⊥
+unfolding addedBy
+ended-not s (whole bs end) e h = let z : _≡_ {A = ℕ} 0 1 = cc in omega arith
+ended-not s cut e h = let z : _≡_ {A = ℕ} 0 1 = cc in omega arith
+
+-- where the value ends after a string
+pub ends-size : (s : List ℕ) (at e : ℕ) → at ≤ length s → moreAt s at ≡ ends e → (at ≤ e) × (e ≤ length s)
+ends-size s at e l h =
+    let g = gapEnd s at in
+    let w = gapEnd s (g + 1) in
+    by-test (eqb (getD s g 256) 43)
+    (λ p. let i = here s g (λ z. omega (arith, eqb-true (getD s g 256) 43 p)) in
+    let k = gap-within s (g + 1) (omega arith) in
+    by-test (isQuote (getD s w 256))
+    (λ q. absurd (ended-not s (strAt s w) e (sym (more-string s at refl refl (eqb-true _ _ p) refl refl refl q) ∙ h)))
+    (λ q. omega (arith, ends-is w e (more-bare s at refl refl (eqb-true _ _ p) refl refl refl q) h, gap-from s at, gap-from s (g + 1))))
+    (λ p. omega (arith, ends-is g e (more-plain s at refl refl (eqb-false _ _ p)) h, gap-from s at, gap-within s at l))
+
+broken-by : (s : List ℕ) (t : Str) (e : ℕ) → addedBy s t ≡ broken e → e ≡ length s
+unfolding addedBy
+broken-by s (whole bs end) e h = cc
+broken-by s cut e h = cc
+
+ends-whole : {m : More} {a e : ℕ} → m ≡ ends a → m ≡ broken e → ⊥
+ends-whole f g = let z : _≡_ {A = ℕ} 0 1 = cc in omega arith
+
+-- a string that never closes takes the rest of the text
+pub broken-size : (s : List ℕ) (at e : ℕ) → moreAt s at ≡ broken e → e ≡ length s
+broken-size s at e h =
+    let g = gapEnd s at in
+    let w = gapEnd s (g + 1) in
+    by-test (eqb (getD s g 256) 43)
+    (λ p. by-test (isQuote (getD s w 256))
+    (λ q. broken-by s (strAt s w) e (sym (more-string s at refl refl (eqb-true _ _ p) refl refl refl q) ∙ h))
+    (λ q. absurd (ends-whole (more-bare s at refl refl (eqb-true _ _ p) refl refl refl q) h)))
+    (λ p. absurd (ends-whole (more-plain s at refl refl (eqb-false _ _ p)) h))
+
+-- where a turn stops
+to-stop : (s bs : List ℕ) (at : ℕ) (m : More) (r : Bytes) → at ≤ length s → moreAt s at ≡ m → addTo bs m ≡ stop r
+    → (at ≤ r .end) × (r .end ≤ length s) × (r .bytes ≡ bs)
+unfolding addTo
+to-stop s bs at (added cs e) r l k h = let z : _≡_ {A = ℕ} 0 1 = cc in absurd (omega arith)
+to-stop s bs at (ends e) r l k h =
+    let n : e ≡ r .end = cc in
+    let w = ends-size s at e l k in
+    (omega arith, omega arith, cc)
+to-stop s bs at (broken e) r l k h =
+    let n : e ≡ r .end = cc in
+    let w = broken-size s at e k in
+    (omega arith, omega arith, cc)
+
+to-more : (bs : List ℕ) (m : More) (b : Bytes) (cs : List ℕ) (e : ℕ) → addTo bs m ≡ on b → m ≡ added cs e → b .bytes ≡ bs ++ cs
+unfolding addTo
+to-more bs (added ds f) b cs e h k = cc
+to-more bs (ends f) b cs e h k = cc
+to-more bs (broken f) b cs e h k = cc
+
+-- what is added is shorter than what was read
+pub joined-size : (s : List ℕ) (at : ℕ) → at ≤ length s → (at + length (joined s at .bytes) ≤ joined s at .end) × (joined s at .end ≤ length s)
+unfolding joined joinedWith joinTurn
+joined-size s at h =
+    let all = turns-rule (joinTurn s) (record { bytes = []; end = 0 }) (λ b. length s - b .end) (join-falls s)
+    (λ a r. a .end ≤ length s → (a .end + length (r .bytes) ≤ r .end + length (a .bytes)) × (r .end ≤ length s))
+    (λ a r e l. let m = to-stop s (a .bytes) (a .end) (moreAt s (a .end)) r l refl e in omega (arith, m .0, m .1, ap length (m .2)))
+    (λ a b r e k l. let m = to-on (a .bytes) (moreAt s (a .end)) b e in
+    let z = more-size s (a .end) (m .0) (b .end) (m .1) in
+    omega (arith, k (omega arith), length-append (a .bytes) (m .0), ap length (to-more (a .bytes) (moreAt s (a .end)) b (m .0) (b .end) e (m .1))))
+    (suc (length s)) (record { bytes = []; end = at }) (omega arith) h in
+    omega (arith, all)
+
+value-is : {v : Val} (bs cs : List ℕ) (e f : ℕ) → v ≡ value bs e → v ≡ value cs f → (bs ≡ cs) × (e ≡ f)
+value-is bs cs e f h k = (cc, cc)
+
+none-not : {v : Val} {k : ℕ} {bs : List ℕ} {e : ℕ} → v ≡ none k → v ≡ value bs e → ⊥
+none-not f g = let z : _≡_ {A = ℕ} 0 1 = cc in omega arith
+
+-- a value stands within the text and takes its bytes at least
+pub value-size : (s : List ℕ) (at : ℕ) (bs : List ℕ) (e : ℕ) → valueAt s at ≡ value bs e → (at + length bs ≤ e) × (e ≤ length s)
+value-size s at bs e h =
+    let g = gapEnd s at in
+    by-test (isQuote (getD s g 256))
+    (λ q. by-str (strAt s g) refl q)
+    (λ q. by-test (startsName (getD s g 256))
+    (λ n. let i = name-here s g refl refl n in
+    let r = runEnd Name s g in
+    let m = value-is bs (part s g r) e r h (value-name s at refl refl refl q refl n refl) in
+    omega (arith, m .1, ap length (m .0), part-length s g r (run-from Name s g) (run-within Name s g (omega arith)), gap-from s at, run-from Name s g, run-within Name s g (omega arith)))
+    (λ n. absurd (none-not (value-none s at refl refl refl q refl n) h)))
+  where
+    by-str : (t : Str) → strAt s (gapEnd s at) ≡ t → isQuote (getD s (gapEnd s at) 256) ≡ true → (at + length bs ≤ e) × (e ≤ length s)
+    by-str (whole cs f) k q =
+        let m = value-is bs (cs ++ joined s f .bytes) e (joined s f .end) h (value-string s at refl refl refl q cs f k) in
+        let z = whole-size s (gapEnd s at) cs f k in
+        omega (arith, m .1, ap length (m .0), length-append cs (joined s f .bytes), joined-size s f (omega arith), gap-from s at)
+    by-str cut k q = absurd (none-not (value-cut s at refl refl refl q k) h)
+
+-- what begins a name belongs to it
+pub starts-name-in : (b : ℕ) → startsName b ≡ true → inIdent b ≡ true
+unfolding startsName inIdent
+starts-name-in b h =
+    by-test (eqb (classOf b) 2)
+    (λ t. simp t)
+    (λ t. by-test (eqb (classOf b) 3) (λ u. simp (t, u)) (λ u. let k : eqb b 95 ≡ true = simp (t, u) at h in simp (t, u, k)))
+
+-- a name takes a byte at least
+pub name-far : (s : List ℕ) (g : ℕ) → startsName (getD s g 256) ≡ true → g < runEnd Name s g
+name-far s g y =
+    let l = name-here s g refl refl y in
+    let e = in-name (getD s g 256) (starts-name-in (getD s g 256) y) in
+    omega (arith, run-more Name s g l refl (sym e) refl, run-from Name s (g + 1))
+
+-- a value is behind its start, stands within the text and takes its bytes at least
+pub value-far : (s : List ℕ) (at : ℕ) (bs : List ℕ) (e : ℕ) → valueAt s at ≡ value bs e → (at < e) × (at + length bs ≤ e) × (e ≤ length s)
+value-far s at bs e h =
+    let g = gapEnd s at in
+    let z = value-size s at bs e h in
+    by-test (isQuote (getD s g 256))
+    (λ q. by-str (strAt s g) refl q)
+    (λ q. by-test (startsName (getD s g 256))
+    (λ n. let m = value-is bs (part s g (runEnd Name s g)) e (runEnd Name s g) h (value-name s at refl refl refl q refl n refl) in
+    omega (arith, m .1, z, gap-from s at, name-far s g n))
+    (λ n. absurd (none-not (value-none s at refl refl refl q refl n) h)))
+  where
+    by-str : (t : Str) → strAt s (gapEnd s at) ≡ t → isQuote (getD s (gapEnd s at) 256) ≡ true → (at < e) × (at + length bs ≤ e) × (e ≤ length s)
+    by-str (whole cs f) k q =
+        let m = value-is bs (cs ++ joined s f .bytes) e (joined s f .end) h (value-string s at refl refl refl q cs f k) in
+        let z = whole-size s (gapEnd s at) cs f k in
+        omega (arith, m .1, value-size s at bs e h, joined-size s f (omega arith), gap-from s at)
+    by-str cut k q = absurd (none-not (value-cut s at refl refl refl q k) h)
+
+none-is : {v : Val} (a b : ℕ) → v ≡ none a → v ≡ none b → a ≡ b
+none-is a b e f = cc
+
+-- where there is none, the scan stands within the text, if it did
+pub none-size : (s : List ℕ) (at k : ℕ) → at ≤ length s → valueAt s at ≡ none k → (at ≤ k) × (k ≤ length s)
+none-size s at k l h =
+    let g = gapEnd s at in
+    by-test (isQuote (getD s g 256))
+    (λ q. by-str (strAt s g) refl q)
+    (λ q. by-test (startsName (getD s g 256))
+    (λ n. absurd (none-not h (value-name s at refl refl refl q refl n refl)))
+    (λ n. omega (arith, none-is g k (value-none s at refl refl refl q refl n) h, gap-from s at, gap-within s at l)))
+  where
+    by-str : (t : Str) → strAt s (gapEnd s at) ≡ t → isQuote (getD s (gapEnd s at) 256) ≡ true → (at ≤ k) × (k ≤ length s)
+    by-str (whole cs f) w q = absurd (none-not h (value-string s at refl refl refl q cs f w))
+    by-str cut w q = omega (arith, none-is (length s) k (value-cut s at refl refl refl q w) h)
+
+-- ---- where a value ends, whatever it stores
+
+any-stop : (s : List ℕ) (a : Bytes) (m : More) (r : Bytes) → moreAt s (a .end) ≡ m → addTo (a .bytes) m ≡ stop r → (cs : List ℕ) → joinedWith s cs (a .end) .end ≡ r .end
+unfolding addTo
+any-stop s a (added ds e) r k h cs = let z : _≡_ {A = ℕ} 0 1 = cc in absurd (omega arith)
+any-stop s a (ends e) r k h cs = let n : e ≡ r .end = cc in ap (λ b. b .end) (join-stop s cs (a .end) e k) ∙ n
+any-stop s a (broken e) r k h cs = let n : e ≡ r .end = cc in ap (λ b. b .end) (join-broken s cs (a .end) e k) ∙ n
+
+-- the place after all that is added does not depend on the bytes before
+joined-any : (s cs : List ℕ) (at : ℕ) → joinedWith s cs at .end ≡ joined s at .end
+unfolding joined joinedWith joinTurn
+joined-any s cs at =
+    turns-rule (joinTurn s) (record { bytes = []; end = 0 }) (λ b. length s - b .end) (join-falls s)
+    (λ a r. (ds : List ℕ) → joinedWith s ds (a .end) .end ≡ r .end)
+    (λ a r e. any-stop s a (moreAt s (a .end)) r refl e)
+    (λ a b r e k ds. let m = to-on (a .bytes) (moreAt s (a .end)) b e in
+    ap (λ x. x .end) (join-on s ds (a .end) (m .0) (b .end) (m .1)) ∙ k (ds ++ m .0))
+    (suc (length s)) (record { bytes = []; end = at }) (omega arith) cs
+
+module _ (s : List ℕ) (at : ℕ) where
+  pub joined-on : (cs : List ℕ) (e : ℕ) → moreAt s at ≡ added cs e → joined s at .end ≡ joined s e .end
+  joined-on cs e h = sym (joined-any s [] at) ∙ ap (λ b. b .end) (join-on s [] at cs e h) ∙ joined-any s cs e
+
+  pub joined-stop : (e : ℕ) → moreAt s at ≡ ends e → joined s at .end ≡ e
+  joined-stop e h = sym (joined-any s [] at) ∙ ap (λ b. b .end) (join-stop s [] at e h)
+
+  pub joined-broken : (e : ℕ) → moreAt s at ≡ broken e → joined s at .end ≡ e
+  joined-broken e h = sym (joined-any s [] at) ∙ ap (λ b. b .end) (join-broken s [] at e h)
+
+-- the answer and the value say the same place
+pub place-is : (u : ℕ) (v : Val) → valueEnd (valueAnswer u v) ≡ placeOf v
+unfolding valueEnd valueAnswer placeOf
+place-is u (value bs e) = refl
+place-is u (none at) = refl
+
+-- it is within the text, where the scan stands within it
+pub place-size : (s : List ℕ) (at : ℕ) → at ≤ length s → (at ≤ placeOf (valueAt s at)) × (placeOf (valueAt s at) ≤ length s)
+unfolding placeOf
+place-size s at l = by-val (valueAt s at) refl
+  where
+    by-val : (v : Val) → valueAt s at ≡ v → (at ≤ placeOf v) × (placeOf v ≤ length s)
+    by-val (value bs e) h = omega (arith, value-size s at bs e h)
+    by-val (none e) h = none-size s at e l h

@@ -1,0 +1,40 @@
+-- A keyword's value, and the byte that is due after it. 4: no value after the keyword. 5: another byte than the one required after it.
+-- 6: the end instead of that byte. Position is the cursor.
+-- Assumes nothing.
+use Prim.Native.Nat.{ℕ, _+_}
+use mathlib.Core.List.{List}
+use lib.ListN.{length}
+use Rattle.text.specs.Due.{noRefusal, noValue, dueAt}
+use Rattle.text.specs.declared.Due.{Due}
+use Rattle.text.specs.declared.Due.the-variants.{After, Not}
+use Rattle.text.specs.declared.Refusal.{Refusal}
+use Rattle.text_value.specs.Value.{Val, value, none, valueAt}
+use Rattle.text_value.specs.declared.Argument.{Argument}
+use Rattle.text_value.specs.declared.Argument.the-variants.{Read, Refused}
+
+-- u: the store's next place, k: the keyword, b: the byte that is due
+
+unfoldable pub argumentOf : ℕ → ℕ → Val → Argument
+argumentOf u k (value bs end) = Read (record { at = end }) (u + length bs)
+argumentOf u k (none at) = Refused (record { number = noValue; keyword = k; at = at })
+
+-- the value alone
+unfoldable pub argumentAt : List ℕ → ℕ → ℕ → ℕ → Argument
+argumentAt s at u k = argumentOf u k (valueAt s at)
+
+unfoldable pub afterDue : ℕ → Due → Argument
+afterDue n (After c) = Read c n
+afterDue n (Not r) = Refused r
+
+unfoldable pub afterArgument : List ℕ → ℕ → ℕ → Argument → Argument
+afterArgument s k b (Read c n) = afterDue n (dueAt s (c .at) b k)
+afterArgument s k b (Refused r) = Refused r
+
+-- the value and the byte
+unfoldable pub lineAt : List ℕ → ℕ → ℕ → ℕ → ℕ → Argument
+lineAt s at u k b = afterArgument s k b (argumentAt s at u k)
+
+-- the refusal; 0, 0, 0 where there is none
+unfoldable pub argumentRefusal : Argument → Refusal
+argumentRefusal (Read c n) = record { number = noRefusal; keyword = 0; at = 0 }
+argumentRefusal (Refused r) = r

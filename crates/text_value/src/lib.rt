@@ -1,0 +1,404 @@
+// Values: quoted strings and names, copied into a store that the caller lends, and a keyword's value with the byte that is due after it.
+use text::Cursor;
+use text::Due;
+use text::Refusal;
+use text::Run;
+ghost use mathlib.Core.Path.{_≡_};
+ghost use mathlib.Core.Bool.{false};
+ghost use Prim.Native.Nat.{_+_, _-_, _≤_, _<_};
+ghost use lib.ListN.{length, drop, take};
+ghost use lib.Seq.{sets};
+ghost use Rattle.text.specs.Bytes.{theEnd};
+ghost use Rattle.text.specs.Class.{classTable};
+ghost use Rattle.text.specs.Keyword.{part};
+ghost use Rattle.text_value.specs.Str.{among, escaped, escapes, strEnd, strBytes, strAt, answerOf, bytesOf};
+ghost use Rattle.text_value.specs.Value.{isQuote, startsName, nameAt, moreAt, moreAnswer, moreBytes, joined, joinAnswer, valueAt, valueAnswer, valueBytes, valueEnd};
+ghost use Rattle.text_value.specs.Argument.{argumentRefusal, argumentAt, lineAt};
+
+// A value: the cursor after it and the store's next place; or none stands here, and the cursor there.
+pub enum Value {
+    Read { next: Cursor, used: usize },
+    Missing(Cursor),
+}
+
+// Where the scan stands then.
+pub fn value_end(v: Value) -> Cursor
+    ensures { λ r. ⌜ r .at ≡ valueEnd v ⌝ }
+{
+    match v {
+        Value::Read { next, used: _ } => next,
+        Value::Missing(c) => c,
+    }
+}
+
+// A keyword's value: the cursor after it and the store's next place, or the refusal.
+pub enum Argument {
+    Read { next: Cursor, used: usize },
+    Refused(Refusal),
+}
+
+// The refusal of a keyword's value; 0, 0, 0 where there is none.
+pub fn argument_refusal(a: Argument) -> Refusal
+    ensures { λ r. ⌜ r ≡ argumentRefusal a ⌝ }
+{
+    match a {
+        Argument::Read { next: _, used: _ } => Refusal {
+            number: text::NO_REFUSAL,
+            keyword: 0,
+            at: 0,
+        },
+        Argument::Refused(r) => r,
+    }
+}
+
+// Reads the value that is due after a keyword. Where there is none, nothing is stored and the refusal is 4.
+pub fn read_value(
+    here: Cursor,
+    classes: &[u8; 128],
+    s: &[u8],
+    store: &mut [u8],
+    used: usize,
+    keyword: u32,
+) -> Argument
+    requires { ⌜ (now classes ≡ classTable) × (used + (length (now s) - here .at) ≤ length (now store)) ⌝ }
+    ensures { λ r. ⌜ (r ≡ argumentAt (now (s .entry)) (here .at) used keyword) × (now (store .exit) ≡ sets (now (store .entry)) used (valueBytes (valueAt (now (s .entry)) (here .at)))) ⌝ }
+{
+    let got = read_string_or_identifier(here, classes, s, store, used);
+    let Value::Read { next, used: n } = got else {
+        let c = value_end(got);
+        return Argument::Refused(Refusal {
+            number: text::NO_VALUE,
+            keyword,
+            at: c.at,
+        });
+    };
+    Argument::Read { next, used: n }
+}
+
+// Reads the value that is due after a keyword and the byte b that is due after it. The value's bytes stay in the store where b is
+// refused.
+pub fn read_argument(
+    here: Cursor,
+    classes: &[u8; 128],
+    s: &[u8],
+    store: &mut [u8],
+    used: usize,
+    keyword: u32,
+    b: u16,
+) -> Argument
+    requires { ⌜ (now classes ≡ classTable) × (used + (length (now s) - here .at) ≤ length (now store)) × (b < theEnd) ⌝ }
+    ensures { λ r. ⌜ (r ≡ lineAt (now (s .entry)) (here .at) used keyword b) × (now (store .exit) ≡ sets (now (store .entry)) used (valueBytes (valueAt (now (s .entry)) (here .at)))) ⌝ }
+{
+    let got = read_value(here, classes, s, store, used, keyword);
+    let Argument::Read { next, used: n } = got else {
+        return got;
+    };
+    let due = next.expect_char(classes, s, b, keyword);
+    let Due::After(end) = due else {
+        return Argument::Refused(text::refusal_of(due));
+    };
+    Argument::Read { next: end, used: n }
+}
+
+// Reads the name that stands here. Where there is none, nothing is stored.
+fn read_identifier(
+    here: Cursor,
+    classes: &[u8; 128],
+    s: &[u8],
+    store: &mut [u8],
+    used: usize,
+) -> Value
+    requires { ⌜ (now classes ≡ classTable) × (used + (length (now s) - here .at) ≤ length (now store)) ⌝ }
+    ensures { λ r. ⌜ (r ≡ valueAnswer used (nameAt (now (s .entry)) (here .at))) × (now (store .exit) ≡ sets (now (store .entry)) used (valueBytes (nameAt (now (s .entry)) (here .at)))) ⌝ }
+{
+    let at = here.at;
+    if starts_name(classes, text::peek_char(s, at)) {
+        let end = text::run_end(classes, Run::Name, s, at);
+        let n = copy_part(s, at, end, store, used);
+        return Value::Read {
+            next: Cursor { at: end },
+            used: n,
+        };
+    }
+    Value::Missing(here)
+}
+
+// Whether a name begins so: a letter, a digit or _.
+pub fn starts_name(classes: &[u8; 128], b: u16) -> bool
+    requires { ⌜ now classes ≡ classTable ⌝ }
+    ensures { λ r. ⌜ r ≡ startsName b ⌝ }
+{
+    let c = text::class(classes, b);
+    if c == text::LETTER {
+        return true;
+    }
+    if c == text::DIGIT {
+        return true;
+    }
+    if b == text::UNDERSCORE {
+        return true;
+    }
+    false
+}
+
+// Stores the bytes from a place up to another, from the store's place `used` on, and answers the place after them.
+fn copy_part(s: &[u8], at: usize, end: usize, store: &mut [u8], used: usize) -> usize
+    requires { ⌜ (at ≤ end) × (end ≤ length (now s)) × (used + (end - at) ≤ length (now store)) ⌝ }
+    ensures { λ r. ⌜ (r ≡ used + length (part (now (s .entry)) at end)) × (now (store .exit) ≡ sets (now (store .entry)) used (part (now (s .entry)) at end)) ⌝ }
+{
+    let mut i = at;
+    let mut n = used;
+    while i < end {
+        store[n] = s[i];
+        n += 1;
+        i += 1;
+    }
+    n
+}
+
+// Reads the value that stands after a gap. Where there is none, nothing is stored.
+pub fn read_string_or_identifier(
+    here: Cursor,
+    classes: &[u8; 128],
+    s: &[u8],
+    store: &mut [u8],
+    used: usize,
+) -> Value
+    requires { ⌜ (now classes ≡ classTable) × (used + (length (now s) - here .at) ≤ length (now store)) ⌝ }
+    ensures { λ r. ⌜ (r ≡ valueAnswer used (valueAt (now (s .entry)) (here .at))) × (now (store .exit) ≡ sets (now (store .entry)) used (valueBytes (valueAt (now (s .entry)) (here .at)))) ⌝ }
+{
+    let first = here.skip_whitespace_and_comments(classes, s);
+    let at = first.at;
+    if is_quote(text::peek_char(s, at)) {
+        let Quoted::Closed { next, used: n } = read_quoted_string(first, s, store, used) else {
+            return Value::Missing(Cursor { at: s.len() });
+        };
+        let all = read_parts(next, classes, s, store, n);
+        let end = all.next;
+        return Value::Read {
+            next: end,
+            used: all.used,
+        };
+    }
+    read_identifier(first, classes, s, store, used)
+}
+
+// Whether a string opens so: a double or a single quote.
+pub fn is_quote(b: u16) -> bool
+    ensures { λ r. ⌜ r ≡ isQuote b ⌝ }
+{
+    match b {
+        text::QUOTE | text::APOSTROPHE => true,
+        _ => false,
+    }
+}
+
+// The cursor after all that is added, and the store's next place.
+pub struct Joined {
+    pub next: Cursor,
+    pub used: usize,
+}
+
+// Reads all that follows a string. A part that never closes adds nothing and is the last.
+pub fn read_parts(
+    here: Cursor,
+    classes: &[u8; 128],
+    s: &[u8],
+    store: &mut [u8],
+    used: usize,
+) -> Joined
+    requires { ⌜ (now classes ≡ classTable) × (used + (length (now s) - here .at) ≤ length (now store)) ⌝ }
+    ensures { λ r. ⌜ (r ≡ joinAnswer used (joined (now (s .entry)) (here .at))) × (now (store .exit) ≡ sets (now (store .entry)) used (joined (now (s .entry)) (here .at) .bytes)) ⌝ }
+{
+    let mut at = here.at;
+    let mut n = used;
+    loop {
+        let from = Cursor { at };
+        match read_part(from, classes, s, store, n) {
+            Part::Added { next, used: m } => {
+                at = next.at;
+                n = m;
+            }
+            Part::Last(end) => {
+                return Joined { next: end, used: n };
+            }
+            Part::Cut(end) => {
+                return Joined { next: end, used: n };
+            }
+        }
+    }
+}
+
+// What follows a string: one that is added, with the cursor after it and the store's next place; nothing more, with the cursor there; or a
+// string that never closes, with the cursor at the text's end.
+pub enum Part {
+    Added { next: Cursor, used: usize },
+    Last(Cursor),
+    Cut(Cursor),
+}
+
+// Reads what follows a string: a gap, and if `+` follows, a gap and a string.
+pub fn read_part(here: Cursor, classes: &[u8; 128], s: &[u8], store: &mut [u8], used: usize) -> Part
+    requires { ⌜ (now classes ≡ classTable) × (used + (length (now s) - here .at) ≤ length (now store)) ⌝ }
+    ensures { λ r. ⌜ (r ≡ moreAnswer used (moreAt (now (s .entry)) (here .at))) × (now (store .exit) ≡ sets (now (store .entry)) used (moreBytes (moreAt (now (s .entry)) (here .at)))) ⌝ }
+{
+    let plus = here.skip_whitespace_and_comments(classes, s);
+    let p = plus.at;
+    if text::peek_char(s, p) != text::PLUS {
+        return Part::Last(plus);
+    }
+    let next = p + 1;
+    let after = Cursor { at: next };
+    let quote = after.skip_whitespace_and_comments(classes, s);
+    let q = quote.at;
+    if is_quote(text::peek_char(s, q)) {
+        let Quoted::Closed { next, used: n } = read_quoted_string(quote, s, store, used) else {
+            return Part::Cut(Cursor { at: s.len() });
+        };
+        return Part::Added { next, used: n };
+    }
+    Part::Last(quote)
+}
+
+// What reading a string gives: the cursor after it and the store's next place, or that it never closes.
+pub enum Quoted {
+    Closed { next: Cursor, used: usize },
+    Unclosed,
+}
+
+// Reads the string whose opening quote stands here; one that never closes stores nothing. It is the Rust's read_double_quoted_string and
+// its read_single_quoted_string: one loop over the kind of quote.
+pub fn read_quoted_string(here: Cursor, s: &[u8], store: &mut [u8], used: usize) -> Quoted
+    requires { ⌜ used + (length (now s) - here .at) ≤ length (now store) ⌝ }
+    ensures { λ r. ⌜ (r ≡ answerOf used (strAt (now (s .entry)) (here .at))) × (now (store .exit) ≡ sets (now (store .entry)) used (bytesOf (strAt (now (s .entry)) (here .at)))) ⌝ }
+{
+    let at = here.at;
+    if at < s.len() {
+        let q = s[at];
+        let Close::At(end) = close_of(s, at + 1, q) else {
+            return Quoted::Unclosed;
+        };
+        let n = copy_string(s, at + 1, q, store, used);
+        return Quoted::Closed {
+            next: Cursor { at: end },
+            used: n,
+        };
+    }
+    Quoted::Unclosed
+}
+
+// Where a string closes: the place after its closing quote, or nowhere.
+pub enum Close {
+    At(usize),
+    Open,
+}
+
+// Whether the byte b is among the eight at a place. Each is looked at, so that the compiler can look at all of them at once.
+fn among(s: &[u8], at: usize, b: u8) -> bool
+    requires { ⌜ at + 8 ≤ length (now s) ⌝ }
+    ensures { λ r. ⌜ r ≡ among b (take 8 (drop at (now (s .entry)))) ⌝ }
+{
+    let first = s[at] == b;
+    let second = s[at + 1] == b;
+    let third = s[at + 2] == b;
+    let fourth = s[at + 3] == b;
+    let fifth = s[at + 4] == b;
+    let sixth = s[at + 5] == b;
+    let seventh = s[at + 6] == b;
+    let eighth = s[at + 7] == b;
+    first | (second | (third | (fourth | (fifth | (sixth | (seventh | eighth))))))
+}
+
+// Passes eight bytes at a time that neither close a string in quotes q nor escape.
+fn plain_end(s: &[u8], at: usize, q: u8) -> usize
+    ensures { λ r. ⌜ (at ≤ r) × (strEnd q false (drop r (now (s .entry))) r ≡ strEnd q false (drop at (now (s .entry))) at) ⌝ }
+{
+    if s.len() < 8 {
+        return at;
+    }
+    let last = s.len() - 8;
+    let mut i = at;
+    while i <= last {
+        if among(s, i, q) {
+            return i;
+        }
+        if among(s, i, b'\\') {
+            return i;
+        }
+        i += 8;
+    }
+    i
+}
+
+// Where the string closes whose bytes start at a place, in quotes q.
+pub fn close_of(s: &[u8], at: usize, q: u8) -> Close
+    ensures { λ r. ⌜ r ≡ strEnd q false (drop at (now (s .entry))) at ⌝ }
+{
+    let mut i = plain_end(s, at, q);
+    while i < s.len() {
+        let b = s[i];
+        if b == q {
+            let end = i + 1;
+            return Close::At(end);
+        }
+        if escapes(q, b) {
+            i = plain_end(s, i + 2, q);
+        } else {
+            i += 1;
+        }
+    }
+    Close::Open
+}
+
+// Stores the bytes of the string whose bytes start at a place, in quotes q, from the store's place `used` on, and answers the place after
+// them.
+fn copy_string(s: &[u8], at: usize, q: u8, store: &mut [u8], used: usize) -> usize
+    requires { ⌜ used + (length (now s) - at) ≤ length (now store) ⌝ }
+    ensures { λ r. ⌜ (r ≡ used + length (strBytes q false (drop at (now (s .entry))))) × (now (store .exit) ≡ sets (now (store .entry)) used (strBytes q false (drop at (now (s .entry))))) ⌝ }
+{
+    let mut i = at;
+    let mut esc = false;
+    let mut n = used;
+    while i < s.len() {
+        let b = s[i];
+        if esc {
+            store[n] = escaped(b);
+            n += 1;
+            esc = false;
+            i += 1;
+        } else if b == q {
+            return n;
+        } else if escapes(q, b) {
+            esc = true;
+            i += 1;
+        } else {
+            store[n] = b;
+            n += 1;
+            i += 1;
+        }
+    }
+    n
+}
+
+// What a backslash and this byte give.
+fn escaped(b: u8) -> u8
+    ensures { λ r. ⌜ r ≡ escaped b ⌝ }
+{
+    match b {
+        b'n' => b'\n',
+        b't' => b'\t',
+        _ => b,
+    }
+}
+
+// Whether this byte in quotes q escapes the next: a backslash in double quotes.
+fn escapes(q: u8, b: u8) -> bool
+    ensures { λ r. ⌜ r ≡ escapes q b ⌝ }
+{
+    if q == b'"' {
+        if b == b'\\' {
+            return true;
+        }
+    }
+    false
+}
