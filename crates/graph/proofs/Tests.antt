@@ -99,3 +99,12 @@ module _ {A B : Type 0} (f : A → List B) where
   unfolding flatMap
   flatMap-append [] t = refl
   flatMap-append (x ∷ s) t = ap (λ l. f x ++ l) (flatMap-append s t) ∙ sym (append-assoc (f x) (flatMap f s) (flatMap f t))
+
+-- a test, or one that never passes; a test, or one that always does
+pub or-not : (b : Bool) → cond b true false ≡ b
+or-not true = refl
+or-not false = refl
+
+pub always : (b : Bool) → cond b true true ≡ true
+always true = refl
+always false = refl

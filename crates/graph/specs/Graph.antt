@@ -181,13 +181,17 @@ entryNames l = map (λ (m : PlainModule). m .name) (modulesOf l) ++ map (λ (i :
 abbrev pub submoduleNames : PlainLibrary → List Name
 submoduleNames l = submodulesOf (modulesOf l)
 
-abbrev pub world : Mode → (Name → Text) → PlainLibrary → World
-world mode text l = record {
+-- what there is where the nodes have these names
+abbrev pub worldOver : (nodes : List Name) → (Name → Text) → PlainLibrary → World
+worldOver ns text l = record {
   known = λ u. memb u (entryNames l);
   listed = λ u. memb u (submoduleNames l);
-  node = λ u. memb u (nodesOf mode l);
+  node = λ u. memb u ns;
   text = text;
 }
+
+abbrev pub world : Mode → (Name → Text) → PlainLibrary → World
+world mode text l = worldOver (nodesOf mode l) text l
 
 abbrev pub walkOf : Mode → (edgeLimit : ℕ) → (Name → Text) → PlainLibrary → Graph
 walkOf mode edgeLimit text l = walkFrom edgeLimit (nodesOf mode l) 1 [] (map (entrySteps (world mode text l)) (entries l))

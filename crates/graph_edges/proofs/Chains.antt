@@ -10,8 +10,10 @@ use lib.ListN.{length, getD}
 use lib.Dec.{eqb}
 use borrow.Author.Tests.{eqb-true, eqb-false, eq-eqb, ne-eqb}
 use Rattle.graph.specs.Numbers.{Row, row, eqR, memR}
-use Rattle.graph_edges.specs.Edges.{mostEdges, edgeTable, chainTable, buckets, bucketOf, rowAt, rowsIn, lastBy, lastIn, linkOf, Filed, Chain, Empty}
-use Rattle.graph_edges.proofs.Rows.{or-not, always, mem-snoc}
+use Rattle.graph.specs.Limits.{mostEdges}
+use Rattle.graph_edges.specs.Edges.{edgeTable, chainTable, buckets, bucketOf, rowAt, rowsIn, lastBy, lastIn, linkOf, Filed, Chain, Empty}
+use Rattle.graph.proofs.Tests.{or-not, always}
+use Rattle.graph_edges.proofs.Rows.{mem-snoc}
 
 -- ---- one row beside another
 

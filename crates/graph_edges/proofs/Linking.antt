@@ -13,7 +13,8 @@ use borrow.Author.Tests.{le-leb, lt-leb}
 use Rattle.library_index.proofs.Stores.{decide}
 use Rattle.graph.specs.Graph.{addBy}
 use Rattle.graph.specs.Numbers.{Row, row, memR}
-use Rattle.graph_edges.specs.Edges.{mostEdges, mostNodes, rowAt, rowsIn, buckets, bucketOf, lastIn, linkOf, Filed, Laid, Linked}
+use Rattle.graph.specs.Limits.{mostEdges, mostNodes}
+use Rattle.graph_edges.specs.Edges.{rowAt, rowsIn, buckets, bucketOf, lastIn, linkOf, Filed, Laid, Linked}
 use Rattle.graph_edges.specs.declared.Link.the-variants.{Count, Full}
 use Rattle.graph_edges.proofs.Rows.{rows-length}
 use Rattle.graph_edges.proofs.Chains.{last-here, last-else, last-same, looked}

@@ -5,29 +5,15 @@ use mathlib.Core.List.{List, [], _∷_, _++_}
 use mathlib.Core.Bool.{Bool, true, false, cond}
 use Prim.Native.Nat.{ℕ, zero, suc, _+_}
 use native.Mathlib.Numerals.{add-one}
-use lib.ListN.{length, getD, replicate, length-append}
+use lib.ListN.{length, length-append}
 use Rattle.graph.specs.Numbers.{Row, eqR, memR}
+use Rattle.graph.proofs.Tests.{or-not}
 use Rattle.graph_edges.specs.Edges.{rowAt, rowsIn}
 
 pub rows-length : (n : ℕ) (w : List ℕ) → length (rowsIn n w) ≡ n
 unfolding rowsIn
 rows-length zero w = refl
 rows-length (suc n) w = length-append (rowsIn n w) (rowAt w n ∷ []) ∙ rw (rows-length n w, add-one)
-
--- a table of zeros is zero everywhere
-pub zeros-zero : (k j : ℕ) → getD (replicate {A = ℕ} k 0) j 0 ≡ 0
-zeros-zero zero j = refl
-zeros-zero (suc k) zero = refl
-zeros-zero (suc k) (suc j) = zeros-zero k j
-
--- a test, or one that never passes; a test, or one that always does
-pub or-not : (b : Bool) → cond b true false ≡ b
-or-not true = refl
-or-not false = refl
-
-pub always : (b : Bool) → cond b true true ≡ true
-always true = refl
-always false = refl
 
 pub mem-snoc : (r : Row) (rs : List Row) (x : Row) → memR r (rs ++ (x ∷ [])) ≡ cond (memR r rs) true (eqR x r)
 unfolding memR

@@ -8,16 +8,11 @@ use mathlib.Core.Bool.{cond}
 use mathlib.Core.List.{List, [], _∷_, _++_}
 use lib.ListN.{length, getD}
 use lib.Dec.{eqb}
+use Rattle.graph.specs.Limits.{mostNodes, mostEdges}
 use Rattle.graph.specs.Graph.{nought, tooManyEdges, Out, built, refused}
 use Rattle.graph.specs.Numbers.{Row, row, addRow}
 use Rattle.graph_edges.specs.declared.Link.{Link}
 use Rattle.graph_edges.specs.declared.Link.the-variants.{Count, Full}
-
-abbrev pub mostEdges : ℕ
-mostEdges = 8192
-
-abbrev pub mostNodes : ℕ
-mostNodes = 1024
 
 -- how many words the two tables have at the least
 abbrev pub edgeTable : ℕ

@@ -1,31 +1,19 @@
 // The edges of a graph in a lent table, and beside it the same edges in chains, so that one is found soon.
+use graph::NodeIndex;
 ghost use mathlib.Core.Path.{_≡_};
 ghost use Prim.Native.Nat.{_+_, _*_, _<_};
 ghost use lib.ListN.{length, getD};
 ghost use Rattle.graph.specs.Numbers.{row, eqR, memR};
-ghost use Rattle.graph_edges.specs.Edges.{mostNodes, buckets, bucketOf, rowAt, rowsIn, Filed, Chain, Puts, Laid, Linked};
+ghost use Rattle.graph.specs.Limits.{mostNodes};
+ghost use Rattle.graph_edges.specs.Edges.{buckets, bucketOf, rowAt, rowsIn, Filed, Chain, Puts, Laid, Linked};
 
-// The most nodes and edges of a graph.
-pub const MOST_NODES: usize = 1024;
-
-pub const MOST_EDGES: usize = 8192;
-
+// How many words the edge table has.
 pub const EDGE_TABLE: usize = 16384;
 
 // How many chains there are, and a factor that spreads the edges over them. It is odd, so that edges to one node are in different chains.
 const BUCKETS: usize = 8192;
 
 const FACTOR: usize = 131;
-
-// A node's number. It is no place in the image and no index of a word.
-pub struct NodeIndex(pub u32);
-
-// Which row is a node's, in a table with one for each. No other function makes a place of a NodeIndex; tables in the index's order go by its rows.
-pub fn node_row(v: NodeIndex) -> usize
-    ensures { λ r. ⌜ r ≡ v .0 ⌝ }
-{
-    v.0 as usize
-}
 
 // How many edges there are now; or there is no room for one more.
 pub enum Link {
@@ -45,7 +33,7 @@ fn chain_of(from: NodeIndex, to: NodeIndex) -> usize
     requires { ⌜ (from .0 < mostNodes) × (to .0 < mostNodes) ⌝ }
     ensures { λ r. ⌜ (r ≡ bucketOf (row (from .0) (to .0))) × (r < buckets) ⌝ }
 {
-    (node_row(from) * FACTOR + node_row(to)) % BUCKETS
+    (graph::node_row(from) * FACTOR + graph::node_row(to)) % BUCKETS
 }
 
 // Whether the edge at `i` is the one from `from` to `to`.
@@ -105,7 +93,7 @@ pub fn add_edge(
     if present(edges, chains, h, f, t) {
         return Link::Count(count);
     }
-    if MOST_EDGES <= count {
+    if graph::MOST_EDGES <= count {
         return Link::Full;
     }
     put_edge(edges, chains, count, h, f, t);

@@ -22,7 +22,9 @@ use Rattle.library_items.specs.Items.{ItemOf, libraryOf}
 use Rattle.library_items.specs.Table.{itemIn, itemWord, itemsIn, itemsFrom, Itemized}
 use Rattle.library_items.specs.declared.Item.{Item}
 use Rattle.library_items.proofs.Through.{items-from}
-use Rattle.graph_nodes.specs.Adding.{mostNodes, isEntry, isSub, Adding, so, addName, addItem, addItems, wordsAt, Holding, Adds, AddsItem, GrownAs, Grew, Constructed}
+use Rattle.graph.specs.Limits.{mostNodes}
+use Rattle.graph.specs.Nodes.{passOver}
+use Rattle.graph_nodes.specs.Adding.{isEntry, isSub, Adding, so, addName, addItem, addItems, wordsAt, Holding, Adds, AddsItem, GrownAs, Grew, Constructed}
 use Rattle.graph_nodes.specs.declared.Grown.{Grown}
 use Rattle.graph_nodes.specs.declared.Grown.the-variants.{On, Full}
 use Rattle.graph_nodes.specs.declared.Nodes.the-variants.{Count, TooMany}
@@ -130,7 +132,7 @@ pub record Building (s table before : List ℕ) (count : ℕ) (tab : List ℕ) (
   pub room : i ≤ count
 
 -- what the items say when all are there
-all-nodes : {s table : List ℕ} {count : ℕ} → Itemized s count table → Bytes s → so-far s table count .nodes ≡ wordsAt s
+all-nodes : {s table : List ℕ} {count : ℕ} → Itemized s count table → Bytes s → so-far s table count .nodes ≡ wordsAt passOver s
 unfolding wordsAt
 all-nodes {s} m b = ap (λ (xs : List (ItemOf Word)). addItems (so [] false) xs .nodes) (m .items) ∙ added (libraryOf s) (revised-at s b)
 
@@ -174,7 +176,7 @@ module _ (s table before : List ℕ) (count : ℕ) where
           record { holding = k .0; adding = k .1; kept = w .kept ∙ g .kept; room = omega arith }
 
       pub build-full : r ≡ Full → Grew s tab (addItem (so (namesIn s tab n) b) (itemWord s (itemIn table i))) r after → {entry : List ℕ} → Cleared entry before
-          → Itemized s count table → Bytes s → i < count → Constructed s entry TooMany after
+          → Itemized s count table → Bytes s → i < count → Constructed passOver s entry TooMany after
       build-full q w k₀ m bytes l =
           let k : mostNodes < length (so-far s table (i + 1) .nodes) =
           subst (λ (x : Adding). GrownAs Full s after x) next-so-far (subst (λ (u : Grown). GrownAs u s after (addItem (so (namesIn s tab n) b) (itemWord s (itemIn table i)))) q (w .answer)) in
@@ -183,13 +185,13 @@ module _ (s table before : List ℕ) (count : ℕ) where
           ap (so-far s table) (sym e)
           ∙ ap (addItems (so [] false)) (items-from s table (count - (i + 1)) (i + 1))
           ∙ items-append (itemsIn s table (i + 1)) (itemsFrom s table (i + 1) (count - (i + 1))) (so [] false) in
-          let p : length (addItems (so-far s table (i + 1)) (itemsFrom s table (i + 1) (count - (i + 1))) .nodes) ≡ length (wordsAt s) =
+          let p : length (addItems (so-far s table (i + 1)) (itemsFrom s table (i + 1) (count - (i + 1))) .nodes) ≡ length (wordsAt passOver s) =
           ap (λ (a : Adding). length (a .nodes)) (sym o) ∙ ap (λ (ns : List Word). length ns) (all-nodes m bytes) in
-          let u : mostNodes < length (wordsAt s) = omega (arith, k, p, items-grow (itemsFrom s table (i + 1) (count - (i + 1))) (so-far s table (i + 1))) in
+          let u : mostNodes < length (wordsAt passOver s) = omega (arith, k, p, items-grow (itemsFrom s table (i + 1) (count - (i + 1))) (so-far s table (i + 1))) in
           record { answer = u; kept = w .kept ∙ g .kept ∙ k₀ .kept }
 
-    pub build-done : {entry : List ℕ} → Cleared entry before → Itemized s count table → Bytes s → count ≤ i → Constructed s entry (Count n) tab
+    pub build-done : {entry : List ℕ} → Cleared entry before → Itemized s count table → Bytes s → count ≤ i → Constructed passOver s entry (Count n) tab
     build-done k₀ m bytes l =
         let e : i ≡ count = omega (arith, g .room) in
-        let p : so-far s table i .nodes ≡ wordsAt s = ap (λ (j : ℕ). so-far s table j .nodes) e ∙ all-nodes m bytes in
+        let p : so-far s table i .nodes ≡ wordsAt passOver s = ap (λ (j : ℕ). so-far s table j .nodes) e ∙ all-nodes m bytes in
         record { answer = subst (λ (ns : List Word). Holding s tab n ns) p (g .holding); kept = g .kept ∙ k₀ .kept }

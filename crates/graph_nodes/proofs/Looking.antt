@@ -29,7 +29,8 @@ use Rattle.library_read.specs.Reading.{onAns}
 use Rattle.library_find.specs.Find.{wordFound, findSubmodule}
 use Rattle.library_items.specs.Items.{libraryOf, itemsAt}
 use Rattle.library_items.specs.Table.{Reads}
-use Rattle.graph.specs.Nodes.{passOver, nodesOf, memb}
+use Rattle.graph.specs.Nodes.{Mode, nodesOf, memb}
+use Rattle.graph.specs.Limits.{mostNodes}
 use Rattle.graph.specs.Graph.{entryNames, submoduleNames}
 use Rattle.graph.specs.Numbers.{numberOf}
 use Rattle.graph.specs.Meaning.{Revised}
@@ -38,7 +39,7 @@ use Rattle.graph.proofs.WordNodes.{among-names, node-names}
 use Rattle.graph.proofs.Plain.{listed-words}
 use Rattle.graph.proofs.Entries.{known-among}
 use Rattle.graph.proofs.Revised.{image-revised}
-use Rattle.graph_nodes.specs.Adding.{isEntry, plainAt, wordsAt, namesAt, Holding}
+use Rattle.graph_nodes.specs.Adding.{isEntry, plainAt, wordsAt, namesHeld, Holding}
 use Rattle.graph_nodes.specs.Marks.{isSubmodule, amongKind, bit, Stands, Numbered, Desk, knownAt, listedAt, includedAt, includedCode, IncludedNode}
 use Rattle.graph_nodes.specs.declared.Included.{Included}
 use Rattle.graph_nodes.specs.declared.Included.the-variants.{NotFound, NotNode, Node as Below}
@@ -73,26 +74,20 @@ hit-text s tab t n e = sym (the-hit plainName t s tab t n e) ∙ text-of t (name
 
 -- ---- nodes in an index
 
-module _ {s tab : List ℕ} {n : ℕ} (h : Holding s tab n (wordsAt s)) where
-  pub held-names : map plainName (namesIn s tab n) ≡ namesAt s
-  unfolding wordsAt namesAt
-  held-names = ap (map plainName) (h .names) ∙ node-names passOver (libraryOf s)
+module _ (s tab : List ℕ) (n : ℕ) (t : Name) where
+  held-among : memb t (namesHeld s tab n) ≡ among plainName t (namesIn s tab n)
+  unfolding namesHeld
+  held-among = sym (among-names t (namesIn s tab n))
 
-  module _ (t : Name) where
-    held-among : memb t (namesAt s) ≡ among plainName t (namesIn s tab n)
-    held-among = ap (memb t) (sym held-names) ∙ sym (among-names t (namesIn s tab n))
+  pub node-number : {k : ℕ} → firstOf t (namesIn s tab n) ≡ At k → numberOf (namesHeld s tab n) t ≡ k
+  unfolding namesHeld
+  node-number e = omega (arith, number-first (namesIn s tab n) t 0 e)
 
-    pub node-number : {k : ℕ} → firstOf t (namesIn s tab n) ≡ At k → numberOf (namesAt s) t ≡ k
-    node-number e =
-        let x = number-first (namesIn s tab n) t 0 e in
-        let y = ap (λ (ns : List Name). numberOf ns t) held-names in
-        omega (arith, x, y)
+  pub node-hit : {k : ℕ} → firstOf t (namesIn s tab n) ≡ At k → memb t (namesHeld s tab n) ≡ true
+  node-hit e = held-among ∙ is-among 0 t (namesIn s tab n) e
 
-    pub node-hit : {k : ℕ} → firstOf t (namesIn s tab n) ≡ At k → memb t (namesAt s) ≡ true
-    node-hit e = held-among ∙ is-among 0 t (namesIn s tab n) e
-
-    pub node-missed : firstOf t (namesIn s tab n) ≡ Nothing → memb t (namesAt s) ≡ false
-    node-missed e = held-among ∙ not-among 0 t (namesIn s tab n) e
+  pub node-missed : firstOf t (namesIn s tab n) ≡ Nothing → memb t (namesHeld s tab n) ≡ false
+  node-missed e = held-among ∙ not-among 0 t (namesIn s tab n) e
 
 -- ---- each import-only module of what is read has a revision
 
@@ -107,6 +102,19 @@ revised-at s b = go (imageAt s) refl
     go : (r : Ans Library) → imageAt s ≡ r → Revised (plain (onAns r (λ l n. l) (λ p. [])))
     go (good l n) e = image-revised s e (λ k. omega (arith, b k))
     go (bad p) e = λ i m. absurd (List·Memᴰ·not-nil m)
+
+-- ---- an index that holds the nodes of an image, in whatever mode
+
+module _ (mode : Mode) {s tab : List ℕ} {n : ℕ} (h : Holding s tab n (wordsAt mode s)) where
+  pub as-held : Holding s tab n (namesIn s tab n)
+  as-held = record { indexed = h .indexed; names = refl; few = h .few; space = h .space }
+
+  pub held-names : namesHeld s tab n ≡ nodesOf mode (plainAt s)
+  unfolding namesHeld wordsAt
+  held-names = ap (map plainName) (h .names) ∙ node-names mode (libraryOf s)
+
+  pub held-entries : Bytes s → (u : Name) → memb u (entryNames (plainAt s)) ≡ true → memb u (namesHeld s tab n) ≡ true
+  held-entries b u k = ap (memb u) held-names ∙ known-among mode (plainAt s) (revised-at s b) u k
 
 -- ---- what the marks say
 
@@ -137,70 +145,89 @@ module _ {s tab marks : List ℕ} {n : ℕ} (d : Desk s tab n marks) (t : Name) 
       ∙ ap (λ (u : Name). bit (amongKind isSubmodule u (itemsAt s))) (hit-text s tab t n e)
       ∙ ap (λ (b : Bool). bit b) (sym (listed-items t (libraryOf s)))
 
-  -- ---- the ways out of `find_known`
+  abbrev names : List Name
+  names = namesHeld s tab n
 
-  pub known-not : {r : Found} {k : ℕ} → r ≡ At k → r ≡ firstOf t (namesIn s tab n) → getD marks (k * 2) 0 ≡ 0 → 0 ≡ knownAt s t
-  unfolding knownAt
-  known-not q e z = let f : known ≡ false = bit-no known (sym (known-mark (sym e ∙ q)) ∙ z) in rw f
+  -- a name that is found: its number, and where its marks stand
+  module _ {r : Found} {k u at : ℕ} (q : r ≡ At k) (e : r ≡ firstOf t (namesIn s tab n)) (w : u ≡ k) (a : at ≡ u * 2) where
+    hit : firstOf t (namesIn s tab n) ≡ At k
+    hit = sym e ∙ q
 
-  pub known-yes : {r : Found} {k : ℕ} → r ≡ At k → r ≡ firstOf t (namesIn s tab n) → (getD marks (k * 2) 0 ≡ 0 → ⊥) → suc k ≡ knownAt s t
-  unfolding knownAt
-  known-yes q e z = let h = sym e ∙ q in let f : known ≡ true = bit-yes known (λ w. z (known-mark h ∙ w)) in rw (f, node-number (d .holding) t h)
+    at-is : at ≡ k * 2
+    at-is = a ∙ ap (λ (i : ℕ). i * 2) w
 
-  pub known-nowhere : {r : Found} → r ≡ Nothing → r ≡ firstOf t (namesIn s tab n) → Bytes s → 0 ≡ knownAt s t
-  unfolding knownAt namesAt
-  known-nowhere q e b = go (memb t (entryNames (plainAt s))) refl
-    where
-      go : (c : Bool) → memb t (entryNames (plainAt s)) ≡ c → 0 ≡ cond c (suc (numberOf (namesAt s) t)) 0
-      go true k = both-bools (known-among passOver (plainAt s) (revised-at s b) t k) (node-missed (d .holding) t (sym e ∙ q))
-      go false k = refl
+    known-here : getD marks at 0 ≡ bit known
+    known-here = ap (λ (i : ℕ). getD marks i 0) at-is ∙ known-mark hit
 
-  -- ---- the ways out of `find_included`
+    listed-here : getD marks (at + 1) 0 ≡ bit listed
+    listed-here = ap (λ (i : ℕ). getD marks (i + 1) 0) at-is ∙ listed-mark hit
 
-  pub included-not : {r : Found} {k : ℕ} → r ≡ At k → r ≡ firstOf t (namesIn s tab n) → getD marks (k * 2 + 1) 0 ≡ 0 → 0 ≡ includedAt s t
-  unfolding includedAt
-  included-not q e z = let f : listed ≡ false = bit-no listed (sym (listed-mark (sym e ∙ q)) ∙ z) in rw f
+    numbered : numberOf names t ≡ u
+    numbered = node-number s tab n t hit ∙ sym w
 
-  pub included-yes : {r : Found} {k : ℕ} → r ≡ At k → r ≡ firstOf t (namesIn s tab n) → (getD marks (k * 2 + 1) 0 ≡ 0 → ⊥) → suc (suc k) ≡ includedAt s t
-  unfolding includedAt namesAt
-  included-yes q e z =
-      let h = sym e ∙ q in
-      let f : listed ≡ true = bit-yes listed (λ w. z (listed-mark h ∙ w)) in
-      let g : memb t (nodesOf passOver (plainAt s)) ≡ true = node-hit (d .holding) t h in
-      rw (f, g, node-number (d .holding) t h)
+    -- ---- the ways out of `find_known`
 
-  pub included-nowhere : {r : Found} → r ≡ Nothing → r ≡ firstOf t (namesIn s tab n) → (x : Included) → includedCode x ≡ listedAt s t → includedCode x ≡ includedAt s t
-  unfolding includedAt listedAt namesAt
-  included-nowhere q e x h =
-      let g : memb t (nodesOf passOver (plainAt s)) ≡ false = node-missed (d .holding) t (sym e ∙ q) in
-      h ∙ ap (λ (b : Bool). cond listed (cond b (suc (suc (numberOf (namesAt s) t))) 1) 0) (sym g)
+    pub known-not : getD marks at 0 ≡ 0 → 0 ≡ knownAt s names t
+    unfolding knownAt
+    known-not z = let f : known ≡ false = bit-no known (sym known-here ∙ z) in rw f
 
-  -- ---- where the marks of a name stand
+    pub known-yes : (getD marks at 0 ≡ 0 → ⊥) → suc u ≡ knownAt s names t
+    unfolding knownAt
+    known-yes z = let f : known ≡ true = bit-yes known (λ y. z (known-here ∙ y)) in rw (f, numbered)
+
+    -- ---- the ways out of `find_included`
+
+    pub included-not : getD marks (at + 1) 0 ≡ 0 → 0 ≡ includedAt s names t
+    unfolding includedAt
+    included-not z = let f : listed ≡ false = bit-no listed (sym listed-here ∙ z) in rw f
+
+    pub included-yes : (getD marks (at + 1) 0 ≡ 0 → ⊥) → suc (suc u) ≡ includedAt s names t
+    unfolding includedAt
+    included-yes z =
+        let f : listed ≡ true = bit-yes listed (λ y. z (listed-here ∙ y)) in
+        rw (f, node-hit s tab n t hit, numbered)
+
+    -- ---- where the marks of a name stand
+
+    pub node-below : u < n
+    node-below = omega (arith, hit-low s tab t n hit)
+
+    pub at-bytes : Fits w64 (at * 4)
+    at-bytes = record { fits = omega (arith, node-below, d .holding .few) }
+
+    pub at-in : at < length marks
+    at-in = omega (arith, node-below, d .holding .few, d .marked .wide)
+
+    pub next-fits : Fits w64 (at + 1)
+    next-fits = record { fits = omega (arith, node-below, d .holding .few) }
+
+    pub next-bytes : Fits w64 ((at + 1) * 4)
+    next-bytes = record { fits = omega (arith, node-below, d .holding .few) }
+
+    pub next-in : at + 1 < length marks
+    next-in = omega (arith, node-below, d .holding .few, d .marked .wide)
 
   module _ {r : Found} {k : ℕ} (q : r ≡ At k) (e : r ≡ firstOf t (namesIn s tab n)) where
-    pub at-low : k < n
-    at-low = hit-low s tab t n (sym e ∙ q)
+    pub found-low : k < mostNodes
+    found-low = omega (arith, hit-low s tab t n (sym e ∙ q), d .holding .few)
 
-    pub at-fits : Fits w64 (k * 2)
-    at-fits = record { fits = omega (arith, at-low, d .holding .few) }
+    pub found-node : {u : ℕ} → u ≡ k → u < mostNodes
+    found-node w = omega (arith, found-low)
 
-    pub at-bytes : Fits w64 (k * 2 * 4)
-    at-bytes = record { fits = omega (arith, at-low, d .holding .few) }
+  -- ---- a name that is not found
 
-    pub at-in : k * 2 < length marks
-    at-in = omega (arith, at-low, d .holding .few, d .marked .wide)
+  pub known-nowhere : {r : Found} → r ≡ Nothing → r ≡ firstOf t (namesIn s tab n) → 0 ≡ knownAt s names t
+  unfolding knownAt
+  known-nowhere q e = go known refl
+    where
+      go : (c : Bool) → memb t (entryNames (plainAt s)) ≡ c → 0 ≡ cond c (suc (numberOf names t)) 0
+      go true k = both-bools (d .entries t k) (node-missed s tab n t (sym e ∙ q))
+      go false k = refl
 
-    pub next-fits : Fits w64 (k * 2 + 1)
-    next-fits = record { fits = omega (arith, at-low, d .holding .few) }
-
-    pub next-bytes : Fits w64 ((k * 2 + 1) * 4)
-    next-bytes = record { fits = omega (arith, at-low, d .holding .few) }
-
-    pub next-in : k * 2 + 1 < length marks
-    next-in = omega (arith, at-low, d .holding .few, d .marked .wide)
-
-    pub at-cast : Fits w32 k
-    at-cast = record { fits = omega (arith, at-low, d .holding .few) }
+  pub included-nowhere : {r : Found} → r ≡ Nothing → r ≡ firstOf t (namesIn s tab n) → (x : Included) → includedCode x ≡ listedAt s t → includedCode x ≡ includedAt s names t
+  unfolding includedAt listedAt
+  included-nowhere q e x h =
+      h ∙ ap (λ (b : Bool). cond listed (cond b (suc (suc (numberOf names t))) 1) 0) (sym (node-missed s tab n t (sym e ∙ q)))
 
 -- ---- a submodule in the image
 
@@ -272,16 +299,16 @@ module _ (s tab : List ℕ) (n place size : ℕ) (h : Stands s tab n place size)
   sought = ap (λ (t : Name). firstOf t (namesIn s tab n)) (sym (part-word s place size)) ∙ sym e
 
   pub must-hit : r ≡ Nothing → ⊥
-  must-hit q = both-bools (h .node) (node-missed (h .holding) (wordAt s place size .text) (sought ∙ q))
+  must-hit q = both-bools (h .node) (node-missed s tab n (wordAt s place size .text) (sought ∙ q))
 
-  pub node-low : {k : ℕ} → r ≡ At k → k < n
-  node-low q = hit-low s tab (wordAt s place size .text) n (sought ∙ q)
+  pub row-low : {k : ℕ} → r ≡ At k → k < mostNodes
+  row-low q = omega (arith, hit-low s tab (wordAt s place size .text) n (sought ∙ q), h .holding .few)
 
-  pub node-cast : {k : ℕ} → r ≡ At k → Fits w32 k
-  node-cast q = record { fits = omega (arith, node-low q, h .holding .few) }
+  pub node-low : {k u : ℕ} → r ≡ At k → u ≡ k → u < n
+  node-low q w = omega (arith, hit-low s tab (wordAt s place size .text) n (sought ∙ q))
 
-  pub node-is : {k : ℕ} → r ≡ At k → k ≡ numberOf (namesAt s) (wordAt s place size .text)
-  node-is q = sym (node-number (h .holding) (wordAt s place size .text) (sought ∙ q))
+  pub node-is : {k u : ℕ} → r ≡ At k → u ≡ k → u ≡ numberOf (namesHeld s tab n) (wordAt s place size .text)
+  node-is q w = w ∙ sym (node-number s tab n (wordAt s place size .text) (sought ∙ q))
 
 -- ---- the ways out of `name_of`
 
@@ -299,7 +326,7 @@ name-nth s tab (suc n) i l =
     names-long m = length-map (namesIn s tab m) plainName ∙ length-names s tab m
 
 -- i: the node's row
-module _ (s tab : List ℕ) (v i place size : ℕ) (h : Numbered s tab v) (e : i ≡ v) (p : place ≡ getD tab (rowOf i) 0) (q : size ≡ getD tab (rowOf i + 1) 0) where
+module _ (s tab : List ℕ) (n v i place size : ℕ) (h : Numbered s tab n v) (e : i ≡ v) (p : place ≡ getD tab (rowOf i) 0) (q : size ≡ getD tab (rowOf i + 1) 0) where
   place-is : place ≡ getD tab (rowOf v) 0
   place-is = rw e at p
 
@@ -312,9 +339,9 @@ module _ (s tab : List ℕ) (v i place size : ℕ) (h : Numbered s tab v) (e : i
   pub name-fits : length s < 2 ^ 64 → Fits w64 (place + size)
   name-fits l = record { fits = omega (arith, name-in) }
 
-  pub name-text : take (place + size - place) (drop place s) ≡ getD (namesAt s) v []
+  pub name-text : take (place + size - place) (drop place s) ≡ getD (namesHeld s tab n) v []
+  unfolding namesHeld
   name-text =
       part-word s place size
       ∙ ap₂ (λ (a b : ℕ). wordAt s a b .text) place-is size-is
-      ∙ sym (name-nth s tab (h .count) v (h .low))
-      ∙ ap (λ (ns : List Name). getD ns v []) (held-names (h .holding))
+      ∙ sym (name-nth s tab n v (h .low))

@@ -14,9 +14,8 @@ use Rattle.library_index.specs.Names.{among}
 use Rattle.library_index.proofs.First.{among-append}
 use Rattle.graph.specs.Nodes.{memb}
 use Rattle.graph.specs.Graph.{entryNames, submoduleNames}
-use Rattle.graph.proofs.Tests.{both-bools}
+use Rattle.graph.proofs.Tests.{both-bools, or-not}
 use Rattle.graph.proofs.Plain.{known-words, listed-words}
-use Rattle.graph_edges.proofs.Rows.{or-not}
 use Rattle.graph_nodes.specs.Adding.{isEntry}
 use Rattle.graph_nodes.specs.Marks.{isSubmodule, amongKind}
 

@@ -31,9 +31,10 @@ use Rattle.library_items.specs.Items.{ItemOf, itemsAt}
 use Rattle.library_items.specs.Table.{itemIn, itemWord, itemsIn, Itemized}
 use Rattle.library_items.specs.declared.Item.{Item}
 use Rattle.library_index.proofs.First.{among-append}
+use Rattle.graph.specs.Limits.{mostNodes}
 use Rattle.graph.proofs.Tests.{same-refl, both-bools}
-use Rattle.graph_edges.proofs.Rows.{zeros-zero}
-use Rattle.graph_nodes.specs.Adding.{isEntry, wordsAt, Holding}
+use Rattle.text_lent.proofs.Zeros.{zeros-zero}
+use Rattle.graph_nodes.specs.Adding.{isEntry, Holding}
 use Rattle.graph_nodes.specs.Marks.{isSubmodule, amongKind, bit, Marked, Marking}
 use Rattle.graph_nodes.proofs.OfKind.{or-left, or-right, kind-append}
 use Rattle.graph_nodes.proofs.Looking.{hit-text}
@@ -179,23 +180,27 @@ module _ (s table tab marks : List ℕ) (i n : ℕ) (m : Marking s table i tab n
             ⊎-elim (λ o. absurd (apart s tab n k j (m .indexed) mark-low o (sym p))) (λ o. absurd (apart s tab n j k (m .indexed) l o p)) (order j k d)
         go false h = h
 
-    pub word-fits : Fits w64 (k * 2)
-    word-fits = record { fits = omega (arith, mark-low, m .few) }
+    pub row-low : k < mostNodes
+    row-low = omega (arith, mark-low, m .few)
 
-    pub word-bytes : Fits w64 (k * 2 * 4)
-    word-bytes = record { fits = omega (arith, mark-low, m .few) }
+    pub node-low : {u : ℕ} → u ≡ k → u < mostNodes
+    node-low w = omega (arith, row-low)
 
-    pub next-fits : Fits w64 (k * 2 + 1)
-    next-fits = record { fits = omega (arith, mark-low, m .few) }
+    module _ {u at : ℕ} (w : u ≡ k) (a : at ≡ u * 2) where
+      pub at-bytes : Fits w64 (at * 4)
+      at-bytes = record { fits = omega (arith, row-low) }
 
-    pub next-bytes : Fits w64 ((k * 2 + 1) * 4)
-    next-bytes = record { fits = omega (arith, mark-low, m .few) }
+      pub next-fits : Fits w64 (at + 1)
+      next-fits = record { fits = omega (arith, row-low) }
 
-    pub word-in : k * 2 < length marks
-    word-in = omega (arith, mark-low, m .few, m .marked .wide)
+      pub next-bytes : Fits w64 ((at + 1) * 4)
+      next-bytes = record { fits = omega (arith, row-low) }
 
-    pub next-in : k * 2 + 1 < length marks
-    next-in = omega (arith, mark-low, m .few, m .marked .wide)
+      pub at-in : at < length marks
+      at-in = omega (arith, row-low, m .marked .wide)
+
+      pub next-in : at + 1 < length marks
+      next-in = omega (arith, row-low, m .marked .wide)
 
     -- neither an entry nor a submodule
     pub mark-other : {b : Bool} → b ≡ isEntry (x .kind) → b ≡ false → (x .kind ≡ 1 → ⊥) → After marks
@@ -206,8 +211,8 @@ module _ (s table tab marks : List ℕ) (i n : ℕ) (m : Marking s table i tab n
         (λ j l. stays isEntry (nameIn s tab j .text) (itemsIn s table i) it (m .marked .known j l) (other-kind isEntry (nameIn s tab j .text) it y))
         (λ j l. stays isSubmodule (nameIn s tab j .text) (itemsIn s table i) it (m .marked .listed j l) (other-kind isSubmodule (nameIn s tab j .text) it w))
 
-    pub mark-entry : {b : Bool} → b ≡ isEntry (x .kind) → b ≡ true → After (set marks (k * 2) 1)
-    mark-entry p o =
+    set-entry : {b : Bool} → b ≡ isEntry (x .kind) → b ≡ true → After (set marks (k * 2) 1)
+    set-entry p o =
         let y : isEntry (it .kind) ≡ true = ap (λ (a : ℕ). isEntry a) (sym kind-of) ∙ sym p ∙ o in
         let w : isSubmodule (it .kind) ≡ false = no-entry-sub (it .kind) y in
         all-marked (set marks (k * 2) 1) (length-set marks (k * 2) 1)
@@ -223,8 +228,8 @@ module _ (s table tab marks : List ℕ) (i n : ℕ) (m : Marking s table i tab n
         (getD-set-other marks (k * 2) (j * 2 + 1) 1 0 (λ z. omega (arith, z)) ∙ m .marked .listed j l)
         (other-kind isSubmodule (nameIn s tab j .text) it w))
 
-    pub mark-sub : {b : Bool} → b ≡ isEntry (x .kind) → b ≡ false → x .kind ≡ 1 → After (set marks (k * 2 + 1) 1)
-    mark-sub p o z =
+    set-sub : {b : Bool} → b ≡ isEntry (x .kind) → b ≡ false → x .kind ≡ 1 → After (set marks (k * 2 + 1) 1)
+    set-sub p o z =
         let y : isEntry (it .kind) ≡ false = ap (λ (a : ℕ). isEntry a) (sym kind-of) ∙ sym p ∙ o in
         let w : isSubmodule (it .kind) ≡ true = ap (λ (a : ℕ). isSubmodule a) (sym kind-of ∙ z) in
         all-marked (set marks (k * 2 + 1) 1) (length-set marks (k * 2 + 1) 1)
@@ -239,6 +244,16 @@ module _ (s table tab marks : List ℕ) (i n : ℕ) (m : Marking s table i tab n
         (getD-set-other marks (k * 2 + 1) (j * 2 + 1) 1 0 (λ z. d (omega (arith, z))) ∙ m .marked .listed j l)
         (other-name isSubmodule (nameIn s tab j .text) it (unlike j l d)))
         (decide j k))
+
+    module _ {u at : ℕ} (w : u ≡ k) (a : at ≡ u * 2) where
+      at-is : k * 2 ≡ at
+      at-is = omega arith
+
+      pub mark-entry : {b : Bool} → b ≡ isEntry (x .kind) → b ≡ true → After (set marks at 1)
+      mark-entry p o = subst (λ (i : ℕ). After (set marks i 1)) at-is (set-entry p o)
+
+      pub mark-sub : {b : Bool} → b ≡ isEntry (x .kind) → b ≡ false → x .kind ≡ 1 → After (set marks (at + 1) 1)
+      mark-sub p o z = subst (λ (i : ℕ). After (set marks (i + 1) 1)) at-is (set-sub p o z)
 
 -- ---- all items
 
@@ -261,7 +276,7 @@ module _ (s table tab : List ℕ) (count n : ℕ) where
   }
 
   module _ {before marks : List ℕ} {i : ℕ} (g : MarkLoop s table tab count n before marks i) where
-    pub marks-ask : Itemized s count table → Holding s tab n (wordsAt s) → i < count → Marking s table i tab n marks
+    pub marks-ask : Itemized s count table → Holding s tab n (namesIn s tab n) → i < count → Marking s table i tab n marks
     marks-ask t h l = record { there = omega (arith, t .long); fits = t .fits i l; indexed = h .indexed; few = h .few; marked = g .marked }
 
     pub marks-on : {after : List ℕ} → Marked s tab n (itemsIn s table (i + 1)) after → length after ≡ length marks → i < count

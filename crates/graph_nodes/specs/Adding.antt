@@ -4,7 +4,7 @@
 use Prim.Native.Nat.{ℕ, _+_, _*_, _≤_, _<_}
 use mathlib.Core.Path.{_≡_}
 use mathlib.Core.Bool.{Bool, true, false, cond, _||_, _&&_}
-use mathlib.Core.List.{List, [], _∷_, _++_}
+use mathlib.Core.List.{List, [], _∷_, _++_, map}
 use lib.ListN.{length}
 use lib.Dec.{eqb}
 use Rattle.library_form.specs.Form.{Word}
@@ -13,14 +13,12 @@ use Rattle.library_image.specs.Image.{mostImage}
 use Rattle.library_index.specs.Names.{among, namesIn, Indexed}
 use Rattle.library_items.specs.Items.{moduleKind, submoduleKind, importOnlyKind, firstSubKind, ItemOf, libraryOf}
 use Rattle.library_items.specs.Table.{itemIn, ItemFits}
-use Rattle.graph.specs.Nodes.{passOver, wordNodes, nodesOf}
+use Rattle.graph.specs.Limits.{mostNodes}
+use Rattle.graph.specs.Nodes.{Mode, wordNodes}
 use Rattle.graph_nodes.specs.declared.Grown.{Grown}
 use Rattle.graph_nodes.specs.declared.Grown.the-variants.{On, Full}
 use Rattle.graph_nodes.specs.declared.Nodes.{Nodes}
 use Rattle.graph_nodes.specs.declared.Nodes.the-variants.{Count, TooMany}
-
-abbrev pub mostNodes : ℕ
-mostNodes = 1024
 
 -- how many words the index of nodes has at the least: there is room for one too many
 abbrev pub nodeTable : ℕ
@@ -58,11 +56,13 @@ addItems a (x ∷ xs) = addItems (addItem a x) xs
 abbrev pub plainAt : List ℕ → PlainLibrary
 plainAt s = plain (libraryOf s)
 
-unfoldable pub wordsAt : List ℕ → List Word
-wordsAt s = wordNodes passOver (libraryOf s)
+-- the nodes of an image, each with the place where it was added
+unfoldable pub wordsAt : Mode → List ℕ → List Word
+wordsAt mode s = wordNodes mode (libraryOf s)
 
-unfoldable pub namesAt : List ℕ → List Name
-namesAt s = nodesOf passOver (plainAt s)
+-- the names that an index of nodes holds, in the order of their numbers. All that goes on over the nodes speaks of these, in whatever mode they were made
+unfoldable pub namesHeld : (s tab : List ℕ) → ℕ → List Name
+namesHeld s tab n = map plainName (namesIn s tab n)
 
 -- ---- what the code asks and does
 
@@ -94,10 +94,10 @@ pub record Grew (s tab : List ℕ) (a : Adding) (r : Grown) (after : List ℕ) :
   pub answer : GrownAs r s after a
   pub kept : length after ≡ length tab
 
-abbrev pub NodesAs : Nodes → List ℕ → List ℕ → Type 0
-NodesAs (Count n) s tab = Holding s tab n (wordsAt s)
-NodesAs TooMany s tab = mostNodes < length (wordsAt s)
+abbrev pub NodesAs : Mode → Nodes → List ℕ → List ℕ → Type 0
+NodesAs mode (Count n) s tab = Holding s tab n (wordsAt mode s)
+NodesAs mode TooMany s tab = mostNodes < length (wordsAt mode s)
 
-pub record Constructed (s tab : List ℕ) (r : Nodes) (after : List ℕ) : Type 0 where
-  pub answer : NodesAs r s after
+pub record Constructed (mode : Mode) (s tab : List ℕ) (r : Nodes) (after : List ℕ) : Type 0 where
+  pub answer : NodesAs mode r s after
   pub kept : length after ≡ length tab

@@ -13,11 +13,12 @@ use Rattle.library_image.specs.Image.{imageAt}
 use Rattle.library_image.specs.Library.{Name}
 use Rattle.library_items.specs.Items.{submoduleKind, ItemOf, itemsAt}
 use Rattle.library_items.specs.Table.{itemIn, itemsIn, ItemFits, Reads}
-use Rattle.library_index.specs.Names.{nameIn, Indexed}
-use Rattle.graph.specs.Graph.{submoduleNames, missing, World, world}
-use Rattle.graph.specs.Nodes.{passOver, memb}
+use Rattle.library_index.specs.Names.{nameIn, namesIn, Indexed}
+use Rattle.graph.specs.Graph.{entryNames, submoduleNames, missing, World, worldOver}
+use Rattle.graph.specs.Nodes.{memb}
 use Rattle.graph.specs.Numbers.{moduleCode, submoduleCode}
-use Rattle.graph_nodes.specs.Adding.{isEntry, mostNodes, plainAt, wordsAt, namesAt, Holding}
+use Rattle.graph.specs.Limits.{mostNodes}
+use Rattle.graph_nodes.specs.Adding.{isEntry, plainAt, namesHeld, Holding}
 use Rattle.graph_nodes.specs.declared.Resolved.{Resolved}
 use Rattle.graph_nodes.specs.declared.Resolved.the-variants.{Unknown, Node}
 use Rattle.graph_nodes.specs.declared.Included.{Included}
@@ -54,36 +55,36 @@ pub record Marking (s table : List ℕ) (i : ℕ) (tab : List ℕ) (n : ℕ) (ma
 
 -- a name that stands in the image and is a node; and the number of a node
 pub record Stands (s tab : List ℕ) (n place size : ℕ) : Type 0 where
-  pub holding : Holding s tab n (wordsAt s)
+  pub holding : Holding s tab n (namesIn s tab n)
   pub inside : place + size ≤ length s
-  pub node : memb (wordAt s place size .text) (namesAt s) ≡ true
+  pub node : memb (wordAt s place size .text) (namesHeld s tab n) ≡ true
 
-pub record Numbered (s tab : List ℕ) (v : ℕ) : Type 0 where
-  pub count : ℕ
-  pub holding : Holding s tab count (wordsAt s)
-  pub low : v < count
+pub record Numbered (s tab : List ℕ) (n v : ℕ) : Type 0 where
+  pub holding : Holding s tab n (namesIn s tab n)
+  pub low : v < n
 
--- all that a look-up of a node asks
+-- all that a look-up of a node asks: an index in which each module and import-only module is a node, and the marks of its names
 pub record Desk (s tab : List ℕ) (n : ℕ) (marks : List ℕ) : Type 0 where
   pub reads : Reads (imageAt s)
-  pub holding : Holding s tab n (wordsAt s)
+  pub holding : Holding s tab n (namesIn s tab n)
+  pub entries : (u : Name) → memb u (entryNames (plainAt s)) ≡ true → memb u (namesHeld s tab n) ≡ true
   pub marked : Marked s tab n (itemsAt s) marks
 
 -- ---- the look-ups
 
--- what a walk asks of an image: the same whatever the texts are
-abbrev pub worldAt : List ℕ → World
-worldAt s = world passOver (λ u. missing) (plainAt s)
+-- what a walk asks of an image and of its nodes' names: the same whatever the texts are
+abbrev pub worldAt : List ℕ → List Name → World
+worldAt s ns = worldOver ns (λ u. missing) (plainAt s)
 
-unfoldable pub knownAt : List ℕ → Name → ℕ
-knownAt s u = moduleCode (worldAt s) (namesAt s) u
+unfoldable pub knownAt : List ℕ → List Name → Name → ℕ
+knownAt s ns u = moduleCode (worldAt s ns) ns u
 
 -- of a name that is no node: 1 if it is a submodule of some module
 unfoldable pub listedAt : List ℕ → Name → ℕ
 listedAt s u = bit (memb u (submoduleNames (plainAt s)))
 
-unfoldable pub includedAt : List ℕ → Name → ℕ
-includedAt s u = submoduleCode (worldAt s) (namesAt s) u
+unfoldable pub includedAt : List ℕ → List Name → Name → ℕ
+includedAt s ns u = submoduleCode (worldAt s ns) ns u
 
 abbrev pub resolvedCode : Resolved → ℕ
 resolvedCode Unknown = 0

@@ -1,19 +1,21 @@
 // The nodes of an image in an index, what each may be, and the look-up of a name among them.
-use graph_edges::NodeIndex;
+use graph::NodeIndex;
 use library_form::LookUp;
 use library_index::Found;
 ghost use mathlib.Core.Path.{_≡_};
 ghost use mathlib.Core.Bool.{false};
 ghost use mathlib.Core.List.{[]};
-ghost use Prim.Native.Nat.{_+_, _≤_, _<_};
+ghost use Prim.Native.Nat.{_+_, _*_, _≤_, _<_};
 ghost use lib.ListN.{length, getD, replicate};
 ghost use Rattle.library_form.specs.Form.{wordAt};
 ghost use Rattle.library_index.specs.Names.{namesIn};
 ghost use Rattle.library_items.specs.Items.{itemsAt};
 ghost use Rattle.library_image.specs.Image.{imageAt};
 ghost use Rattle.library_items.specs.Table.{itemIn, itemWord, itemsIn, Reads, Itemized};
+ghost use Rattle.graph.specs.Limits.{mostNodes};
+ghost use Rattle.graph.specs.Nodes.{passOver};
 ghost use Rattle.graph.specs.Numbers.{numberOf};
-ghost use Rattle.graph_nodes.specs.Adding.{nodeTable, isEntry, isSub, so, addName, addItem, wordsAt, namesAt, Holding, Adds, AddsItem, Grew, Constructed};
+ghost use Rattle.graph_nodes.specs.Adding.{nodeTable, isEntry, isSub, so, addName, addItem, namesHeld, Holding, Adds, AddsItem, Grew, Constructed};
 ghost use Rattle.graph_nodes.specs.Marks.{markTable, Marked, Marking, Stands, Numbered, Desk, knownAt, listedAt, includedAt, resolvedCode, includedCode, ResolvedNode, IncludedNode};
 
 // How many words the index of nodes has, with room for one too many, and the marks.
@@ -61,7 +63,7 @@ fn add_name(s: &[u8], tab: &mut [u32], n: usize, there: bool, place: usize, size
     let Found::Nothing = library_index::add(s, tab, n, place, size) else {
         return Grown::On(n, there);
     };
-    if graph_edges::MOST_NODES <= n {
+    if graph::MOST_NODES <= n {
         return Grown::Full;
     }
     Grown::On(n + 1, true)
@@ -88,7 +90,7 @@ fn add_item(s: &[u8], table: &[u32], i: usize, tab: &mut [u32], n: usize, adding
 // The nodes of an image whose `count` items are in the table.
 pub fn construct_nodes(s: &[u8], table: &[u32], count: usize, tab: &mut [u32]) -> Nodes
     requires { ⌜ (nodeTable ≤ length (now tab)) × Itemized (now s) count (now table) × (length (now s) ≤ 65536) ⌝ }
-    ensures { λ r. ⌜ Constructed (now (s .entry)) (now (tab .entry)) r (now (tab .exit)) ⌝ }
+    ensures { λ r. ⌜ Constructed passOver (now (s .entry)) (now (tab .entry)) r (now (tab .exit)) ⌝ }
 {
     library_index::clear(tab);
     let mut n = 0;
@@ -109,6 +111,14 @@ pub fn construct_nodes(s: &[u8], table: &[u32], count: usize, tab: &mut [u32]) -
     Nodes::Count(n)
 }
 
+// Where a node's two marks stand.
+fn mark_row(v: NodeIndex) -> usize
+    requires { ⌜ v .0 < mostNodes ⌝ }
+    ensures { λ r. ⌜ r ≡ v .0 * 2 ⌝ }
+{
+    graph::node_row(v) * 2
+}
+
 // The mark that the i-th item gives a node, if its name is one.
 fn mark_item(s: &[u8], table: &[u32], i: usize, tab: &[u32], n: usize, marks: &mut [u32])
     requires { ⌜ Marking (now s) (now table) i (now tab) n (now marks) ⌝ }
@@ -120,19 +130,20 @@ fn mark_item(s: &[u8], table: &[u32], i: usize, tab: &[u32], n: usize, marks: &m
     let Found::At(k) = library_index::find(s, tab, n, &s[place..end]) else {
         return;
     };
+    let at = mark_row(graph::node_of(k));
     if is_entry(x.kind) {
-        marks[k * 2] = 1;
+        marks[at] = 1;
         return;
     }
     if x.kind != library_items::SUBMODULE {
         return;
     }
-    marks[k * 2 + 1] = 1;
+    marks[at + 1] = 1;
 }
 
 // What each node may be, into a table that is zero.
 pub fn mark_nodes(s: &[u8], table: &[u32], count: usize, tab: &[u32], n: usize, marks: &mut [u32])
-    requires { ⌜ Itemized (now s) count (now table) × Holding (now s) (now tab) n (wordsAt (now s)) × (markTable ≤ length (now marks)) × (now marks ≡ replicate (length (now marks)) 0) ⌝ }
+    requires { ⌜ Itemized (now s) count (now table) × Holding (now s) (now tab) n (namesIn (now s) (now tab) n) × (markTable ≤ length (now marks)) × (now marks ≡ replicate (length (now marks)) 0) ⌝ }
     ensures { λ r. ⌜ Marked (now (s .entry)) (now (tab .entry)) n (itemsAt (now (s .entry))) (now (marks .exit)) × (length (now (marks .exit)) ≡ length (now (marks .entry))) ⌝ }
 {
     let mut i = 0;
@@ -158,29 +169,33 @@ pub enum Included {
 // The module or import-only module of this name.
 pub fn find_known(s: &[u8], tab: &[u32], n: usize, marks: &[u32], name: &[u8]) -> Resolved
     requires { ⌜ Desk (now s) (now tab) n (now marks) ⌝ }
-    ensures { λ r. ⌜ (resolvedCode r ≡ knownAt (now (s .entry)) (now (name .entry))) × ResolvedNode r n ⌝ }
+    ensures { λ r. ⌜ (resolvedCode r ≡ knownAt (now (s .entry)) (namesHeld (now (s .entry)) (now (tab .entry)) n) (now (name .entry))) × ResolvedNode r n ⌝ }
 {
     let Found::At(k) = library_index::find(s, tab, n, name) else {
         return Resolved::Unknown;
     };
-    if marks[k * 2] == 0 {
+    let u = graph::node_of(k);
+    let at = mark_row(u);
+    if marks[at] == 0 {
         return Resolved::Unknown;
     }
-    Resolved::Node(NodeIndex(k as u32))
+    Resolved::Node(u)
 }
 
 // The submodule of this name. One that is no node is looked for in the image, which ends the graph in any case.
 pub fn find_included(s: &[u8], tab: &[u32], n: usize, marks: &[u32], name: &[u8]) -> Included
     requires { ⌜ Desk (now s) (now tab) n (now marks) ⌝ }
-    ensures { λ r. ⌜ (includedCode r ≡ includedAt (now (s .entry)) (now (name .entry))) × IncludedNode r n ⌝ }
+    ensures { λ r. ⌜ (includedCode r ≡ includedAt (now (s .entry)) (namesHeld (now (s .entry)) (now (tab .entry)) n) (now (name .entry))) × IncludedNode r n ⌝ }
 {
     let Found::At(k) = library_index::find(s, tab, n, name) else {
         return no_node(s, name);
     };
-    if marks[k * 2 + 1] == 0 {
+    let u = graph::node_of(k);
+    let at = mark_row(u) + 1;
+    if marks[at] == 0 {
         return Included::NotFound;
     }
-    Included::Node(NodeIndex(k as u32))
+    Included::Node(u)
 }
 
 // A name that is no node.
@@ -204,21 +219,21 @@ fn no_node(s: &[u8], name: &[u8]) -> Included
 // The node of the name at `place`, which is one.
 pub fn node_at(s: &[u8], tab: &[u32], n: usize, place: usize, size: usize) -> NodeIndex
     requires { ⌜ Stands (now s) (now tab) n place size ⌝ }
-    ensures { λ r. ⌜ (r .0 ≡ numberOf (namesAt (now (s .entry))) (wordAt (now (s .entry)) place size .text)) × (r .0 < n) ⌝ }
+    ensures { λ r. ⌜ (r .0 ≡ numberOf (namesHeld (now (s .entry)) (now (tab .entry)) n) (wordAt (now (s .entry)) place size .text)) × (r .0 < n) ⌝ }
 {
     let end = place + size;
     let Found::At(k) = library_index::find(s, tab, n, &s[place..end]) else {
-        return NodeIndex(0);
+        return graph::node_of(0);
     };
-    NodeIndex(k as u32)
+    graph::node_of(k)
 }
 
 // The name of a node.
-pub fn name_of<'a>(s: &'a [u8], tab: &[u32], v: NodeIndex) -> &'a [u8]
-    requires { ⌜ Numbered (now s) (now tab) (v .0) ⌝ }
-    ensures { λ r. ⌜ now r ≡ getD (namesAt (now (s .entry))) (v .0) [] ⌝ }
+pub fn name_of<'a>(s: &'a [u8], tab: &[u32], n: usize, v: NodeIndex) -> &'a [u8]
+    requires { ⌜ Numbered (now s) (now tab) n (v .0) ⌝ }
+    ensures { λ r. ⌜ now r ≡ getD (namesHeld (now (s .entry)) (now (tab .entry)) n) (v .0) [] ⌝ }
 {
-    let i = graph_edges::node_row(v);
+    let i = graph::node_row(v);
     let place = library_index::place_of(tab, i);
     let end = place + library_index::length_of(tab, i);
     &s[place..end]

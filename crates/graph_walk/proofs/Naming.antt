@@ -13,7 +13,8 @@ use Rattle.scan_rows.specs.declared.YangImport.{YangImport}
 use Rattle.scan_rows.proofs.Laws.{rows-done, rows-more}
 use Rattle.graph.specs.Graph.{built, refused, thenO}
 use Rattle.graph.specs.Numbers.{Row, eachO, importCode}
-use Rattle.graph_edges.specs.Edges.{mostEdges, rowsIn, Filed}
+use Rattle.graph.specs.Limits.{mostEdges}
+use Rattle.graph_edges.specs.Edges.{rowsIn, Filed}
 use Rattle.graph_nodes.specs.Marks.{knownAt}
 use Rattle.graph_texts.specs.Texts.{importNames}
 use Rattle.graph_walk.specs.Walk.{ImportRows, importCodes, walkSeen, Drew}

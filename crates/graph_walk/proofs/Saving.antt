@@ -14,7 +14,7 @@ use Rattle.scan_rows.specs.Span.{valueIn}
 use Rattle.scan_rows.specs.Rows.{includeSize, includeAt, rowsOf, includesIn, mostRows}
 use Rattle.scan_rows.specs.declared.YangInclude.{YangInclude}
 use Rattle.scan_rows.proofs.Laws.{rows-done, rows-more}
-use Rattle.graph_nodes.specs.Adding.{mostNodes}
+use Rattle.graph.specs.Limits.{mostNodes}
 use Rattle.graph_nodes.specs.Marks.{Desk, includedAt, includedCode, IncludedNode}
 use Rattle.graph_nodes.specs.declared.Included.{Included}
 use Rattle.graph_nodes.specs.declared.Included.the-variants.{NotFound, NotNode, Node as Below}

@@ -11,11 +11,11 @@ use mir.Val.{Fits}
 use Rattle.text.specs.declared.Refusal.{Refusal}
 use Rattle.graph.specs.Graph.{nought, Out, built, refused, thenO}
 use Rattle.graph.specs.Numbers.{Row, row, addRow, importCode, givenCode, includeCode}
-use Rattle.graph_edges.specs.Edges.{mostEdges, linkSeen, Linked, rowsIn}
+use Rattle.graph_edges.specs.Edges.{linkSeen, Linked, rowsIn}
 use Rattle.graph_edges.specs.declared.Link.{Link}
 use Rattle.graph_edges.specs.declared.Link.the-variants.{Count, Full}
 use Rattle.graph_edges.specs.declared.NodeIndex.{NodeIndex}
-use Rattle.graph_nodes.specs.Adding.{mostNodes}
+use Rattle.graph.specs.Limits.{mostEdges, mostNodes}
 use Rattle.graph_nodes.specs.Marks.{Desk, knownAt, resolvedCode, includedCode, ResolvedNode, IncludedNode}
 use Rattle.graph_nodes.specs.declared.Resolved.{Resolved}
 use Rattle.graph_nodes.specs.declared.Resolved.the-variants.{Unknown, Node}

@@ -9,7 +9,8 @@ use Rattle.text.specs.declared.Refusal.{Refusal}
 use Rattle.scan_rows.specs.Rows.{mostRows}
 use Rattle.graph.specs.Graph.{nought, Text, built, refused}
 use Rattle.graph.specs.Numbers.{noText, refusedScan, codes, codesOf, codesAt, eachO, importCode}
-use Rattle.graph_edges.specs.Edges.{mostEdges, rowsIn}
+use Rattle.graph.specs.Limits.{mostEdges}
+use Rattle.graph_edges.specs.Edges.{rowsIn}
 use Rattle.graph_nodes.specs.Adding.{namesAt}
 use Rattle.graph_nodes.specs.Marks.{knownAt, includedAt}
 use Rattle.graph_texts.specs.Texts.{textOf, textSeen, SeenAs, ScanRoom}

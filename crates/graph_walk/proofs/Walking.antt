@@ -11,9 +11,9 @@ use lib.Seq.{drop-drop, getD-drop}
 use Rattle.text.specs.declared.Refusal.{Refusal}
 use Rattle.graph.specs.Graph.{nought, Out, built, refused, thenO}
 use Rattle.graph.specs.Numbers.{Row, Codes, eachO, includeCode, visitCodes, walkCodes}
-use Rattle.graph_edges.specs.Edges.{mostEdges, rowsIn, Filed}
+use Rattle.graph_edges.specs.Edges.{rowsIn, Filed}
 use Rattle.graph_edges.specs.declared.NodeIndex.{NodeIndex}
-use Rattle.graph_nodes.specs.Adding.{mostNodes}
+use Rattle.graph.specs.Limits.{mostEdges, mostNodes}
 use Rattle.graph_nodes.specs.Marks.{Desk}
 use Rattle.graph_walk.specs.Walk.{levelWords, belowOf, wordsFrom, Words, Tables, Room, walkSeen, Drew, Kept, visitSeen, Ready, Called, stepSeen, Descends, Stepped}
 use Rattle.graph_walk.specs.declared.Walked.{Walked}

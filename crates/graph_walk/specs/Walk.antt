@@ -9,7 +9,8 @@ use Rattle.library_bundle.specs.Reading.{Held, longestText}
 use Rattle.graph.specs.Graph.{nought, noIncludedText, tooDeep, tooManyEdges, World, world, Out, built, refused}
 use Rattle.graph.specs.Nodes.{passOver}
 use Rattle.graph.specs.Numbers.{Row, Codes, codesAt, eachO, includeCode, visitCodes, walkCodes}
-use Rattle.graph_edges.specs.Edges.{mostEdges, rowsIn, Filed}
+use Rattle.graph.specs.Limits.{mostEdges}
+use Rattle.graph_edges.specs.Edges.{rowsIn, Filed}
 use Rattle.graph_edges.specs.declared.Link.{Link}
 use Rattle.graph_edges.specs.declared.Link.the-variants.{Count, Full}
 use Rattle.graph_nodes.specs.Adding.{plainAt, namesAt}

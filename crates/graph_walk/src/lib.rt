@@ -10,7 +10,8 @@ ghost use mathlib.Core.Bool.{cond};
 ghost use Prim.Native.Nat.{_+_, _*_, _<_};
 ghost use Rattle.graph.specs.Graph.{nought};
 ghost use Rattle.graph.specs.Numbers.{importCode, givenCode, eachO, walkCodes};
-ghost use Rattle.graph_edges.specs.Edges.{mostEdges, mostNodes, rowsIn, Filed};
+ghost use Rattle.graph.specs.Limits.{mostEdges, mostNodes};
+ghost use Rattle.graph_edges.specs.Edges.{rowsIn, Filed};
 ghost use Rattle.graph_nodes.specs.Marks.{Desk, knownAt, includedCode, IncludedNode};
 ghost use Rattle.graph_walk.specs.Walk.{codesHere, importCodes, includeCodes, Ground, Tables, Room, ImportRows, IncludeRows, linkWalked, Drew, Saved, Kept, Called, Stepped};
 

@@ -15,7 +15,8 @@ use borrow.Author.Tests.{eq-eqb, ne-eqb, lt-ltb, le-ltb, ltb-true, ltb-false}
 use Rattle.library_index.proofs.Stores.{decide}
 use Rattle.graph.specs.Numbers.{Row, row, memR}
 use Rattle.graph_edges.specs.Edges.{mostNodes, rowAt, rowsIn}
-use Rattle.graph_edges.proofs.Rows.{or-not, always, mem-snoc}
+use Rattle.graph.proofs.Tests.{or-not, always}
+use Rattle.graph_edges.proofs.Rows.{mem-snoc}
 use Rattle.order_tables.specs.Free.{lowest, zeroAt}
 use Rattle.order_tables.proofs.Lowest.{lowest-has, lowest-none, lowest-is, lowest-not, lowest-same}
 use Rattle.order_ring.specs.Trail.{noted, lowestTo, Notes, Noted}

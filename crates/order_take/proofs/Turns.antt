@@ -16,7 +16,7 @@ use Rattle.text.proofs.Here.{by-test, never}
 use Rattle.text.proofs.Writing.{sets-append}
 use Rattle.library_index.proofs.Stores.{decide}
 use Rattle.graph_edges.specs.Edges.{rowsIn, lastBy}
-use Rattle.graph_edges.proofs.Rows.{zeros-zero}
+use Rattle.text_lent.proofs.Zeros.{zeros-zero}
 use Rattle.order_tables.specs.Free.{mem, ready, free, zeroAt}
 use Rattle.order_tables.specs.Tables.{Fit}
 use Rattle.order_tables.proofs.Mem.{mem-snoc-new, mem-snoc-else}

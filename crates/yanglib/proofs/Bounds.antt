@@ -29,9 +29,9 @@ use Rattle.graph.specs.Nodes.{passOver, nodesOf}
 use Rattle.graph.specs.Graph.{ScanAnswer, nought, Text as Words, refusing, Entry, moduleEntry, importEntry, setEntries, entries, Graph, graph, fault, graphOf}
 use Rattle.graph.specs.Meaning.{FirstAt, Fault, entry-missing, include-missing, scan-refused, import-unknown, listed-unknown, include-unknown, include-no-node, too-deep, Cause, names, by-fault, edges}
 use Rattle.graph.proofs.Demand.{demand3}
-use Rattle.graph_edges.specs.Edges.{mostEdges}
 use Rattle.library_items.specs.Table.{Reads}
-use Rattle.graph_nodes.specs.Adding.{mostNodes, plainAt, wordsAt}
+use Rattle.graph.specs.Limits.{mostEdges, mostNodes}
+use Rattle.graph_nodes.specs.Adding.{plainAt, wordsAt}
 use Rattle.graph_texts.specs.Texts.{scanSeen, scanText, lookText, textOf}
 use Rattle.yanglib.specs.ToGraph.{lentTooShort, Lengths, tooShort, Result, refusal, resultOf, onRead, graphed, AnswerFits}
 use Rattle.yanglib.proofs.Outcome.{image-here}

@@ -10,7 +10,7 @@ use Rattle.library_image.specs.Library.{Name, Module, ImportOnly, ModuleSet, pl
 use Rattle.library_items.specs.Items.{moduleKind, submoduleKind, augmentingKind, deviationKind, importOnlyKind, firstSubKind, laterSubKind, ItemOf, item, moduleItems, laterItems, revisionItems, importItems, setItems, itemsOf, libraryOf, itemsAt}
 use Rattle.graph.specs.Graph.{ScanAnswer, noEntryText, deepest, Entry, moduleEntry, importEntry, setEntries, entries, Out, built, refused, thenO, onOut}
 use Rattle.graph.specs.Numbers.{Row, numberOf, Codes, moduleCode, eachO, givenCode, walkCodes, walkEntryCodes, Drawing, faulty, EntryCode, drawFrom, codesAt, entryCode, drawingIn}
-use Rattle.graph_edges.specs.Edges.{mostEdges}
+use Rattle.graph.specs.Limits.{mostEdges}
 use Rattle.graph_nodes.specs.Adding.{isEntry, plainAt, namesAt}
 use Rattle.graph_nodes.specs.Marks.{knownAt}
 use Rattle.graph_walk.specs.Walk.{worldOf, codesHere}

@@ -20,7 +20,8 @@ use Rattle.graph.specs.Nodes.{passOver, memb}
 use Rattle.graph.specs.Numbers.{Row, numberOf, Drawing, faulty, givenCode, walkCodes}
 use Rattle.graph.proofs.Tests.{both-bools, same-refl}
 use Rattle.graph.proofs.Entries.{known-among}
-use Rattle.graph_edges.specs.Edges.{mostEdges, rowsIn, Filed}
+use Rattle.graph.specs.Limits.{mostEdges}
+use Rattle.graph_edges.specs.Edges.{rowsIn, Filed}
 use Rattle.graph_nodes.specs.Adding.{isEntry, plainAt, namesAt}
 use Rattle.graph_nodes.specs.Marks.{amongKind, knownAt, Stands}
 use Rattle.graph_nodes.proofs.OfKind.{kind-append, known-items, or-right}

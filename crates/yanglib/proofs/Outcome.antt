@@ -21,8 +21,8 @@ use Rattle.graph.proofs.WordNodes.{node-names}
 use Rattle.graph.proofs.Revised.{image-revised}
 use Rattle.graph.proofs.Runs.{walk-run}
 use Rattle.graph.proofs.Drawing.{drawing}
-use Rattle.graph_edges.specs.Edges.{mostEdges}
-use Rattle.graph_nodes.specs.Adding.{mostNodes, plainAt, wordsAt, namesAt}
+use Rattle.graph.specs.Limits.{mostEdges, mostNodes}
+use Rattle.graph_nodes.specs.Adding.{plainAt, wordsAt, namesAt}
 use Rattle.graph_texts.specs.Texts.{textOf}
 use Rattle.graph_walk.specs.Walk.{worldOf}
 use Rattle.yanglib.specs.Entries.{drawItems}

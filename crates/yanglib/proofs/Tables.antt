@@ -14,7 +14,7 @@ use Rattle.library_form.specs.Form.{Word}
 use Rattle.library_index.specs.Names.{rowOf, rowWords as nameWords, nameIn, namesIn}
 use Rattle.graph.specs.Numbers.{Row}
 use Rattle.graph_edges.specs.Edges.{rowAt, rowsIn, Blank, Filed}
-use Rattle.graph_edges.proofs.Rows.{zeros-zero}
+use Rattle.text_lent.proofs.Zeros.{zeros-zero}
 use Rattle.yanglib.specs.ToGraph.{nodeWords, rowWords}
 use Rattle.yanglib.specs.NodeTable.{Puts, Named}
 

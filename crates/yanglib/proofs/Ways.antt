@@ -29,9 +29,10 @@ use Rattle.library_items.specs.Items.{itemsAt}
 use Rattle.library_items.specs.Table.{Reads}
 use Rattle.graph.specs.Nodes.{passOver}
 use Rattle.graph.specs.Graph.{nought, tooManyNodes, graphOf}
-use Rattle.graph_edges.specs.Edges.{mostEdges, rowsIn}
+use Rattle.graph_edges.specs.Edges.{rowsIn}
 use Rattle.graph_edges.proofs.Rows.{rows-length}
-use Rattle.graph_nodes.specs.Adding.{mostNodes, plainAt, wordsAt, Holding}
+use Rattle.graph.specs.Limits.{mostEdges, mostNodes}
+use Rattle.graph_nodes.specs.Adding.{plainAt, wordsAt, Holding}
 use Rattle.graph_texts.specs.Texts.{textOf}
 use Rattle.yanglib.specs.Entries.{drawItems, drawnSeen}
 use Rattle.yanglib.specs.NodeTable.{Puts, Named}

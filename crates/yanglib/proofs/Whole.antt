@@ -10,7 +10,7 @@ use lib.ListN.{length, getD, length-replicate}
 use Rattle.text.specs.declared.Refusal.{Refusal}
 use Rattle.text_lent.specs.Padded.{zeros, padded}
 use Rattle.text_lent.proofs.Clears.{padded-none}
-use Rattle.graph_edges.proofs.Rows.{zeros-zero}
+use Rattle.text_lent.proofs.Zeros.{zeros-zero}
 use Rattle.library_form.specs.Writer.{AllBytes}
 use Rattle.library_image.specs.Image.{imageAt}
 use Rattle.library_image.proofs.ImageLaws.{accepted}
@@ -25,7 +25,8 @@ use Rattle.library_items.specs.Table.{Itemized}
 use Rattle.graph.specs.Graph.{nought}
 use Rattle.graph_edges.specs.Edges.{rowsIn, Filed}
 use Rattle.graph_edges.proofs.Chains.{empty-filed}
-use Rattle.graph_nodes.specs.Adding.{mostNodes, wordsAt, Holding, Constructed}
+use Rattle.graph.specs.Limits.{mostNodes}
+use Rattle.graph_nodes.specs.Adding.{wordsAt, Holding, Constructed}
 use Rattle.graph_nodes.specs.Marks.{Marked}
 use Rattle.graph_nodes.specs.declared.Nodes.{Nodes}
 use Rattle.graph_nodes.specs.declared.Nodes.the-variants.{Count, TooMany}

@@ -12,8 +12,9 @@ use Rattle.library_items.specs.Table.{Reads, Itemized}
 use Rattle.graph.specs.Nodes.{passOver}
 use Rattle.graph.specs.Graph.{graphOf}
 use Rattle.graph.specs.Numbers.{Row}
-use Rattle.graph_edges.specs.Edges.{edgeTable, mostEdges, rowsIn}
-use Rattle.graph_nodes.specs.Adding.{mostNodes, plainAt, wordsAt, Holding}
+use Rattle.graph_edges.specs.Edges.{edgeTable, rowsIn}
+use Rattle.graph.specs.Limits.{mostEdges, mostNodes}
+use Rattle.graph_nodes.specs.Adding.{plainAt, wordsAt, Holding}
 use Rattle.graph_texts.specs.Texts.{textOf, ScanRoom}
 use Rattle.graph_walk.specs.Walk.{Kept}
 use Rattle.yanglib.specs.Entries.{drawItems, drawnSeen, allLevels}

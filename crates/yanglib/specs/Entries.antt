@@ -14,7 +14,8 @@ use Rattle.library_items.specs.Items.{augmentingKind, deviationKind, ItemOf, it
 use Rattle.graph.specs.Graph.{noEntryText, deepest, Out, built, onOut}
 use Rattle.graph.specs.Nodes.{memb}
 use Rattle.graph.specs.Numbers.{Row, numberOf, givenCode, walkCodes, Drawing, drawn, faulty}
-use Rattle.graph_edges.specs.Edges.{mostEdges, rowsIn, Filed}
+use Rattle.graph.specs.Limits.{mostEdges}
+use Rattle.graph_edges.specs.Edges.{rowsIn, Filed}
 use Rattle.graph_nodes.specs.Adding.{isEntry, wordsAt, namesAt, Holding}
 use Rattle.graph_nodes.specs.Marks.{knownAt}
 use Rattle.graph_walk.specs.Walk.{codesHere, Kept}

@@ -6,7 +6,7 @@ use mathlib.Core.List.{List}
 use lib.ListN.{length, getD}
 use Rattle.text_lent.specs.Padded.{zeros, padded}
 use Rattle.library_index.specs.Names.{most, rowOf, namesIn}
-use Rattle.graph_nodes.specs.Adding.{mostNodes}
+use Rattle.graph.specs.Limits.{mostNodes}
 use Rattle.yanglib.specs.ToGraph.{nodeWords}
 
 -- what the laying of n nodes asks: their names in the index, each place and length a word, and a node table with room for them that is zero

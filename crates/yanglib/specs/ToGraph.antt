@@ -17,8 +17,8 @@ use Rattle.library_bundle.specs.Reading.{longestText}
 use Rattle.graph.specs.Nodes.{passOver}
 use Rattle.graph.specs.Graph.{nought, Graph, graph, fault, graphOf}
 use Rattle.graph.specs.Numbers.{Row, rowOf}
-use Rattle.graph_edges.specs.Edges.{mostEdges}
-use Rattle.graph_nodes.specs.Adding.{mostNodes, plainAt, wordsAt}
+use Rattle.graph.specs.Limits.{mostEdges, mostNodes}
+use Rattle.graph_nodes.specs.Adding.{plainAt, wordsAt}
 use Rattle.graph_texts.specs.Texts.{textOf}
 use Rattle.yanglib.specs.declared.Graphed.{Graphed}
 use Rattle.yanglib.specs.declared.Graphed.the-variants.{Built, Refused}

@@ -1,21 +1,24 @@
 -- `graph_nodes::find_included`. Each way out is one law of Looking.
 -- Assumes nothing.
 use borrow.Author.Needs.{needs}
-use Rattle.graph_nodes.proofs.Looking.{included-not, included-yes, included-nowhere, at-low, at-fits, next-fits, next-bytes, next-in, at-cast, never-node}
+use Rattle.graph_nodes.proofs.Looking.{included-not, included-yes, included-nowhere, found-low, found-node, node-below, next-fits, next-bytes, next-in, never-node}
 use Rattle.graph_nodes.proofs.find_included.Statement.{statement}
 use Rattle.graph_nodes.proofs.find_included.Tie as tie
 
 returns : tie.Need-returns
 returns c = (search included-nowhere, search never-node)
 
+node-of-requires : tie.Need-node-of-requires
+node-of-requires c κs = search found-low
+
+mark-row-requires : tie.Need-mark-row-requires
+mark-row-requires c κs = search found-node
+
+add-at : tie.Need-add-at
+add-at c = search next-fits
+
 mul-if1 : tie.Need-mul-if1
-mul-if1 c = search at-fits
-
-add-if1 : tie.Need-add-if1
-add-if1 c = search next-fits
-
-mul-if1-2 : tie.Need-mul-if1-2
-mul-if1-2 c = search next-bytes
+mul-if1 c = search next-bytes
 
 shared-slice-read-if1 : tie.Need-shared-slice-read-if1
 shared-slice-read-if1 c = search next-in
@@ -23,11 +26,8 @@ shared-slice-read-if1 c = search next-in
 returns-2 : tie.Need-returns-2
 returns-2 c = (search included-not, tt)
 
-cast-t12 : tie.Need-cast-t12
-cast-t12 c = search at-cast
-
 returns-3 : tie.Need-returns-3
-returns-3 c = (search included-yes, search at-low)
+returns-3 c = (search included-yes, search node-below)
 
 pub find-included-spec : {M : Type 1} → statement M
 find-included-spec =
@@ -38,10 +38,10 @@ find-included-spec =
     (λ c. search needs)
     (λ c κs. search needs)
     returns
+    node-of-requires
+    mark-row-requires
+    add-at
     mul-if1
-    add-if1
-    mul-if1-2
     shared-slice-read-if1
     returns-2
-    cast-t12
     returns-3)

@@ -1,8 +1,8 @@
 -- `graph_nodes::mark_item`. Each way out is one law of Setting.
 -- Assumes nothing.
-use mathlib.Core.Path.{refl}
 use borrow.Author.Needs.{needs}
-use Rattle.graph_nodes.proofs.Setting.{end-in, end-fits, word-fits, word-bytes, next-fits, next-bytes, word-in, next-in, mark-nowhere, mark-other, mark-entry, mark-sub}
+use mathlib.Core.Path.{refl}
+use Rattle.graph_nodes.proofs.Setting.{end-in, end-fits, row-low, node-low, at-bytes, at-in, next-fits, next-bytes, next-in, mark-nowhere, mark-other, mark-entry, mark-sub}
 use Rattle.graph_nodes.proofs.mark_item.Statement.{statement}
 use Rattle.graph_nodes.proofs.mark_item.Tie as tie
 
@@ -15,14 +15,17 @@ part-find-end c = search end-in
 returns : tie.Need-returns
 returns c = (search mark-nowhere, refl)
 
-mul-marks : tie.Need-mul-marks
-mul-marks c = search word-fits
+node-of-requires : tie.Need-node-of-requires
+node-of-requires c κs = search row-low
 
-mul-marks-2 : tie.Need-mul-marks-2
-mul-marks-2 c = search word-bytes
+mark-row-requires : tie.Need-mark-row-requires
+mark-row-requires c κs = search node-low
+
+mul-marks : tie.Need-mul-marks
+mul-marks c = search at-bytes
 
 slice-write-marks : tie.Need-slice-write-marks
-slice-write-marks c = search word-in
+slice-write-marks c = search at-in
 
 returns-2 : tie.Need-returns-2
 returns-2 c = (search mark-entry, search needs)
@@ -30,14 +33,11 @@ returns-2 c = (search mark-entry, search needs)
 returns-3 : tie.Need-returns-3
 returns-3 c = (search mark-other, refl)
 
-mul-marks-3 : tie.Need-mul-marks-3
-mul-marks-3 c = search word-fits
-
 add-marks : tie.Need-add-marks
 add-marks c = search next-fits
 
-mul-marks-4 : tie.Need-mul-marks-4
-mul-marks-4 c = search next-bytes
+mul-marks-2 : tie.Need-mul-marks-2
+mul-marks-2 c = search next-bytes
 
 slice-write-marks-2 : tie.Need-slice-write-marks-2
 slice-write-marks-2 c = search next-in
@@ -58,16 +58,16 @@ mark-item-spec =
     (λ c. search needs)
     (λ c. search needs)
     returns
+    node-of-requires
+    mark-row-requires
     (λ c κs. search needs)
     mul-marks
-    mul-marks-2
     slice-write-marks
     (λ c. search needs)
     returns-2
     returns-3
-    mul-marks-3
     add-marks
-    mul-marks-4
+    mul-marks-2
     slice-write-marks-2
     (λ c. search needs)
     returns-4)

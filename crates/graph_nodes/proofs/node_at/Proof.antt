@@ -1,15 +1,15 @@
 -- `graph_nodes::node_at`. Each way out is one law of Looking.
 -- Assumes nothing.
 use borrow.Author.Needs.{needs}
-use Rattle.graph_nodes.proofs.Looking.{must-hit, node-low, node-cast, node-is}
+use Rattle.graph_nodes.proofs.Looking.{must-hit, row-low, node-low, node-is}
 use Rattle.graph_nodes.proofs.node_at.Statement.{statement}
 use Rattle.graph_nodes.proofs.node_at.Tie as tie
 
 returns : tie.Need-returns
 returns c = absurd (search must-hit)
 
-cast-t13 : tie.Need-cast-t13
-cast-t13 c = search node-cast
+node-of-requires-2 : tie.Need-node-of-requires-2
+node-of-requires-2 c κs = search row-low
 
 returns-2 : tie.Need-returns-2
 returns-2 c = (search node-is, search node-low)
@@ -25,6 +25,7 @@ node-at-spec =
     (λ c κs. search needs)
     (λ c. search needs)
     (λ c. search needs)
+    (λ c κs. search needs)
     returns
-    cast-t13
+    node-of-requires-2
     returns-2)
