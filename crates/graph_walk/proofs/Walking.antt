@@ -12,16 +12,17 @@ use Rattle.text.specs.declared.Refusal.{Refusal}
 use Rattle.graph.specs.Graph.{nought, Out, built, refused, thenO}
 use Rattle.graph.specs.Numbers.{Row, Codes, eachO, includeCode, visitCodes, walkCodes}
 use Rattle.graph_edges.specs.Edges.{rowsIn, Filed}
-use Rattle.graph_edges.specs.declared.NodeIndex.{NodeIndex}
+use Rattle.graph.specs.declared.NodeIndex.{NodeIndex}
 use Rattle.graph.specs.Limits.{mostEdges, mostNodes}
 use Rattle.graph_nodes.specs.Marks.{Desk}
-use Rattle.graph_walk.specs.Walk.{levelWords, belowOf, wordsFrom, Words, Tables, Room, walkSeen, Drew, Kept, visitSeen, Ready, Called, stepSeen, Descends, Stepped}
-use Rattle.graph_walk.specs.declared.Walked.{Walked}
-use Rattle.graph_walk.specs.declared.Walked.the-variants.{Built, Refused}
+use Rattle.graph_link.specs.Link.{levelWords, belowOf, wordsFrom, Words, walkSeen, Drew, stepSeen, Descends, Stepped}
+use Rattle.graph_walk.specs.Walk.{Tables, Room, Kept, visitSeen, Ready, Called}
+use Rattle.graph_link.specs.declared.Walked.{Walked}
+use Rattle.graph_link.specs.declared.Walked.the-variants.{Built, Refused}
 use Rattle.graph_walk.specs.declared.Visited.{Visited}
 use Rattle.graph_walk.specs.declared.Visited.the-variants.{Children, Stopped}
-use Rattle.graph_walk.specs.declared.Stepping.{Stepping}
-use Rattle.graph_walk.specs.declared.Stepping.the-variants.{Down, Stopped as Halted}
+use Rattle.graph_link.specs.declared.Stepping.{Stepping}
+use Rattle.graph_link.specs.declared.Stepping.the-variants.{Down, Stopped as Halted}
 
 -- lists that agree from a on agree from b on
 later : (a b : ℕ) (x y : List ℕ) → a ≤ b → drop a x ≡ drop a y → drop b x ≡ drop b y

@@ -10,6 +10,7 @@ use lib.Dec.{ltb}
 use borrow.Author.Tests.{ltb-true, ltb-false}
 use lib.ListN.{length, getD, set, drop, length-set}
 use lib.Seq.{getD-set-same, getD-set-other, drop-set-lt}
+use Rattle.library_image.specs.Library.{Name}
 use Rattle.scan_rows.specs.Span.{valueIn}
 use Rattle.scan_rows.specs.Rows.{includeSize, includeAt, rowsOf, includesIn, mostRows}
 use Rattle.scan_rows.specs.declared.YangInclude.{YangInclude}
@@ -19,7 +20,7 @@ use Rattle.graph_nodes.specs.Marks.{Desk, includedAt, includedCode, IncludedNod
 use Rattle.graph_nodes.specs.declared.Included.{Included}
 use Rattle.graph_nodes.specs.declared.Included.the-variants.{NotFound, NotNode, Node as Below}
 use Rattle.graph_texts.specs.Texts.{includeNames}
-use Rattle.graph_walk.specs.Walk.{levelWords, includeCodes, wordsFrom, Words, IncludeRows, Saved}
+use Rattle.graph_link.specs.Link.{levelWords, includeCodes, wordsFrom, Words, IncludeRows, Saved}
 
 -- ---- words of a level
 
@@ -47,23 +48,23 @@ included-low s tab n marks NotNode d h = tt
 included-low s tab n marks (Below v) d h = omega (arith, d .holding .few)
 
 -- the codes of the includes from the i-th on
-unfoldable pub includesFrom : (s store includes : List ℕ) → (k i : ℕ) → List ℕ
-includesFrom s store includes k i = map (includedAt s) (includeNames store (rowsOf (includeAt includes) includeSize (k - i) (i * includeSize)))
+unfoldable pub includesFrom : (s : List ℕ) (ns : List Name) (store includes : List ℕ) → (k i : ℕ) → List ℕ
+includesFrom s ns store includes k i = map (includedAt s ns) (includeNames store (rowsOf (includeAt includes) includeSize (k - i) (i * includeSize)))
 
 -- what the loop keeps
-pub record Saving (n : ℕ) (s store includes : List ℕ) (k base : ℕ) (levels₀ levels : List ℕ) (i : ℕ) : Type 0 where
+pub record Saving (n : ℕ) (s : List ℕ) (ns : List Name) (store includes : List ℕ) (k base : ℕ) (levels₀ levels : List ℕ) (i : ℕ) : Type 0 where
   pub room : i ≤ k
   pub few : k ≤ mostRows
   pub inside : base + levelWords ≤ length levels₀
-  pub sofar : wordsFrom levels base i ++ includesFrom s store includes k i ≡ includeCodes s store includes k
+  pub sofar : wordsFrom levels base i ++ includesFrom s ns store includes k i ≡ includeCodes s ns store includes k
   pub low : Words n levels base i
   pub above : drop (base + levelWords) levels ≡ drop (base + levelWords) levels₀
   pub long : length levels ≡ length levels₀
 
-pub saving-begins : (n : ℕ) (s store includes : List ℕ) (k base : ℕ) (levels : List ℕ) → IncludeRows includes k levels base
-    → Saving n s store includes k base levels levels 0
+pub saving-begins : (n : ℕ) (s : List ℕ) (ns : List Name) (store includes : List ℕ) (k base : ℕ) (levels : List ℕ) → IncludeRows includes k levels base
+    → Saving n s ns store includes k base levels levels 0
 unfolding wordsFrom includeCodes includesFrom includesIn
-saving-begins n s store includes k base levels h = record {
+saving-begins n s ns store includes k base levels h = record {
   room = omega arith;
   few = h .few;
   inside = h .level-room;
@@ -73,13 +74,13 @@ saving-begins n s store includes k base levels h = record {
   long = refl;
 }
 
-module _ (n : ℕ) (s store includes : List ℕ) (k base : ℕ) (levels₀ levels : List ℕ) (i : ℕ) (g : Saving n s store includes k base levels₀ levels i) where
-  pub all-saved : k ≤ i → Saved n (includeCodes s store includes k) base k levels₀ levels
+module _ (n : ℕ) (s : List ℕ) (ns : List Name) (store includes : List ℕ) (k base : ℕ) (levels₀ levels : List ℕ) (i : ℕ) (g : Saving n s ns store includes k base levels₀ levels i) where
+  pub all-saved : k ≤ i → Saved n (includeCodes s ns store includes k) base k levels₀ levels
   unfolding includesFrom includeNames
   all-saved h =
       let q : i ≡ k = omega (arith, g .room) in
       record {
-        words = ap (wordsFrom levels base) (sym q) ∙ sym (append-nil (wordsFrom levels base i)) ∙ ap (λ l. wordsFrom levels base i ++ map (includedAt s) (includeNames store l)) (sym (rows-done (includeAt includes) includeSize k i h)) ∙ g .sofar;
+        words = ap (wordsFrom levels base) (sym q) ∙ sym (append-nil (wordsFrom levels base i)) ∙ ap (λ l. wordsFrom levels base i ++ map (includedAt s ns) (includeNames store l)) (sym (rows-done (includeAt includes) includeSize k i h)) ∙ g .sofar;
         low = rw q at (g .low);
         above = g .above;
         kept = g .long;
@@ -89,14 +90,14 @@ module _ (n : ℕ) (s store includes : List ℕ) (k base : ℕ) (levels₀ level
   level-in h = omega (arith, g .few, g .inside, g .long)
 
   module _ (x : YangInclude) (name : List ℕ) (e : x ≡ includeAt includes (i * includeSize)) (f : name ≡ valueIn store (x .«submodule_name»))
-      (r : Included) (q : includedCode r ≡ includedAt s name) (b : IncludedNode r n) (w : ℕ) (z : w ≡ includedCode r) (h : i < k) where
-    due : includesFrom s store includes k i ≡ w ∷ includesFrom s store includes k (i + 1)
+      (r : Included) (q : includedCode r ≡ includedAt s ns name) (b : IncludedNode r n) (w : ℕ) (z : w ≡ includedCode r) (h : i < k) where
+    due : includesFrom s ns store includes k i ≡ w ∷ includesFrom s ns store includes k (i + 1)
     unfolding includesFrom includeNames
     due =
-        let p : w ≡ includedAt s (valueIn store (includeAt includes (i * includeSize) .«submodule_name»)) = z ∙ q ∙ ap (includedAt s) (f ∙ ap (λ (x : YangInclude). valueIn store (x .«submodule_name»)) e) in
+        let p : w ≡ includedAt s ns (valueIn store (includeAt includes (i * includeSize) .«submodule_name»)) = z ∙ q ∙ ap (includedAt s ns) (f ∙ ap (λ (x : YangInclude). valueIn store (x .«submodule_name»)) e) in
         rw (rows-more (includeAt includes) includeSize k i h, p)
 
-    pub saved-on : Saving n s store includes k base levels₀ (set levels (base + i) w) (i + 1)
+    pub saved-on : Saving n s ns store includes k base levels₀ (set levels (base + i) w) (i + 1)
     saved-on =
         let l : base + i < length levels = level-in h in
         let one : i + 1 ≡ suc i = omega arith in
@@ -106,8 +107,8 @@ module _ (n : ℕ) (s store includes : List ℕ) (k base : ℕ) (levels₀ level
           few = g .few;
           inside = g .inside;
           sofar =
-              ap (λ l. l ++ includesFrom s store includes k (i + 1)) (ap (wordsFrom (set levels (base + i) w) base) one ∙ words-snoc (set levels (base + i) w) base i ∙ ap₂ (λ a b. a ++ (b ∷ [])) (words-before levels (base + i) w base i (omega arith)) same)
-              ∙ append-assoc (wordsFrom levels base i) (w ∷ []) (includesFrom s store includes k (i + 1))
+              ap (λ l. l ++ includesFrom s ns store includes k (i + 1)) (ap (wordsFrom (set levels (base + i) w) base) one ∙ words-snoc (set levels (base + i) w) base i ∙ ap₂ (λ a b. a ++ (b ∷ [])) (words-before levels (base + i) w base i (omega arith)) same)
+              ∙ append-assoc (wordsFrom levels base i) (w ∷ []) (includesFrom s ns store includes k (i + 1))
               ∙ ap (λ l. wordsFrom levels base i ++ l) (sym due)
               ∙ g .sofar;
           low = record { low = λ j y. go j y (ltb j i) refl };

@@ -1,9 +1,9 @@
--- `graph_walk::link_known`. Each way out is one law of Single.
+-- `graph_link::link_known`. Each way out is one law of Single.
 -- Assumes nothing.
 use borrow.Author.Needs.{needs}
-use Rattle.graph_walk.proofs.Single.{known-low, node-low, unknown, listed-drew, import-drew}
-use Rattle.graph_walk.proofs.link_known.Statement.{statement}
-use Rattle.graph_walk.proofs.link_known.Tie as tie
+use Rattle.graph_link.proofs.Single.{known-low, node-low, unknown, listed-drew, import-drew}
+use Rattle.graph_link.proofs.link_known.Statement.{statement}
+use Rattle.graph_link.proofs.link_known.Tie as tie
 
 returns : tie.Need-returns
 returns c = search unknown

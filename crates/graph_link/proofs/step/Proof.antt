@@ -1,9 +1,9 @@
--- `graph_walk::step`. Each way out is one law of Single.
+-- `graph_link::step`. Each way out is one law of Single.
 -- Assumes nothing.
 use borrow.Author.Needs.{needs}
-use Rattle.graph_walk.proofs.Single.{no-submodule, no-node, no-room, too-deep, down}
-use Rattle.graph_walk.proofs.step.Statement.{statement}
-use Rattle.graph_walk.proofs.step.Tie as tie
+use Rattle.graph_link.proofs.Single.{no-submodule, no-node, no-room, too-deep, down}
+use Rattle.graph_link.proofs.step.Statement.{statement}
+use Rattle.graph_link.proofs.step.Tie as tie
 
 returns : tie.Need-returns
 returns c = search no-submodule
@@ -27,6 +27,7 @@ step-spec =
     returns
     returns-2
     (λ c. search needs)
+    (λ c κs. search needs)
     (λ c κs. search needs)
     (λ c. search needs)
     (λ c. search needs)

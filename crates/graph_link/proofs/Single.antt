@@ -1,7 +1,7 @@
 -- One edge more, and one include up to the walk of its text: one law for each way out.
 -- Assumes nothing.
 use Prim.Native.Nat.{ℕ, zero, suc, _+_, _-_, _<_}
-use mathlib.Core.Path.{_≡_, refl, sym, ap, _∙_}
+use mathlib.Core.Path.{_≡_, refl, sym, ap, _∙_, subst}
 use mathlib.Core.Bool.{Bool, true, false, cond}
 use mathlib.Core.List.{List}
 use native.Mathlib.Omega.{arith}
@@ -9,30 +9,38 @@ use native.Mathlib.Nat.{pos-of-ne-zero}
 use mir.Syntax.{w32}
 use mir.Val.{Fits}
 use Rattle.text.specs.declared.Refusal.{Refusal}
+use Rattle.library_image.specs.Library.{Name}
 use Rattle.graph.specs.Graph.{nought, Out, built, refused, thenO}
-use Rattle.graph.specs.Numbers.{Row, row, addRow, importCode, givenCode, includeCode}
+use Rattle.graph.specs.Numbers.{Row, row, addRow, includeCode}
 use Rattle.graph_edges.specs.Edges.{linkSeen, Linked, rowsIn}
 use Rattle.graph_edges.specs.declared.Link.{Link}
 use Rattle.graph_edges.specs.declared.Link.the-variants.{Count, Full}
-use Rattle.graph_edges.specs.declared.NodeIndex.{NodeIndex}
+use Rattle.graph.specs.declared.NodeIndex.{NodeIndex}
 use Rattle.graph.specs.Limits.{mostEdges, mostNodes}
 use Rattle.graph_nodes.specs.Marks.{Desk, knownAt, resolvedCode, includedCode, ResolvedNode, IncludedNode}
 use Rattle.graph_nodes.specs.declared.Resolved.{Resolved}
 use Rattle.graph_nodes.specs.declared.Resolved.the-variants.{Unknown, Node}
 use Rattle.graph_nodes.specs.declared.Included.{Included}
 use Rattle.graph_nodes.specs.declared.Included.the-variants.{Node as Below}
-use Rattle.graph_walk.specs.Walk.{belowOf, linkWalked, Drew, Stepped}
-use Rattle.graph_walk.specs.declared.Walked.{Walked}
-use Rattle.graph_walk.specs.declared.Walked.the-variants.{Built, Refused}
-use Rattle.graph_walk.specs.declared.Stepping.the-variants.{Down, Stopped as Halted}
+use Rattle.graph_link.specs.Link.{eitherCode, belowOf, linkWalked, Drew, Stepped}
+use Rattle.graph_link.specs.declared.Walked.{Walked}
+use Rattle.graph_link.specs.declared.Walked.the-variants.{Built, Refused}
+use Rattle.graph_link.specs.declared.Stepping.the-variants.{Down, Stopped as Halted}
 
 -- ---- the word of an include
 
-pub code-fits : (r : Included) (v : NodeIndex) → r ≡ Below v → IncludedNode r mostNodes → Fits w32 (v .0 + 2)
-code-fits r v e h = let k : v .0 < mostNodes = rw e at h in record { fits = omega arith }
+module _ (r : Included) (v : NodeIndex) (row : ℕ) (e : r ≡ Below v) (z : row ≡ v .0) where
+  code-low : IncludedNode r mostNodes → row < mostNodes
+  code-low h = let k : v .0 < mostNodes = rw e at h in omega arith
 
-pub code-is : (r : Included) (v : NodeIndex) → r ≡ Below v → v .0 + 2 ≡ includedCode r
-code-is r v e = let q : v .0 + 2 ≡ suc (suc (v .0)) = omega arith in q ∙ sym (ap includedCode e)
+  pub code-cast : IncludedNode r mostNodes → Fits w32 row
+  code-cast h = record { fits = omega (arith, code-low h) }
+
+  pub code-fits : IncludedNode r mostNodes → Fits w32 (row + 2)
+  code-fits h = record { fits = omega (arith, code-low h) }
+
+  pub code-is : row + 2 ≡ includedCode r
+  code-is = let q : row + 2 ≡ suc (suc (v .0)) = omega arith in q ∙ sym (ap includedCode e)
 
 -- ---- an edge
 
@@ -54,12 +62,12 @@ module _ (s tab : List ℕ) (n : ℕ) (marks : List ℕ) (d : Desk s tab n marks
   pub node-low : (v : NodeIndex) → v .0 < n → v .0 < mostNodes
   node-low v h = omega (arith, d .holding .few)
 
-module _ (s u : List ℕ) (r : Resolved) (k : resolvedCode r ≡ knownAt s u) (given : Bool) (v : ℕ) (rs : List Row) (edges chains : List ℕ) where
+module _ (s : List ℕ) (ns : List Name) (u : Name) (r : Resolved) (k : resolvedCode r ≡ knownAt s ns u) (given : Bool) (v : ℕ) (rs : List Row) (edges chains : List ℕ) where
   pub unknown : (a : Refusal) → r ≡ Unknown → a ≡ nought
-      → Drew (cond given (givenCode mostEdges v (knownAt s u) rs) (importCode mostEdges v (knownAt s u) rs)) edges chains (Refused 26 a) edges chains
+      → Drew (eitherCode given v (knownAt s ns u) rs) edges chains (Refused 26 a) edges chains
   unknown a e z = record { seen = rw (q, z) (go given); filed = tt; kept-edges = refl; kept-chains = refl }
     where
-      q : knownAt s u ≡ 0
+      q : knownAt s ns u ≡ 0
       q = sym k ∙ ap resolvedCode e
 
       go : (b : Bool) → _≡_ {A = Out Row} (refused 26 nought) (cond b (refused 26 nought) (refused 26 nought))
@@ -67,15 +75,15 @@ module _ (s u : List ℕ) (r : Resolved) (k : resolvedCode r ≡ knownAt s u) (g
       go false = refl
 
   module _ (y : NodeIndex) (e : r ≡ Node y) (edges₁ chains₁ : List ℕ) (x : Link) (w : Walked) (o : w ≡ linkWalked x) where
-    code : knownAt s u ≡ suc (y .0)
+    code : knownAt s ns u ≡ suc (y .0)
     code = sym k ∙ ap resolvedCode e
 
     pub listed-drew : Linked rs (row v (y .0)) edges chains x edges₁ chains₁ → given ≡ true
-        → Drew (cond given (givenCode mostEdges v (knownAt s u) rs) (importCode mostEdges v (knownAt s u) rs)) edges chains w edges₁ chains₁
+        → Drew (eitherCode given v (knownAt s ns u) rs) edges chains w edges₁ chains₁
     listed-drew l g = rw (g, code) (drew x rs (row v (y .0)) edges chains edges₁ chains₁ w l o)
 
     pub import-drew : Linked rs (row (y .0) v) edges chains x edges₁ chains₁ → given ≡ false
-        → Drew (cond given (givenCode mostEdges v (knownAt s u) rs) (importCode mostEdges v (knownAt s u) rs)) edges chains w edges₁ chains₁
+        → Drew (eitherCode given v (knownAt s ns u) rs) edges chains w edges₁ chains₁
     import-drew l g = rw (g, code) (drew x rs (row (y .0) v) edges chains edges₁ chains₁ w l o)
 
 -- ---- an include
@@ -94,8 +102,11 @@ by-node zero v rs below h k = absurd (h refl)
 by-node (suc zero) v rs below h k = absurd (k refl)
 by-node (suc (suc u)) v rs below h k = let q : suc (suc u) - 2 ≡ u = omega arith in rw q
 
-module _ (word left v : ℕ) (rs : List Row) (edges chains edges₁ chains₁ : List ℕ) (x : Link) (l : Linked rs (row (word - 2) v) edges chains x edges₁ chains₁)
-    (h : word ≡ 0 → ⊥) (k : word ≡ 1 → ⊥) where
+module _ (word left v : ℕ) (rs : List Row) (edges chains edges₁ chains₁ : List ℕ) (x : Link) (u : NodeIndex) (z : u .0 ≡ word - 2)
+    (o : Linked rs (row (u .0) v) edges chains x edges₁ chains₁) (h : word ≡ 0 → ⊥) (k : word ≡ 1 → ⊥) where
+  l : Linked rs (row (word - 2) v) edges chains x edges₁ chains₁
+  l = subst (λ (j : ℕ). Linked rs (row j v) edges chains x edges₁ chains₁) z o
+
   pub no-room : x ≡ Full → Stepped word left v rs edges chains (Halted 31) edges₁ chains₁
   no-room e =
       let q : addRow mostEdges rs (row (word - 2) v) ≡ refused 31 nought = sym (l .seen) ∙ ap (λ x. linkSeen x edges₁) e in
@@ -109,10 +120,10 @@ module _ (word left v : ℕ) (rs : List Row) (edges chains edges₁ chains₁ : 
 
     pub too-deep : left ≡ 0 → Stepped word left v rs edges chains (Halted 29) edges₁ chains₁
     unfolding belowOf
-    too-deep z = record { seen = λ at. sym (added (belowOf at left) ∙ rw z); ready = tt; kept-edges = l .kept-edges; kept-chains = l .kept-chains }
+    too-deep d = record { seen = λ at. sym (added (belowOf at left) ∙ rw d); ready = tt; kept-edges = l .kept-edges; kept-chains = l .kept-chains }
 
-    pub down : (u : NodeIndex) → u .0 ≡ word - 2 → (left ≡ 0 → ⊥) → Stepped word left v rs edges chains (Down u m) edges₁ chains₁
-    down u z d = record {
+    pub down : (left ≡ 0 → ⊥) → Stepped word left v rs edges chains (Down u m) edges₁ chains₁
+    down d = record {
       seen = λ at. ap (λ j. belowOf at left j (rowsIn m edges₁)) z ∙ sym (added (belowOf at left));
       ready = record { node = go word h k z; deep = pos-of-ne-zero d; filed = rw e at (l .filed) };
       kept-edges = l .kept-edges;

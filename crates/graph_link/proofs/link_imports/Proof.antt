@@ -1,15 +1,16 @@
--- `graph_walk::link_imports`. Each way out is one law of Naming.
+-- `graph_link::link_imports`. Each way out is one law of Naming.
 -- Assumes nothing.
 use borrow.Author.Needs.{needs}
 use Prim.Native.Nat.{_-_}
 use Rattle.graph_edges.specs.Edges.{rowsIn}
-use Rattle.graph_walk.proofs.Naming.{Naming, naming-begins, all-named, named-wrong, named-on}
-use Rattle.graph_walk.proofs.link_imports.Statement.{statement}
-use Rattle.graph_walk.proofs.link_imports.Tie as tie
+use Rattle.graph_nodes.specs.Adding.{namesHeld}
+use Rattle.graph_link.proofs.Naming.{Naming, naming-begins, all-named, named-wrong, named-on}
+use Rattle.graph_link.proofs.link_imports.Statement.{statement}
+use Rattle.graph_link.proofs.link_imports.Tie as tie
 
 abbrev Inv-loop : tie.InvT-loop
 Inv-loop image ntab n marks store imports rows edges₀ chains₀ v count total₀ i₀ edges chains total i =
-    Naming image store imports rows (v .0) (rowsIn count edges₀) edges₀ chains₀ edges chains total i
+    Naming image (namesHeld image ntab n) store imports rows (v .0) (rowsIn count edges₀) edges₀ chains₀ edges chains total i
 
 abbrev μ-loop : tie.MeasureT-loop
 μ-loop image ntab n marks store imports rows edges₀ chains₀ v count total₀ i₀ edges chains total i =

@@ -1,15 +1,16 @@
--- `graph_walk::save_includes`. Each way out is one law of Saving.
+-- `graph_link::save_includes`. Each way out is one law of Saving.
 -- Assumes nothing.
 use borrow.Author.Needs.{needs}
 use Prim.Native.Nat.{_-_}
 use native.Mathlib.Omega.{arith}
-use Rattle.graph_walk.proofs.Saving.{Saving, included-low, saving-begins, all-saved, level-in, saved-on}
-use Rattle.graph_walk.proofs.save_includes.Statement.{statement}
-use Rattle.graph_walk.proofs.save_includes.Tie as tie
+use Rattle.graph_nodes.specs.Adding.{namesHeld}
+use Rattle.graph_link.proofs.Saving.{Saving, included-low, saving-begins, all-saved, level-in, saved-on}
+use Rattle.graph_link.proofs.save_includes.Statement.{statement}
+use Rattle.graph_link.proofs.save_includes.Tie as tie
 
 abbrev Inv-loop : tie.InvT-loop
 Inv-loop image ntab n marks store includes rows levels₀ base i₀ levels i =
-    Saving n image store includes rows base levels₀ levels i
+    Saving n image (namesHeld image ntab n) store includes rows base levels₀ levels i
 
 abbrev μ-loop : tie.MeasureT-loop
 μ-loop image ntab n marks store includes rows levels₀ base i₀ levels i =
@@ -22,10 +23,10 @@ code-of-requires : tie.Need-code-of-requires Inv-loop μ-loop
 code-of-requires c κs = search included-low
 
 add-levels : tie.Need-add-levels Inv-loop μ-loop
-add-levels c = record { fits = omega (arith, level-in _ _ _ _ _ _ _ _ _ (c .before .before .before .before .before .loop .inv) (c .before .before .before .before .loop-test .taken), c .before .before .before .before .before .before .before .before .before .before .before .before .good .1 .1 .1 .1 .1 .1 .1 .0 .0) }
+add-levels c = record { fits = omega (arith, level-in _ _ _ _ _ _ _ _ _ _ (c .before .before .before .before .before .loop .inv) (c .before .before .before .before .loop-test .taken), c .before .before .before .before .before .before .before .before .before .before .before .before .good .1 .1 .1 .1 .1 .1 .1 .0 .0) }
 
 mul-levels : tie.Need-mul-levels Inv-loop μ-loop
-mul-levels c = record { fits = omega (arith, level-in _ _ _ _ _ _ _ _ _ (c .before .before .before .before .before .loop .inv) (c .before .before .before .before .loop-test .taken), c .before .before .before .before .before .loop .inv .long, c .before .before .before .before .before .before .before .before .before .before .before .before .good .1 .1 .1 .1 .1 .1 .1 .0 .1) }
+mul-levels c = record { fits = omega (arith, level-in _ _ _ _ _ _ _ _ _ _ (c .before .before .before .before .before .loop .inv) (c .before .before .before .before .loop-test .taken), c .before .before .before .before .before .loop .inv .long, c .before .before .before .before .before .before .before .before .before .before .before .before .good .1 .1 .1 .1 .1 .1 .1 .0 .1) }
 
 slice-write-levels : tie.Need-slice-write-levels Inv-loop μ-loop
 slice-write-levels c = search level-in

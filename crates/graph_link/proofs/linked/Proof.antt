@@ -1,9 +1,9 @@
--- `graph_walk::linked`. Each way out is one law of Single.
+-- `graph_link::linked`. Each way out is one law of Single.
 -- Assumes nothing.
 use borrow.Author.Needs.{needs}
-use Rattle.graph_walk.proofs.Single.{counted, filled}
-use Rattle.graph_walk.proofs.linked.Statement.{statement}
-use Rattle.graph_walk.proofs.linked.Tie as tie
+use Rattle.graph_link.proofs.Single.{counted, filled}
+use Rattle.graph_link.proofs.linked.Statement.{statement}
+use Rattle.graph_link.proofs.linked.Tie as tie
 
 returns : tie.Need-returns
 returns c = search counted
