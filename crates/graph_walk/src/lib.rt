@@ -164,8 +164,9 @@ pub fn walk(
                         return Walked::Refused(number, graph_link::nought());
                     }
                     Stepping::Down(u, m) => {
+                        let rest = left - 1;
                         let child = Spot {
-                            left: left - 1,
+                            left: rest,
                             absent: NO_INCLUDED_TEXT,
                             node: u,
                             count: m,
