@@ -1,19 +1,12 @@
--- What an item is, and whether something lent is too short: each test that comes before leaves the next one to decide.
+-- Whether something lent is too short: each test that comes before leaves the next one to decide.
 -- Assumes nothing.
-use mathlib.Core.Path.{_≡_, refl, sym, ap}
+use mathlib.Core.Path.{_≡_, refl}
 use mathlib.Core.Bool.{Bool, true, false, _||_}
 use Prim.Native.Nat.{ℕ, _*_, _<_, _≤_}
-use lib.Dec.{eqb, ltb}
-use borrow.Author.Tests.{lt-ltb, le-ltb, ltb-false, ne-eqb}
+use lib.Dec.{ltb}
+use borrow.Author.Tests.{lt-ltb, le-ltb, ltb-false}
 use Rattle.text.proofs.Here.{neither}
-use Rattle.yanglib.specs.Entries.{isListed}
 use Rattle.yanglib.specs.ToGraph.{Lengths, tooShort}
-
-pub listed-augmenting : (k : ℕ) → k ≡ 2 → true ≡ isListed k
-listed-augmenting k e = ap (λ (j : ℕ). isListed j) (sym e)
-
-pub listed-deviation : (k : ℕ) → (k ≡ 2 → ⊥) → eqb k 3 ≡ isListed k
-listed-deviation k f = rw (ne-eqb k 2 f)
 
 module _ (longest nodes edges store imports includes levels : ℕ) where
   abbrev lent : Lengths

@@ -6,7 +6,9 @@ use mathlib.Core.Path.{_≡_, refl, sym, ap, ap₂, _∙_, subst}
 use mathlib.Core.Bool.{Bool, true, false, cond}
 use mathlib.Core.List.{List, [], _∷_, _++_, flatMap}
 use native.Mathlib.Omega.{arith}
+use lib.Dec.{eqb}
 use lib.ListN.{length, take, drop}
+use borrow.Author.Tests.{ne-eqb}
 use Rattle.text.specs.declared.Refusal.{Refusal}
 use Rattle.library_form.specs.Form.{Word, wordAt}
 use Rattle.library_form.proofs.Bounds.{part-word}
@@ -15,22 +17,29 @@ use Rattle.library_items.specs.declared.Item.{Item}
 use Rattle.library_items.specs.Items.{ItemOf, moduleItems, importItems, setItems, itemsOf, libraryOf, itemsAt}
 use Rattle.library_items.specs.Table.{itemIn, itemWord, itemsIn, itemsFrom, ItemFits, Itemized}
 use Rattle.library_items.proofs.Through.{items-from, items-all}
-use Rattle.graph.specs.Graph.{Out, built, onOut}
-use Rattle.graph.specs.Nodes.{passOver, memb}
+use Rattle.graph.specs.Graph.{Out, built, onOut, entryNames}
+use Rattle.graph.specs.Nodes.{memb}
 use Rattle.graph.specs.Numbers.{Row, numberOf, Drawing, faulty, givenCode, walkCodes}
 use Rattle.graph.proofs.Tests.{both-bools, same-refl}
-use Rattle.graph.proofs.Entries.{known-among}
 use Rattle.graph.specs.Limits.{mostEdges}
 use Rattle.graph_edges.specs.Edges.{rowsIn, Filed}
-use Rattle.graph_nodes.specs.Adding.{isEntry, plainAt, namesAt}
-use Rattle.graph_nodes.specs.Marks.{amongKind, knownAt, Stands}
+use Rattle.graph_nodes.specs.Adding.{isEntry, plainAt, namesHeld}
+use Rattle.graph_nodes.specs.Marks.{amongKind, knownAt, Stands, Desk}
 use Rattle.graph_nodes.proofs.OfKind.{kind-append, known-items, or-right}
-use Rattle.graph_nodes.proofs.Looking.{Bytes, revised-at}
-use Rattle.graph_walk.specs.Walk.{codesHere, Ground, Tables, walkSeen, Drew, Kept}
-use Rattle.graph_walk.specs.declared.Walked.{Walked}
-use Rattle.graph_walk.specs.declared.Walked.the-variants.{Built, Refused}
-use Rattle.yanglib.specs.Entries.{isListed, itemNode, itemWalk, nextNode, nextEntry, drawItems, allLevels, Next, Placed, Walks}
-use Rattle.yanglib.specs.declared.Drawn.the-variants.{Built as DrawnBuilt, Refused as DrawnRefused}
+use Rattle.graph_link.specs.Link.{walkSeen, Drew}
+use Rattle.graph_walk.specs.Walk.{codesHere, Tables, Kept}
+use Rattle.graph_link.specs.declared.Walked.{Walked}
+use Rattle.graph_link.specs.declared.Walked.the-variants.{Built, Refused}
+use Rattle.graph_entries.specs.Entries.{isListed, itemNode, itemWalk, nextNode, nextEntry, drawItems, allLevels, Next, Placed, Walks}
+use Rattle.graph_entries.specs.declared.Drawn.the-variants.{Built as DrawnBuilt, Refused as DrawnRefused}
+
+-- ---- the ways out of `is_listed`
+
+pub listed-augmenting : (k : ℕ) → k ≡ 2 → true ≡ isListed k
+listed-augmenting k e = ap (λ (j : ℕ). isListed j) (sym e)
+
+pub listed-deviation : (k : ℕ) → (k ≡ 2 → ⊥) → eqb k 3 ≡ isListed k
+listed-deviation k f = rw (ne-eqb k 2 f)
 
 -- ---- the ways out of `next_entry`
 
@@ -47,47 +56,47 @@ module _ {s tab : List ℕ} {n : ℕ} {x : Item} {v : ℕ} (g : Next s tab n x v
   pub entry-stands : r ≡ true → Stands s tab n (x .place) (x .size)
   entry-stands t = record { holding = g .holding; inside = g .fits .inside; node = g .node (sym e ∙ t) }
 
-  pub node-own : r ≡ true → {w : ℕ} → w ≡ numberOf (namesAt s) (wordAt s (x .place) (x .size) .text) → w ≡ nextNode s (itemWord s x) v
-  node-own t {w} q = q ∙ ap (λ (b : Bool). cond b (itemNode s (itemWord s x)) v) (sym t ∙ e)
+  pub node-own : r ≡ true → {w : ℕ} → w ≡ numberOf (namesHeld s tab n) (wordAt s (x .place) (x .size) .text) → w ≡ nextNode (namesHeld s tab n) (itemWord s x) v
+  node-own t {w} q = q ∙ ap (λ (b : Bool). cond b (itemNode (namesHeld s tab n) (itemWord s x)) v) (sym t ∙ e)
 
-  pub node-kept : r ≡ false → v ≡ nextNode s (itemWord s x) v
-  node-kept t = ap (λ (b : Bool). cond b (itemNode s (itemWord s x)) v) (sym t ∙ e)
+  pub node-kept : r ≡ false → v ≡ nextNode (namesHeld s tab n) (itemWord s x) v
+  node-kept t = ap (λ (b : Bool). cond b (itemNode (namesHeld s tab n) (itemWord s x)) v) (sym t ∙ e)
 
   pub node-behind : r ≡ false → v < n
   node-behind t = g .behind (sym e ∙ t)
 
 -- ---- the ways out of `walk_item`
 
-module _ (s b : List ℕ) (x : Item) (v : ℕ) (rs : List Row) where
+module _ (s b : List ℕ) (ns : List Name) (x : Item) (v : ℕ) (rs : List Row) where
   abbrev asks : (entry listed : Bool) → Out Row
   asks e l =
-      cond e (walkCodes (codesHere s b) mostEdges 8 23 (itemNode s (itemWord s x)) rs)
-      (cond l (givenCode mostEdges v (knownAt s (wordAt s (x .place) (x .size) .text)) rs) (built rs))
+      cond e (walkCodes (codesHere s b ns) mostEdges 8 23 (itemNode ns (itemWord s x)) rs)
+      (cond l (givenCode mostEdges v (knownAt s ns (wordAt s (x .place) (x .size) .text)) rs) (built rs))
 
-  asked : {e l : Bool} → e ≡ isEntry (x .kind) → l ≡ isListed (x .kind) → itemWalk s b (itemWord s x) v rs ≡ asks e l
+  asked : {e l : Bool} → e ≡ isEntry (x .kind) → l ≡ isListed (x .kind) → itemWalk s b ns (itemWord s x) v rs ≡ asks e l
   unfolding itemWalk
   asked p q = ap₂ asks (sym p) (sym q)
 
-module _ (s b : List ℕ) {n : ℕ} {x : Item} {v : ℕ} (g : Placed s n x v) {edges chains : List ℕ} (count : ℕ) {e : Bool} (p : e ≡ isEntry (x .kind)) where
-  pub item-walked : e ≡ true → {w : Walked} {edges₁ chains₁ : List ℕ} → Drew (walkCodes (codesHere s b) mostEdges 8 23 v (rowsIn count edges)) edges chains w edges₁ chains₁
-      → Drew (itemWalk s b (itemWord s x) v (rowsIn count edges)) edges chains w edges₁ chains₁
+module _ (s b : List ℕ) {ns : List Name} {n : ℕ} {x : Item} {v : ℕ} (g : Placed s ns n x v) {edges chains : List ℕ} (count : ℕ) {e : Bool} (p : e ≡ isEntry (x .kind)) where
+  pub item-walked : e ≡ true → {w : Walked} {edges₁ chains₁ : List ℕ} → Drew (walkCodes (codesHere s b ns) mostEdges 8 23 v (rowsIn count edges)) edges chains w edges₁ chains₁
+      → Drew (itemWalk s b ns (itemWord s x) v (rowsIn count edges)) edges chains w edges₁ chains₁
   item-walked t {w} {edges₁} {chains₁} d =
       subst (λ (o : Out Row). Drew o edges chains w edges₁ chains₁)
-      (ap (λ (u : ℕ). walkCodes (codesHere s b) mostEdges 8 23 u (rowsIn count edges)) (g .own (sym p ∙ t))
-      ∙ sym (asked s b x v (rowsIn count edges) (sym t ∙ p) refl)) d
+      (ap (λ (u : ℕ). walkCodes (codesHere s b ns) mostEdges 8 23 u (rowsIn count edges)) (g .own (sym p ∙ t))
+      ∙ sym (asked s b ns x v (rowsIn count edges) (sym t ∙ p) refl)) d
 
   module _ (f : e ≡ false) {l : Bool} (q : l ≡ isListed (x .kind)) where
     pub item-linked : l ≡ true → {w : Walked} {edges₁ chains₁ : List ℕ}
-        → Drew (givenCode mostEdges v (knownAt s (take (x .place + x .size - x .place) (drop (x .place) s))) (rowsIn count edges)) edges chains w edges₁ chains₁
-        → Drew (itemWalk s b (itemWord s x) v (rowsIn count edges)) edges chains w edges₁ chains₁
+        → Drew (givenCode mostEdges v (knownAt s ns (take (x .place + x .size - x .place) (drop (x .place) s))) (rowsIn count edges)) edges chains w edges₁ chains₁
+        → Drew (itemWalk s b ns (itemWord s x) v (rowsIn count edges)) edges chains w edges₁ chains₁
     item-linked t {w} {edges₁} {chains₁} d =
         subst (λ (o : Out Row). Drew o edges chains w edges₁ chains₁)
-        (ap (λ (u : Name). givenCode mostEdges v (knownAt s u) (rowsIn count edges)) (part-word s (x .place) (x .size))
-        ∙ sym (asked s b x v (rowsIn count edges) (sym f ∙ p) (sym t ∙ q))) d
+        (ap (λ (u : Name). givenCode mostEdges v (knownAt s ns u) (rowsIn count edges)) (part-word s (x .place) (x .size))
+        ∙ sym (asked s b ns x v (rowsIn count edges) (sym f ∙ p) (sym t ∙ q))) d
 
-    pub item-silent : l ≡ false → Filed edges chains count → Drew (itemWalk s b (itemWord s x) v (rowsIn count edges)) edges chains (Built count) edges chains
+    pub item-silent : l ≡ false → Filed edges chains count → Drew (itemWalk s b ns (itemWord s x) v (rowsIn count edges)) edges chains (Built count) edges chains
     item-silent t h = record {
-      seen = sym (asked s b x v (rowsIn count edges) (sym f ∙ p) (sym t ∙ q));
+      seen = sym (asked s b ns x v (rowsIn count edges) (sym f ∙ p) (sym t ∙ q));
       filed = h;
       kept-edges = refl;
       kept-chains = refl;
@@ -124,7 +133,7 @@ first-entry {s} {tab} {n} g l =
     let q : n ≡ suc (n - 1) = omega arith in
     subst Headed (sym (items-all g) ∙ ap (itemsFrom s tab 0) q) (items-headed (libraryOf s))
 
--- ---- an entry's name is a node
+-- ---- an entry's name is one that an import may have
 
 entry-among : {s tab : List ℕ} {n : ℕ} → Itemized s n tab → (i : ℕ) → i < n → isEntry (itemIn tab i .kind) ≡ true
     → amongKind isEntry (itemWord s (itemIn tab i) .name .text) (itemsAt s) ≡ true
@@ -138,26 +147,23 @@ entry-among {s} {tab} {n} g i l h =
     ∙ kind-append isEntry u (itemsIn s tab i) (itemsFrom s tab i (suc (n - (i + 1))))
     ∙ or-right (amongKind isEntry u (itemsIn s tab i)) (amongKind isEntry u (itemsFrom s tab i (suc (n - (i + 1))))) own
 
-entry-node : {s tab : List ℕ} {n : ℕ} → Itemized s n tab → Bytes s → (i : ℕ) → i < n → isEntry (itemIn tab i .kind) ≡ true
-    → memb (itemWord s (itemIn tab i) .name .text) (namesAt s) ≡ true
-unfolding namesAt
-entry-node {s} {tab} g bytes i l h =
-    let u = itemWord s (itemIn tab i) .name .text in
-    known-among passOver (plainAt s) (revised-at s bytes) u (known-items u (libraryOf s) ∙ entry-among g i l h)
+entry-known : {s tab : List ℕ} {n : ℕ} → Itemized s n tab → (i : ℕ) → i < n → isEntry (itemIn tab i .kind) ≡ true
+    → memb (itemWord s (itemIn tab i) .name .text) (entryNames (plainAt s)) ≡ true
+entry-known {s} {tab} g i l h = known-items (itemWord s (itemIn tab i) .name .text) (libraryOf s) ∙ entry-among g i l h
 
 -- ---- what the loop keeps
 
-walk-same : (s b : List ℕ) (x : ItemOf Word) (v : ℕ) (rs : List Row) → itemWalk s b x v rs ≡ itemWalk s b x (nextNode s x v) rs
+walk-same : (s b : List ℕ) (ns : List Name) (x : ItemOf Word) (v : ℕ) (rs : List Row) → itemWalk s b ns x v rs ≡ itemWalk s b ns x (nextNode ns x v) rs
 unfolding itemWalk
-walk-same s b x v rs = go (isEntry (x .kind)) (isListed (x .kind))
+walk-same s b ns x v rs = go (isEntry (x .kind)) (isListed (x .kind))
   where
-    go : (e l : Bool) → cond e (walkCodes (codesHere s b) mostEdges 8 23 (itemNode s x) rs) (cond l (givenCode mostEdges v (knownAt s (x .name .text)) rs) (built rs))
-        ≡ cond e (walkCodes (codesHere s b) mostEdges 8 23 (itemNode s x) rs) (cond l (givenCode mostEdges (cond e (itemNode s x) v) (knownAt s (x .name .text)) rs) (built rs))
+    go : (e l : Bool) → cond e (walkCodes (codesHere s b ns) mostEdges 8 23 (itemNode ns x) rs) (cond l (givenCode mostEdges v (knownAt s ns (x .name .text)) rs) (built rs))
+        ≡ cond e (walkCodes (codesHere s b ns) mostEdges 8 23 (itemNode ns x) rs) (cond l (givenCode mostEdges (cond e (itemNode ns x) v) (knownAt s ns (x .name .text)) rs) (built rs))
     go true l = refl
     go false l = refl
 
-pub record Going (s b : List ℕ) (n : ℕ) (table : List ℕ) (items : ℕ) (store₀ imports₀ includes₀ levels₀ edges₀ chains₀ store imports includes levels edges chains : List ℕ) (total entry v i : ℕ) : Type 0 where
-  pub rest : drawItems s b 0 0 [] (itemsAt s) ≡ drawItems s b entry v (rowsIn total edges) (itemsFrom s table i (items - i))
+pub record Going (s b : List ℕ) (ns : List Name) (n : ℕ) (table : List ℕ) (items : ℕ) (store₀ imports₀ includes₀ levels₀ edges₀ chains₀ store imports includes levels edges chains : List ℕ) (total entry v i : ℕ) : Type 0 where
+  pub rest : drawItems s b ns 0 0 [] (itemsAt s) ≡ drawItems s b ns entry v (rowsIn total edges) (itemsFrom s table i (items - i))
   pub listed : Itemized s items table
   pub some : i ≤ items
   pub entries : entry ≤ i
@@ -167,14 +173,14 @@ pub record Going (s b : List ℕ) (n : ℕ) (table : List ℕ) (items : ℕ) (st
   pub kept-edges : length edges ≡ length edges₀
   pub kept-chains : length chains ≡ length chains₀
 
-pub going-none : (s b : List ℕ) (n : ℕ) (table : List ℕ) (items : ℕ) (store imports includes levels edges chains : List ℕ)
+pub going-none : (s b : List ℕ) (ns : List Name) (n : ℕ) (table : List ℕ) (items : ℕ) (store imports includes levels edges chains : List ℕ) (v : ℕ) → v ≡ 0
     → Tables b store imports includes levels edges chains 8 0 → Itemized s items table
-    → Going s b n table items store imports includes levels edges chains store imports includes levels edges chains 0 0 0 0
+    → Going s b ns n table items store imports includes levels edges chains store imports includes levels edges chains 0 0 v 0
 unfolding rowsIn
-going-none s b n table items store imports includes levels edges chains t g =
+going-none s b ns n table items store imports includes levels edges chains v z t g =
     let q : items ≡ items - 0 = omega arith in
     record {
-      rest = ap (drawItems s b 0 0 []) (sym (items-all g) ∙ ap (itemsFrom s table 0) q);
+      rest = ap₂ (λ (j : ℕ) (xs : List (ItemOf Word)). drawItems s b ns 0 j [] xs) (sym z) (sym (items-all g) ∙ ap (itemsFrom s table 0) q);
       listed = g;
       some = omega arith;
       entries = omega arith;
@@ -185,14 +191,14 @@ going-none s b n table items store imports includes levels edges chains t g =
       kept-chains = refl;
     }
 
-module _ {s b : List ℕ} {n : ℕ} {table : List ℕ} {items : ℕ} {store₀ imports₀ includes₀ levels₀ edges₀ chains₀ store imports includes levels edges chains : List ℕ} {total entry v i : ℕ}
-    (g : Going s b n table items store₀ imports₀ includes₀ levels₀ edges₀ chains₀ store imports includes levels edges chains total entry v i) where
-  pub all-drawn : items ≤ i → Walks s b store₀ imports₀ includes₀ levels₀ edges₀ chains₀ (DrawnBuilt total) store imports includes levels edges chains
+module _ {s b : List ℕ} {ns : List Name} {n : ℕ} {table : List ℕ} {items : ℕ} {store₀ imports₀ includes₀ levels₀ edges₀ chains₀ store imports includes levels edges chains : List ℕ} {total entry v i : ℕ}
+    (g : Going s b ns n table items store₀ imports₀ includes₀ levels₀ edges₀ chains₀ store imports includes levels edges chains total entry v i) where
+  pub all-drawn : items ≤ i → Walks s b ns store₀ imports₀ includes₀ levels₀ edges₀ chains₀ (DrawnBuilt total) store imports includes levels edges chains
   unfolding itemsFrom drawItems
   all-drawn h =
       let q : items - i ≡ 0 = omega arith in
       record {
-        seen = sym (g .rest ∙ ap (λ (k : ℕ). drawItems s b entry v (rowsIn total edges) (itemsFrom s table i k)) q);
+        seen = sym (g .rest ∙ ap (λ (k : ℕ). drawItems s b ns entry v (rowsIn total edges) (itemsFrom s table i k)) q);
         filed = g .tables .edges-so-far;
         kept-edges = g .kept-edges;
         kept-chains = g .kept-chains;
@@ -217,37 +223,37 @@ module _ {s b : List ℕ} {n : ℕ} {table : List ℕ} {items : ℕ} {store₀ i
           go zero q = both-bools (ap (λ (k : ℕ). isEntry (itemIn table k .kind)) q ∙ first-entry (g .listed) (omega arith)) (ap (λ (y : Item). isEntry (y .kind)) (sym e) ∙ f)
           go (suc j) q = g .low (omega arith)
 
-      pub next-asked : {btab : List ℕ} {texts : ℕ} {ntab marks : List ℕ} → Ground s b btab texts ntab n marks → Bytes s → Next s ntab n x v
-      next-asked d bytes = record {
-        holding = d .desk .holding;
+      pub next-asked : {ntab marks : List ℕ} → Desk s ntab n marks → Next s ntab n x v
+      next-asked {ntab} d = record {
+        holding = d .holding;
         fits = item-fits;
-        node = λ h. ap (λ (y : Item). memb (wordAt s (y .place) (y .size) .text) (namesAt s)) e
-            ∙ entry-node (g .listed) bytes i l (ap (λ (y : Item). isEntry (y .kind)) (sym e) ∙ h);
+        node = λ h. d .entries (wordAt s (x .place) (x .size) .text) (ap (λ (y : Item). memb (wordAt s (y .place) (y .size) .text) (entryNames (plainAt s))) e
+            ∙ entry-known (g .listed) i l (ap (λ (y : Item). isEntry (y .kind)) (sym e) ∙ h));
         behind = behind-entry;
       }
 
-      module _ {u : ℕ} (p : u ≡ nextNode s (itemWord s x) v) (o : u < n) where
-        pub placed : Placed s n x u
+      module _ {u : ℕ} (p : u ≡ nextNode ns (itemWord s x) v) (o : u < n) where
+        pub placed : Placed s ns n x u
         placed = record {
           fits = item-fits;
           low = o;
-          own = λ h. p ∙ ap (λ (c : Bool). cond c (itemNode s (itemWord s x)) v) h;
+          own = λ h. p ∙ ap (λ (c : Bool). cond c (itemNode ns (itemWord s x)) v) h;
         }
 
         module _ {k : ℕ} (q : k ≡ cond (isEntry (x .kind)) (entry + 1) entry) {w : Walked} {edges₁ chains₁ : List ℕ}
-            (d : Drew (itemWalk s b (itemWord s x) u (rowsIn total edges)) edges chains w edges₁ chains₁) where
+            (d : Drew (itemWalk s b ns (itemWord s x) u (rowsIn total edges)) edges chains w edges₁ chains₁) where
           abbrev behind : (y : ItemOf Word) → Out Row → (k u : ℕ) → Drawing
-          behind y out k u = onOut out (λ rs. drawItems s b k u rs (itemsFrom s table (i + 1) (items - (i + 1)))) (λ number a. faulty number k a)
+          behind y out k u = onOut out (λ rs. drawItems s b ns k u rs (itemsFrom s table (i + 1) (items - (i + 1)))) (λ number a. faulty number k a)
 
-          turn : drawItems s b 0 0 [] (itemsAt s) ≡ behind (itemWord s x) (walkSeen w edges₁) k u
+          turn : drawItems s b ns 0 0 [] (itemsAt s) ≡ behind (itemWord s x) (walkSeen w edges₁) k u
           unfolding itemsFrom drawItems
           turn =
               let j : items - i ≡ suc (items - (i + 1)) = omega arith in
               g .rest
-              ∙ ap (λ (m : ℕ). drawItems s b entry v (rowsIn total edges) (itemsFrom s table i m)) j
-              ∙ ap (λ (y : Item). behind (itemWord s y) (itemWalk s b (itemWord s y) v (rowsIn total edges)) (nextEntry (itemWord s y) entry) (nextNode s (itemWord s y) v)) (sym e)
-              ∙ ap (λ (out : Out Row). behind (itemWord s x) out (nextEntry (itemWord s x) entry) (nextNode s (itemWord s x) v)) (walk-same s b (itemWord s x) v (rowsIn total edges))
-              ∙ ap₂ (λ (m z : ℕ). behind (itemWord s x) (itemWalk s b (itemWord s x) z (rowsIn total edges)) m z) (sym q) (sym p)
+              ∙ ap (λ (m : ℕ). drawItems s b ns entry v (rowsIn total edges) (itemsFrom s table i m)) j
+              ∙ ap (λ (y : Item). behind (itemWord s y) (itemWalk s b ns (itemWord s y) v (rowsIn total edges)) (nextEntry (itemWord s y) entry) (nextNode ns (itemWord s y) v)) (sym e)
+              ∙ ap (λ (out : Out Row). behind (itemWord s x) out (nextEntry (itemWord s x) entry) (nextNode ns (itemWord s x) v)) (walk-same s b ns (itemWord s x) v (rowsIn total edges))
+              ∙ ap₂ (λ (m z : ℕ). behind (itemWord s x) (itemWalk s b ns (itemWord s x) z (rowsIn total edges)) m z) (sym q) (sym p)
               ∙ ap (λ (out : Out Row). behind (itemWord s x) out k u) (sym (d .seen))
 
           module _ {store₁ imports₁ includes₁ levels₁ : List ℕ} (c : Kept allLevels store imports includes levels store₁ imports₁ includes₁ levels₁) where
@@ -261,7 +267,7 @@ module _ {s b : List ℕ} {n : ℕ} {table : List ℕ} {items : ℕ} {store₀ i
             }
 
             pub sent-out : {number : ℕ} {a : Refusal} → w ≡ Refused number a
-                → Walks s b store₀ imports₀ includes₀ levels₀ edges₀ chains₀ (DrawnRefused number k a) store₁ imports₁ includes₁ levels₁ edges₁ chains₁
+                → Walks s b ns store₀ imports₀ includes₀ levels₀ edges₀ chains₀ (DrawnRefused number k a) store₁ imports₁ includes₁ levels₁ edges₁ chains₁
             sent-out y = record {
               seen = sym (turn ∙ ap (λ (w : Walked). behind (itemWord s x) (walkSeen w edges₁) k u) y);
               filed = tt;
@@ -277,7 +283,7 @@ module _ {s b : List ℕ} {n : ℕ} {table : List ℕ} {items : ℕ} {store₀ i
                 go true z = omega (arith, g .entries)
                 go false z = omega (arith, g .entries)
 
-            pub going-on : {m : ℕ} → w ≡ Built m → Going s b n table items store₀ imports₀ includes₀ levels₀ edges₀ chains₀ store₁ imports₁ includes₁ levels₁ edges₁ chains₁ m k u (i + 1)
+            pub going-on : {m : ℕ} → w ≡ Built m → Going s b ns n table items store₀ imports₀ includes₀ levels₀ edges₀ chains₀ store₁ imports₁ includes₁ levels₁ edges₁ chains₁ m k u (i + 1)
             going-on {m} y = record {
               rest = turn ∙ ap (λ (w : Walked). behind (itemWord s x) (walkSeen w edges₁) k u) y;
               listed = g .listed;

@@ -11,10 +11,10 @@ use Rattle.library_items.specs.Items.{moduleKind, submoduleKind, augmentingKind
 use Rattle.graph.specs.Graph.{ScanAnswer, noEntryText, deepest, Entry, moduleEntry, importEntry, setEntries, entries, Out, built, refused, thenO, onOut}
 use Rattle.graph.specs.Numbers.{Row, numberOf, Codes, moduleCode, eachO, givenCode, walkCodes, walkEntryCodes, Drawing, faulty, EntryCode, drawFrom, codesAt, entryCode, drawingIn}
 use Rattle.graph.specs.Limits.{mostEdges}
-use Rattle.graph_nodes.specs.Adding.{isEntry, plainAt, namesAt}
+use Rattle.graph_nodes.specs.Adding.{isEntry, plainAt}
 use Rattle.graph_nodes.specs.Marks.{knownAt}
 use Rattle.graph_walk.specs.Walk.{worldOf, codesHere}
-use Rattle.yanglib.specs.Entries.{isListed, itemWalk, drawItems}
+use Rattle.graph_entries.specs.Entries.{isListed, itemWalk, drawItems}
 
 -- ---- one after another
 
@@ -37,17 +37,17 @@ each-append f (x ∷ xs) ys rs = go (f x rs) (each-append f xs ys)
     go (built rs₁) ih = ih rs₁
     go (refused n a) ih = refl
 
-module _ (s b : List ℕ) where
+module _ (s b : List ℕ) (ns : List Name) where
   abbrev code : Name → ℕ
-  code u = moduleCode (worldOf s b) (namesAt s) u
+  code u = moduleCode (worldOf s b ns) ns u
 
   abbrev entry : Entry → EntryCode
-  entry e = entryCode (worldOf s b) (namesAt s) e
+  entry e = entryCode (worldOf s b ns) ns e
 
   abbrev under : ℕ → Codes
-  under v = codesAt (worldOf s b) (namesAt s) v
+  under v = codesAt (worldOf s b ns) ns v
 
-  known-code : (u : Name) → knownAt s u ≡ code u
+  known-code : (u : Name) → knownAt s ns u ≡ code u
   unfolding knownAt worldOf
   known-code u = refl
 
@@ -56,33 +56,33 @@ module _ (s b : List ℕ) where
   abbrev asked : (entry listed : Bool) → (k v : ℕ) → List Row → Word → List (ItemOf Word) → Drawing
   asked e l k v rs w xs =
       onOut
-      (cond e (walkCodes (codesHere s b) mostEdges deepest noEntryText (numberOf (namesAt s) (w .text)) rs) (cond l (givenCode mostEdges v (knownAt s (w .text)) rs) (built rs)))
-      (λ rs₁. drawItems s b (cond e (k + 1) k) (cond e (numberOf (namesAt s) (w .text)) v) rs₁ xs) (λ n a. faulty n (cond e (k + 1) k) a)
+      (cond e (walkCodes (codesHere s b ns) mostEdges deepest noEntryText (numberOf ns (w .text)) rs) (cond l (givenCode mostEdges v (knownAt s ns (w .text)) rs) (built rs)))
+      (λ rs₁. drawItems s b ns (cond e (k + 1) k) (cond e (numberOf ns (w .text)) v) rs₁ xs) (λ n a. faulty n (cond e (k + 1) k) a)
 
   asks : (j : ℕ) {e l : Bool} → isEntry j ≡ e → isListed j ≡ l → (k v : ℕ) (rs : List Row) (w : Word) (xs : List (ItemOf Word))
-      → drawItems s b k v rs (item j w ∷ xs) ≡ asked e l k v rs w xs
+      → drawItems s b ns k v rs (item j w ∷ xs) ≡ asked e l k v rs w xs
   unfolding drawItems itemWalk
   asks j p q k v rs w xs = ap₂ (λ e l. asked e l k v rs w xs) p q
 
   -- ---- items that ask for nothing
 
   silent : (j k v : ℕ) (rs : List Row) → isEntry j ≡ false → isListed j ≡ false → (ws : List Word) (xs : List (ItemOf Word))
-      → drawItems s b k v rs (map (item j) ws ++ xs) ≡ drawItems s b k v rs xs
+      → drawItems s b ns k v rs (map (item j) ws ++ xs) ≡ drawItems s b ns k v rs xs
   silent j k v rs p q [] xs = refl
   silent j k v rs p q (w ∷ ws) xs = asks j p q k v rs w (map (item j) ws ++ xs) ∙ silent j k v rs p q ws xs
 
-  later-silent : (k v : ℕ) (rs : List Row) (ls : List (List Word)) (xs : List (ItemOf Word)) → drawItems s b k v rs (laterItems ls ++ xs) ≡ drawItems s b k v rs xs
+  later-silent : (k v : ℕ) (rs : List Row) (ls : List (List Word)) (xs : List (ItemOf Word)) → drawItems s b ns k v rs (laterItems ls ++ xs) ≡ drawItems s b ns k v rs xs
   unfolding flatMap
   later-silent k v rs [] xs = refl
   later-silent k v rs (l ∷ ls) xs =
-      ap (drawItems s b k v rs) (append-assoc (map (item laterSubKind) l) (laterItems ls) xs)
+      ap (drawItems s b ns k v rs) (append-assoc (map (item laterSubKind) l) (laterItems ls) xs)
       ∙ (silent laterSubKind k v rs refl refl l (laterItems ls ++ xs) ∙ later-silent k v rs ls xs)
 
   revisions-silent : (k v : ℕ) (rs : List Row) (ls : List (List Word)) (xs : List (ItemOf Word))
-      → drawItems s b k v rs (revisionItems ls ++ xs) ≡ drawItems s b k v rs xs
+      → drawItems s b ns k v rs (revisionItems ls ++ xs) ≡ drawItems s b ns k v rs xs
   revisions-silent k v rs [] xs = refl
   revisions-silent k v rs (l ∷ ls) xs =
-      ap (drawItems s b k v rs) (append-assoc (map (item firstSubKind) l) (laterItems ls) xs)
+      ap (drawItems s b ns k v rs) (append-assoc (map (item firstSubKind) l) (laterItems ls) xs)
       ∙ (silent firstSubKind k v rs refl refl l (laterItems ls ++ xs) ∙ later-silent k v rs ls xs)
 
   -- ---- items that are linked
@@ -91,27 +91,27 @@ module _ (s b : List ℕ) where
   linked v ws rs = eachO (givenCode mostEdges v) (map code (map plainName ws)) rs
 
   listed : (j k v : ℕ) → isEntry j ≡ false → isListed j ≡ true → (ws : List Word) (xs : List (ItemOf Word)) (rs : List Row)
-      → drawItems s b k v rs (map (item j) ws ++ xs) ≡ onOut (linked v ws rs) (λ rs₁. drawItems s b k v rs₁ xs) (λ n a. faulty n k a)
+      → drawItems s b ns k v rs (map (item j) ws ++ xs) ≡ onOut (linked v ws rs) (λ rs₁. drawItems s b ns k v rs₁ xs) (λ n a. faulty n k a)
   unfolding eachO
   listed j k v p q [] xs rs = refl
   listed j k v p q (w ∷ ws) xs rs =
       asks j p q k v rs w (map (item j) ws ++ xs)
-      ∙ (ap (λ c. onOut (givenCode mostEdges v c rs) (λ rs₁. drawItems s b k v rs₁ (map (item j) ws ++ xs)) (λ n a. faulty n k a)) (known-code (w .text))
+      ∙ (ap (λ c. onOut (givenCode mostEdges v c rs) (λ rs₁. drawItems s b ns k v rs₁ (map (item j) ws ++ xs)) (λ n a. faulty n k a)) (known-code (w .text))
       ∙ (out-same (givenCode mostEdges v (code (w .text)) rs) _ _ (λ n a. faulty n k a) (listed j k v p q ws xs)
-      ∙ sym (out-then (givenCode mostEdges v (code (w .text)) rs) (linked v ws) (λ rs₁. drawItems s b k v rs₁ xs) (λ n a. faulty n k a))))
+      ∙ sym (out-then (givenCode mostEdges v (code (w .text)) rs) (linked v ws) (λ rs₁. drawItems s b ns k v rs₁ xs) (λ n a. faulty n k a))))
 
   -- ---- an entry
 
   -- items and entries that draw the same, whatever comes behind
   abbrev Draws : List (ItemOf Word) → List Entry → Type 0
   Draws xs es = (ys : List (ItemOf Word)) (fs : List Entry)
-      → ((k v : ℕ) (rs : List Row) → drawItems s b k v rs ys ≡ drawFrom under mostEdges (k + 1) rs (map entry fs))
-      → (k v : ℕ) (rs : List Row) → drawItems s b k v rs (xs ++ ys) ≡ drawFrom under mostEdges (k + 1) rs (map entry (es ++ fs))
+      → ((k v : ℕ) (rs : List Row) → drawItems s b ns k v rs ys ≡ drawFrom under mostEdges (k + 1) rs (map entry fs))
+      → (k v : ℕ) (rs : List Row) → drawItems s b ns k v rs (xs ++ ys) ≡ drawFrom under mostEdges (k + 1) rs (map entry (es ++ fs))
 
   -- what comes behind an entry's item is what it lists
   entry-draws : (j : ℕ) (w : Word) (us : List Name) (xs : List (ItemOf Word)) → isEntry j ≡ true
-      → ((k : ℕ) (ys : List (ItemOf Word)) (rs : List Row) → drawItems s b k (numberOf (namesAt s) (w .text)) rs (xs ++ ys)
-      ≡ onOut (eachO (givenCode mostEdges (numberOf (namesAt s) (w .text))) (map code us) rs) (λ rs₁. drawItems s b k (numberOf (namesAt s) (w .text)) rs₁ ys) (λ n a. faulty n k a))
+      → ((k : ℕ) (ys : List (ItemOf Word)) (rs : List Row) → drawItems s b ns k (numberOf ns (w .text)) rs (xs ++ ys)
+      ≡ onOut (eachO (givenCode mostEdges (numberOf ns (w .text))) (map code us) rs) (λ rs₁. drawItems s b ns k (numberOf ns (w .text)) rs₁ ys) (λ n a. faulty n k a))
       → Draws (item j w ∷ xs) (record { name = w .text; lists = us } ∷ [])
   unfolding codesHere drawFrom walkEntryCodes
   entry-draws j w us xs p behind ys fs h k v rs =
@@ -121,7 +121,7 @@ module _ (s b : List ℕ) where
       ∙ sym (out-then walked (eachO (givenCode mostEdges node) (map code us)) (λ rs₁. drawFrom under mostEdges (k + 1 + 1) rs₁ (map entry fs)) (λ n a. faulty n (k + 1) a)))
     where
       node : ℕ
-      node = numberOf (namesAt s) (w .text)
+      node = numberOf ns (w .text)
 
       walked : Out Row
       walked = walkCodes under mostEdges deepest noEntryText node rs
@@ -140,7 +140,7 @@ module _ (s b : List ℕ) where
       devs = map (item deviationKind) (m .deviations)
 
       node : ℕ
-      node = numberOf (namesAt s) (m .name .text)
+      node = numberOf ns (m .name .text)
 
       joined : (rs : List Row) → eachO (givenCode mostEdges node) (map code (map plainName (m .augmenting) ++ map plainName (m .deviations))) rs
           ≡ thenO (linked node (m .augmenting) rs) (linked node (m .deviations))
@@ -148,27 +148,27 @@ module _ (s b : List ℕ) where
           ap (λ cs. eachO (givenCode mostEdges node) cs rs) (map-append code (map plainName (m .augmenting)) (map plainName (m .deviations)))
           ∙ each-append (givenCode mostEdges node) (map code (map plainName (m .augmenting))) (map code (map plainName (m .deviations))) rs
 
-      lists : (k : ℕ) (ys : List (ItemOf Word)) (rs : List Row) → drawItems s b k node rs ((subs ++ (augs ++ devs)) ++ ys)
-          ≡ onOut (eachO (givenCode mostEdges node) (map code (map plainName (m .augmenting) ++ map plainName (m .deviations))) rs) (λ rs₁. drawItems s b k node rs₁ ys) (λ n a. faulty n k a)
+      lists : (k : ℕ) (ys : List (ItemOf Word)) (rs : List Row) → drawItems s b ns k node rs ((subs ++ (augs ++ devs)) ++ ys)
+          ≡ onOut (eachO (givenCode mostEdges node) (map code (map plainName (m .augmenting) ++ map plainName (m .deviations))) rs) (λ rs₁. drawItems s b ns k node rs₁ ys) (λ n a. faulty n k a)
       lists k ys rs =
-          ap (drawItems s b k node rs) (append-assoc subs (augs ++ devs) ys ∙ ap (λ xs. subs ++ xs) (append-assoc augs devs ys))
+          ap (drawItems s b ns k node rs) (append-assoc subs (augs ++ devs) ys ∙ ap (λ xs. subs ++ xs) (append-assoc augs devs ys))
           ∙ (silent submoduleKind k node rs refl refl (m .submodules) (augs ++ (devs ++ ys))
           ∙ (listed augmentingKind k node refl refl (m .augmenting) (devs ++ ys) rs
           ∙ (out-same (linked node (m .augmenting) rs) _ _ (λ n a. faulty n k a) (listed deviationKind k node refl refl (m .deviations) ys)
-          ∙ (sym (out-then (linked node (m .augmenting) rs) (linked node (m .deviations)) (λ rs₁. drawItems s b k node rs₁ ys) (λ n a. faulty n k a))
-          ∙ ap (λ o. onOut o (λ rs₁. drawItems s b k node rs₁ ys) (λ n a. faulty n k a)) (sym (joined rs))))))
+          ∙ (sym (out-then (linked node (m .augmenting) rs) (linked node (m .deviations)) (λ rs₁. drawItems s b ns k node rs₁ ys) (λ n a. faulty n k a))
+          ∙ ap (λ o. onOut o (λ rs₁. drawItems s b ns k node rs₁ ys) (λ n a. faulty n k a)) (sym (joined rs))))))
 
   import-draws : (i : ImportOnly) → Draws (importItems i) (importEntry (plainImportOnly i) ∷ [])
   unfolding eachO
   import-draws i =
       entry-draws importOnlyKind (i .name) [] (revisionItems (i .revisions)) refl
-      (λ k ys rs. revisions-silent k (numberOf (namesAt s) (i .name .text)) rs (i .revisions) ys)
+      (λ k ys rs. revisions-silent k (numberOf ns (i .name .text)) rs (i .revisions) ys)
 
   -- ---- all of them
 
   draws-append : (xs ys : List (ItemOf Word)) (es fs : List Entry) → Draws xs es → Draws ys fs → Draws (xs ++ ys) (es ++ fs)
   draws-append xs ys es fs f g zs hs h k v rs =
-      ap (drawItems s b k v rs) (append-assoc xs ys zs)
+      ap (drawItems s b ns k v rs) (append-assoc xs ys zs)
       ∙ (f (ys ++ zs) (fs ++ hs) (g zs hs h) k v rs ∙ ap (λ l. drawFrom under mostEdges (k + 1) rs (map entry l)) (sym (append-assoc es fs hs)))
 
   each-draws : {A B : Type 0} (f : A → List (ItemOf Word)) (p : A → B) (g : B → Entry) → ((a : A) → Draws (f a) (g (p a) ∷ []))
@@ -188,9 +188,9 @@ module _ (s b : List ℕ) where
   sets-draw [] = λ ys fs e. e
   sets-draw (x ∷ l) = draws-append (setItems x) (flatMap setItems l) (setEntries (plainSet x)) (entries (map plainSet l)) (set-draws x) (sets-draw l)
 
-  pub items-drawn : drawItems s b 0 0 [] (itemsAt s) ≡ drawingIn (worldOf s b) (namesAt s) mostEdges (entries (plainAt s))
+  pub items-drawn : drawItems s b ns 0 0 [] (itemsAt s) ≡ drawingIn (worldOf s b ns) ns mostEdges (entries (plainAt s))
   unfolding itemsOf drawingIn drawItems drawFrom
   items-drawn =
-      ap (drawItems s b 0 0 []) (sym (append-nil (flatMap setItems (libraryOf s))))
+      ap (drawItems s b ns 0 0 []) (sym (append-nil (flatMap setItems (libraryOf s))))
       ∙ (sets-draw (libraryOf s) [] [] (λ k v rs. refl) 0 0 []
       ∙ ap (λ l. drawFrom under mostEdges 1 [] (map entry l)) (append-nil (entries (plainAt s))))

@@ -8,6 +8,8 @@ use mathlib.Core.List.{List, [], _∷_}
 use lib.ListN.{length}
 use lib.Dec.{eqb}
 use Rattle.library_form.specs.Form.{Word, wordAt}
+use Rattle.library_image.specs.Library.{Name}
+use Rattle.library_index.specs.Names.{namesIn}
 use Rattle.library_items.specs.declared.Item.{Item}
 use Rattle.library_items.specs.Table.{itemWord, ItemFits}
 use Rattle.library_items.specs.Items.{augmentingKind, deviationKind, ItemOf, itemsAt}
@@ -16,36 +18,36 @@ use Rattle.graph.specs.Nodes.{memb}
 use Rattle.graph.specs.Numbers.{Row, numberOf, givenCode, walkCodes, Drawing, drawn, faulty}
 use Rattle.graph.specs.Limits.{mostEdges}
 use Rattle.graph_edges.specs.Edges.{rowsIn, Filed}
-use Rattle.graph_nodes.specs.Adding.{isEntry, wordsAt, namesAt, Holding}
+use Rattle.graph_nodes.specs.Adding.{isEntry, namesHeld, Holding}
 use Rattle.graph_nodes.specs.Marks.{knownAt}
 use Rattle.graph_walk.specs.Walk.{codesHere, Kept}
-use Rattle.yanglib.specs.declared.Drawn.{Drawn}
-use Rattle.yanglib.specs.declared.Drawn.the-variants.{Built, Refused}
+use Rattle.graph_entries.specs.declared.Drawn.{Drawn}
+use Rattle.graph_entries.specs.declared.Drawn.the-variants.{Built, Refused}
 
 abbrev pub isListed : ℕ → Bool
 isListed k = eqb k augmentingKind || eqb k deviationKind
 
--- the node of an item's name
-abbrev pub itemNode : List ℕ → ItemOf Word → ℕ
-itemNode s x = numberOf (namesAt s) (x .name .text)
+-- the node of an item's name; ns: the names of the nodes
+abbrev pub itemNode : List Name → ItemOf Word → ℕ
+itemNode ns x = numberOf ns (x .name .text)
 
 -- what one item asks; v: the node of the entry that it belongs to
-unfoldable pub itemWalk : (image bundle : List ℕ) → ItemOf Word → (v : ℕ) → List Row → Out Row
-itemWalk s b x v rs =
-    cond (isEntry (x .kind)) (walkCodes (codesHere s b) mostEdges deepest noEntryText (itemNode s x) rs)
-    (cond (isListed (x .kind)) (givenCode mostEdges v (knownAt s (x .name .text)) rs) (built rs))
+unfoldable pub itemWalk : (image bundle : List ℕ) → (ns : List Name) → ItemOf Word → (v : ℕ) → List Row → Out Row
+itemWalk s b ns x v rs =
+    cond (isEntry (x .kind)) (walkCodes (codesHere s b ns) mostEdges deepest noEntryText (itemNode ns x) rs)
+    (cond (isListed (x .kind)) (givenCode mostEdges v (knownAt s ns (x .name .text)) rs) (built rs))
 
-abbrev pub nextNode : List ℕ → ItemOf Word → ℕ → ℕ
-nextNode s x v = cond (isEntry (x .kind)) (itemNode s x) v
+abbrev pub nextNode : List Name → ItemOf Word → ℕ → ℕ
+nextNode ns x v = cond (isEntry (x .kind)) (itemNode ns x) v
 
 abbrev pub nextEntry : ItemOf Word → ℕ → ℕ
 nextEntry x k = cond (isEntry (x .kind)) (k + 1) k
 
 -- k: the entries so far
-unfoldable pub drawItems : (image bundle : List ℕ) → (k v : ℕ) → List Row → List (ItemOf Word) → Drawing
-drawItems s b k v rs [] = drawn rs
-drawItems s b k v rs (x ∷ xs) =
-    onOut (itemWalk s b x v rs) (λ rs₁. drawItems s b (nextEntry x k) (nextNode s x v) rs₁ xs) (λ n a. faulty n (nextEntry x k) a)
+unfoldable pub drawItems : (image bundle : List ℕ) → (ns : List Name) → (k v : ℕ) → List Row → List (ItemOf Word) → Drawing
+drawItems s b ns k v rs [] = drawn rs
+drawItems s b ns k v rs (x ∷ xs) =
+    onOut (itemWalk s b ns x v rs) (λ rs₁. drawItems s b ns (nextEntry x k) (nextNode ns x v) rs₁ xs) (λ n a. faulty n (nextEntry x k) a)
 
 abbrev pub drawnSeen : Drawn → List ℕ → Drawing
 drawnSeen (Built n) edges = drawn (rowsIn n edges)
@@ -63,20 +65,20 @@ allLevels = 2304
 
 -- an item and the node before it: an entry's name is a node, and what is no entry stands behind one
 pub record Next (s tab : List ℕ) (n : ℕ) (x : Item) (v : ℕ) : Type 0 where
-  pub holding : Holding s tab n (wordsAt s)
+  pub holding : Holding s tab n (namesIn s tab n)
   pub fits : ItemFits s x
-  pub node : isEntry (x .kind) ≡ true → memb (wordAt s (x .place) (x .size) .text) (namesAt s) ≡ true
+  pub node : isEntry (x .kind) ≡ true → memb (wordAt s (x .place) (x .size) .text) (namesHeld s tab n) ≡ true
   pub behind : isEntry (x .kind) ≡ false → v < n
 
 -- an item with the node of its entry
-pub record Placed (s : List ℕ) (n : ℕ) (x : Item) (v : ℕ) : Type 0 where
+pub record Placed (s : List ℕ) (ns : List Name) (n : ℕ) (x : Item) (v : ℕ) : Type 0 where
   pub fits : ItemFits s x
   pub low : v < n
-  pub own : isEntry (x .kind) ≡ true → v ≡ itemNode s (itemWord s x)
+  pub own : isEntry (x .kind) ≡ true → v ≡ itemNode ns (itemWord s x)
 
 -- all items were walked, or up to the first refusal; the tables are as long as before
-pub record Walks (s b store imports includes levels edges chains : List ℕ) (r : Drawn) (store₁ imports₁ includes₁ levels₁ edges₁ chains₁ : List ℕ) : Type 0 where
-  pub seen : drawnSeen r edges₁ ≡ drawItems s b 0 0 [] (itemsAt s)
+pub record Walks (s b : List ℕ) (ns : List Name) (store imports includes levels edges chains : List ℕ) (r : Drawn) (store₁ imports₁ includes₁ levels₁ edges₁ chains₁ : List ℕ) : Type 0 where
+  pub seen : drawnSeen r edges₁ ≡ drawItems s b ns 0 0 [] (itemsAt s)
   pub filed : DrawnFiled r edges₁ chains₁
   pub kept-edges : length edges₁ ≡ length edges
   pub kept-chains : length chains₁ ≡ length chains

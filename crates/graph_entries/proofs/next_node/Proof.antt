@@ -1,9 +1,9 @@
--- `yanglib::next_node`. Each way out is one law of Going.
+-- `graph_entries::next_node`. Each way out is one law of Going.
 -- Assumes nothing.
 use borrow.Author.Needs.{needs}
-use Rattle.yanglib.proofs.Going.{entry-stands, node-own, node-kept, node-behind}
-use Rattle.yanglib.proofs.next_node.Statement.{statement}
-use Rattle.yanglib.proofs.next_node.Tie as tie
+use Rattle.graph_entries.proofs.Going.{entry-stands, node-own, node-kept, node-behind}
+use Rattle.graph_entries.proofs.next_node.Statement.{statement}
+use Rattle.graph_entries.proofs.next_node.Tie as tie
 
 node-at-requires : tie.Need-node-at-requires
 node-at-requires c κs = search entry-stands

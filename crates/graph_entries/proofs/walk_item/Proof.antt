@@ -1,9 +1,9 @@
--- `yanglib::walk_item`. Each way out is one law of Going.
+-- `graph_entries::walk_item`. Each way out is one law of Going.
 -- Assumes nothing.
 use borrow.Author.Needs.{needs}
-use Rattle.yanglib.proofs.Going.{item-walked, item-linked, item-silent, kept-same}
-use Rattle.yanglib.proofs.walk_item.Statement.{statement}
-use Rattle.yanglib.proofs.walk_item.Tie as tie
+use Rattle.graph_entries.proofs.Going.{item-walked, item-linked, item-silent, kept-same}
+use Rattle.graph_entries.proofs.walk_item.Statement.{statement}
+use Rattle.graph_entries.proofs.walk_item.Tie as tie
 
 returns : tie.Need-returns
 returns c = (search item-walked, search needs)

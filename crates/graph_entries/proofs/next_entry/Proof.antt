@@ -1,9 +1,9 @@
--- `yanglib::next_entry`. Each way out is one law of Going.
+-- `graph_entries::next_entry`. Each way out is one law of Going.
 -- Assumes nothing.
 use borrow.Author.Needs.{needs}
-use Rattle.yanglib.proofs.Going.{entry-more, entry-same}
-use Rattle.yanglib.proofs.next_entry.Statement.{statement}
-use Rattle.yanglib.proofs.next_entry.Tie as tie
+use Rattle.graph_entries.proofs.Going.{entry-more, entry-same}
+use Rattle.graph_entries.proofs.next_entry.Statement.{statement}
+use Rattle.graph_entries.proofs.next_entry.Tie as tie
 
 returns : tie.Need-returns
 returns c = search entry-more
