@@ -10,6 +10,9 @@ ghost use Rattle.graph_edges.specs.Edges.{buckets, bucketOf, rowAt, rows
 // How many words the edge table has.
 pub const EDGE_TABLE: usize = 16384;
 
+// How many words the chains have: a head for each chain, behind the heads a link for each edge.
+pub const CHAIN_TABLE: usize = 16384;
+
 // How many chains there are, and a factor that spreads the edges over them. It is odd, so that edges to one node are in different chains.
 const BUCKETS: usize = 8192;
 

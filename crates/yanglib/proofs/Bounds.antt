@@ -25,7 +25,7 @@ use Rattle.library_read.specs.Reading.{onAns}
 use Rattle.library_bundle.specs.Bundle.{Text, bundleBroken, bundleAt, lookIn, lookUp}
 use Rattle.library_bundle.specs.Reading.{longestText}
 use Rattle.library_bundle.proofs.LookBounds.{broken-in, stands-in}
-use Rattle.graph.specs.Nodes.{passOver, nodesOf}
+use Rattle.graph.specs.Nodes.{Mode, nodesOf}
 use Rattle.graph.specs.Graph.{ScanAnswer, nought, Text as Words, refusing, Entry, moduleEntry, importEntry, setEntries, entries, Graph, graph, fault, graphOf}
 use Rattle.graph.specs.Meaning.{FirstAt, Fault, entry-missing, include-missing, scan-refused, import-unknown, listed-unknown, include-unknown, include-no-node, too-deep, Cause, names, by-fault, edges}
 use Rattle.graph.proofs.Demand.{demand3}
@@ -93,14 +93,14 @@ entries-few s bytes h = subst (λ l. length (entries (plain l)) ≤ 65536) (sym 
 
 -- ---- the graph
 
-module _ (text : Name → Words) (l : PlainLibrary) where
-  first-low : (k : ℕ) (x : Entry) → FirstAt passOver text l k x → k ≤ length (entries l)
+module _ (mode : Mode) (text : Name → Words) (l : PlainLibrary) where
+  first-low : (k : ℕ) (x : Entry) → FirstAt mode text l k x → k ≤ length (entries l)
   first-low k x f =
       let n : length (entries l) ≡ length (f .before) + length (x ∷ f .after) = ap length (f .order) ∙ length-append (f .before) (x ∷ f .after) in
       omega (arith, f .number)
 
   module _ (low : (v : Name) (a : Refusal) → text v ≡ refusing a → a .at ≤ 16777216) where
-    fault-low : (x : Entry) {n : ℕ} {a : ScanAnswer} → Fault passOver text l x n a → a .at ≤ 16777216
+    fault-low : (x : Entry) {n : ℕ} {a : ScanAnswer} → Fault mode text l x n a → a .at ≤ 16777216
     fault-low x (entry-missing e) = omega arith
     fault-low x (include-missing r f e) = omega arith
     fault-low x (scan-refused {v = v} {a = a} r e) = low v a e
@@ -110,37 +110,37 @@ module _ (text : Name → Words) (l : PlainLibrary) where
     fault-low x (include-no-node r i m u) = omega arith
     fault-low x (too-deep r f) = omega arith
 
-    cause-low : {n k : ℕ} {a : ScanAnswer} → Cause passOver text l mostNodes mostEdges n k a → (k ≤ length (entries l)) × (a .at ≤ 16777216)
+    cause-low : {n k : ℕ} {a : ScanAnswer} → Cause mode text l mostNodes mostEdges n k a → (k ≤ length (entries l)) × (a .at ≤ 16777216)
     cause-low (names h) = (omega arith, omega arith)
     cause-low (by-fault {k = k} x f g) = (first-low k x f, fault-low x g)
     cause-low (edges {k = k} x f es d m h) = (first-low k x f, omega arith)
 
-module _ (s b : List ℕ) (bytes : AllBytes s) (reads : Reads (imageAt s)) where
+module _ (mode : Mode) (s b : List ℕ) (bytes : AllBytes s) (reads : Reads (imageAt s)) where
   abbrev whole : Graph
-  whole = graphOf passOver mostNodes mostEdges (textOf b) (plainAt s)
+  whole = graphOf mode mostNodes mostEdges (textOf b) (plainAt s)
 
-  graph-fits : (g : Graph) → whole ≡ g → AnswerFits (resultOf (wordsAt s) g .answer)
+  graph-fits : (g : Graph) → whole ≡ g → AnswerFits (resultOf (wordsAt mode s) g .answer)
   unfolding AnswerFits
   graph-fits (graph ns es) h =
-      let d = demand3 passOver mostNodes mostEdges (textOf b) in
+      let d = demand3 mode mostNodes mostEdges (textOf b) in
       let r = d .right (plainAt s) ns es h in
       let o = d .built (plainAt s) .0 (ns, es, h) in
-      let n : length ns ≡ length (nodesOf passOver (plainAt s)) = ap length (r .nodes) in
+      let n : length ns ≡ length (nodesOf mode (plainAt s)) = ap length (r .nodes) in
       (omega (arith, o .nodes), o .edges es (r .edges-differ) (λ e m. r .exact (e .from) (e .to) .0 m))
   graph-fits (fault n k a) h =
-      let c = cause-low (textOf b) (plainAt s) (text-low b) (demand3 passOver mostNodes mostEdges (textOf b) .refused (plainAt s) n k a h) in
+      let c = cause-low mode (textOf b) (plainAt s) (text-low b) (demand3 mode mostNodes mostEdges (textOf b) .refused (plainAt s) n k a h) in
       (omega (arith, c .0, entries-few s bytes reads), c .1, omega arith)
 
-pub answer-fits : (s b : List ℕ) → AllBytes s → (k : Lengths) → AnswerFits (graphed s b k .answer)
+pub answer-fits : (mode : Mode) (s b : List ℕ) → AllBytes s → (k : Lengths) → AnswerFits (graphed mode s b k .answer)
 unfolding graphed AnswerFits
-answer-fits s b bytes k = image (imageAt s) refl
+answer-fits mode s b bytes k = image (imageAt s) refl
   where
     tail : Result
-    tail = resultOf (wordsAt s) (graphOf passOver mostNodes mostEdges (textOf b) (plainAt s))
+    tail = resultOf (wordsAt mode s) (graphOf mode mostNodes mostEdges (textOf b) (plainAt s))
 
     lent : Reads (imageAt s) → (t : Bool) → AnswerFits (cond t (refusal lentTooShort 0 nought 0) tail .answer)
     lent h true = (omega arith, omega arith, omega arith)
-    lent h false = graph-fits s b bytes h (graphOf passOver mostNodes mostEdges (textOf b) (plainAt s)) refl
+    lent h false = graph-fits mode s b bytes h (graphOf mode mostNodes mostEdges (textOf b) (plainAt s)) refl
 
     bundle : Reads (imageAt s) → (y : Ans (List Text)) → bundleAt b ≡ y
         → AnswerFits (onRead y (refusal bundleBroken 0 nought) (cond (tooShort (longestText b) k) (refusal lentTooShort 0 nought 0) tail) .answer)

@@ -1,6 +1,4 @@
 pub mod Bounds
-pub mod Drawing
-pub mod Going
 pub mod Outcome
 pub mod Short
 pub mod Tables

@@ -13,7 +13,7 @@ use Rattle.library_image.specs.Image.{imageAt}
 use Rattle.library_read.specs.Reading.{onAns}
 use Rattle.library_items.specs.Items.{libraryOf, itemsAt}
 use Rattle.library_items.specs.Table.{Reads}
-use Rattle.graph.specs.Nodes.{passOver, nodesOf}
+use Rattle.graph.specs.Nodes.{Mode, nodesOf}
 use Rattle.graph.specs.Graph.{nought, tooManyNodes, Edge, entries, entrySteps, world, Graph, graph, fault, walkOf, graphOf}
 use Rattle.graph.specs.Numbers.{rowOf, Drawing, drawn, faulty, drawingOf, numbered}
 use Rattle.graph.specs.Meaning.{Revised}
@@ -22,27 +22,28 @@ use Rattle.graph.proofs.Revised.{image-revised}
 use Rattle.graph.proofs.Runs.{walk-run}
 use Rattle.graph.proofs.Drawing.{drawing}
 use Rattle.graph.specs.Limits.{mostEdges, mostNodes}
-use Rattle.graph_nodes.specs.Adding.{plainAt, wordsAt, namesAt}
+use Rattle.graph_nodes.specs.Adding.{plainAt, wordsAt}
 use Rattle.graph_texts.specs.Texts.{textOf}
 use Rattle.graph_walk.specs.Walk.{worldOf}
-use Rattle.yanglib.specs.Entries.{drawItems}
+use Rattle.graph_entries.specs.Entries.{drawItems}
 use Rattle.yanglib.specs.ToGraph.{Result, refusal, resultOf}
 use Rattle.yanglib.specs.declared.Graphed.the-variants.{Built}
-use Rattle.yanglib.proofs.Drawing.{items-drawn}
+use Rattle.graph_entries.proofs.Drawing.{items-drawn}
 
 -- what is answered and left for a drawing between these nodes
 abbrev pub drawingResult : List Word → Drawing → Result
 drawingResult ws (drawn rs) = record { answer = Built (length ws) (length rs); nodes = ws; rows = rs }
 drawingResult ws (faulty number entry a) = refusal number entry a 0
 
+module _ (mode : Mode) (s : List ℕ) where
+  nodes-named : map plainName (wordsAt mode s) ≡ nodesOf mode (plainAt s)
+  unfolding wordsAt
+  nodes-named = node-names mode (libraryOf s)
+
+  nodes-long : length (nodesOf mode (plainAt s)) ≡ length (wordsAt mode s)
+  nodes-long = ap length (sym nodes-named) ∙ length-map (wordsAt mode s) plainName
+
 module _ (s : List ℕ) where
-  pub nodes-named : map plainName (wordsAt s) ≡ namesAt s
-  unfolding wordsAt namesAt
-  nodes-named = node-names passOver (libraryOf s)
-
-  pub nodes-long : length (namesAt s) ≡ length (wordsAt s)
-  nodes-long = ap length (sym nodes-named) ∙ length-map (wordsAt s) plainName
-
   pub image-here : (h : Reads (imageAt s)) → libraryOf s ≡ h .value
   unfolding libraryOf
   image-here h = ap (λ r. onAns r (λ l n. l) (λ p. [])) (h .read)
@@ -50,39 +51,38 @@ module _ (s : List ℕ) where
   pub revised-here : Reads (imageAt s) → AllBytes s → Revised (plainAt s)
   revised-here h bytes = subst (λ l. Revised (plain l)) (sym (image-here h)) (image-revised s (h .read) bytes)
 
-module _ (s b : List ℕ) (reads : Reads (imageAt s)) (bytes : AllBytes s) where
+module _ (mode : Mode) (s b : List ℕ) (reads : Reads (imageAt s)) (bytes : AllBytes s) where
   abbrev items : Drawing
-  items = drawItems s b 0 0 [] (itemsAt s)
+  items = drawItems s b (nodesOf mode (plainAt s)) 0 0 [] (itemsAt s)
 
   abbrev walked : Graph
-  walked = walkOf passOver mostEdges (textOf b) (plainAt s)
+  walked = walkOf mode mostEdges (textOf b) (plainAt s)
 
-  drawing-items : drawingOf passOver mostEdges (textOf b) (plainAt s) ≡ items
-  unfolding drawingOf worldOf namesAt
-  drawing-items = sym (items-drawn s b)
+  drawing-items : drawingOf mode mostEdges (textOf b) (plainAt s) ≡ items
+  unfolding drawingOf worldOf
+  drawing-items = sym (items-drawn s b (nodesOf mode (plainAt s)))
 
   walk-drawn : numbered walked ≡ items
-  walk-drawn = drawing passOver mostEdges (textOf b) (plainAt s) (revised-here s reads bytes) ∙ drawing-items
+  walk-drawn = drawing mode mostEdges (textOf b) (plainAt s) (revised-here s reads bytes) ∙ drawing-items
 
-  walk-nodes : (ns : List Name) (es : List Edge) → walked ≡ graph ns es → namesAt s ≡ ns
-  unfolding namesAt
+  walk-nodes : (ns : List Name) (es : List Edge) → walked ≡ graph ns es → nodesOf mode (plainAt s) ≡ ns
   walk-nodes ns es h =
-      walk-run (entrySteps (world passOver (textOf b) (plainAt s))) mostEdges (nodesOf passOver (plainAt s)) (entries (plainAt s)) 1 [] h .0
+      walk-run (entrySteps (world mode (textOf b) (plainAt s))) mostEdges (nodesOf mode (plainAt s)) (entries (plainAt s)) 1 [] h .0
 
-  walk-result : (g : Graph) → walked ≡ g → resultOf (wordsAt s) g ≡ drawingResult (wordsAt s) (numbered g)
+  walk-result : (g : Graph) → walked ≡ g → resultOf (wordsAt mode s) g ≡ drawingResult (wordsAt mode s) (numbered g)
   walk-result (graph ns es) h =
-      let p : length ns ≡ length (wordsAt s) = ap length (sym (walk-nodes ns es h)) ∙ nodes-long s in
+      let p : length ns ≡ length (wordsAt mode s) = ap length (sym (walk-nodes ns es h)) ∙ nodes-long mode s in
       let q : length es ≡ length (map (rowOf ns) es) = sym (length-map es (rowOf ns)) in
-      ap₂ (λ n e. record { answer = Built n e; nodes = wordsAt s; rows = map (rowOf ns) es }) p q
+      ap₂ (λ n e. record { answer = Built n e; nodes = wordsAt mode s; rows = map (rowOf ns) es }) p q
   walk-result (fault n k a) h = refl
 
-  pub graph-result : resultOf (wordsAt s) (graphOf passOver mostNodes mostEdges (textOf b) (plainAt s))
-      ≡ cond (ltb mostNodes (length (wordsAt s))) (refusal tooManyNodes 0 nought 0) (drawingResult (wordsAt s) (drawItems s b 0 0 [] (itemsAt s)))
-  unfolding graphOf namesAt
+  pub graph-result : resultOf (wordsAt mode s) (graphOf mode mostNodes mostEdges (textOf b) (plainAt s))
+      ≡ cond (ltb mostNodes (length (wordsAt mode s))) (refusal tooManyNodes 0 nought 0) (drawingResult (wordsAt mode s) items)
+  unfolding graphOf
   graph-result =
-      go (ltb mostNodes (length (nodesOf passOver (plainAt s))))
-      ∙ ap (λ n. cond (ltb mostNodes n) (refusal tooManyNodes 0 nought 0) (drawingResult (wordsAt s) items)) (nodes-long s)
+      go (ltb mostNodes (length (nodesOf mode (plainAt s))))
+      ∙ ap (λ n. cond (ltb mostNodes n) (refusal tooManyNodes 0 nought 0) (drawingResult (wordsAt mode s) items)) (nodes-long mode s)
     where
-      go : (t : Bool) → resultOf (wordsAt s) (cond t (fault tooManyNodes 0 nought) walked) ≡ cond t (refusal tooManyNodes 0 nought 0) (drawingResult (wordsAt s) items)
+      go : (t : Bool) → resultOf (wordsAt mode s) (cond t (fault tooManyNodes 0 nought) walked) ≡ cond t (refusal tooManyNodes 0 nought 0) (drawingResult (wordsAt mode s) items)
       go true = refl
-      go false = walk-result walked refl ∙ ap (drawingResult (wordsAt s)) walk-drawn
+      go false = walk-result walked refl ∙ ap (drawingResult (wordsAt mode s)) walk-drawn

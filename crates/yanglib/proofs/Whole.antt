@@ -12,6 +12,7 @@ use Rattle.text_lent.specs.Padded.{zeros, padded}
 use Rattle.text_lent.proofs.Clears.{padded-none}
 use Rattle.text_lent.proofs.Zeros.{zeros-zero}
 use Rattle.library_form.specs.Writer.{AllBytes}
+use Rattle.library_image.specs.Library.{Name}
 use Rattle.library_image.specs.Image.{imageAt}
 use Rattle.library_image.proofs.ImageLaws.{accepted}
 use Rattle.library_bundle.specs.Reading.{OpenedAs, longestText}
@@ -22,27 +23,29 @@ use Rattle.library_read.specs.declared.Read.{Read}
 use Rattle.library_read.specs.declared.Read.the-variants.{End, Wrong}
 use Rattle.library_items.specs.Items.{itemsAt}
 use Rattle.library_items.specs.Table.{Itemized}
+use Rattle.graph.specs.Nodes.{Mode}
 use Rattle.graph.specs.Graph.{nought}
 use Rattle.graph_edges.specs.Edges.{rowsIn, Filed}
 use Rattle.graph_edges.proofs.Chains.{empty-filed}
 use Rattle.graph.specs.Limits.{mostNodes}
-use Rattle.graph_nodes.specs.Adding.{wordsAt, Holding, Constructed}
+use Rattle.graph_nodes.specs.Adding.{wordsAt, namesHeld, Holding, Constructed}
 use Rattle.graph_nodes.specs.Marks.{Marked}
 use Rattle.graph_nodes.specs.declared.Nodes.{Nodes}
 use Rattle.graph_nodes.specs.declared.Nodes.the-variants.{Count, TooMany}
-use Rattle.graph_nodes.proofs.Looking.{Bytes}
+use Rattle.graph_nodes.proofs.Looking.{Bytes, as-held, held-entries}
 use Rattle.graph_walk.specs.Walk.{Ground, Tables}
-use Rattle.yanglib.specs.Entries.{Walks, drawnSeen}
+use Rattle.graph_walk.specs.declared.Sizes.{Sizes}
+use Rattle.graph_entries.specs.Entries.{Walks, drawnSeen}
 use Rattle.yanglib.specs.NodeTable.{Puts, Named}
 use Rattle.yanglib.specs.ToGraph.{Lengths, lengthsOf, tooShort, Result, refusal, graphed, nodeWords, rowWords, Leaves}
 use Rattle.yanglib.specs.Between.{BothRead, Prepared, Lent, LentNodes, Edged, drawResult, Holds}
-use Rattle.yanglib.specs.declared.Drawn.{Drawn}
-use Rattle.yanglib.specs.declared.Drawn.the-variants.{Built as DrawnBuilt, Refused as DrawnRefused}
+use Rattle.graph_entries.specs.declared.Drawn.{Drawn}
+use Rattle.graph_entries.specs.declared.Drawn.the-variants.{Built as DrawnBuilt, Refused as DrawnRefused}
 use Rattle.yanglib.specs.declared.Graphed.{Graphed}
 use Rattle.yanglib.specs.declared.Graphed.the-variants.{Built, Refused}
 use Rattle.yanglib.proofs.Tables.{rows-table}
 use Rattle.yanglib.proofs.Short.{Enough, long-enough}
-use Rattle.yanglib.proofs.Going.{kept-same}
+use Rattle.graph_entries.proofs.Going.{kept-same}
 use Rattle.yanglib.proofs.Ways.{image-reads, image-wrong, bundle-wrong, too-little, enough, Ready, too-many, draw-refused, draw-built, nodes-asked, nodes-laid}
 
 no-nodes : (n : ℕ) → zeros n ≡ padded n (nodeWords [])
@@ -58,9 +61,9 @@ all-bytes s b k = omega (arith, b k)
 
 -- ---- `draw_edges`
 
-module _ {s b btab : List ℕ} {texts : ℕ} {ntab : List ℕ} {n : ℕ} {table : List ℕ} {count : ℕ} (p : Prepared s b btab texts ntab n table count) where
-  pub grounded : {marks : List ℕ} → Marked s ntab n (itemsAt s) marks → Ground s b btab texts ntab n marks
-  grounded m = record { desk = record { reads = p .opened .reads; holding = p .holding; marked = m }; held = p .opened .held }
+pub grounded : {s b btab ntab : List ℕ} {sizes : Sizes} {table : List ℕ} {count : ℕ} → Prepared s b btab ntab sizes table count → {marks : List ℕ}
+    → Marked s ntab (sizes .nodes) (itemsAt s) marks → Ground s b btab ntab marks sizes
+grounded p m = record { desk = record { reads = p .opened .reads; holding = p .holding; entries = p .entries; marked = m }; held = p .opened .held }
 
 pub no-marks : zeros 2048 ≡ zeros (length (zeros 2048))
 no-marks = ap zeros (sym (length-replicate {A = ℕ} 2048 0))
@@ -77,17 +80,17 @@ no-edges {edges = edges} g = record {
   });
 }
 
-module _ {s b store imports includes levels edges chains : List ℕ} {r : Drawn} {store₁ imports₁ includes₁ levels₁ edges₁ chains₁ : List ℕ}
-    (g : Walks s b store imports includes levels edges chains r store₁ imports₁ includes₁ levels₁ edges₁ chains₁) where
+module _ {s b : List ℕ} {ns : List Name} {store imports includes levels edges chains : List ℕ} {r : Drawn} {store₁ imports₁ includes₁ levels₁ edges₁ chains₁ : List ℕ}
+    (g : Walks s b ns store imports includes levels edges chains r store₁ imports₁ includes₁ levels₁ edges₁ chains₁) where
   pub edges-refused : {number entry : ℕ} {a : Refusal} → r ≡ DrawnRefused number entry a → {edges₂ : List ℕ} → edges₂ ≡ zeros (length edges₁)
-      → Edged s b store imports includes levels edges r store₁ imports₁ includes₁ levels₁ edges₂
+      → Edged s b ns store imports includes levels edges r store₁ imports₁ includes₁ levels₁ edges₂
   edges-refused {number} {entry} {a} e {edges₂} z = record {
     seen = ap (λ (q : Drawn). drawnSeen q edges₂) e ∙ sym (ap (λ (q : Drawn). drawnSeen q edges₁) e) ∙ g .seen;
     table = rw e (z ∙ ap zeros (g .kept-edges) ∙ no-rows (length edges));
     kept = g .kept;
   }
 
-  pub edges-built : {m : ℕ} → r ≡ DrawnBuilt m → Edged s b store imports includes levels edges (DrawnBuilt m) store₁ imports₁ includes₁ levels₁ edges₁
+  pub edges-built : {m : ℕ} → r ≡ DrawnBuilt m → Edged s b ns store imports includes levels edges (DrawnBuilt m) store₁ imports₁ includes₁ levels₁ edges₁
   edges-built {m} e =
       let h : Filed edges₁ chains₁ m = rw e at (g .filed) in
       record {
@@ -101,23 +104,24 @@ module _ {s b store imports includes levels edges chains : List ℕ} {r : Drawn}
 pub image-short : {s b btab : List ℕ} {texts : ℕ} → BothRead s b btab texts → length s ≤ 65536
 image-short {s} p = accepted s (p .reads .read) .short
 
-module _ {s b btab : List ℕ} {texts : ℕ} (p : BothRead s b btab texts) {tab : List ℕ} {r : Nodes} {ntab : List ℕ} (c : Constructed s tab r ntab) where
-  pub nodes-held : {n : ℕ} → r ≡ Count n → Holding s ntab n (wordsAt s)
+module _ {mode : Mode} {s b btab : List ℕ} {texts : ℕ} (p : BothRead s b btab texts) {tab : List ℕ} {r : Nodes} {ntab : List ℕ} (c : Constructed mode s tab r ntab) where
+  pub nodes-held : {n : ℕ} → r ≡ Count n → Holding s ntab n (wordsAt mode s)
   nodes-held e = rw e at (c .answer)
 
-  pub prepared : {n : ℕ} → r ≡ Count n → {table : List ℕ} {count : ℕ} → Itemized s count table → Prepared s b btab texts ntab n table count
-  prepared e i = record { opened = p; holding = nodes-held e; itemized = i }
-
   module _ (bytes : Bytes s) where
-    ready : Ready s b (drawResult s b)
+    pub prepared : {n : ℕ} → r ≡ Count n → {table : List ℕ} {count : ℕ} → Itemized s count table
+        → Prepared s b btab ntab (record { texts = texts; nodes = n }) table count
+    prepared e i = record { opened = p; holding = as-held mode (nodes-held e); entries = held-entries mode (nodes-held e) bytes; itemized = i }
+
+    ready : Ready mode s b (drawResult mode s b)
     ready = record { reads = p .reads; bytes = all-bytes s bytes; result = refl }
 
     module _ {store imports includes levels edges nodes : List ℕ} (f : Lent b store imports includes levels edges) (h : LentNodes nodes) where
       pub nodes-many : r ≡ TooMany → {a : Refusal} → a ≡ nought
-          → Holds (drawResult s b) nodes edges store imports includes levels (Refused 30 0 a 0) nodes edges store imports includes levels
+          → Holds (drawResult mode s b) nodes edges store imports includes levels (Refused 30 0 a 0) nodes edges store imports includes levels
       nodes-many e {a} z =
-          let many : mostNodes < length (wordsAt s) = rw e at (c .answer) in
-          let x = too-many s b (drawResult s b) ready many in
+          let many : mostNodes < length (wordsAt mode s) = rw e at (c .answer) in
+          let x = too-many s b (drawResult mode s b) ready many in
           record {
             answer = ap (λ (a : Refusal). Refused 30 0 a 0) z ∙ sym (ap (λ (y : Result). y .answer) x);
             nodes = h .zero ∙ no-nodes (length nodes) ∙ sym (ap (λ (y : Result). padded (length nodes) (nodeWords (y .nodes))) x);
@@ -126,14 +130,14 @@ module _ {s b btab : List ℕ} {texts : ℕ} (p : BothRead s b btab texts) {tab 
           }
 
       module _ {n : ℕ} (e : r ≡ Count n) {d : Drawn} {store₁ imports₁ includes₁ levels₁ edges₁ : List ℕ}
-          (g : Edged s b store imports includes levels edges d store₁ imports₁ includes₁ levels₁ edges₁) where
+          (g : Edged s b (namesHeld s ntab n) store imports includes levels edges d store₁ imports₁ includes₁ levels₁ edges₁) where
         pub nodes-room : Puts ntab n nodes
-        nodes-room = nodes-asked s ntab n nodes (nodes-held e) (p .reads) (h .room) (h .zero)
+        nodes-room = nodes-asked mode s ntab n nodes (nodes-held e) (p .reads) (h .room) (h .zero)
 
         pub held-refused : {number entry : ℕ} {a : Refusal} → d ≡ DrawnRefused number entry a
-            → Holds (drawResult s b) nodes edges store imports includes levels (Refused number entry a 0) nodes edges₁ store₁ imports₁ includes₁ levels₁
+            → Holds (drawResult mode s b) nodes edges store imports includes levels (Refused number entry a 0) nodes edges₁ store₁ imports₁ includes₁ levels₁
         held-refused {number} {entry} {a} q =
-            let x = draw-refused s b (drawResult s b) ready ntab n (nodes-held e) d edges₁ q (g .seen) in
+            let x = draw-refused s b (drawResult mode s b) ready ntab n (nodes-held e) d edges₁ q (g .seen) in
             record {
               answer = sym (ap (λ (y : Result). y .answer) x);
               nodes = h .zero ∙ no-nodes (length nodes) ∙ sym (ap (λ (y : Result). padded (length nodes) (nodeWords (y .nodes))) x);
@@ -142,12 +146,12 @@ module _ {s b btab : List ℕ} {texts : ℕ} (p : BothRead s b btab texts) {tab 
             }
 
         pub held-built : {m : ℕ} → d ≡ DrawnBuilt m → {nodes₁ : List ℕ} → Named ntab n nodes nodes₁
-            → Holds (drawResult s b) nodes edges store imports includes levels (Built n m) nodes₁ edges₁ store₁ imports₁ includes₁ levels₁
+            → Holds (drawResult mode s b) nodes edges store imports includes levels (Built n m) nodes₁ edges₁ store₁ imports₁ includes₁ levels₁
         held-built {m} q t =
-            let x = draw-built s b (drawResult s b) ready ntab n (nodes-held e) d edges₁ q (g .seen) in
+            let x = draw-built s b (drawResult mode s b) ready ntab n (nodes-held e) d edges₁ q (g .seen) in
             record {
               answer = sym (ap (λ (y : Result). y .answer) x);
-              nodes = nodes-laid s ntab n nodes (nodes-held e) t ∙ sym (ap (λ (y : Result). padded (length nodes) (nodeWords (y .nodes))) x);
+              nodes = nodes-laid mode s ntab n nodes (nodes-held e) t ∙ sym (ap (λ (y : Result). padded (length nodes) (nodeWords (y .nodes))) x);
               edges = (rw q at (g .table)) ∙ sym (ap (λ (y : Result). padded (length edges) (rowWords (y .rows))) x);
               kept = g .kept;
             }
@@ -174,12 +178,12 @@ pub lent-nodes : (nodes : List ℕ) (longest : ℕ) (k : Lengths) {short : Bool}
     → nodes ≡ zeros (length nodes) → LentNodes nodes
 lent-nodes nodes longest k t u n z = let w : Enough longest k = long-enough longest k (sym t ∙ u) in record { room = omega (arith, w .nodes, n); zero = z }
 
-module _ (s b nodes edges store imports includes levels : List ℕ) (zn : nodes ≡ zeros (length nodes)) (ze : edges ≡ zeros (length edges)) where
+module _ (mode : Mode) (s b nodes edges store imports includes levels : List ℕ) (zn : nodes ≡ zeros (length nodes)) (ze : edges ≡ zeros (length edges)) where
   abbrev k : Lengths
   k = lengthsOf nodes edges store imports includes levels
 
-  refusing : {number place : ℕ} {a : Refusal} → a ≡ nought → graphed s b k ≡ refusal number 0 nought place
-      → Holds (graphed s b k) nodes edges store imports includes levels (Refused number 0 a place) nodes edges store imports includes levels
+  refusing : {number place : ℕ} {a : Refusal} → a ≡ nought → graphed mode s b k ≡ refusal number 0 nought place
+      → Holds (graphed mode s b k) nodes edges store imports includes levels (Refused number 0 a place) nodes edges store imports includes levels
   refusing {number} {place} z x = record {
     answer = ap (λ (a : Refusal). Refused number 0 a place) z ∙ sym (ap (λ (y : Result). y .answer) x);
     nodes = zn ∙ no-nodes (length nodes) ∙ sym (ap (λ (y : Result). padded (length nodes) (nodeWords (y .nodes))) x);
@@ -188,22 +192,22 @@ module _ (s b nodes edges store imports includes levels : List ℕ) (zn : nodes 
   }
 
   pub no-image : {r : Read} {p : ℕ} {a : Refusal} → r ≡ Wrong p → readSeen r ≡ done (imageAt s) → a ≡ nought
-      → Holds (graphed s b k) nodes edges store imports includes levels (Refused 20 0 a p) nodes edges store imports includes levels
-  no-image {r} e q z = refusing z (image-wrong s b k r e q)
+      → Holds (graphed mode s b k) nodes edges store imports includes levels (Refused 20 0 a p) nodes edges store imports includes levels
+  no-image {r} e q z = refusing z (image-wrong mode s b k r e q)
 
   pub no-bundle : {r : Read} {j : ℕ} {o : Opened} {tab : List ℕ} {p : ℕ} {a : Refusal} → r ≡ End j → readSeen r ≡ done (imageAt s) → OpenedAs b o tab → o ≡ WrongBundle p → a ≡ nought
-      → Holds (graphed s b k) nodes edges store imports includes levels (Refused 21 0 a p) nodes edges store imports includes levels
-  no-bundle {r} {o = o} {tab = tab} e q h f z = refusing z (bundle-wrong s b k (image-reads s r e q) o tab f h)
+      → Holds (graphed mode s b k) nodes edges store imports includes levels (Refused 21 0 a p) nodes edges store imports includes levels
+  no-bundle {r} {o = o} {tab = tab} e q h f z = refusing z (bundle-wrong mode s b k (image-reads s r e q) o tab f h)
 
   pub not-enough : {tab : List ℕ} {texts : ℕ} {longest : ℕ} {short : Bool} {a : Refusal} → BothRead s b tab texts → longest ≡ longestText b → short ≡ tooShort longest k → short ≡ true → a ≡ nought
-      → Holds (graphed s b k) nodes edges store imports includes levels (Refused 22 0 a 0) nodes edges store imports includes levels
-  not-enough {tab} {texts} o l t u z = refusing z (too-little s b k (o .reads) tab texts (o .held) l t u)
+      → Holds (graphed mode s b k) nodes edges store imports includes levels (Refused 22 0 a 0) nodes edges store imports includes levels
+  not-enough {tab} {texts} o l t u z = refusing z (too-little mode s b k (o .reads) tab texts (o .held) l t u)
 
   pub all-held : {tab : List ℕ} {texts : ℕ} {longest : ℕ} {short : Bool} → BothRead s b tab texts → longest ≡ longestText b → short ≡ tooShort longest k → short ≡ false
-      → {y : Graphed} {n₁ e₁ d₁ f₁ g₁ l₁ : List ℕ} → Holds (drawResult s b) nodes edges store imports includes levels y n₁ e₁ d₁ f₁ g₁ l₁
-      → Holds (graphed s b k) nodes edges store imports includes levels y n₁ e₁ d₁ f₁ g₁ l₁
+      → {y : Graphed} {n₁ e₁ d₁ f₁ g₁ l₁ : List ℕ} → Holds (drawResult mode s b) nodes edges store imports includes levels y n₁ e₁ d₁ f₁ g₁ l₁
+      → Holds (graphed mode s b k) nodes edges store imports includes levels y n₁ e₁ d₁ f₁ g₁ l₁
   all-held {tab} {texts} o l t u {y} {n₁} {e₁} {d₁} {f₁} {g₁} {l₁} w =
-      subst (λ (x : Result). Holds x nodes edges store imports includes levels y n₁ e₁ d₁ f₁ g₁ l₁) (sym (enough s b k (o .reads) tab texts (o .held) l t u)) w
+      subst (λ (x : Result). Holds x nodes edges store imports includes levels y n₁ e₁ d₁ f₁ g₁ l₁) (sym (enough mode s b k (o .reads) tab texts (o .held) l t u)) w
 
 -- ---- `to_graph`
 
@@ -213,16 +217,16 @@ same-long w v h = ap length h ∙ length-replicate {A = ℕ} (length v) 0
 pub now-zero : (v : List ℕ) {w : List ℕ} → w ≡ zeros (length v) → w ≡ zeros (length w)
 now-zero v {w} h = h ∙ ap zeros (sym (same-long w v h))
 
-module _ (s b n e d f g l n₀ e₀ : List ℕ) (p : n₀ ≡ zeros (length n)) (q : e₀ ≡ zeros (length e)) where
+module _ (mode : Mode) (s b n e d f g l n₀ e₀ : List ℕ) (p : n₀ ≡ zeros (length n)) (q : e₀ ≡ zeros (length e)) where
   abbrev lengths : ℕ → ℕ → Lengths
   lengths i j = record { nodes = i; edges = j; store = length d; imports = length f; includes = length g; levels = length l }
 
-  pub all-left : {r : Graphed} {n₁ e₁ d₁ f₁ g₁ l₁ d₂ f₂ g₂ l₂ : List ℕ} → Holds (graphed s b (lengthsOf n₀ e₀ d f g l)) n₀ e₀ d f g l r n₁ e₁ d₁ f₁ g₁ l₁
+  pub all-left : {r : Graphed} {n₁ e₁ d₁ f₁ g₁ l₁ d₂ f₂ g₂ l₂ : List ℕ} → Holds (graphed mode s b (lengthsOf n₀ e₀ d f g l)) n₀ e₀ d f g l r n₁ e₁ d₁ f₁ g₁ l₁
       → d₂ ≡ zeros (length d₁) → f₂ ≡ zeros (length f₁) → g₂ ≡ zeros (length g₁) → l₂ ≡ zeros (length l₁)
-      → Leaves (graphed s b (lengthsOf n e d f g l)) n e d f g l r n₁ e₁ d₂ f₂ g₂ l₂
+      → Leaves (graphed mode s b (lengthsOf n e d f g l)) n e d f g l r n₁ e₁ d₂ f₂ g₂ l₂
   all-left h zd zf zg zl =
-      let x : graphed s b (lengths (length n₀) (length e₀)) ≡ graphed s b (lengths (length n) (length e)) =
-      ap₂ (λ (i j : ℕ). graphed s b (lengths i j)) (same-long n₀ n p) (same-long e₀ e q) in
+      let x : graphed mode s b (lengths (length n₀) (length e₀)) ≡ graphed mode s b (lengths (length n) (length e)) =
+      ap₂ (λ (i j : ℕ). graphed mode s b (lengths i j)) (same-long n₀ n p) (same-long e₀ e q) in
       record {
         answer = h .answer ∙ ap (λ (y : Result). y .answer) x;
         nodes = h .nodes ∙ ap₂ (λ (i : ℕ) (y : Result). padded i (nodeWords (y .nodes))) (same-long n₀ n p) x;

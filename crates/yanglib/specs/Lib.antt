@@ -1,4 +1,3 @@
 pub mod Between
-pub mod Entries
 pub mod NodeTable
 pub mod ToGraph

@@ -14,7 +14,7 @@ use Rattle.library_form.specs.Form.{Ans, good, bad, Word}
 use Rattle.library_image.specs.Image.{imageBroken, imageAt}
 use Rattle.library_bundle.specs.Bundle.{bundleBroken, bundleAt}
 use Rattle.library_bundle.specs.Reading.{longestText}
-use Rattle.graph.specs.Nodes.{passOver}
+use Rattle.graph.specs.Nodes.{Mode, passOver}
 use Rattle.graph.specs.Graph.{nought, Graph, graph, fault, graphOf}
 use Rattle.graph.specs.Numbers.{Row, rowOf}
 use Rattle.graph.specs.Limits.{mostEdges, mostNodes}
@@ -65,13 +65,13 @@ abbrev pub onRead : {A B : Type 0} → Ans A → (ℕ → B) → B → B
 onRead (good a n) f b = b
 onRead (bad p) f b = f p
 
--- for an image s, a bundle b and the lengths lent
-unfoldable pub graphed : (image bundle : List ℕ) → Lengths → Result
-graphed s b k =
+-- for an image s, a bundle b and the lengths lent; the mode says what becomes of a module whose name is already a node
+unfoldable pub graphed : Mode → (image bundle : List ℕ) → Lengths → Result
+graphed mode s b k =
     onRead (imageAt s) (refusal imageBroken 0 nought)
     (onRead (bundleAt b) (refusal bundleBroken 0 nought)
     (cond (tooShort (longestText b) k) (refusal lentTooShort 0 nought 0)
-    (resultOf (wordsAt s) (graphOf passOver mostNodes mostEdges (textOf b) (plainAt s)))))
+    (resultOf (wordsAt mode s) (graphOf mode mostNodes mostEdges (textOf b) (plainAt s)))))
 
 -- how large an answer is at the most
 unfoldable pub AnswerFits : Graphed → Type 0
@@ -99,4 +99,4 @@ pub record Leaves (x : Result) (n e d f g l : List ℕ) (r : Graphed) (n₁ e₁
   pub levels : l₁ ≡ zeros (length l)
 
 abbrev pub Graphs : (image bundle n e d f g l : List ℕ) → Graphed → (n₁ e₁ d₁ f₁ g₁ l₁ : List ℕ) → Type 0
-Graphs s b n e d f g l r n₁ e₁ d₁ f₁ g₁ l₁ = Leaves (graphed s b (lengthsOf n e d f g l)) n e d f g l r n₁ e₁ d₁ f₁ g₁ l₁
+Graphs s b n e d f g l r n₁ e₁ d₁ f₁ g₁ l₁ = Leaves (graphed passOver s b (lengthsOf n e d f g l)) n e d f g l r n₁ e₁ d₁ f₁ g₁ l₁

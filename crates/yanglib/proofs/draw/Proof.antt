@@ -6,25 +6,63 @@ use Rattle.yanglib.proofs.draw.Statement.{statement}
 use Rattle.yanglib.proofs.draw.Tie as tie
 
 list-items-requires : tie.Need-list-items-requires
-list-items-requires c κs = (search needs, c .before .before .before .before .before .before .before .before .before .before .pre .0 .reads)
+list-items-requires c κs =
+    let start = c .before .before .before .before .before .before .before .before .before .before in
+    (search needs, start .pre .0 .reads)
 
 construct-nodes-requires : tie.Need-construct-nodes-requires
-construct-nodes-requires c κs = (search needs, c .before .before .before .list-items .ensures .0, image-short (c .before .before .before .before .before .before .before .before .before .before .before .before .before .before .pre .0))
+construct-nodes-requires c κs =
+    let list-items1 = c .before .before .before in
+    let start = list-items1 .before .before .before .before .before .before .before .before .before .before .before in
+    (search needs, list-items1 .list-items .ensures .0, image-short (start .pre .0))
 
 returns : tie.Need-returns
-returns c = nodes-many (c .before .before .before .before .before .before .before .before .before .before .before .before .before .before .before .before .before .before .before .pre .0) (c .before .before .before .before .construct-nodes .ensures) (c .before .before .before .before .before .before .before .before .before .before .before .before .before .before .before .before .before .before .shared-slice-known .given) (c .before .before .before .before .before .before .before .before .before .before .before .before .before .before .before .before .before .before .before .pre .1) (c .before .before .before .before .before .before .before .before .before .before .before .before .before .before .before .before .before .before .before .pre .2) (c .before .enum-told .given .1) (c .nought .ensures)
+returns c =
+    let nought1 = c in
+    let enum-told1 = nought1 .before in
+    let construct-nodes1 = enum-told1 .before .before .before in
+    let shared-slice-known1 = construct-nodes1 .before .before .before .before .before .before .before .before .before .before .before .before .before .before in
+    let start = shared-slice-known1 .before in
+    nodes-many (start .pre .0) (construct-nodes1 .construct-nodes .ensures) (shared-slice-known1 .shared-slice-known .given) (start .pre .1) (start .pre .2) (enum-told1 .enum-told .given .1) (nought1 .nought .ensures)
 
 draw-edges-requires : tie.Need-draw-edges-requires
-draw-edges-requires c κs = (prepared (c .before .before .before .before .before .before .before .before .before .before .before .before .before .before .before .before .before .before .before .before .before .before .before .before .before .before .pre .0) (c .before .before .before .before .before .before .before .before .before .before .before .construct-nodes .ensures) (c .before .before .before .before .before .before .before .before .n .given .1) (c .before .before .before .before .before .before .before .before .before .before .before .before .before .before .before .list-items .ensures .0), c .before .before .before .before .before .before .before .before .before .before .before .before .before .before .before .before .before .before .before .before .before .before .before .before .before .before .pre .1)
+draw-edges-requires c κs =
+    let n1 = c .before .before .before .before .before .before .before .before in
+    let construct-nodes1 = n1 .before .before .before in
+    let list-items1 = construct-nodes1 .before .before .before .before in
+    let shared-slice-known1 = list-items1 .before .before .before .before .before .before .before .before .before .before in
+    let start = shared-slice-known1 .before in
+    (prepared (start .pre .0) (construct-nodes1 .construct-nodes .ensures) (shared-slice-known1 .shared-slice-known .given) (n1 .n .given .1) (list-items1 .list-items .ensures .0), start .pre .1)
 
 put-nodes-requires : tie.Need-put-nodes-requires
-put-nodes-requires c κs = nodes-room (c .before .before .before .before .before .before .before .before .before .before .before .before .before .before .before .before .before .before .before .before .before .before .before .before .before .before .before .before .before .before .before .before .before .before .before .before .before .before .before .before .before .before .pre .0) (c .before .before .before .before .before .before .before .before .before .before .before .before .before .before .before .before .before .before .before .before .before .before .before .before .before .before .before .construct-nodes .ensures) (c .before .before .before .before .before .before .before .before .before .before .before .before .before .before .before .before .before .before .before .before .before .before .before .before .before .before .before .before .before .before .before .before .before .before .before .before .before .before .before .before .before .shared-slice-known .given) (c .before .before .before .before .before .before .before .before .before .before .before .before .before .before .before .before .before .before .before .before .before .before .before .before .before .before .before .before .before .before .before .before .before .before .before .before .before .before .before .before .before .before .pre .1) (c .before .before .before .before .before .before .before .before .before .before .before .before .before .before .before .before .before .before .before .before .before .before .before .before .before .before .before .before .before .before .before .before .before .before .before .before .before .before .before .before .before .before .pre .2) (c .before .before .before .before .before .before .before .before .before .before .before .before .before .before .before .before .before .before .before .before .before .before .before .before .n .given .1) (c .before .before .before .before .before .before .before .before .before .before .before .before .before .before .before .draw-edges .ensures)
+put-nodes-requires c κs =
+    let draw-edges1 = c .before .before .before .before .before .before .before .before .before .before .before .before .before .before .before in
+    let n1 = draw-edges1 .before .before .before .before .before .before .before .before .before in
+    let construct-nodes1 = n1 .before .before .before in
+    let shared-slice-known1 = construct-nodes1 .before .before .before .before .before .before .before .before .before .before .before .before .before .before in
+    let start = shared-slice-known1 .before in
+    nodes-room (start .pre .0) (construct-nodes1 .construct-nodes .ensures) (shared-slice-known1 .shared-slice-known .given) (start .pre .1) (start .pre .2) (n1 .n .given .1) (draw-edges1 .draw-edges .ensures)
 
 returns-2 : tie.Need-returns-2
-returns-2 c = held-refused (c .before .before .before .before .before .before .before .before .before .before .before .before .before .before .before .before .before .before .before .before .before .before .before .before .before .before .before .before .before .before .before .before .before .before .before .before .before .before .before .before .pre .0) (c .before .before .before .before .before .before .before .before .before .before .before .before .before .before .before .before .before .before .before .before .before .before .before .before .before .construct-nodes .ensures) (c .before .before .before .before .before .before .before .before .before .before .before .before .before .before .before .before .before .before .before .before .before .before .before .before .before .before .before .before .before .before .before .before .before .before .before .before .before .before .before .shared-slice-known .given) (c .before .before .before .before .before .before .before .before .before .before .before .before .before .before .before .before .before .before .before .before .before .before .before .before .before .before .before .before .before .before .before .before .before .before .before .before .before .before .before .before .pre .1) (c .before .before .before .before .before .before .before .before .before .before .before .before .before .before .before .before .before .before .before .before .before .before .before .before .before .before .before .before .before .before .before .before .before .before .before .before .before .before .before .before .pre .2) (c .before .before .before .before .before .before .before .before .before .before .before .before .before .before .before .before .before .before .before .before .before .before .n .given .1) (c .before .before .before .before .before .before .before .before .before .before .before .before .before .draw-edges .ensures) (c .before .number .given .1)
+returns-2 c =
+    let number1 = c .before in
+    let draw-edges1 = number1 .before .before .before .before .before .before .before .before .before .before .before .before in
+    let n1 = draw-edges1 .before .before .before .before .before .before .before .before .before in
+    let construct-nodes1 = n1 .before .before .before in
+    let shared-slice-known1 = construct-nodes1 .before .before .before .before .before .before .before .before .before .before .before .before .before .before in
+    let start = shared-slice-known1 .before in
+    held-refused (start .pre .0) (construct-nodes1 .construct-nodes .ensures) (shared-slice-known1 .shared-slice-known .given) (start .pre .1) (start .pre .2) (n1 .n .given .1) (draw-edges1 .draw-edges .ensures) (number1 .number .given .1)
 
 returns-3 : tie.Need-returns-3
-returns-3 c = held-built (c .before .before .before .before .before .before .before .before .before .before .before .before .before .before .before .before .before .before .before .before .before .before .before .before .before .before .before .before .before .before .before .before .before .before .before .before .before .before .before .before .before .before .before .before .before .pre .0) (c .before .before .before .before .before .before .before .before .before .before .before .before .before .before .before .before .before .before .before .before .before .before .before .before .before .before .before .before .before .before .construct-nodes .ensures) (c .before .before .before .before .before .before .before .before .before .before .before .before .before .before .before .before .before .before .before .before .before .before .before .before .before .before .before .before .before .before .before .before .before .before .before .before .before .before .before .before .before .before .before .before .shared-slice-known .given) (c .before .before .before .before .before .before .before .before .before .before .before .before .before .before .before .before .before .before .before .before .before .before .before .before .before .before .before .before .before .before .before .before .before .before .before .before .before .before .before .before .before .before .before .before .before .pre .1) (c .before .before .before .before .before .before .before .before .before .before .before .before .before .before .before .before .before .before .before .before .before .before .before .before .before .before .before .before .before .before .before .before .before .before .before .before .before .before .before .before .before .before .before .before .before .pre .2) (c .before .before .before .before .before .before .before .before .before .before .before .before .before .before .before .before .before .before .before .before .before .before .before .before .before .before .before .n .given .1) (c .before .before .before .before .before .before .before .before .before .before .before .before .before .before .before .before .before .before .draw-edges .ensures) (c .before .before .before .before .before .before .m .given .1) (c .before .before .put-nodes .ensures)
+returns-3 c =
+    let put-nodes1 = c .before .before in
+    let m1 = put-nodes1 .before .before .before .before in
+    let draw-edges1 = m1 .before .before .before .before .before .before .before .before .before .before .before .before in
+    let n1 = draw-edges1 .before .before .before .before .before .before .before .before .before in
+    let construct-nodes1 = n1 .before .before .before in
+    let shared-slice-known1 = construct-nodes1 .before .before .before .before .before .before .before .before .before .before .before .before .before .before in
+    let start = shared-slice-known1 .before in
+    held-built (start .pre .0) (construct-nodes1 .construct-nodes .ensures) (shared-slice-known1 .shared-slice-known .given) (start .pre .1) (start .pre .2) (n1 .n .given .1) (draw-edges1 .draw-edges .ensures) (m1 .m .given .1) (put-nodes1 .put-nodes .ensures)
 
 pub draw-spec : {M : Type 1} → statement M
 draw-spec =

@@ -1,28 +1,73 @@
 -- `yanglib::read_and_draw`. Each way out is one law of Whole.
 -- Assumes nothing.
-use mathlib.Core.Path.{refl}
 use borrow.Author.Needs.{needs}
-use Rattle.yanglib.proofs.Whole.{both-read, no-image, no-bundle, not-enough, lent, lent-nodes, all-held}
+use mathlib.Core.Path.{refl}
+use Rattle.graph.specs.Nodes.{passOver}
+use Rattle.yanglib.proofs.Whole.{both-read, lent, lent-nodes, no-image, no-bundle, not-enough, all-held}
 use Rattle.yanglib.proofs.read_and_draw.Statement.{statement}
 use Rattle.yanglib.proofs.read_and_draw.Tie as tie
 
 returns : tie.Need-returns
-returns c = no-image _ _ _ _ _ _ _ _ (c .before .before .before .before .before .before .before .before .before .before .before .before .before .pre .0) (c .before .before .before .before .before .before .before .before .before .before .before .before .before .pre .1) (c .before .before .read .given .1) (c .before .before .before .before .read-image .ensures) (c .nought .ensures)
+returns c =
+    let nought1 = c in
+    let read1 = nought1 .before .before in
+    let read-image1 = read1 .before .before in
+    let start = read-image1 .before .before .before .before .before .before .before .before .before in
+    no-image passOver _ _ _ _ _ _ _ _ (start .pre .0) (start .pre .1) (read1 .read .given .1) (read-image1 .read-image .ensures) (nought1 .nought .ensures)
 
 longest-requires : tie.Need-longest-requires
-longest-requires c κs = c .before .before .before .before .before .«open» .ensures .held _ (c .before .before .texts .given .1)
+longest-requires c κs =
+    let texts1 = c .before .before in
+    let open1 = texts1 .before .before .before in
+    open1 .«open» .ensures .held _ (texts1 .texts .given .1)
 
 returns-2 : tie.Need-returns-2
-returns-2 c = not-enough _ _ _ _ _ _ _ _ (c .before .before .before .before .before .before .before .before .before .before .before .before .before .before .before .before .before .before .before .before .before .before .pre .0) (c .before .before .before .before .before .before .before .before .before .before .before .before .before .before .before .before .before .before .before .before .before .before .pre .1) (both-read _ _ _ _ (c .before .before .before .before .before .before .before .before .before .before .before .enum-told .given .1) (c .before .before .before .before .before .before .before .before .before .before .before .before .before .read-image .ensures) (c .before .before .before .before .before .before .before .before .before .«open» .ensures) (c .before .before .before .before .before .before .texts .given .1)) (c .before .before .before .longest .ensures) (c .before .before .too-short .ensures) (c .before .if1 .taken) (c .nought3 .ensures)
+returns-2 c =
+    let nought3-at = c in
+    let if1-at = nought3-at .before in
+    let too-short1 = if1-at .before in
+    let longest1 = too-short1 .before in
+    let texts1 = longest1 .before .before .before in
+    let open1 = texts1 .before .before .before in
+    let enum-told1 = open1 .before .before in
+    let read-image1 = enum-told1 .before .before in
+    let start = read-image1 .before .before .before .before .before .before .before .before .before in
+    not-enough passOver _ _ _ _ _ _ _ _ (start .pre .0) (start .pre .1) (both-read _ _ _ _ (enum-told1 .enum-told .given .1) (read-image1 .read-image .ensures) (open1 .«open» .ensures) (texts1 .texts .given .1)) (longest1 .longest .ensures) (too-short1 .too-short .ensures) (if1-at .if1 .taken) (nought3-at .nought3 .ensures)
 
 draw-requires : tie.Need-draw-requires
-draw-requires c κs = (both-read _ _ _ _ (c .before .before .before .before .before .before .before .before .before .before .before .before .before .before .before .before .before .enum-told .given .1) (c .before .before .before .before .before .before .before .before .before .before .before .before .before .before .before .before .before .before .before .read-image .ensures) (c .before .before .before .before .before .before .before .before .before .before .before .before .before .before .before .«open» .ensures) (c .before .before .before .before .before .before .before .before .before .before .before .before .texts .given .1), lent _ _ _ _ _ _ _ _ (c .before .before .before .before .before .before .before .before .before .longest .ensures) (c .before .before .before .before .before .before .before .before .too-short .ensures) (c .before .before .before .before .before .before .before .if1 .left) refl refl refl refl refl (c .before .before .before .before .before .before .before .before .before .before .before .before .before .before .before .before .before .before .before .before .before .before .before .before .before .before .before .before .pre .1), lent-nodes _ _ _ (c .before .before .before .before .before .before .before .before .too-short .ensures) (c .before .before .before .before .before .before .before .if1 .left) refl (c .before .before .before .before .before .before .before .before .before .before .before .before .before .before .before .before .before .before .before .before .before .before .before .before .before .before .before .before .pre .0))
+draw-requires c κs =
+    let if1-at = c .before .before .before .before .before .before .before in
+    let too-short1 = if1-at .before in
+    let longest1 = too-short1 .before in
+    let texts1 = longest1 .before .before .before in
+    let open1 = texts1 .before .before .before in
+    let enum-told1 = open1 .before .before in
+    let read-image1 = enum-told1 .before .before in
+    let start = read-image1 .before .before .before .before .before .before .before .before .before in
+    ((both-read _ _ _ _ (enum-told1 .enum-told .given .1) (read-image1 .read-image .ensures) (open1 .«open» .ensures) (texts1 .texts .given .1)), lent _ _ _ _ _ _ _ _ (longest1 .longest .ensures) (too-short1 .too-short .ensures) (if1-at .if1 .left) refl refl refl refl refl (start .pre .1), lent-nodes _ _ _ (too-short1 .too-short .ensures) (if1-at .if1 .left) refl (start .pre .0))
 
 returns-3 : tie.Need-returns-3
-returns-3 c = no-bundle _ _ _ _ _ _ _ _ (c .before .before .before .before .before .before .before .before .before .before .before .before .before .before .before .before .before .before .pre .0) (c .before .before .before .before .before .before .before .before .before .before .before .before .before .before .before .before .before .before .pre .1) (c .before .before .before .before .before .before .before .enum-told .given .1) (c .before .before .before .before .before .before .before .before .before .read-image .ensures) (c .before .before .before .before .before .«open» .ensures) (c .before .before .p .given .1) (c .nought2 .ensures)
+returns-3 c =
+    let nought2-at = c in
+    let p1 = nought2-at .before .before in
+    let open1 = p1 .before .before .before in
+    let enum-told1 = open1 .before .before in
+    let read-image1 = enum-told1 .before .before in
+    let start = read-image1 .before .before .before .before .before .before .before .before .before in
+    no-bundle passOver _ _ _ _ _ _ _ _ (start .pre .0) (start .pre .1) (enum-told1 .enum-told .given .1) (read-image1 .read-image .ensures) (open1 .«open» .ensures) (p1 .p .given .1) (nought2-at .nought2 .ensures)
 
 returns-4 : tie.Need-returns-4
-returns-4 c = all-held _ _ _ _ _ _ _ _ (c .before .before .before .before .before .before .before .before .before .before .before .before .before .before .before .before .before .before .before .before .before .before .before .before .before .before .before .before .before .before .before .before .before .before .before .before .before .before .before .before .before .pre .0) (c .before .before .before .before .before .before .before .before .before .before .before .before .before .before .before .before .before .before .before .before .before .before .before .before .before .before .before .before .before .before .before .before .before .before .before .before .before .before .before .before .before .pre .1) (both-read _ _ _ _ (c .before .before .before .before .before .before .before .before .before .before .before .before .before .before .before .before .before .before .before .before .before .before .before .before .before .before .before .before .before .before .enum-told .given .1) (c .before .before .before .before .before .before .before .before .before .before .before .before .before .before .before .before .before .before .before .before .before .before .before .before .before .before .before .before .before .before .before .before .read-image .ensures) (c .before .before .before .before .before .before .before .before .before .before .before .before .before .before .before .before .before .before .before .before .before .before .before .before .before .before .before .before .«open» .ensures) (c .before .before .before .before .before .before .before .before .before .before .before .before .before .before .before .before .before .before .before .before .before .before .before .before .before .texts .given .1)) (c .before .before .before .before .before .before .before .before .before .before .before .before .before .before .before .before .before .before .before .before .before .before .longest .ensures) (c .before .before .before .before .before .before .before .before .before .before .before .before .before .before .before .before .before .before .before .before .before .too-short .ensures) (c .before .before .before .before .before .before .before .before .before .before .before .before .before .before .before .before .before .before .before .before .if1 .left) (c .before .before .before .before .before .before .before .before .before .before .before .before .draw .ensures)
+returns-4 c =
+    let draw1 = c .before .before .before .before .before .before .before .before .before .before .before .before in
+    let if1-at = draw1 .before .before .before .before .before .before .before .before in
+    let too-short1 = if1-at .before in
+    let longest1 = too-short1 .before in
+    let texts1 = longest1 .before .before .before in
+    let open1 = texts1 .before .before .before in
+    let enum-told1 = open1 .before .before in
+    let read-image1 = enum-told1 .before .before in
+    let start = read-image1 .before .before .before .before .before .before .before .before .before in
+    all-held passOver _ _ _ _ _ _ _ _ (start .pre .0) (start .pre .1) (both-read _ _ _ _ (enum-told1 .enum-told .given .1) (read-image1 .read-image .ensures) (open1 .«open» .ensures) (texts1 .texts .given .1)) (longest1 .longest .ensures) (too-short1 .too-short .ensures) (if1-at .if1 .left) (draw1 .draw .ensures)
 
 pub read-and-draw-spec : {M : Type 1} → statement M
 read-and-draw-spec =
