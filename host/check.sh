@@ -49,6 +49,7 @@ from_c_and_rust() {
 
 packed_and_judged() {
     "$here/readme/reading.py" README.md
+    "$here/readme/named.py"
     "$here/architecture/test.sh"
     "$here/pack/test.py"
     rest="the oracle, the recorded answers and the comparison"
