@@ -1,7 +1,7 @@
 #!/bin/sh
 # check.sh: the host's quick checks: the archive from C, installed too, and under attack; the packing of images and bundles, the Rust crate and its command,
-# the examples and the README's snippets; then the port beside plain readings and beside the original Rust. What needs the NetGauze source, or a newer
-# Rust, is skipped where that is not at hand, and says so.
+# the examples, the README's snippets and the picture of the crates; then the port beside plain readings and beside the original Rust. What needs the NetGauze
+# source, or a newer Rust, is skipped where that is not at hand, and says so.
 set -eu
 here=$(cd "$(dirname "$0")" && pwd)
 cd "$here/.."
@@ -49,6 +49,8 @@ from_c_and_rust() {
 
 packed_and_judged() {
     "$here/readme/reading.py" README.md
+    "$here/readme/named.py"
+    "$here/architecture/test.sh"
     "$here/pack/test.py"
     rest="the oracle, the recorded answers and the comparison"
     [ "${minor:-0}" -ge 63 ] || { skip "no Rust of 1.63 or newer" "the Rust crate and the command, $rest"; return 0; }

@@ -20,10 +20,10 @@ pub const MOST_BYTES: usize = 16777216;
 
 pub const MOST_TEXTS: usize = 2048;
 
-// How many words the table has for as many names.
+// How many words the table has for so many names: 2,048 heads, and three words for each name.
 pub const TABLE: usize = 8192;
 
-// The place behind a text that was filed, or where it is wrong.
+// The place behind a text that was read, or where it is wrong.
 pub enum Filed {
     Next(usize),
     Wrong(usize),
@@ -41,7 +41,7 @@ pub enum Place {
     Nothing,
 }
 
-// Files the text at `at` behind `i` others, none of which may have its name. One cut short is wrong at its length.
+// Reads the text at `at` and puts its name into the table, behind `i` others, none of which may have that name. A text cut short is wrong at its length.
 fn file(s: &[u8], tab: &mut [u32], i: usize, at: usize) -> Filed
     requires { ⌜ Space (now s) (now tab) i ⌝ }
     ensures { λ r. ⌜ FiledAs (now (s .entry)) (now (tab .entry)) i at r (now (tab .exit)) ⌝ }
@@ -176,7 +176,7 @@ pub fn text_under<'a>(bundle: &'a [u8], name: &[u8]) -> &'a [u8]
     text(bundle, &tab, count, name)
 }
 
-// Which it is: a bundle that is wrong, one without such a text, or where the text stands.
+// The call beside it, which says why the text is empty: the bundle is wrong, or it has no such text, or the text stands here and may be empty itself.
 pub fn find_text(bundle: &[u8], name: &[u8]) -> LookUp
     ensures { λ r. ⌜ r ≡ lookUp (now (bundle .entry)) (now (name .entry)) ⌝ }
 {

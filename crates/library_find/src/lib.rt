@@ -12,14 +12,15 @@ ghost use Rattle.library_find.specs.Find.{findModule, findSubmodule, fin
 ghost use Rattle.library_read.specs.Reading.{readSeen, restAt};
 ghost use Rattle.library_find.specs.Search.{past, foundBy, hitAt, entryTried, entriesTried, setTried, setsTried, wordTried, submoduleCount, listsBehind, allSubmodulesTried};
 
-// What a part of the image is to a search: what is sought, with its place and its revisions; another, with the place behind it; broken, which nothing in a well-formed image is.
+// What a search finds at a part of the image: a hit, with its place and its count of revisions; something else, with the place behind it; or a broken part,
+// which no well-formed image has.
 pub enum Tried {
     Hit(usize, usize),
     Next(usize),
     Bad,
 }
 
-// A hit at `place` whose name ends at `end`.
+// A hit at `place` whose name ends at `end`, where the count of revisions stands if it is an import-only module.
 fn hit_at(s: &[u8], import_only: bool, place: usize, end: usize) -> Tried
     ensures { λ r. ⌜ r ≡ hitAt (now (s .entry)) «import_only» place end ⌝ }
 {
@@ -33,7 +34,7 @@ fn hit_at(s: &[u8], import_only: bool, place: usize, end: usize) -> Tried
     Tried::Hit(place, 0)
 }
 
-// What stands behind the name that ends at `at`, passed.
+// Passes what stands behind the name that ends at `at`.
 fn pass_rest(s: &[u8], import_only: bool, at: usize) -> Tried
     ensures { λ r. ⌜ r ≡ past (restAt «import_only» (now (s .entry)) at) ⌝ }
 {
@@ -47,7 +48,7 @@ fn pass_rest(s: &[u8], import_only: bool, at: usize) -> Tried
     }
 }
 
-// The entry at `at`.
+// The module or import-only module at `at`. If it is not `wanted`, its name is not looked at and it is passed.
 fn try_entry(s: &[u8], import_only: bool, wanted: bool, at: usize, name: &[u8]) -> Tried
     ensures { λ r. ⌜ r ≡ entryTried (now (s .entry)) (now (name .entry)) «import_only» wanted at ⌝ }
 {
@@ -239,7 +240,7 @@ fn search_submodule(s: &[u8], name: &[u8]) -> LookUp
     LookUp::Nothing
 }
 
-// A find in an image that is well formed: what a search came to.
+// What a search of a well-formed image came to, as an answer.
 fn found_by(tried: Tried) -> LookUp
     ensures { λ r. ⌜ r ≡ foundBy tried ⌝ }
 {

@@ -61,12 +61,12 @@ abbrev pub numberSeen : Number → Ans ℕ
 numberSeen (Value v c) = good v (c .at)
 numberSeen (Wrong p) = bad p
 
--- one parser after another
+-- one reading after another; the first that is wrong ends it
 abbrev pub bind : {A B : Type 0} → Ans A → (A → ℕ → Ans B) → Ans B
 bind (good a n) f = f a n
 bind (bad p) f = bad p
 
--- `count` things from `at` on, each told those before it, behind those seen
+-- `count` things from `at` on, added to those that were `seen`; each reading is told the ones before it
 unfoldable pub many : {A : Type 0} → (List A → ℕ → Ans A) → (count : ℕ) → List A → ℕ → Ans (List A)
 many p zero seen at = good seen at
 many p (suc k) seen at = bind (p seen at) (λ a n. many p k (seen ++ (a ∷ [])) n)

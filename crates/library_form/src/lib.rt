@@ -4,7 +4,7 @@ ghost use Prim.Native.Nat.{_+_, _≤_};
 ghost use lib.ListN.{length};
 ghost use Rattle.library_form.specs.Form.{numberAt, numberSeen, printableAt, nameAt, nameSeen};
 
-// A byte from here on has its top bit set: another group follows. A 1 in the second group is worth as much.
+// A byte of this value or more has its top bit set: another group of seven bits follows. A 1 in the second group is worth as much.
 const TOP_BIT: usize = 128;
 
 // What a 1 in the third group is worth.
@@ -13,7 +13,7 @@ const THIRD: usize = 16384;
 // How many bytes a name has at the most.
 pub const MOST_NAME: usize = 128;
 
-// The bytes of a name are from the first of these to the second.
+// A name has bytes from the first of these to the second: what can be printed, but no blank.
 const LEAST_BYTE: u8 = 33;
 
 const MOST_BYTE: u8 = 126;
@@ -23,19 +23,20 @@ pub struct Cursor {
     pub at: usize,
 }
 
-// What a number's reading finds: the value and the place behind it, or the place where it is wrong.
+// What the reading of a number finds: its value and the place behind it; or the place where it is wrong.
 pub enum Number {
     Value(usize, Cursor),
     Wrong(usize),
 }
 
-// What a name's reading finds: its first byte's place and its length, or where it is wrong. What follows it starts at their sum.
+// What the reading of a name finds: the place of its first byte and its length; or where it is wrong. What follows the name starts at their sum.
 pub enum Name {
     Bytes(usize, usize),
     Wrong(usize),
 }
 
-// What a search for a name finds in an image or a bundle: the place where that breaks its form; nothing; or where the hit is, and one number more.
+// What a search for a name finds in an image or a bundle: the place where that breaks its form; nothing; or the place of the hit and one number more, which
+// is the count of revisions of an import-only module, the length of a text, and else 0.
 pub enum LookUp {
     Broken(usize),
     Nothing,
@@ -64,7 +65,7 @@ fn printable(s: &[u8], from: usize, count: usize) -> bool
 }
 
 impl Cursor {
-    // The number that starts here. It is wrong where it starts.
+    // The number that starts here: up to three groups, in the shortest form. If anything is wrong with it, it is wrong at its first byte.
     pub fn number(self, s: &[u8]) -> Number
         ensures { λ r. ⌜ numberSeen r ≡ numberAt (now (s .entry)) (self .at) ⌝ }
     {
@@ -104,7 +105,7 @@ impl Cursor {
         Number::Wrong(at)
     }
 
-    // The name whose length starts here. Whatever is wrong with it, it is wrong where its length starts.
+    // The name whose length starts here. If anything is wrong with it, it is wrong where its length starts.
     pub fn name(self, s: &[u8]) -> Name
         ensures { λ r. ⌜ nameSeen (now (s .entry)) r ≡ nameAt (now (s .entry)) (self .at) ⌝ }
     {

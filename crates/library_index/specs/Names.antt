@@ -30,7 +30,7 @@ abbrev pub firstBy : {A B : Type 0} → (name : A → Word) → (f : A → B) �
 firstBy name f t [] d = d
 firstBy name f t (a ∷ l) d = cond (same (name a .text) t) (f a) (firstBy name f t l d)
 
--- a name is among the names of a list; one more, unless its name is there; and so one after another
+-- `among`: a name stands in a list; `addNew`: one more, unless its name stands there; `addAll`: so one after another
 module _ {A : Type 0} (name : A → List ℕ) where
   unfoldable pub among : List ℕ → List A → Bool
   among t [] = false

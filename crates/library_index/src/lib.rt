@@ -1,5 +1,5 @@
 // An index over names that stand in a slice of bytes. The table has the heads of the buckets, and three words for each name: its place, its
-// length and its link. A head and a link are one more than the number of a name, or 0.
+// length and its link, which leads to the name before it in its bucket. A head and a link are one more than the number of a name, or 0 for none.
 use library_form::Cursor;
 use library_form::Name;
 ghost use mathlib.Core.Path.{_≡_};
@@ -13,15 +13,16 @@ pub const BUCKETS: usize = 2048;
 // How many words a name takes.
 pub const ROW: usize = 3;
 
-// What the hash is multiplied by for each byte.
+// The bucket of a name is made byte by byte: what there is so far times this, and the byte.
 const FACTOR: usize = 131;
 
-// The number of the first name with the bytes that are sought.
+// The number of the first name with the bytes that are looked for.
 pub enum Found {
     At(usize),
     Nothing,
 }
 
+// A byte as a number.
 fn of_byte(x: u8) -> usize
     ensures { λ r. ⌜ (r ≡ x) × (r < 256) ⌝ }
 {
@@ -68,7 +69,7 @@ pub fn place_of(tab: &[u32], i: usize) -> usize
     of_word(tab[BUCKETS + i * ROW])
 }
 
-// How long it is.
+// How long the name of number `i` is.
 pub fn length_of(tab: &[u32], i: usize) -> usize
     requires { ⌜ rowOf i + rowWords ≤ length (now tab) ⌝ }
     ensures { λ r. ⌜ r ≡ getD (now (tab .entry)) (rowOf i + 1) 0 ⌝ }
@@ -76,7 +77,7 @@ pub fn length_of(tab: &[u32], i: usize) -> usize
     of_word(tab[BUCKETS + i * ROW + 1])
 }
 
-// Follows the bucket `h`, which is the bucket of `name`.
+// Goes through the names of the bucket `h`, which is that of `name`, to the one with its bytes.
 fn seek(s: &[u8], tab: &[u32], count: usize, h: usize, name: &[u8]) -> Found
     requires { ⌜ Sought (now s) (now tab) count h (now name) ⌝ }
     ensures { λ r. ⌜ r ≡ firstOf (now (name .entry)) (namesIn (now (s .entry)) (now (tab .entry)) count) ⌝ }
@@ -118,7 +119,7 @@ fn put(tab: &mut [u32], count: usize, h: usize, place: usize, len: usize)
     tab[h] = count as u32 + 1;
 }
 
-// Adds the name of `len` bytes at `place`, unless one of the `count` names of the table has its bytes.
+// Adds the name of `len` bytes at `place`, unless one of the `count` names of the table has its bytes: then that one is answered.
 pub fn add(s: &[u8], tab: &mut [u32], count: usize, place: usize, len: usize) -> Found
     requires { ⌜ Room (now s) (now tab) count place len ⌝ }
     ensures { λ r. ⌜ Added (now (s .entry)) (now (tab .entry)) count place len r (now (tab .exit)) ⌝ }
@@ -133,7 +134,7 @@ pub fn add(s: &[u8], tab: &mut [u32], count: usize, place: usize, len: usize) ->
     found
 }
 
-// Reads the name at `at` and adds it to the `count` names of the table. One that is there already is wrong.
+// Reads the name at `at` and adds it to the `count` names of the table. A name that is there already is wrong.
 pub fn take_name(s: &[u8], tab: &mut [u32], count: usize, at: usize) -> Name
     requires { ⌜ Space (now s) (now tab) count ⌝ }
     ensures { λ r. ⌜ Taken (now (s .entry)) (now (tab .entry)) count at r (now (tab .exit)) ⌝ }

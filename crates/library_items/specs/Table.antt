@@ -98,14 +98,14 @@ valueOr d r = onAns r (λ a n. a) (λ p. d)
 abbrev pub endOf : {A : Type 0} → Ans A → ℕ
 endOf r = onAns r (λ a n. n) (λ p. p)
 
--- an item is a name of the bytes
+-- an item stands for 1 to 128 bytes of the image
 pub record ItemFits (s : List ℕ) (x : Item) : Type 0 where
   pub kind : x .kind < mostKind
   pub some : 1 ≤ x .size
   pub few : x .size ≤ 128
   pub inside : x .place + x .size ≤ length s
 
--- a place behind n others for an item
+-- there is room for an item behind n others, and its numbers fit their words
 pub record Puts (tab : List ℕ) (n : ℕ) (x : Item) : Type 0 where
   pub free : n * 2 + 2 ≤ length tab
   pub low : n < mostItems

@@ -25,18 +25,20 @@ pub const FIRST_SUB: usize = 5;
 
 pub const LATER_SUB: usize = 6;
 
+// A name's length and kind share a word: the length times this, and the kind.
 const KINDS: usize = 8;
 
-// How many words the table has.
+// How many words the table has, two for each name: an image has at most 65,536 bytes, and each name takes two of them or more.
 pub const TABLE: usize = 65536;
 
+// A name: what it is, where its first byte stands, and how long it is.
 pub struct Item {
     pub kind: usize,
     pub place: usize,
     pub size: usize,
 }
 
-// How many items there are, and the place behind what they were read from.
+// How many items there are so far, and the place in the image behind what was read.
 pub struct Reach {
     pub items: usize,
     pub at: usize,
@@ -56,7 +58,7 @@ pub fn get_item(tab: &[u32], i: usize) -> Item
     }
 }
 
-// Lays the item behind `n` others.
+// Writes the item behind `n` others.
 fn put_item(tab: &mut [u32], n: usize, x: Item)
     requires { ⌜ Puts (now tab) n x ⌝ }
     ensures { λ r. ⌜ Laid (now (tab .entry)) n x (now (tab .exit)) ⌝ }
@@ -66,7 +68,7 @@ fn put_item(tab: &mut [u32], n: usize, x: Item)
     tab[n * 2 + 1] = word as u32;
 }
 
-// The name at `at`, as one item more.
+// The name at `at`, as one item more. The image is well formed: here and below, what stands behind `else` never happens.
 fn take_item(s: &[u8], tab: &mut [u32], n: usize, kind: usize, at: usize) -> Reach
     requires { ⌜ Room (now s) (now tab) n at × (kind < mostKind) × Reads (nameRead kind (now s) at) ⌝ }
     ensures { λ r. ⌜ Gained (now (s .entry)) (now (tab .entry)) n (nameRead kind (now (s .entry)) at) r (now (tab .exit)) ⌝ }

@@ -1,5 +1,5 @@
-// The library image, read from its first byte to its last. Names of modules and of import-only modules, which must differ in a set, go through an
-// index; those of a revision's submodules are few and are compared with each other.
+// The library image, read from its first byte to its last. Names of modules must differ in a set, and so must those of import-only modules: both go through
+// an index. Names of a revision's submodules must differ too; they are few and are compared with each other.
 use library_form::Cursor;
 use library_form::Name;
 use library_form::Number;
@@ -14,7 +14,7 @@ ghost use Rattle.library_read.specs.Reading.{done, readSeen, listAt, amo
 // The refusal of this layer: an image that breaks its form.
 pub const IMAGE_BROKEN: u32 = 20;
 
-// How many bytes an image has at the most, and what its counts are at the most and at the least.
+// How many bytes an image has at the most, and the limits of its counts.
 pub const MOST_IMAGE: usize = 65536;
 
 pub const MOST_SETS: usize = 16;
@@ -27,7 +27,7 @@ pub const LEAST_REVISIONS: usize = 1;
 
 pub const MOST_REVISIONS: usize = 8;
 
-// How many words the table of names has: the index's heads, and a row for each of the most modules.
+// How many words the table of names has: 2,048 heads, and three words for each of 512 names.
 const TABLE: usize = 3584;
 
 // The place behind what was read, or where it is wrong.
@@ -36,7 +36,7 @@ pub enum Read {
     Wrong(usize),
 }
 
-// The number from `least` to `most` at `at`.
+// The number at `at`, which must be from `least` to `most`.
 pub fn read_count(s: &[u8], at: usize, least: usize, most: usize) -> Number
     ensures { λ r. ⌜ numberSeen r ≡ countAt least most (now (s .entry)) at ⌝ }
 {
@@ -75,7 +75,7 @@ fn among(s: &[u8], from: usize, count: usize, name: &[u8]) -> bool
     false
 }
 
-// The name at `at`, behind `i` names from `from` on. If names must differ it is none of them.
+// The name at `at`. Before it stand `i` names, from `from` on; if names must differ, it may be none of them.
 fn read_word(s: &[u8], differ: bool, from: usize, i: usize, at: usize) -> Name
     ensures { λ r. ⌜ nameSeen (now (s .entry)) r ≡ wordBehind differ (now (s .entry)) from i at ⌝ }
 {
@@ -161,7 +161,7 @@ pub fn read_rest(s: &[u8], import_only: bool, at: usize) -> Read
     read_lists(s, at)
 }
 
-// The entry at `at`, whose name is none of the `i` names of the table and becomes the next of them.
+// The module or import-only module at `at`. Its name must be none of the `i` names of the table, and becomes the next of them.
 fn take_entry(s: &[u8], tab: &mut [u32], import_only: bool, i: usize, at: usize) -> Read
     requires { ⌜ Space (now s) (now tab) i ⌝ }
     ensures { λ r. ⌜ EntryTaken «import_only» (now (s .entry)) (now (tab .entry)) i at r (now (tab .exit)) ⌝ }
@@ -197,7 +197,7 @@ fn read_entries(s: &[u8], tab: &mut [u32], import_only: bool, at: usize) -> Read
     Read::End(here)
 }
 
-// A set.
+// A set: its modules, then its import-only modules.
 fn read_set(s: &[u8], tab: &mut [u32], at: usize) -> Read
     requires { ⌜ Roomy (now s) (now tab) ⌝ }
     ensures { λ r. ⌜ ReadAs r (done (setAt (now (s .entry)) [] at)) (now (tab .entry)) (now (tab .exit)) ⌝ }

@@ -27,7 +27,7 @@ pub struct Checked {
     pub place: u32,
 }
 
-// Tables that fit, and an order table that is long enough and zero.
+// Writes the order, or a ring. The tables fit, and the order table is long enough and zero.
 fn sort(n: usize, edges: &[u32], m: usize, table: &mut [u32]) -> Ordered
     requires { ⌜ Fit n (now edges) m × (n ≤ length (now table)) × (now table ≡ zeros (length (now table))) ⌝ }
     ensures { λ r. ⌜ Sorts n (rowsIn m (now (edges .entry))) (length (now (table .entry))) r (now (table .exit)) ⌝ }
@@ -67,6 +67,7 @@ pub fn order(nodes: &[u32], n: usize, edges: &[u32], m: usize, table: &mut [u32]
     sort(n, edges, m, table)
 }
 
+// What the check found, as an answer.
 fn told_place(place: Place) -> Checked
     ensures { λ r. ⌜ r ≡ toldPlace place ⌝ }
 {

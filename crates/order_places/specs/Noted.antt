@@ -39,7 +39,7 @@ pub record AllNoted (list : List ℕ) (n : ℕ) (places : List ℕ) (r : ℕ) : 
 
 -- ---- edges by the places of their nodes
 
--- the edge lets the place k stand
+-- the edge does not make the place k wrong: it leads to another place, or comes from an earlier one
 abbrev pub lets : List ℕ → Row → ℕ → Bool
 lets places e k = cond (eqb (placeIn places (e .to)) k) (ltb (placeIn places (e .from)) k) true
 
@@ -47,7 +47,7 @@ unfoldable pub allLet : List ℕ → List Row → ℕ → Bool
 allLet places [] k = true
 allLet places (e ∷ es) k = lets places e k && allLet places es k
 
--- the edge bars one of the first `good` places
+-- the edge makes one of the first `good` places wrong
 abbrev pub bars : List ℕ → Row → (good : ℕ) → Bool
 bars places e good = ltb (placeIn places (e .to)) good && leb (placeIn places (e .to)) (placeIn places (e .from))
 

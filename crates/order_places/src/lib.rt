@@ -8,16 +8,17 @@ ghost use Rattle.order_tables.specs.Tables.{Fit};
 ghost use Rattle.order_places.specs.Noted.{placeIn, Blank, AllNoted, bars, Known, KnownAt, NodeAt, NextBreak, Unbroken};
 ghost use Rattle.order_places.specs.Places.{placeOf};
 
-// The place of a node that is not there. It is behind all others, so no edge is asked whether its nodes are there; and a table of it has all bytes alike.
+// The place of a node that is not in the list: behind all others, so that an edge is tested without asking whether its nodes are there. All its bytes are
+// alike, so that a table is filled with it fast.
 const NOWHERE: u32 = 4294967295;
 
-// The list holds each node once and breaks no edge, or is wrong at a place first.
+// The list holds each node once and breaks no edge; or this is its first wrong place.
 pub enum Place {
     Right,
     WrongAt(u32),
 }
 
-// Notes for each node of the list its place, up to the first place whose number is no node or is there already; that place, or the list's end.
+// Notes the place of each node of the list, up to the first place whose number is no node or stood earlier. Answers that place, or the list's end.
 fn note_places(list: &[u32], n: usize, places: &mut [u32]) -> usize
     requires { ⌜ Blank n (now places) ⌝ }
     ensures { λ r. ⌜ AllNoted (now (list .entry)) n (now (places .exit)) r ⌝ }
@@ -37,7 +38,7 @@ fn note_places(list: &[u32], n: usize, places: &mut [u32]) -> usize
     i
 }
 
-// The place of the node in the word at `at`.
+// The place in the list of the node whose number is the word `at` of the edge table.
 fn place_at(edges: &[u32], at: usize, places: &[u32]) -> u32
     requires { ⌜ NodeAt (now edges) at (now places) ⌝ }
     ensures { λ r. ⌜ r ≡ placeIn (now (places .entry)) (getD (now (edges .entry)) at 0) ⌝ }
@@ -45,8 +46,8 @@ fn place_at(edges: &[u32], at: usize, places: &[u32]) -> u32
     places[graph_edges::node_row(NodeIndex(edges[at]))]
 }
 
-// Whether the edge at `i` breaks one of the first `good` places: that of its second node, if the first one does not stand earlier. A second node that
-// is not there stands behind those places, a first one behind every second one.
+// Whether the edge at `i` makes one of the first `good` places wrong: the place of its second node, if its first node does not stand earlier. A second node
+// that is not in the list stands behind those places, and a first node that is not in it stands behind every second one.
 fn breaks(edges: &[u32], i: usize, places: &[u32], good: u32) -> bool
     requires { ⌜ KnownAt (now edges) i (now places) ⌝ }
     ensures { λ r. ⌜ r ≡ bars (now (places .entry)) (rowAt (now (edges .entry)) i) good ⌝ }
@@ -58,7 +59,7 @@ fn breaks(edges: &[u32], i: usize, places: &[u32], good: u32) -> bool
     to <= place_at(edges, i * 2, places)
 }
 
-// The first edge at `first` or behind it that does, or m. What is good stays the same meanwhile, so no edge's test waits for the one before.
+// The first edge from `first` on that makes one of them wrong, or m. `good` stays the same meanwhile, so that no edge's test waits for the one before.
 fn next_break(edges: &[u32], first: usize, m: usize, places: &[u32], good: u32) -> usize
     requires { ⌜ Known (now edges) m (now places) × (first ≤ m) ⌝ }
     ensures { λ r. ⌜ NextBreak (now (places .entry)) (now (edges .entry)) first m good r ⌝ }
@@ -73,7 +74,7 @@ fn next_break(edges: &[u32], first: usize, m: usize, places: &[u32], good: u32) 
     i
 }
 
-// How many of the first `good` places break none of the m edges.
+// How many of the first `good` places are right by all of the m edges: those before the first that an edge makes wrong.
 fn unbroken(edges: &[u32], m: usize, places: &[u32], good: u32) -> u32
     requires { ⌜ Known (now edges) m (now places) ⌝ }
     ensures { λ r. ⌜ Unbroken (now (places .entry)) (rowsIn m (now (edges .entry))) good r ⌝ }

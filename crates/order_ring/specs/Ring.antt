@@ -28,8 +28,8 @@ unfoldable pub since : ℕ → List ℕ → List ℕ
 since m [] = []
 since m (x ∷ xs) = cond (eqb x m) (x ∷ xs) (since m xs)
 
--- `seen` are the nodes gone through, the latest first: each is `step` of the one behind it, and if that is `before`, has an edge to it. Where v comes
--- again, the ring is what came since, and v: the latest has an edge to the one behind it, and so on to v, and v to the latest.
+-- `seen` are the nodes gone through, the latest first. From v the way goes on to `step v`. Where v comes again, the ring is all that came since, and v. If
+-- the step is `before`, each node of it has an edge to the one that stands behind it, and v has one to the first: the ring stands along its edges.
 unfoldable pub goBack : (step : ℕ → ℕ) (turns : ℕ) (seen : List ℕ) → ℕ → List ℕ
 goBack step zero seen v = []
 goBack step (suc k) seen v = cond (mem v seen) (until v seen ++ (v ∷ [])) (goBack step k (v ∷ seen) (step v))

@@ -12,16 +12,16 @@ ghost use Rattle.order_tables.specs.Free.{mem, Stuck};
 ghost use Rattle.order_ring.specs.Ring.{ringOf};
 ghost use Rattle.order_ring.specs.Trail.{Flags, Marks, noted, Notes, Noted, Goes, Went, Trailed, Behind, LowestAt};
 
-// Stands for no node: more than every number of one.
+// Stands for no node: no node has so high a number.
 const NOWHERE: u32 = 1024;
 
-// Where the way back ended: at a node that came before. What was gone through stands in the trail from `at` on, the latest first.
+// Where the way back ended: at a node that it had gone through before. The nodes of the way stand in the trail from `at` on, the latest first.
 pub struct Met {
     pub at: usize,
     pub node: usize,
 }
 
-// Marks the first `count` numbers of the list.
+// Marks the nodes that are the first `count` of the list.
 fn mark(list: &[u32], count: usize, gone: &mut [u32])
     requires { ⌜ Marks (now list) count (now gone) ⌝ }
     ensures { λ _. ⌜ Flags (take count (now (list .entry))) (now (gone .exit)) ⌝ }
@@ -34,7 +34,7 @@ fn mark(list: &[u32], count: usize, gone: &mut [u32])
     }
 }
 
-// The edge at `i`, from a node left over, may come from the lowest such node yet.
+// Looks at the edge at `i`: if its first node is left over, and lower than those noted so far for its second node, it is noted there.
 fn note_edge(edges: &[u32], i: usize, gone: &[u32], before: &mut [u32])
     requires { ⌜ (i * 2 + 1 < length (now edges)) × (rowAt (now edges) i .from < length (now gone)) × (rowAt (now edges) i .to < length (now before)) ⌝ }
     ensures { λ _. ⌜ now (before .exit) ≡ noted (now (gone .entry)) (now (before .entry)) (rowAt (now (edges .entry)) i) ⌝ }
@@ -61,7 +61,7 @@ fn note_edges(edges: &[u32], m: usize, gone: &[u32], before: &mut [u32])
     }
 }
 
-// Goes back from v, past nodes that are not marked, until one comes twice. It marks them.
+// Goes back from v, from each node to the one noted for it, until one comes twice. Marks the nodes on the way, and writes them into the trail from its end on.
 fn go_back(before: &[u32], v: usize, gone: &mut [u32], trail: &mut [u32]) -> Met
     requires { ⌜ Goes (now before) v (now gone) (now trail) ⌝ }
     ensures { λ r. ⌜ Went (now (before .entry)) v (now (trail .exit)) r ⌝ }
@@ -77,7 +77,7 @@ fn go_back(before: &[u32], v: usize, gone: &mut [u32], trail: &mut [u32]) -> Met
     Met { at, node }
 }
 
-// The trail of a graph: back from the lowest node left over.
+// The trail of a graph: the way back from the lowest node left over. The first `count` of the list are taken.
 fn make_trail(
     edges: &[u32],
     n: usize,
@@ -97,7 +97,7 @@ fn make_trail(
     go_back(&before, start, &mut gone, trail)
 }
 
-// Behind the first place from `at` on where v stands.
+// The place behind the first v from `at` on.
 fn behind(trail: &[u32], at: usize, v: usize) -> usize
     requires { ⌜ mem v (drop at (now trail)) ≡ true ⌝ }
     ensures { λ r. ⌜ Behind (now (trail .entry)) at v r ⌝ }
@@ -142,7 +142,7 @@ fn copy(trail: &[u32], from: usize, to: usize, table: &mut [u32], at: usize)
     }
 }
 
-// Writes the ring in the place of the `count` nodes that were taken, behind which all is zero; how many nodes it has.
+// Writes the ring over the `count` nodes that were taken, behind which all is zero. Answers how many nodes it has.
 pub fn write_ring(edges: &[u32], n: usize, m: usize, order: &mut [u32], count: usize) -> usize
     requires { ⌜ Fit n (now edges) m × (n ≤ length (now order)) × (count ≤ length (now order)) × Stuck n (rowsIn m (now edges)) (take count (now order)) × (now order ≡ padded (length (now order)) (take count (now order))) ⌝ }
     ensures { λ r. ⌜ (r ≡ length (ringOf n (rowsIn m (now (edges .entry))) (take count (now (order .entry))))) × (now (order .exit) ≡ padded (length (now (order .entry))) (ringOf n (rowsIn m (now (edges .entry))) (take count (now (order .entry))))) ⌝ }

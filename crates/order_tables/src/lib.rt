@@ -7,14 +7,17 @@ ghost use Rattle.graph_edges.specs.Edges.{rowsIn};
 ghost use Rattle.order_tables.specs.Tables.{allWithin, fits};
 ghost use Rattle.order_tables.specs.Free.{lowestFrom, zeroAt};
 
+// The refusal of this layer: tables that do not fit their counts, or an edge with a number that is no node.
 pub const TABLES_UNFIT: u32 = 43;
 
+// The larger of two.
 pub fn larger(a: u32, b: u32) -> u32
     ensures { λ r. ⌜ r ≡ larger a b ⌝ }
 {
     if a < b { b } else { a }
 }
 
+// The largest of all words, 0 if there are none.
 fn largest(w: &[u32]) -> u32
     ensures { λ r. ⌜ r ≡ largest 0 (now (w .entry)) ⌝ }
 {
@@ -42,7 +45,7 @@ pub fn first_zero(words: &[u32], first: usize, last: usize) -> usize
     v
 }
 
-// Whether both ends of each of the first m edges are nodes. The largest number is found with no early exit, many numbers at a time.
+// Whether both ends of each of the first m edges are nodes: the largest number of all must be one. It is found with no early exit, many numbers at a time.
 fn all_within(edges: &[u32], m: usize, n: usize) -> bool
     requires { ⌜ m * 2 ≤ length (now edges) ⌝ }
     ensures { λ r. ⌜ r ≡ allWithin n (rowsIn m (now (edges .entry))) ⌝ }

@@ -14,13 +14,14 @@ const GROUP: usize = 32;
 
 const GROUPS: usize = 32;
 
-// A bound for each group, below which no node of it is free, and behind them the number of a group below which none has a free node.
+// How many bounds there are: for each group a number below which none of its nodes is free, and behind these the number of a group before which no group has
+// a free node.
 const LOWS: usize = 33;
 
-// What stands for a node that was taken: more than there are edges.
+// Marks a node that was taken, where else stands how many edges it waits for: there are not so many edges.
 const TAKEN: u32 = 8193;
 
-// Lays the edge at `i` in front of the chain of the edges from its first node, and counts it at its second.
+// Puts the edge at `i` in front of the chain of the edges from its first node. Its second node waits for one edge more.
 fn chain_edge(edges: &[u32], i: usize, heads: &mut [u16], links: &mut [u16], waits: &mut [u32])
     requires { ⌜ Rows (now edges) (i + 1) × Chained (now edges) i (now heads) (now links) (now waits) ⌝ }
     ensures { λ r. ⌜ Chained (now (edges .entry)) (i + 1) (now (heads .exit)) (now (links .exit)) (now (waits .exit)) ⌝ }
@@ -55,7 +56,7 @@ fn group_end(first: usize, n: usize) -> usize
     first + GROUP
 }
 
-// The first zero of the group `g`; n if there is none. Next time the look begins where this one ends.
+// The lowest node of the group `g` that waits for none; n if there is none. The next look at this group begins where this one ended.
 fn look_group(waits: &[u32], lows: &mut [u32], g: usize, n: usize) -> usize
     requires { ⌜ LooksIn (now waits) (now lows) g n ⌝ }
     ensures { λ r. ⌜ LookedIn (now (waits .entry)) (now (lows .entry)) g n r (now (lows .exit)) ⌝ }
@@ -88,7 +89,7 @@ fn lowest_free(waits: &[u32], lows: &mut [u32], n: usize) -> usize
     n
 }
 
-// Makes the bound at `i` at most `most`.
+// Lowers the bound at `i` to `most`, if it is above that.
 fn lower(lows: &mut [u32], i: usize, most: u32)
     requires { ⌜ i < length (now lows) ⌝ }
     ensures { λ r. ⌜ Lowered (now (lows .entry)) i most (now (lows .exit)) ⌝ }
@@ -98,7 +99,7 @@ fn lower(lows: &mut [u32], i: usize, most: u32)
     }
 }
 
-// One edge less for v to wait for.
+// One edge less for v to wait for. If it was the last one, v is free, and the bounds are lowered.
 fn release(waits: &mut [u32], lows: &mut [u32], v: usize)
     requires { ⌜ Releases (now waits) (now lows) v ⌝ }
     ensures { λ r. ⌜ Released (now (waits .entry)) (now (lows .entry)) v (now (waits .exit)) (now (lows .exit)) ⌝ }
@@ -151,7 +152,7 @@ fn take_node(
     release_all(edges, heads, links, waits, lows, v);
 }
 
-// Takes nodes until none is free, and writes them; how many they are.
+// Takes nodes until none is free, and writes them into the order table. Answers how many they are.
 pub fn take_all(edges: &[u32], n: usize, m: usize, order: &mut [u32]) -> usize
     requires { ⌜ Fit n (now edges) m × (n ≤ length (now order)) ⌝ }
     ensures { λ r. ⌜ (r ≡ length (taken n (rowsIn m (now (edges .entry))))) × (now (order .exit) ≡ sets (now (order .entry)) 0 (taken n (rowsIn m (now (edges .entry))))) ⌝ }

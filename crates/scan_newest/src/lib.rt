@@ -3,7 +3,7 @@ use scan_rows::Span;
 ghost use mathlib.Core.Path.{_≡_};
 ghost use Rattle.scan_newest.specs.Newest.{less, comesNewer};
 
-// Byte order, a beginning before what it begins.
+// Whether a comes before b in byte order. A beginning comes before what it begins.
 fn less(a: &[u8], b: &[u8]) -> bool
     ensures { λ r. ⌜ r ≡ less (now (a .entry)) (now (b .entry)) ⌝ }
 {
@@ -23,7 +23,7 @@ fn less(a: &[u8], b: &[u8]) -> bool
     false
 }
 
-// Whether the value x comes in the place of the newest so far: there is none, or it is less than x.
+// Whether the value x takes the place of `old`, the newest so far: there was none, or it is less than x.
 pub fn comes_newer(store: &[u8], old: Span, x: Span) -> bool
     ensures { λ r. ⌜ r ≡ comesNewer (now (store .entry)) old x ⌝ }
 {

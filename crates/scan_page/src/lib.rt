@@ -4,7 +4,7 @@ ghost use mathlib.Core.Path.{_≡_};
 ghost use Rattle.yangparser.specs.Dependencies.{pageShort};
 ghost use Rattle.scan_page.specs.Page.{Prints};
 
-// By so much the page is longer than the text.
+// The page must be longer than the text by this: room for the headings, and for what stands around the values of 256 imports and 256 includes.
 pub const PAGE_MORE: usize = 6944;
 
 // What the scan read, and the page's length.

@@ -1,4 +1,4 @@
-// The printed form of YangDependencies, on a page that the caller lends. A writer answers the place behind its bytes.
+// The printed form of YangDependencies, on a page that the caller lends. Each function writes at a place and answers the place behind what it wrote.
 use scan_rows::Span;
 use scan_rows::YangImport;
 use scan_rows::YangInclude;
@@ -13,7 +13,7 @@ ghost use Rattle.scan_printed.specs.Pieces.{newline, digit, digits};
 ghost use Rattle.scan_printed.specs.Printed.{heading, revision, importLine, includeLine, importLines, includeLines, printedRows};
 ghost use Rattle.scan_printed.specs.Wrote.{Wrote};
 
-// Bytes as they stand.
+// These bytes.
 fn put(page: &mut [u8], at: usize, bytes: &[u8]) -> usize
     requires { ⌜ at + length (now bytes) ≤ length (now page) ⌝ }
     ensures { λ r. ⌜ Wrote (now (page .entry)) at (now (bytes .entry)) (now (page .exit)) r ⌝ }
@@ -28,7 +28,7 @@ fn put(page: &mut [u8], at: usize, bytes: &[u8]) -> usize
     n
 }
 
-// A value behind its label.
+// A label, and a value behind it.
 fn put_value(page: &mut [u8], at: usize, label: &[u8], store: &[u8], x: Span) -> usize
     requires { ⌜ at + length (now label ++ valueIn (now store) x) ≤ length (now page) ⌝ }
     ensures { λ r. ⌜ Wrote (now (page .entry)) at (now (label .entry) ++ valueIn (now (store .entry)) x) (now (page .exit)) r ⌝ }

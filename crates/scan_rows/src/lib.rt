@@ -6,14 +6,14 @@ ghost use lib.Seq.{sets};
 ghost use Rattle.scan_rows.specs.Span.{held, missing, markOf, valueIn};
 ghost use Rattle.scan_rows.specs.Rows.{importSize, includeSize, mostRows, importWords, includeWords, FitsImport, FitsInclude, spanAt, markedAt, importAt, includeAt};
 
-// Words to a row, and rows at the most.
+// How many words a row has, and how many rows a table has at the most.
 pub const IMPORT_SIZE: usize = 7;
 
 pub const INCLUDE_SIZE: usize = 5;
 
 pub const MOST_ROWS: usize = 256;
 
-// A value in the store, or one that is missing, with 0, 0.
+// A value: where its bytes begin in the store and how many they are. One that is missing has 0, 0.
 pub struct Span {
     pub present: bool,
     pub start: usize,
@@ -31,7 +31,7 @@ pub struct YangInclude {
     pub revision_date: Span,
 }
 
-// A value of this many bytes.
+// A value that is present.
 pub fn held(start: usize, size: usize) -> Span
     ensures { λ r. ⌜ r ≡ held start size ⌝ }
 {
@@ -53,14 +53,14 @@ pub fn missing() -> Span
     }
 }
 
-// 1 for a value that is present.
+// 1 for a value that is present, 0 for one that is missing.
 pub fn mark(x: Span) -> u32
     ensures { λ r. ⌜ r ≡ markOf x ⌝ }
 {
     if x.present { 1 } else { 0 }
 }
 
-// A row: name, prefix, whether there is a revision, and the revision.
+// Writes an import's row: name, prefix, whether there is a revision, and the revision.
 pub fn put_import(table: &mut [u32], row: usize, i: YangImport)
     requires { ⌜ (row < mostRows) × (mostRows * importSize ≤ length (now table)) × FitsImport i ⌝ }
     ensures { λ _. ⌜ now (table .exit) ≡ sets (now (table .entry)) (row * importSize) (importWords i) ⌝ }
@@ -78,7 +78,7 @@ pub fn put_import(table: &mut [u32], row: usize, i: YangImport)
     table[at + 6] = revision.size as u32;
 }
 
-// A row: name, whether there is a revision, and the revision.
+// Writes an include's row: name, whether there is a revision, and the revision.
 pub fn put_include(table: &mut [u32], row: usize, i: YangInclude)
     requires { ⌜ (row < mostRows) × (mostRows * includeSize ≤ length (now table)) × FitsInclude i ⌝ }
     ensures { λ _. ⌜ now (table .exit) ≡ sets (now (table .entry)) (row * includeSize) (includeWords i) ⌝ }
@@ -93,7 +93,7 @@ pub fn put_include(table: &mut [u32], row: usize, i: YangInclude)
     table[at + 4] = revision.size as u32;
 }
 
-// The value whose start and length stand at a word.
+// The value whose start and length are the words at `at` and behind it.
 fn get_span(table: &[u32], at: usize) -> Span
     requires { ⌜ at + 2 ≤ length (now table) ⌝ }
     ensures { λ r. ⌜ r ≡ spanAt (now (table .entry)) at ⌝ }
@@ -107,7 +107,7 @@ fn get_span(table: &[u32], at: usize) -> Span
     }
 }
 
-// The same behind its mark, or the missing value.
+// The same where a mark stands before them, 1 or 0: the value, or a missing one.
 fn get_marked(table: &[u32], at: usize) -> Span
     requires { ⌜ at + 3 ≤ length (now table) ⌝ }
     ensures { λ r. ⌜ r ≡ markedAt (now (table .entry)) at ⌝ }
@@ -122,7 +122,7 @@ fn get_marked(table: &[u32], at: usize) -> Span
     get_span(table, at + 1)
 }
 
-// A row read back.
+// An import's row read back.
 pub fn get_import(table: &[u32], row: usize) -> YangImport
     requires { ⌜ (row < mostRows) × (mostRows * importSize ≤ length (now table)) ⌝ }
     ensures { λ r. ⌜ r ≡ importAt (now (table .entry)) (row * importSize) ⌝ }
@@ -138,6 +138,7 @@ pub fn get_import(table: &[u32], row: usize) -> YangImport
     }
 }
 
+// An include's row read back.
 pub fn get_include(table: &[u32], row: usize) -> YangInclude
     requires { ⌜ (row < mostRows) × (mostRows * includeSize ≤ length (now table)) ⌝ }
     ensures { λ r. ⌜ r ≡ includeAt (now (table .entry)) (row * includeSize) ⌝ }

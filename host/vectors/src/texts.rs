@@ -211,7 +211,7 @@ fn words(length: u32) -> impl Iterator<Item = String> {
     })
 }
 
-/// Document 01's examples of texts, and the telling inputs of docs/DECISIONS.md.
+/// Document 01's examples of texts, and the telling inputs of docs/READINGS.md.
 pub const EXAMPLES: [&str; 34] = [
     "",
     "import a{}",
