@@ -31,11 +31,11 @@ use Rattle.order_places.specs.Places.{placeOf}
 use Rattle.order_places.specs.declared.Place.{Place}
 use Rattle.order_places.specs.declared.Place.the-variants.{Right, WrongAt}
 use Rattle.order.specs.Order.{sorted, sortedOf, orderOf, checked, toldPlace, checkOf}
-use Rattle.demands.specs.Order.{Returns, RightOrder}
+use Rattle.demands_order.specs.Order.{Returns, RightOrder}
 use Rattle.demands.specs.OrderCalls.{OrderCause, unfit, too-short, chain-back, in-order, CheckCause, wrong, right, OrderAnswers, OrderCalls}
 use Rattle.demands.proofs.Graphing.{bytes-demand3}
 use Rattle.demands.proofs.Numbers.{demand1}
-use Rattle.demands.proofs.OrderDemand.{order-demand}
+use Rattle.demands_order.proofs.OrderDemand.{order-demand}
 
 -- ---- the order
 

@@ -7,8 +7,8 @@ use Prim.Native.Nat.{ℕ}
 use lib.ListN.{getD}
 use lib.Dec.{eqb}
 use borrow.Author.Tests.{not-true}
-use Rattle.demands.specs.Rfc.{areAt, breakAt, blankToBreak, unless, trimEnds, trimStarts, trimmed}
-use Rattle.demands.specs.RfcDomain.{oneLine}
+use Rattle.demands_rfc.specs.Rfc.{areAt, breakAt, blankToBreak, unless, trimEnds, trimStarts, trimmed}
+use Rattle.demands_rfc.specs.RfcDomain.{oneLine}
 use Rattle.text.proofs.Here.{both}
 
 module _ (b : ℕ) (xs : List ℕ) (h : oneLine (b ∷ xs) ≡ true) where

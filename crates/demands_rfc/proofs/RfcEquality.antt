@@ -4,12 +4,12 @@ use mathlib.Core.Path.{_≡_}
 use mathlib.Core.List.{List}
 use Prim.Native.Nat.{ℕ}
 use Rattle.text_value.specs.Value.{value, valueAt}
-use Rattle.demands.specs.Rfc.{reads, rfcValue}
-use Rattle.demands.specs.RfcQuoted.{Quoted}
-use Rattle.demands.specs.RfcEquality.{RfcEquality}
-use Rattle.demands.proofs.RfcTrim.{trimmed-same}
-use Rattle.demands.proofs.RfcEqual.{value-same, value-given}
-use Rattle.demands.proofs.RfcCovers.{covered}
+use Rattle.demands_rfc.specs.Rfc.{reads, rfcValue}
+use Rattle.demands_rfc.specs.RfcQuoted.{Quoted}
+use Rattle.demands_rfc.specs.RfcEquality.{RfcEquality}
+use Rattle.demands_rfc.proofs.RfcTrim.{trimmed-same}
+use Rattle.demands_rfc.proofs.RfcEqual.{value-same, value-given}
+use Rattle.demands_rfc.proofs.RfcCovers.{covered}
 
 quoted-same : (s : List ℕ) (at : ℕ) → Quoted s at → (bs : List ℕ) × (end : ℕ) × (rfcValue s at ≡ reads bs end) × (valueAt s at ≡ value bs end)
 quoted-same s at q =

@@ -24,11 +24,11 @@ use Rattle.text_value.specs.Value.{isQuote}
 use Rattle.text_value.proofs.JoinLaws.{at-is, closed-end, str-size}
 use Rattle.text_value.specs.declared.Close.{Close}
 use Rattle.text_value.specs.declared.Close.the-variants.{At, Open}
-use Rattle.demands.specs.Rfc.{isBlank, areAt, toLineEnd, commentClose, pastComment, separator, pastGap, Read, reads, with, first, Piece, double, single, gap, singleBody, doubleBody, columnOf, stringAt, gapTo, gapAt, gapAndString, plusAndString, moreStrings, piecesAt}
-use Rattle.demands.specs.RfcDomain.{oddWhite, plain, legalIn, every, found, plainAt, legalAt}
-use Rattle.demands.specs.RfcQuoted.{plainWhite, Filled, done, white, line, block, Closed, Added, last, more, Quoted}
-use Rattle.demands.proofs.RfcCounts.{rfc-uncounted}
-use Rattle.demands.proofs.RfcGaps.{slash}
+use Rattle.demands_rfc.specs.Rfc.{isBlank, areAt, toLineEnd, commentClose, pastComment, separator, pastGap, Read, reads, with, first, Piece, double, single, gap, singleBody, doubleBody, columnOf, stringAt, gapTo, gapAt, gapAndString, plusAndString, moreStrings, piecesAt}
+use Rattle.demands_rfc.specs.RfcDomain.{oddWhite, plain, legalIn, every, found, plainAt, legalAt}
+use Rattle.demands_rfc.specs.RfcQuoted.{plainWhite, Filled, done, white, line, block, Closed, Added, last, more, Quoted}
+use Rattle.demands_rfc.proofs.RfcCounts.{rfc-uncounted}
+use Rattle.demands_rfc.proofs.RfcGaps.{slash}
 
 -- ---- where our gap ends
 

@@ -14,9 +14,9 @@ use borrow.Author.Tests.{eqb-true}
 use Rattle.text.specs.Turns.{Turn, stop, on, after, turns}
 use Rattle.text.proofs.Here.{by-test, here, both}
 use Rattle.text.proofs.Turns.{turns-stop, turns-on, turns-rule}
-use Rattle.demands.specs.Rfc.{isBlank, areAt, commentClose, pastComment, separator, pastGap, Read, reads, nothing, with, first, Piece, double, single, gap, singleBody, doubleBody, columnOf, stringAt, gapTo, gapAt, gapAndString, plusAndString, addedStrings, moreStrings}
-use Rattle.demands.specs.RfcEquality.{RfcUncounted}
-use Rattle.demands.proofs.RfcStrings.{nothing-read, read-is, with-reads, none-some, some-is}
+use Rattle.demands_rfc.specs.Rfc.{isBlank, areAt, commentClose, pastComment, separator, pastGap, Read, reads, nothing, with, first, Piece, double, single, gap, singleBody, doubleBody, columnOf, stringAt, gapTo, gapAt, gapAndString, plusAndString, addedStrings, moreStrings}
+use Rattle.demands_rfc.specs.RfcEquality.{RfcUncounted}
+use Rattle.demands_rfc.proofs.RfcStrings.{nothing-read, read-is, with-reads, none-some, some-is}
 
 -- ---- a gap
 

@@ -10,9 +10,9 @@ use Rattle.text.specs.Scan.{inIdent, inRun, span, runEnd, pairAt, closing, bloc
 use Rattle.text_value.specs.Str.{escaped, escapes, strEnd, strBytes, closedBy, strAt}
 use Rattle.text_value.specs.Value.{isQuote, startsName, addedBy, afterPlus, afterGap, moreAt, addTo, joinTurn, joinedWith, joined, ofString, valueHere, valueAt, value}
 use Rattle.text.specs.Turns.{turns}
-use Rattle.demands.specs.Rfc.{reads, nothing, isBlank, areAt, breakAt, toLineEnd, commentClose, pastComment, separator, pastGap, with, first, singleBody, doubleBody, width, columnAfter, columnOf, stringAt, gapTo, gapAt, gapAndString, plusAndString, addedStrings, moreStrings, piecesAt, blankToBreak, unless, trimEnds, trimStarts, trimmed, escape, joining, unescaped, meaning, meanings, endingAt, meant, rfcValue}
-use Rattle.demands.specs.RfcDomain.{oddWhite, oneLine, legal, plain, legalIn, every, found, plainAt, legalAt}
-use Rattle.demands.proofs.RfcSame.{sameVal, sameRead, agree}
+use Rattle.demands_rfc.specs.Rfc.{reads, nothing, isBlank, areAt, breakAt, toLineEnd, commentClose, pastComment, separator, pastGap, with, first, singleBody, doubleBody, width, columnAfter, columnOf, stringAt, gapTo, gapAt, gapAndString, plusAndString, addedStrings, moreStrings, piecesAt, blankToBreak, unless, trimEnds, trimStarts, trimmed, escape, joining, unescaped, meaning, meanings, endingAt, meant, rfcValue}
+use Rattle.demands_rfc.specs.RfcDomain.{oddWhite, oneLine, legal, plain, legalIn, every, found, plainAt, legalAt}
+use Rattle.demands_rfc.proofs.RfcSame.{sameVal, sameRead, agree}
 
 record Example : Type 0 where
   text : List ℕ

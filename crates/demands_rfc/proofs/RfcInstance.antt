@@ -9,10 +9,10 @@ use Rattle.text.specs.Scan.{inIdent, inRun, span, runEnd, pairAt, closing, bloc
 use Rattle.text_value.specs.Str.{escaped, escapes, strEnd, strBytes, closedBy, strAt}
 use Rattle.text_value.specs.Value.{isQuote, startsName, addedBy, afterPlus, afterGap, moreAt, addTo, joinTurn, joinedWith, joined, ofString, valueHere, valueAt, value}
 use Rattle.text.specs.Turns.{turns}
-use Rattle.demands.specs.Rfc.{reads, isBlank, areAt, breakAt, toLineEnd, commentClose, rfcValue}
-use Rattle.demands.specs.RfcDomain.{oneLine, legal}
-use Rattle.demands.specs.RfcQuoted.{plainWhite, done, white, line, block, last, more, Quoted}
-use Rattle.demands.proofs.RfcEquality.{rfc-equality}
+use Rattle.demands_rfc.specs.Rfc.{reads, isBlank, areAt, breakAt, toLineEnd, commentClose, rfcValue}
+use Rattle.demands_rfc.specs.RfcDomain.{oneLine, legal}
+use Rattle.demands_rfc.specs.RfcQuoted.{plainWhite, done, white, line, block, last, more, Quoted}
+use Rattle.demands_rfc.proofs.RfcEquality.{rfc-equality}
 
 -- "a", a blank, /*c*/, a line break, +, //d up to the end of the line, 'b', ;
 abbrev text : List ℕ

@@ -18,10 +18,10 @@ use Rattle.order_tables.specs.Free.{free}
 use Rattle.order_tables.proofs.Lowest.{lowest-has, lowest-low}
 use Rattle.order_take.specs.Taking.{next, takeFrom, taken}
 use Rattle.order_take.proofs.Taken.{free-below, take-ends, taken-distinct, taken-below}
-use Rattle.demands.specs.Order.{Valid, NotAfter, same, lower, later, Good, LowestGood}
-use Rattle.demands.proofs.OrderLists.{all-there}
-use Rattle.demands.proofs.OrderValid.{valid-free, valid-length}
-use Rattle.demands.proofs.OrderPlaces.{free-good, good-free}
+use Rattle.demands_order.specs.Order.{Valid, NotAfter, same, lower, later, Good, LowestGood}
+use Rattle.demands_order.proofs.OrderLists.{all-there}
+use Rattle.demands_order.proofs.OrderValid.{valid-free, valid-length}
+use Rattle.demands_order.proofs.OrderPlaces.{free-good, good-free}
 
 behind-front : (front xs ys : List ℕ) → NotAfter xs ys → NotAfter (front ++ xs) (front ++ ys)
 behind-front [] xs ys h = h

@@ -6,9 +6,9 @@ use mathlib.Core.List.{List}
 use Prim.Native.Nat.{ℕ}
 use Rattle.text.specs.Turns.{after}
 use Rattle.text_value.specs.Value.{value, valueAt}
-use Rattle.demands.specs.Rfc.{reads, first, separator, pastGap, gapAt, plusAndString, moreStrings, trimmed, rfcValue}
-use Rattle.demands.specs.RfcDomain.{oneLine, plainAt, legalAt}
-use Rattle.demands.specs.RfcQuoted.{Quoted}
+use Rattle.demands_rfc.specs.Rfc.{reads, first, separator, pastGap, gapAt, plusAndString, moreStrings, trimmed, rfcValue}
+use Rattle.demands_rfc.specs.RfcDomain.{oneLine, plainAt, legalAt}
+use Rattle.demands_rfc.specs.RfcQuoted.{Quoted}
 
 pub record RfcEquality : Type 0 where
   -- a quoted value under the conditions: the RFC's value and ours are the same bytes, up to the same place

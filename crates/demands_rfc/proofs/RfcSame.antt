@@ -5,7 +5,7 @@ use mathlib.Core.List.{List, [], _∷_}
 use Prim.Native.Nat.{ℕ}
 use lib.Dec.{eqb}
 use Rattle.text_value.specs.Value.{Val, value, none}
-use Rattle.demands.specs.Rfc.{Read, reads, nothing}
+use Rattle.demands_rfc.specs.Rfc.{Read, reads, nothing}
 
 abbrev pub same : List ℕ → List ℕ → Bool
 same [] [] = true

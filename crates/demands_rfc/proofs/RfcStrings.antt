@@ -14,9 +14,9 @@ use Rattle.text.proofs.Here.{by-test}
 use Rattle.text_value.specs.Str.{escaped, escapes, strEnd, strBytes, whole, closedBy, strAt}
 use Rattle.text_value.specs.Value.{isQuote}
 use Rattle.text_value.specs.declared.Close.the-variants.{At}
-use Rattle.demands.specs.Rfc.{Read, reads, nothing, with, Piece, double, single, singleBody, doubleBody, columnOf, stringAt, escape, joining, unescaped, meaning}
-use Rattle.demands.specs.RfcDomain.{plain}
-use Rattle.demands.proofs.RfcTrim.{trimmed-same}
+use Rattle.demands_rfc.specs.Rfc.{Read, reads, nothing, with, Piece, double, single, singleBody, doubleBody, columnOf, stringAt, escape, joining, unescaped, meaning}
+use Rattle.demands_rfc.specs.RfcDomain.{plain}
+use Rattle.demands_rfc.proofs.RfcTrim.{trimmed-same}
 
 -- ---- what an answer says
 

@@ -20,7 +20,7 @@ use Rattle.order_tables.specs.Free.{mem}
 use Rattle.order_tables.proofs.Mem.{mem-append, mem-snoc-old, mem-snoc-new, mem-snoc-else}
 use Rattle.order_tables.proofs.Distinct.{Distinct, none, more, distinct-snoc, short, mem-head, mem-tail, mem-other}
 use Rattle.order_ring.specs.Ring.{until}
-use Rattle.demands.specs.Order.{upTo}
+use Rattle.demands_order.specs.Order.{upTo}
 
 -- ---- membership by test, and as the library has it
 

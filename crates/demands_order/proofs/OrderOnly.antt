@@ -16,8 +16,8 @@ use Rattle.text.proofs.Here.{by-test}
 use Rattle.graph.specs.Numbers.{Row}
 use Rattle.order_tables.specs.Free.{mem}
 use Rattle.order_tables.proofs.Mem.{Placed, mem-place, place-mem}
-use Rattle.demands.specs.Order.{LowestLeft, LowestTo, Reached, first, further, BackCycle}
-use Rattle.demands.proofs.OrderLists.{nodup-length}
+use Rattle.demands_order.specs.Order.{LowestLeft, LowestTo, Reached, first, further, BackCycle}
+use Rattle.demands_order.proofs.OrderLists.{nodup-length}
 
 module _ (n : ℕ) (es : List Row) (done : List ℕ) where
   one-lowest : {v w : ℕ} → LowestLeft n done v → LowestLeft n done w → v ≡ w

@@ -13,8 +13,8 @@ use Rattle.text.specs.Keyword.{part}
 use Rattle.text.specs.Scan.{gapEnd}
 use Rattle.text_value.specs.Str.{whole, strAt}
 use Rattle.text_value.specs.Value.{isQuote}
-use Rattle.demands.specs.Rfc.{areAt, toLineEnd, commentClose}
-use Rattle.demands.specs.RfcDomain.{oneLine, legal}
+use Rattle.demands_rfc.specs.Rfc.{areAt, toLineEnd, commentClose}
+use Rattle.demands_rfc.specs.RfcDomain.{oneLine, legal}
 
 -- bytes 9, 10 and 32
 unfoldable pub plainWhite : ℕ → Bool

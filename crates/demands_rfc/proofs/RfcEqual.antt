@@ -15,11 +15,11 @@ use Rattle.text_value.specs.Str.{whole, strAt}
 use Rattle.text_value.specs.Value.{isQuote, added, ends, addedBy, moreAt, joinedWith, joined, Bytes, value, valueAt}
 use Rattle.text_value.proofs.ValueLaws.{more-plain, more-string}
 use Rattle.text_value.proofs.JoinLaws.{join-on, join-stop, value-string}
-use Rattle.demands.specs.Rfc.{Read, reads, nothing, first, Piece, double, single, gap, pastGap, stringAt, gapTo, gapAt, gapAndString, plusAndString, addedStrings, moreStrings, piecesAt, escape, joining, unescaped, meaning, meanings, endingAt, meant, rfcValue}
-use Rattle.demands.specs.RfcDomain.{oddWhite, legal, plain, legalIn, every, found, plainAt, legalAt}
-use Rattle.demands.proofs.RfcTrim.{trimmed-same}
-use Rattle.demands.proofs.RfcStrings.{nothing-read, read-is, with-reads, some-is, joining-some, at-escape, at-byte, string-same}
-use Rattle.demands.proofs.RfcGaps.{past-same}
+use Rattle.demands_rfc.specs.Rfc.{Read, reads, nothing, first, Piece, double, single, gap, pastGap, stringAt, gapTo, gapAt, gapAndString, plusAndString, addedStrings, moreStrings, piecesAt, escape, joining, unescaped, meaning, meanings, endingAt, meant, rfcValue}
+use Rattle.demands_rfc.specs.RfcDomain.{oddWhite, legal, plain, legalIn, every, found, plainAt, legalAt}
+use Rattle.demands_rfc.proofs.RfcTrim.{trimmed-same}
+use Rattle.demands_rfc.proofs.RfcStrings.{nothing-read, read-is, with-reads, some-is, joining-some, at-escape, at-byte, string-same}
+use Rattle.demands_rfc.proofs.RfcGaps.{past-same}
 
 -- ---- a piece and the rest
 

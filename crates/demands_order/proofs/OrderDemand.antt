@@ -13,12 +13,12 @@ use Rattle.order_tables.specs.Tables.{allWithin}
 use Rattle.order_take.specs.Taking.{taken}
 use Rattle.order_take.proofs.Taken.{taken-in-turn, taken-short, taken-stuck}
 use Rattle.order_ring.specs.Ring.{ringOf}
-use Rattle.demands.specs.Order.{Returns, Valid, NotAfter, same, lower, later, First, BackCycle, RightOrder, OrderDemand}
-use Rattle.demands.proofs.OrderValid.{turn-valid, valid-no-chain}
-use Rattle.demands.proofs.OrderPlaces.{right-in-turn, valid-right, wrong-first-wrong, first-wrong-wrong}
-use Rattle.demands.proofs.OrderLeast.{taken-lowest, taken-all, taken-least}
-use Rattle.demands.proofs.OrderCycle.{round-returns, ringed, back-cycle}
-use Rattle.demands.proofs.OrderOnly.{one-cycle}
+use Rattle.demands_order.specs.Order.{Returns, Valid, NotAfter, same, lower, later, First, BackCycle, RightOrder, OrderDemand}
+use Rattle.demands_order.proofs.OrderValid.{turn-valid, valid-no-chain}
+use Rattle.demands_order.proofs.OrderPlaces.{right-in-turn, valid-right, wrong-first-wrong, first-wrong-wrong}
+use Rattle.demands_order.proofs.OrderLeast.{taken-lowest, taken-all, taken-least}
+use Rattle.demands_order.proofs.OrderCycle.{round-returns, ringed, back-cycle}
+use Rattle.demands_order.proofs.OrderOnly.{one-cycle}
 
 -- of two lists of which neither comes after the other, both are the same
 neither-after : {xs ys : List ℕ} → NotAfter xs ys → NotAfter ys xs → xs ≡ ys

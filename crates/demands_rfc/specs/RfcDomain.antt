@@ -6,7 +6,7 @@ use mathlib.Core.Bool.{Bool, true, false, not, _&&_, _||_}
 use mathlib.Core.List.{List, [], _∷_}
 use lib.Dec.{eqb}
 use Rattle.text.specs.Bytes.{newline, carriage, quote, backslash, smallN, smallT}
-use Rattle.demands.specs.Rfc.{Piece, double, single, gap, Read, reads, nothing, piecesAt}
+use Rattle.demands_rfc.specs.Rfc.{Piece, double, single, gap, Read, reads, nothing, piecesAt}
 
 abbrev pub verticalTab : ℕ
 verticalTab = 11

@@ -18,9 +18,9 @@ use Rattle.text.specs.Turns.{Turn, stop, on, after, turns}
 use Rattle.text.specs.declared.Run.the-variants.{White, Line}
 use Rattle.text.proofs.Here.{by-test, here, never, both, neither}
 use Rattle.text.proofs.Laws.{run-more, run-stop, run-past, block-from, comment-line, comment-block, comment-none, gap-stop, gap-more}
-use Rattle.demands.specs.Rfc.{isBlank, areAt, toLineEnd, commentClose, pastComment, separator, pastGap}
-use Rattle.demands.specs.RfcDomain.{oddWhite}
-use Rattle.demands.proofs.RfcStrings.{none-some, some-is}
+use Rattle.demands_rfc.specs.Rfc.{isBlank, areAt, toLineEnd, commentClose, pastComment, separator, pastGap}
+use Rattle.demands_rfc.specs.RfcDomain.{oddWhite}
+use Rattle.demands_rfc.proofs.RfcStrings.{none-some, some-is}
 
 -- ---- white bytes
 

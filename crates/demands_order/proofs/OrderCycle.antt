@@ -14,9 +14,9 @@ use Rattle.order_tables.specs.Tables.{allWithin}
 use Rattle.order_tables.proofs.Lowest.{lowest-has, lowest-low}
 use Rattle.order_ring.specs.Ring.{left, firstLeft, before, goBack, ringOf}
 use Rattle.order_ring.proofs.Round.{Along, Round, Led, Reached, first, further, Ringed, ring-ringed, first-lowest}
-use Rattle.demands.specs.Order as Order
-use Rattle.demands.specs.Order.{Chain, one, on, Returns, LowestLeft, LowestTo, BackCycle}
-use Rattle.demands.proofs.OrderLists.{distinct-nodup}
+use Rattle.demands_order.specs.Order as Order
+use Rattle.demands_order.specs.Order.{Chain, one, on, Returns, LowestLeft, LowestTo, BackCycle}
+use Rattle.demands_order.proofs.OrderLists.{distinct-nodup}
 
 -- ---- a ring, place by place
 
