@@ -14,7 +14,7 @@ use lib.Dec.{eqb}
 use lib.ListN.{length, length-append}
 use borrow.Author.Tests.{eqb-false, eq-eqb}
 use Rattle.text.proofs.Here.{by-test, never}
-use Rattle.library_index.proofs.Stores.{decide}
+use Rattle.text_lent.proofs.Numbers.{decide}
 use Rattle.graph.proofs.Spread.{perm-length}
 use Rattle.order_tables.specs.Free.{mem}
 use Rattle.order_tables.proofs.Mem.{mem-append, mem-snoc-old, mem-snoc-new, mem-snoc-else}

@@ -17,7 +17,7 @@ use Rattle.order_tables.specs.Free.{mem, free}
 use Rattle.order_tables.proofs.Ready.{Awaited, unready, ready-edge, ready-all}
 use Rattle.order_take.proofs.Taken.{InTurn, start, then-one, free-below, free-new, free-ready}
 use Rattle.order_places.specs.Places.{placeFrom, placeOf}
-use Rattle.order_places.specs.declared.Place.the-variants.{Right, WrongAt}
+use Rattle.order_places.specs.declared.Verdict.the-variants.{Right, WrongAt}
 use Rattle.demands_order.specs.Order.{Valid, Good, Fault, no-node, there-already, from-later, WrongHere, at-place, at-end, FirstWrong}
 use Rattle.demands_order.proofs.OrderValid.{valid-free, valid-length}
 

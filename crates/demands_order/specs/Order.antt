@@ -13,7 +13,7 @@ use Rattle.order_tables.specs.Tables.{allWithin}
 use Rattle.order_take.specs.Taking.{taken}
 use Rattle.order_ring.specs.Ring.{until, ringOf}
 use Rattle.order_places.specs.Places.{placeOf}
-use Rattle.order_places.specs.declared.Place.the-variants.{Right, WrongAt}
+use Rattle.order_places.specs.declared.Verdict.the-variants.{Right, WrongAt}
 
 -- ---- edges and chains of edges
 

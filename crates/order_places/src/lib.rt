@@ -12,7 +12,7 @@ ghost use Rattle.order_places.specs.Places.{placeOf};
 const NOWHERE: u32 = 4294967295;
 
 // The list holds each node once and breaks no edge, or is wrong at a place first.
-pub enum Place {
+pub enum Verdict {
     Right,
     WrongAt(u32),
 }
@@ -88,19 +88,19 @@ fn unbroken(edges: &[u32], m: usize, places: &[u32], good: u32) -> u32
 }
 
 // The first wrong place of a list.
-pub fn check_list(edges: &[u32], n: usize, m: usize, list: &[u32]) -> Place
+pub fn check_list(edges: &[u32], n: usize, m: usize, list: &[u32]) -> Verdict
     requires { ⌜ Fit n (now edges) m ⌝ }
     ensures { λ r. ⌜ r ≡ placeOf n (rowsIn m (now (edges .entry))) (now (list .entry)) ⌝ }
 {
     let mut places: [u32; graph_edges::MOST_NODES] = [NOWHERE; graph_edges::MOST_NODES];
     let noted = note_places(list, n, &mut places);
     let place = unbroken(edges, m, &places, noted as u32);
-    let good = library_index::of_word(place);
+    let good = text_lent::of_word(place);
     if good < list.len() {
-        return Place::WrongAt(place);
+        return Verdict::WrongAt(place);
     }
     if good < n {
-        return Place::WrongAt(place);
+        return Verdict::WrongAt(place);
     }
-    Place::Right
+    Verdict::Right
 }

@@ -12,7 +12,7 @@ use lib.ListN.{length, getD, set, length-set}
 use lib.Seq.{getD-set-same, getD-set-other}
 use lib.Dec.{eqb, ltb}
 use borrow.Author.Tests.{eq-eqb, ne-eqb, lt-ltb, le-ltb, ltb-true, ltb-false}
-use Rattle.library_index.proofs.Stores.{decide}
+use Rattle.text_lent.proofs.Numbers.{decide}
 use Rattle.graph.specs.Numbers.{Row, row, memR}
 use Rattle.graph_edges.specs.Edges.{mostNodes, rowAt, rowsIn}
 use Rattle.graph_edges.proofs.Rows.{or-not, always, mem-snoc}

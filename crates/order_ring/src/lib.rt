@@ -86,7 +86,8 @@ fn make_trail(
     count: usize,
     trail: &mut [u32],
 ) -> Met
-    requires { ⌜ Fit n (now edges) m × (count ≤ length (now list)) × Stuck n (rowsIn m (now edges)) (take count (now list)) × (length (now trail) ≡ mostNodes) ⌝ }
+    requires { ⌜ Fit n (now edges) m × (count ≤ length (now list)) × Stuck n (rowsIn m (now edges)) (take count (now list))
+        × (length (now trail) ≡ mostNodes) ⌝ }
     ensures { λ r. ⌜ Trailed n (rowsIn m (now (edges .entry))) (take count (now (list .entry))) (now (trail .exit)) r ⌝ }
 {
     let mut gone: [u32; graph_edges::MOST_NODES] = [0; graph_edges::MOST_NODES];
@@ -104,7 +105,7 @@ fn behind(trail: &[u32], at: usize, v: usize) -> usize
 {
     let mut i = at;
     while i < trail.len() {
-        if library_index::of_word(trail[i]) == v {
+        if text_lent::of_word(trail[i]) == v {
             return i + 1;
         }
         i += 1;
@@ -144,8 +145,11 @@ fn copy(trail: &[u32], from: usize, to: usize, table: &mut [u32], at: usize)
 
 // Writes the ring in the place of the `count` nodes that were taken, behind which all is zero; how many nodes it has.
 pub fn write_ring(edges: &[u32], n: usize, m: usize, order: &mut [u32], count: usize) -> usize
-    requires { ⌜ Fit n (now edges) m × (n ≤ length (now order)) × (count ≤ length (now order)) × Stuck n (rowsIn m (now edges)) (take count (now order)) × (now order ≡ padded (length (now order)) (take count (now order))) ⌝ }
-    ensures { λ r. ⌜ (r ≡ length (ringOf n (rowsIn m (now (edges .entry))) (take count (now (order .entry))))) × (now (order .exit) ≡ padded (length (now (order .entry))) (ringOf n (rowsIn m (now (edges .entry))) (take count (now (order .entry))))) ⌝ }
+    requires { ⌜ Fit n (now edges) m × (n ≤ length (now order)) × (count ≤ length (now order))
+        × Stuck n (rowsIn m (now edges)) (take count (now order))
+        × (now order ≡ padded (length (now order)) (take count (now order))) ⌝ }
+    ensures { λ r. ⌜ (r ≡ length (ringOf n (rowsIn m (now (edges .entry))) (take count (now (order .entry)))))
+        × (now (order .exit) ≡ padded (length (now (order .entry))) (ringOf n (rowsIn m (now (edges .entry))) (take count (now (order .entry))))) ⌝ }
 {
     let mut trail: [u32; graph_edges::MOST_NODES] = [0; graph_edges::MOST_NODES];
     let met = make_trail(edges, n, m, order, count, &mut trail);

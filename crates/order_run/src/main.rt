@@ -19,7 +19,7 @@ fn read_words(field: &[u8], first: usize, table: &mut [u32]) {
 
 // As many words of a table as a word says, or all.
 fn part(t: &[u32], n: u32) -> &[u32] {
-    let long = library_index::of_word(n);
+    let long = text_lent::of_word(n);
     if t.len() < long {
         return t;
     }
@@ -54,12 +54,12 @@ fn answer_agrees(ordered: Ordered, table: &[u32], told: &[u8]) -> bool {
 
 // The order of a graph into the first words of a table.
 fn order_into(graph: &[u8], nodes: &[u32], edges: &[u32], table: &mut [u32], told: &[u8]) -> bool {
-    let long = library_index::of_word(replay::word(told, 0));
+    let long = text_lent::of_word(replay::word(told, 0));
     if table.len() < long {
         return false;
     }
-    let n = library_index::of_word(replay::word(graph, 0));
-    let m = library_index::of_word(replay::word(graph, 4));
+    let n = text_lent::of_word(replay::word(graph, 0));
+    let m = text_lent::of_word(replay::word(graph, 4));
     let start: usize = 0;
     let ordered = order::order(nodes, n, edges, m, &mut table[start..long]);
     answer_agrees(ordered, &table[start..long], told)
@@ -89,9 +89,9 @@ fn check_agrees(graph: &[u8], told: &[u8]) -> bool {
     read_words(told, 12, &mut list);
     let checked = order::order_check(
         part(&nodes, replay::word(graph, 8)),
-        library_index::of_word(replay::word(graph, 0)),
+        text_lent::of_word(replay::word(graph, 0)),
         part(&edges, replay::word(graph, 12)),
-        library_index::of_word(replay::word(graph, 4)),
+        text_lent::of_word(replay::word(graph, 4)),
         part(&list, replay::word(told, 0)),
     );
     is_checked(checked, replay::word(told, 4), replay::word(told, 8))

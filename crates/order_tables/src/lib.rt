@@ -53,7 +53,7 @@ fn all_within(edges: &[u32], m: usize, n: usize) -> bool
     let start: usize = 0;
     let end = m * 2;
     let most = largest(&edges[start..end]);
-    library_index::of_word(most) < n
+    text_lent::of_word(most) < n
 }
 
 // Whether the tables hold n nodes and m edges between them.

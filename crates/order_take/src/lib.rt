@@ -62,7 +62,7 @@ fn look_group(waits: &[u32], lows: &mut [u32], g: usize, n: usize) -> usize
 {
     let last = group_end(g * GROUP, n);
     let first = order_tables::larger((g * GROUP) as u32, lows[g]);
-    let v = order_tables::first_zero(waits, library_index::of_word(first), last);
+    let v = order_tables::first_zero(waits, text_lent::of_word(first), last);
     if v < last {
         lows[g] = v as u32;
         return v;
@@ -76,7 +76,7 @@ fn lowest_free(waits: &[u32], lows: &mut [u32], n: usize) -> usize
     requires { ⌜ Looks (now waits) (now lows) n ⌝ }
     ensures { λ r. ⌜ Looked (now (waits .entry)) n r (now (lows .exit)) ⌝ }
 {
-    let mut g = library_index::of_word(lows[GROUPS]);
+    let mut g = text_lent::of_word(lows[GROUPS]);
     while g * GROUP < n {
         let v = look_group(waits, lows, g, n);
         if v < n {
@@ -154,7 +154,8 @@ fn take_node(
 // Takes nodes until none is free, and writes them; how many they are.
 pub fn take_all(edges: &[u32], n: usize, m: usize, order: &mut [u32]) -> usize
     requires { ⌜ Fit n (now edges) m × (n ≤ length (now order)) ⌝ }
-    ensures { λ r. ⌜ (r ≡ length (taken n (rowsIn m (now (edges .entry))))) × (now (order .exit) ≡ sets (now (order .entry)) 0 (taken n (rowsIn m (now (edges .entry))))) ⌝ }
+    ensures { λ r. ⌜ (r ≡ length (taken n (rowsIn m (now (edges .entry)))))
+        × (now (order .exit) ≡ sets (now (order .entry)) 0 (taken n (rowsIn m (now (edges .entry))))) ⌝ }
 {
     let mut heads: [u16; graph_edges::MOST_NODES] = [0; graph_edges::MOST_NODES];
     let mut links: [u16; graph_edges::MOST_EDGES] = [0; graph_edges::MOST_EDGES];

@@ -1,2 +1,3 @@
 pub mod Clears
 pub mod LentLaws
+pub mod Numbers

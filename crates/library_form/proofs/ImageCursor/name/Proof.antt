@@ -1,9 +1,9 @@
--- `library_form::Cursor::name`. Each way out is one law of Names.
+-- `library_form::ImageCursor::name`. Each way out is one law of Names.
 -- Assumes nothing.
 use Rattle.library_form.proofs.Names.{no-number, first-in, empty, long, cut, unprintable, whole}
 use borrow.Author.Needs.{needs}
-use Rattle.library_form.proofs.Cursor.name.Statement.{statement}
-use Rattle.library_form.proofs.Cursor.name.Tie as tie
+use Rattle.library_form.proofs.ImageCursor.name.Statement.{statement}
+use Rattle.library_form.proofs.ImageCursor.name.Tie as tie
 
 returns : tie.Need-returns
 returns c = search no-number

@@ -1,8 +1,8 @@
--- `library_form::Cursor::number`. Each way out is one law of Numbers.
+-- `library_form::ImageCursor::number`. Each way out is one law of Numbers.
 -- Assumes nothing.
 use borrow.Author.Needs.{needs}
-use Rattle.library_form.proofs.Cursor.number.Statement.{statement}
-use Rattle.library_form.proofs.Cursor.number.Tie as tie
+use Rattle.library_form.proofs.ImageCursor.number.Statement.{statement}
+use Rattle.library_form.proofs.ImageCursor.number.Tie as tie
 use native.Mathlib.Omega.{arith}
 use Rattle.library_form.proofs.Bytes.{byte-fits}
 use Prim.Native.Nat.{_+_}
