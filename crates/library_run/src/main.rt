@@ -1,6 +1,6 @@
 // Replays recorded finds of the Rust, and answers a few questions that document 01 calls easy to get wrong.
-use libc::STDOUT_FILENO;
 use library_form::LookUp;
+use replay::Run;
 
 fn is_word(n: usize, word: u32) -> bool {
     n == word as usize
@@ -47,37 +47,22 @@ fn record_agrees(data: &[u8], at: usize) -> bool {
     )
 }
 
-fn behind_record(data: &[u8], at: usize) -> usize {
-    replay::after(data, replay::after(data, replay::after(data, at)))
+// One record more, if there is one. It has three fields.
+fn step(data: &[u8], run: Run) -> Run {
+    let at = run.at;
+    if data.len() <= at {
+        return run;
+    }
+    run.past(record_agrees(data, at), replay::after_fields(data, at, 3))
 }
 
-// All records of a file, and how many of them are answered otherwise. A record takes a byte at least.
-fn replay_all(data: &[u8]) {
-    let mut at: usize = 0;
-    let mut records: u64 = 0;
-    let mut different: u64 = 0;
-    let mut turns = data.len();
-    while 0 < turns {
-        if at < data.len() {
-            different = replay::count_unless(record_agrees(data, at), different);
-            records = std::num::wrapping_add_u64(records, 1);
-            at = behind_record(data, at);
-        }
-        turns -= 1;
+// All records of a file. A record takes a byte at least.
+fn replay_all(data: &[u8]) -> Run {
+    let mut run = replay::start();
+    for _ in 0..data.len() {
+        run = step(data, run);
     }
-    io::print_decimal(STDOUT_FILENO, records);
-    io::write_all(STDOUT_FILENO, b" finds replayed, ");
-    io::print_decimal(STDOUT_FILENO, different);
-    io::write_all(STDOUT_FILENO, b" different\n");
-}
-
-fn trap(what: &[u8], right: bool) {
-    io::write_all(STDOUT_FILENO, what);
-    if right {
-        io::write_all(STDOUT_FILENO, b": right\n");
-        return;
-    }
-    io::write_all(STDOUT_FILENO, b": WRONG\n");
+    run
 }
 
 fn found_nothing(found: LookUp) -> bool {
@@ -98,19 +83,17 @@ fn broken_at(found: LookUp, place: usize) -> bool {
 
 fn main() {
     let mut space = [0u8; 131072];
-    let fd = os::open_read(b"finds.vec");
-    let n = io::read_full(fd, &mut space);
-    libc::close(fd);
-    replay_all(&space[..n]);
-    trap(
+    let n = replay::read_file(b"finds.vec", &mut space);
+    replay_all(&space[..n]).say(b" finds");
+    replay::trap(
         b"a submodule of an import-only module is not found",
         found_nothing(library_find::find_submodule(b"\x01\x00\x01\x01i\x01\x01\x01s", b"s")),
     );
-    trap(
+    replay::trap(
         b"a count of sets without its sets is wrong at the end",
         broken_at(library_find::find_module(b"\x01", b"m"), 1),
     );
-    trap(
+    replay::trap(
         b"an empty name is not found",
         found_nothing(library_find::find_module(b"\x01\x01\x01m\x00\x00\x00\x00", b"")),
     );

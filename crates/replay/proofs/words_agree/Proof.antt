@@ -1,15 +1,16 @@
--- `yanglib_run::words_agree` ends: its turns are counted.
+-- `replay::words_agree` ends: the words left grow fewer by the step.
 -- Assumes nothing.
-use borrow.Author.Needs.{needs}
 use Prim.Native.Nat.{_-_}
-use Rattle.yanglib_run.proofs.words_agree.Statement.{statement}
-use Rattle.yanglib_run.proofs.words_agree.Tie as tie
+use lib.ListN.{length}
+use borrow.Author.Needs.{needs}
+use Rattle.replay.proofs.words_agree.Statement.{statement}
+use Rattle.replay.proofs.words_agree.Tie as tie
 
 abbrev Inv-loop : tie.InvT-loop
-Inv-loop field t count pairs i₀ i = Unit {0}
+Inv-loop f first table step at₀ i₀ at i = Unit {0}
 
 abbrev μ-loop : tie.MeasureT-loop
-μ-loop field t count pairs i₀ i = count - i
+μ-loop f first table step at₀ i₀ at i = length table - i
 
 pub words-agree-spec : {M : Type 1} → statement M
 words-agree-spec =
@@ -18,14 +19,13 @@ words-agree-spec =
     Inv-loop
     μ-loop
     (λ c. search needs)
+    (λ c κs. search needs)
+    (λ c. search needs)
     (λ c. search needs)
     (λ c. search needs)
     (λ c. search needs)
     (λ c. search needs)
     (λ c κs. search needs)
-    (λ c κs. search needs)
-    (λ c κs. search needs)
-    (λ c. search needs)
     (λ c. search needs)
     (λ c. search needs)
     (λ c. search needs)
