@@ -16,9 +16,9 @@ TOPICS = [
     ("the graph", set(), ["nuvaleta/Graphs"]),
     ("the order of registration", set(), ["nuvaleta/Orders"]),
     ("demand 1: which refusals a call can give; one outcome of each", set(), ["demands/Demand1", "demands/OneOutcome"]),
-    ("demand 2: RFC 7950's quoted values, the newest revision", set(), ["demands/RfcEquality", "demands/RfcQuoted", "demands/Newest"]),
+    ("demand 2: RFC 7950's quoted values, the newest revision", set(), ["demands_rfc/RfcEquality", "demands_rfc/RfcQuoted", "demands/Newest"]),
     ("demand 3: which edges a graph has", set(), ["demands/Demand3", "demands/Demand3Needs"]),
-    ("what an order is, by edges alone", set(), ["demands/Order", "demands/OrderCalls"]),
+    ("what an order is, by edges alone", set(), ["demands_order/Order", "demands/OrderCalls"]),
 ]
 USE = re.compile(r"use Rattle·([a-z_]+)(?:·specs)?\.specs\.(\w+)(?:\.\{([^}]*)\}| as (\w+))$")
 DEFINED = re.compile(r"\s*(?:(?:abbrev |unfoldable )*(?:pub )?(\S+) :|(?:pub )?(?:record|data|module) (\S+))")

@@ -24,8 +24,9 @@ use Rattle.graph.proofs.Numbers.{at-mem, number-at, number-of-at}
 use Rattle.graph.proofs.Nodes.{nodes-only}
 use Rattle.graph.proofs.Spread.{perm-length}
 use Rattle.graph.proofs.Demand.{demand3}
-use Rattle.graph_edges.specs.Edges.{mostEdges, rowsIn}
-use Rattle.graph_nodes.specs.Adding.{mostNodes, plainAt, wordsAt, namesAt}
+use Rattle.graph_edges.specs.Edges.{rowsIn}
+use Rattle.graph.specs.Limits.{mostEdges, mostNodes}
+use Rattle.graph_nodes.specs.Adding.{plainAt, wordsAt, namesAt}
 use Rattle.graph_texts.specs.Texts.{textOf}
 use Rattle.yanglib.specs.ToGraph.{lentTooShort, Lengths, tooShort, Result, refusal, resultOf, onRead, graphed, lengthsOf, Graphs}
 use Rattle.yanglib.specs.declared.Graphed.the-variants.{Built}

@@ -21,8 +21,8 @@ use Rattle.library_read.specs.Reading.{onAns}
 use Rattle.library_find.specs.Find.{firstModule, firstSubmodule, firstImportOnly, findIn, findModule, findSubmodule, findImportModule}
 use Rattle.library_bundle.specs.Bundle.{Text, bundleAt, placeOf, looked, lookIn, lookUp, partOf, textUnder}
 use Rattle.library_bundle.specs.Reading.{longestText}
-use Rattle.library_bundle.specs.declared.Place.{Place}
-use Rattle.library_bundle.specs.declared.Place.the-variants.{At as PlaceAt, Nothing as NoPlace}
+use Rattle.library_bundle.specs.declared.TextPlace.{TextPlace}
+use Rattle.library_bundle.specs.declared.TextPlace.the-variants.{At as PlaceAt, Nothing as NoPlace}
 use Rattle.graph.specs.Nodes.{passOver}
 use Rattle.graph.specs.Graph.{ScanAnswer, nought, refusing, Entry, Graph, graph as drawing, fault}
 use Rattle.graph.specs.Meaning.{Fault, entry-missing, include-missing, scan-refused, import-unknown, listed-unknown, include-unknown, include-no-node, too-deep, Cause, names, by-fault, edges}
@@ -61,7 +61,7 @@ text-broken : (s t : List ℕ) (p : ℕ) → (lookUp s t ≡ Broken p) ↔ (bund
 unfolding lookUp
 text-broken s t p = (λ e. go (bundleAt s) e, λ e. ap (lookIn t) e)
   where
-    place : (x : Place) → looked x ≡ Broken p → ⊥
+    place : (x : TextPlace) → looked x ≡ Broken p → ⊥
     place (PlaceAt a b) e = let z : _≡_ {A = ℕ} 0 1 = cc in omega arith
     place NoPlace e = let z : _≡_ {A = ℕ} 0 1 = cc in omega arith
 

@@ -28,14 +28,14 @@ use Rattle.order_take.specs.Taking.{taken}
 use Rattle.order_take.proofs.Taken.{taken-short}
 use Rattle.order_ring.specs.Ring.{ringOf}
 use Rattle.order_places.specs.Places.{placeOf}
-use Rattle.order_places.specs.declared.Place.{Place}
-use Rattle.order_places.specs.declared.Place.the-variants.{Right, WrongAt}
+use Rattle.order_places.specs.declared.Verdict.{Verdict}
+use Rattle.order_places.specs.declared.Verdict.the-variants.{Right, WrongAt}
 use Rattle.order.specs.Order.{sorted, sortedOf, orderOf, checked, toldPlace, checkOf}
-use Rattle.demands.specs.Order.{Returns, RightOrder}
+use Rattle.demands_order.specs.Order.{Returns, RightOrder}
 use Rattle.demands.specs.OrderCalls.{OrderCause, unfit, too-short, chain-back, in-order, CheckCause, wrong, right, OrderAnswers, OrderCalls}
 use Rattle.demands.proofs.Graphing.{bytes-demand3}
 use Rattle.demands.proofs.Numbers.{demand1}
-use Rattle.demands.proofs.OrderDemand.{order-demand}
+use Rattle.demands_order.proofs.OrderDemand.{order-demand}
 
 -- ---- the order
 
@@ -146,7 +146,7 @@ module _ (nodes n : ℕ) (edges : List ℕ) (m : ℕ) where
     unfolding checkOf
     check-unfit f = rw f
 
-    check-told : fits nodes n edges m ≡ true → {p : Place} → placeOf n es list ≡ p → checkOf nodes n edges m list ≡ toldPlace p
+    check-told : fits nodes n edges m ≡ true → {p : Verdict} → placeOf n es list ≡ p → checkOf nodes n edges m list ≡ toldPlace p
     unfolding checkOf
     check-told f q = rw (f, q)
 
@@ -156,7 +156,7 @@ module _ (nodes n : ℕ) (edges : List ℕ) (m : ℕ) where
         (λ f. at-place f (placeOf n es list) refl)
         (λ f. subst (λ c. CheckCause nodes n edges m list (c .number) (c .place)) (sym (check-unfit f)) (unfit f))
       where
-        at-place : fits nodes n edges m ≡ true → (p : Place) → placeOf n es list ≡ p
+        at-place : fits nodes n edges m ≡ true → (p : Verdict) → placeOf n es list ≡ p
             → CheckCause nodes n edges m list (checkOf nodes n edges m list .number) (checkOf nodes n edges m list .place)
         at-place f Right q =
             subst (λ c. CheckCause nodes n edges m list (c .number) (c .place)) (sym (check-told f q)) (right f (right-order f .accepts list q))

@@ -13,7 +13,8 @@ use Rattle.yangparser.specs.Promises.{Leaves}
 use Rattle.yangparser.specs.declared.Parsed.{Parsed}
 use Rattle.scan_page.specs.Page.{pageOf}
 use Rattle.scan_metadata.specs.Metadata as Metadata
-use Rattle.host_words.specs.Words.{numberOf, answerWords, recordWords, graphWords}
+use Rattle.host_words.specs.Words.{recordWords}
+use Rattle.nuvaleta.specs.Words.{numberOf, answerWords, graphWords}
 use Rattle.nuvaleta.specs.Finds.{Told}
 use Rattle.nuvaleta.specs.Graphs.{Drawn}
 use Rattle.nuvaleta.specs.Orders.{orderWords}

@@ -40,7 +40,8 @@ use Rattle.graph.specs.Graph.{textSteps, memE, addBy, run, walkFrom, graphOf}
 use Rattle.graph.specs.Numbers.{numberOf}
 use Rattle.graph_nodes.specs.Adding.{wordsAt}
 use Rattle.yanglib.specs.ToGraph.{Lengths, tooShort, Result, graphed, nodeWords, rowWords}
-use Rattle.host_words.specs.Words.{graphWords, recordWords}
+use Rattle.host_words.specs.Words.{recordWords}
+use Rattle.nuvaleta.specs.Words.{graphWords}
 
 -- D: a text, and number, keyword, position, import rows and include rows
 -- M: a text, and number, keyword, position, mark, start and length of each of the six values, and the bytes stored

@@ -1,11 +1,6 @@
 pub mod Newest
-pub mod Rfc
-pub mod RfcDomain
-pub mod RfcQuoted
-pub mod RfcEquality
 pub mod OneOutcome
 pub mod Demand3
 pub mod Demand3Needs
 pub mod Demand1
-pub mod Order
 pub mod OrderCalls

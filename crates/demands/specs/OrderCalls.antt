@@ -1,5 +1,5 @@
 -- What `order` and `order_check` answer, and when, over the definitions that the calls promise (crate order); what an order, a chain and a wrong place
--- are is in Order. And what it means for a graph that to_graph built: its tables fit, and no schema comes before one that it needs.
+-- are is in crate demands_order (Order). And what it means for a graph that to_graph built: its tables fit, and no schema comes before one that it needs.
 -- Assumes nothing.
 use Prim.Native.Nat.{ℕ, _≤_, _<_}
 use mathlib.Core.Path.{_≡_}
@@ -20,7 +20,7 @@ use Rattle.order_take.specs.Taking.{taken}
 use Rattle.order_ring.specs.Ring.{until}
 use Rattle.order.specs.Order.{orderOf, checked, checkOf}
 use Rattle.demands.specs.Demand3.{named, tableNames}
-use Rattle.demands.specs.Order.{Returns, Valid, First, LowestGood, BackCycle, FirstWrong}
+use Rattle.demands_order.specs.Order.{Returns, Valid, First, LowestGood, BackCycle, FirstWrong}
 
 -- nodes: how long the node table is; n, m: the counts; edges: the edge table's words; table: how long the order table is
 module _ (nodes n : ℕ) (edges : List ℕ) (m : ℕ) where

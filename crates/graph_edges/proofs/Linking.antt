@@ -10,7 +10,7 @@ use native.Mathlib.Nat.{eq-or-lt-of-le}
 use native.Mathlib.Numerals.{add-one}
 use lib.ListN.{getD}
 use borrow.Author.Tests.{le-leb, lt-leb}
-use Rattle.library_index.proofs.Stores.{decide}
+use Rattle.text_lent.proofs.Numbers.{decide}
 use Rattle.graph.specs.Graph.{addBy}
 use Rattle.graph.specs.Numbers.{Row, row, memR}
 use Rattle.graph.specs.Limits.{mostEdges, mostNodes}

@@ -26,7 +26,7 @@ use Rattle.library_index.specs.Names.{firstOf, among, nameIn, namesIn, Indexed}
 use Rattle.library_index.specs.declared.Found.{Found}
 use Rattle.library_index.specs.declared.Found.the-variants.{At, Nothing}
 use Rattle.library_index.proofs.First.{not-among, hit-low}
-use Rattle.library_index.proofs.Stores.{decide}
+use Rattle.text_lent.proofs.Numbers.{decide}
 use Rattle.library_items.specs.Items.{ItemOf, itemsAt}
 use Rattle.library_items.specs.Table.{itemIn, itemWord, itemsIn, Itemized}
 use Rattle.library_items.specs.declared.Item.{Item}

@@ -7,15 +7,15 @@ use native.Mathlib.Omega.{arith}
 use lib.ListN.{length, take, drop, length-take}
 use Rattle.library_bundle.specs.Bundle.{looked, lookUp}
 use Rattle.library_bundle.specs.Reading.{Held, longestText}
-use Rattle.library_bundle.specs.declared.Place.{Place}
-use Rattle.library_bundle.specs.declared.Place.the-variants.{At, Nothing}
+use Rattle.library_bundle.specs.declared.TextPlace.{TextPlace}
+use Rattle.library_bundle.specs.declared.TextPlace.the-variants.{At, Nothing}
 use Rattle.library_bundle.proofs.Looking.{is-missing, is-there}
 use Rattle.library_bundle.proofs.Measuring.{found-low}
 use Rattle.graph_texts.specs.Texts.{scanText, lookText, textOf, SeenAs, ScanRoom}
 use Rattle.graph_texts.specs.declared.Seen.{Seen}
 use Rattle.graph_texts.specs.declared.Seen.the-variants.{Missing}
 
-module _ (b t : List ℕ) {p : Place} (a : looked p ≡ lookUp b t) where
+module _ (b t : List ℕ) {p : TextPlace} (a : looked p ≡ lookUp b t) where
   pub none-under : (d f g : List ℕ) → p ≡ Nothing → SeenAs (textOf b t) d f g Missing d f g
   unfolding textOf
   none-under d f g h = record { seen = ap (lookText b) (is-missing b t a h); few = tt; kept-store = refl; kept-imports = refl; kept-includes = refl }

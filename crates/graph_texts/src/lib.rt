@@ -1,5 +1,5 @@
 // The text under a name, found in the bundle and scanned over whatever the lent tables hold.
-use library_bundle::Place;
+use library_bundle::TextPlace;
 use text::Refusal;
 use yangparser::Parsed;
 ghost use lib.ListN.{length};
@@ -42,7 +42,7 @@ pub fn read_text(
     requires { ⌜ Held (now bundle) (now tab) count × ScanRoom (longestText (now bundle)) (now store) (now imports) (now includes) ⌝ }
     ensures { λ r. ⌜ SeenAs (textOf (now (bundle .entry)) (now (name .entry))) (now (store .entry)) (now (imports .entry)) (now (includes .entry)) r (now (store .exit)) (now (imports .exit)) (now (includes .exit)) ⌝ }
 {
-    let Place::At(from, size) = library_bundle::find(bundle, tab, count, name) else {
+    let TextPlace::At(from, size) = library_bundle::find(bundle, tab, count, name) else {
         return Seen::Missing;
     };
     let to = from + size;

@@ -9,7 +9,7 @@ use mir.Syntax.{w64}
 use mir.Val.{Fits}
 use borrow.Author.Tests.{lt-ltb, le-ltb}
 use Rattle.library_form.specs.Form.{good, bad, wordAt, numberAt, numberSeen, nameSeen}
-use Rattle.library_form.specs.declared.Cursor.{Cursor}
+use Rattle.library_form.specs.declared.ImageCursor.{ImageCursor}
 use Rattle.library_form.specs.declared.Number.{Number}
 use Rattle.library_form.specs.declared.Number.the-variants.{Value, Wrong as WrongNumber}
 use Rattle.library_form.specs.declared.Name.{Name}
@@ -40,7 +40,7 @@ module _ (s tab : List ℕ) (i at : ℕ) (r : Name) {after : List ℕ} (t : Take
           let n : numberAt s (word + len) ≡ bad p = sym h ∙ ap numberSeen g in
           rw (named, n, number-place s (word + len) n)
 
-      module _ {size : ℕ} {c : Cursor} (g : q ≡ Value size c) where
+      module _ {size : ℕ} {c : ImageCursor} (g : q ≡ Value size c) where
         sized : numberAt s (word + len) ≡ good size (c .at)
         sized = sym h ∙ ap numberSeen g
 

@@ -15,8 +15,8 @@ use Rattle.library_form.proofs.Bounds.{number-place, number-end, name-place, na
 use Rattle.library_index.specs.Names.{newName}
 use Rattle.library_index.proofs.Taking.{new-read, new-place}
 use Rattle.library_bundle.specs.Bundle.{mostBytes, mostTexts, Text, textOf, bodyAt, filedAt, words, newText, ended, textsAt, bundleAt, placeOf, looked, lookIn, lookUp}
-use Rattle.library_bundle.specs.declared.Place.{Place}
-use Rattle.library_bundle.specs.declared.Place.the-variants.{At, Nothing}
+use Rattle.library_bundle.specs.declared.TextPlace.{TextPlace}
+use Rattle.library_bundle.specs.declared.TextPlace.the-variants.{At, Nothing}
 use Rattle.library_bundle.proofs.Entries.{text-sized}
 use Rattle.library_bundle.proofs.Looking.{place-in, is-at}
 use Rattle.library_bundle.proofs.Parts.{bundle-parted, texts-sized}
@@ -85,7 +85,7 @@ module _ (s t : List ℕ) where
   unfolding lookUp
   broken-in p e = go (bundleAt s) refl e
     where
-      told : (x : Place) → looked x ≡ Broken p → p ≤ mostBytes
+      told : (x : TextPlace) → looked x ≡ Broken p → p ≤ mostBytes
       told (At from size) k = let z : _≡_ {A = ℕ} 0 1 = cc in absurd (omega arith)
       told Nothing k = let z : _≡_ {A = ℕ} 0 1 = cc in absurd (omega arith)
 

@@ -10,7 +10,7 @@ use mir.Syntax.{w64}
 use mir.Val.{Fits}
 use Rattle.text.specs.Keyword.{same}
 use Rattle.library_form.specs.Form.{Ans, good, bad, Word, numberAt, numberSeen}
-use Rattle.library_form.specs.declared.Cursor.{Cursor}
+use Rattle.library_form.specs.declared.ImageCursor.{ImageCursor}
 use Rattle.library_form.specs.declared.Number.{Number}
 use Rattle.library_form.specs.declared.Number.the-variants.{Value, Wrong as WrongNumber}
 use Rattle.library_index.specs.Names.{rowOf, rowWords, firstOf, firstBy, namesIn}
@@ -19,19 +19,19 @@ use Rattle.library_index.specs.declared.Found.the-variants.{At as Numbered, Not
 use Rattle.library_index.proofs.First.{no-hit, hit-low, the-hit}
 use Rattle.library_bundle.specs.Bundle.{Text, words, bundleAt, placeOf, looked, lookIn, lookUp, partOf, textUnder}
 use Rattle.library_bundle.specs.Reading.{counted, openedSeen, Sizes, Held, OpenedAs}
-use Rattle.library_bundle.specs.declared.Place.{Place}
-use Rattle.library_bundle.specs.declared.Place.the-variants.{At, Nothing}
+use Rattle.library_bundle.specs.declared.TextPlace.{TextPlace}
+use Rattle.library_bundle.specs.declared.TextPlace.the-variants.{At, Nothing}
 use Rattle.library_form.specs.declared.LookUp.the-variants.{Broken, Nothing as Missing, At as Stands}
 use Rattle.library_bundle.specs.declared.Opened.{Opened}
 use Rattle.library_bundle.specs.declared.Opened.the-variants.{Texts, Wrong}
 
 -- ---- the look-up in the list is a search through the names for the number behind them
 
-abbrev seenPlace : Ans ℕ → Place
+abbrev seenPlace : Ans ℕ → TextPlace
 seenPlace (good z f) = At f z
 seenPlace (bad p) = Nothing
 
-abbrev behind : List ℕ → Word → Place
+abbrev behind : List ℕ → Word → TextPlace
 behind s w = seenPlace (numberAt s (w .place + w .size))
 
 place-first : (s t : List ℕ) (es : List Text) → Sizes s es → placeOf t es ≡ firstBy (λ w. w) (behind s) t (words es) Nothing
@@ -46,7 +46,7 @@ place-in s t (d ∷ es) {f} {z} h e = go (same (d .word .text) t) (place-in s t 
     go true ih e = let x : d .from ≡ f = cc in let y : d .size ≡ z = cc in omega (arith, h .0 .within)
     go false ih e = ih e
 
-pub is-at : (p : Place) {f z : ℕ} → looked p ≡ Stands f z → p ≡ At f z
+pub is-at : (p : TextPlace) {f z : ℕ} → looked p ≡ Stands f z → p ≡ At f z
 is-at (At x y) {f} {z} e = let p : x ≡ f = cc in let q : y ≡ z = cc in ap₂ At p q
 is-at Nothing e = let z : _≡_ {A = ℕ} 0 1 = cc in absurd (omega arith)
 
@@ -86,12 +86,12 @@ module _ (s tab t : List ℕ) (n : ℕ) (g : Held s tab n) {r : Found} (a : r �
         pub unsized : {x : ℕ} → q ≡ WrongNumber x → looked Nothing ≡ lookUp s t
         unsized {x} h = sym (text-place ∙ ap (λ (b : Ans ℕ). looked (seenPlace b)) (sym f ∙ ap numberSeen h))
 
-        pub stands : {size : ℕ} {c : Cursor} → q ≡ Value size c → looked (At (c .at) size) ≡ lookUp s t
+        pub stands : {size : ℕ} {c : ImageCursor} → q ≡ Value size c → looked (At (c .at) size) ≡ lookUp s t
         stands h = sym (text-place ∙ ap (λ (b : Ans ℕ). looked (seenPlace b)) (sym f ∙ ap numberSeen h))
 
 -- ---- the ways out of `text` and `find_text`, by what `find` answered
 
-module _ (s t : List ℕ) {r : Place} (a : looked r ≡ lookUp s t) where
+module _ (s t : List ℕ) {r : TextPlace} (a : looked r ≡ lookUp s t) where
   pub is-missing : r ≡ Nothing → Missing ≡ lookUp s t
   is-missing e = sym (ap looked e) ∙ a
 

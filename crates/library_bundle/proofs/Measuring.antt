@@ -9,14 +9,14 @@ use native.Mathlib.Omega.{arith}
 use lib.ListN.{length, getD}
 use Rattle.text.specs.Keyword.{same}
 use Rattle.library_form.specs.Form.{Word, numberAt, numberSeen}
-use Rattle.library_form.specs.declared.Cursor.{Cursor}
+use Rattle.library_form.specs.declared.ImageCursor.{ImageCursor}
 use Rattle.library_form.specs.declared.LookUp.the-variants.{At as Stands}
 use Rattle.library_form.specs.declared.Number.{Number}
 use Rattle.library_form.specs.declared.Number.the-variants.{Value, Wrong as WrongNumber}
 use Rattle.library_index.specs.Names.{rowOf, nameIn, namesIn}
 use Rattle.library_bundle.specs.Bundle.{Text, words, placeOf, lookUp}
 use Rattle.library_bundle.specs.Reading.{Sizes, Held, longestOf, textsOr, longestText, sizeRead, sizeBehind, sizeIn, NameHeld}
-use Rattle.library_bundle.specs.declared.Place.the-variants.{At}
+use Rattle.library_bundle.specs.declared.TextPlace.the-variants.{At}
 use Rattle.library_bundle.proofs.Looking.{held-look, is-at}
 
 -- ---- the ways out of `size_of`
@@ -30,7 +30,7 @@ module _ (s tab : List ℕ) (i : ℕ) {place len : ℕ} (p : place ≡ getD tab 
     pub no-size : {x : ℕ} → q ≡ WrongNumber x → 0 ≡ sizeIn s tab i
     no-size h = sym (ap (λ (b : Number). sizeRead (numberSeen b)) h) ∙ size-seen
 
-    pub the-size : {size : ℕ} {c : Cursor} → q ≡ Value size c → size ≡ sizeIn s tab i
+    pub the-size : {size : ℕ} {c : ImageCursor} → q ≡ Value size c → size ≡ sizeIn s tab i
     the-size h = sym (ap (λ (b : Number). sizeRead (numberSeen b)) h) ∙ size-seen
 
 -- ---- the largest of the lengths behind names

@@ -7,7 +7,7 @@ use native.Mathlib.Omega.{arith}
 use lib.ListN.{length, length-map}
 use borrow.Author.Tests.{lt-ltb, le-ltb}
 use Rattle.library_form.specs.Form.{good, bad, bind, Word, numberAt, numberSeen, many}
-use Rattle.library_form.specs.declared.Cursor.{Cursor}
+use Rattle.library_form.specs.declared.ImageCursor.{ImageCursor}
 use Rattle.library_form.specs.declared.Number.{Number}
 use Rattle.library_form.specs.declared.Number.the-variants.{Value, Wrong as WrongNumber}
 use Rattle.library_form.proofs.Bounds.{number-place, number-end}
@@ -111,7 +111,7 @@ module _ (s : List ℕ) (short : length s ≤ mostBytes) (q : Number) where
   unfolding bundleAt
   no-count tab {p} e f = let g : numberAt s 0 ≡ bad p = sym f ∙ ap numberSeen e in refused s tab (rw (le-ltb _ _ short, g, number-place s 0 g))
 
-  module _ {count : ℕ} {c : Cursor} (e : q ≡ Value count c) (f : numberSeen q ≡ numberAt s 0) where
+  module _ {count : ℕ} {c : ImageCursor} (e : q ≡ Value count c) (f : numberSeen q ≡ numberAt s 0) where
     number : numberAt s 0 ≡ good count (c .at)
     number = sym f ∙ ap numberSeen e
 

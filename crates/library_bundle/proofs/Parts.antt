@@ -14,7 +14,7 @@ use Rattle.library_form.specs.Form.{Ans, good, bad, bind, numberAt, many}
 use Rattle.library_form.specs.Writer.{NameBytes}
 use Rattle.library_bundle.specs.Bundle.{mostBytes, mostTexts, Text, filedAt, words, newText, ended, textsAt, bundleAt, placeOf, looked, lookIn, lookUp}
 use Rattle.library_bundle.specs.Reading.{Sizes}
-use Rattle.library_bundle.specs.declared.Place.the-variants.{Nothing}
+use Rattle.library_bundle.specs.declared.TextPlace.the-variants.{Nothing}
 use Rattle.library_form.specs.declared.LookUp.the-variants.{Nothing as Missing}
 use Rattle.library_bundle.proofs.Entries.{text-sized}
 use Rattle.library_bundle.proofs.Opening.{sizes-snoc}

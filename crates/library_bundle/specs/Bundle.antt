@@ -10,8 +10,8 @@ use lib.ListN.{length, take, drop}
 use lib.Dec.{ltb}
 use Rattle.library_form.specs.Form.{Ans, good, bad, bind, Word, numberAt, many}
 use Rattle.library_index.specs.Names.{firstBy, newName}
-use Rattle.library_bundle.specs.declared.Place.{Place}
-use Rattle.library_bundle.specs.declared.Place.the-variants.{At, Nothing}
+use Rattle.library_bundle.specs.declared.TextPlace.{TextPlace}
+use Rattle.library_bundle.specs.declared.TextPlace.the-variants.{At, Nothing}
 use Rattle.library_form.specs.declared.LookUp.{LookUp}
 use Rattle.library_form.specs.declared.LookUp.the-variants.{Broken, Nothing as Missing, At as Stands}
 
@@ -65,10 +65,10 @@ bundleAt s = cond (ltb mostBytes (length s)) (bad 0) (bind (numberAt s 0) (texts
 -- ---- the look-up
 
 -- where the first text with the name t stands
-abbrev pub placeOf : List ℕ → List Text → Place
+abbrev pub placeOf : List ℕ → List Text → TextPlace
 placeOf t es = firstBy (λ (e : Text). e .word) (λ (e : Text). At (e .from) (e .size)) t es Nothing
 
-abbrev pub looked : Place → LookUp
+abbrev pub looked : TextPlace → LookUp
 looked (At from size) = Stands from size
 looked Nothing = Missing
 

@@ -1,6 +1,6 @@
 // The bundle: a number of texts, each a name, a length and as many bytes. It is read once, its names are put into an index, and the text under
 // a name is a part of the lent slice.
-use library_form::Cursor;
+use library_form::ImageCursor;
 use library_form::LookUp;
 use library_form::Name;
 use library_form::Number;
@@ -36,7 +36,7 @@ pub enum Opened {
 }
 
 // Where a text stands and how long it is, or that there is none.
-pub enum Place {
+pub enum TextPlace {
     At(usize, usize),
     Nothing,
 }
@@ -52,7 +52,7 @@ fn file(s: &[u8], tab: &mut [u32], i: usize, at: usize) -> Filed
         }
         Name::Bytes(word, len) => {
             let end = word + len;
-            let behind = Cursor { at: end };
+            let behind = ImageCursor { at: end };
             let Number::Value(size, body) = behind.number(s) else {
                 return Filed::Wrong(end);
             };
@@ -73,7 +73,7 @@ pub fn open(s: &[u8], tab: &mut [u32]) -> Opened
     if MOST_BYTES < s.len() {
         return Opened::Wrong(0);
     }
-    let start = Cursor { at: 0 };
+    let start = ImageCursor { at: 0 };
     let Number::Value(count, first) = start.number(s) else {
         return Opened::Wrong(0);
     };
@@ -101,20 +101,20 @@ pub fn open(s: &[u8], tab: &mut [u32]) -> Opened
 }
 
 // Where the text under `name` stands in a bundle whose names are in the table.
-pub fn find(s: &[u8], tab: &[u32], count: usize, name: &[u8]) -> Place
+pub fn find(s: &[u8], tab: &[u32], count: usize, name: &[u8]) -> TextPlace
     requires { ⌜ Held (now s) (now tab) count ⌝ }
     ensures { λ r. ⌜ looked r ≡ lookUp (now (s .entry)) (now (name .entry)) ⌝ }
 {
     let Found::At(i) = library_index::find(s, tab, count, name) else {
-        return Place::Nothing;
+        return TextPlace::Nothing;
     };
     let place = library_index::place_of(tab, i);
     let len = library_index::length_of(tab, i);
-    let behind = Cursor { at: place + len };
+    let behind = ImageCursor { at: place + len };
     let Number::Value(size, body) = behind.number(s) else {
-        return Place::Nothing;
+        return TextPlace::Nothing;
     };
-    Place::At(body.at, size)
+    TextPlace::At(body.at, size)
 }
 
 // The larger of two.
@@ -131,7 +131,7 @@ fn size_of(s: &[u8], tab: &[u32], i: usize) -> usize
 {
     let place = library_index::place_of(tab, i);
     let len = library_index::length_of(tab, i);
-    let behind = Cursor { at: place + len };
+    let behind = ImageCursor { at: place + len };
     let Number::Value(size, _) = behind.number(s) else {
         return 0;
     };
@@ -157,7 +157,7 @@ pub fn text<'a>(s: &'a [u8], tab: &[u32], count: usize, name: &[u8]) -> &'a [u8]
     requires { ⌜ Held (now s) (now tab) count ⌝ }
     ensures { λ r. ⌜ now r ≡ textUnder (now (s .entry)) (now (name .entry)) ⌝ }
 {
-    let Place::At(from, size) = find(s, tab, count, name) else {
+    let TextPlace::At(from, size) = find(s, tab, count, name) else {
         return &s[0..0];
     };
     let to = from + size;
@@ -188,10 +188,10 @@ pub fn find_text(bundle: &[u8], name: &[u8]) -> LookUp
         }
         Opened::Texts(count) => {
             match find(bundle, &tab, count, name) {
-                Place::At(from, size) => {
+                TextPlace::At(from, size) => {
                     return LookUp::At(from, size);
                 }
-                Place::Nothing => {
+                TextPlace::Nothing => {
                     return LookUp::Nothing;
                 }
             }

@@ -6,7 +6,7 @@ use mathlib.Core.Bool.{Bool, true, false}
 use Prim.Native.Nat.{ℕ, zero, suc, _-_, _≤_, _<_}
 use native.Mathlib.Numerals.{sub-one}
 use Rattle.library_form.specs.Form.{good, bad, numberSeen}
-use Rattle.library_form.specs.declared.Cursor.{Cursor}
+use Rattle.library_form.specs.declared.ImageCursor.{ImageCursor}
 use Rattle.library_form.specs.declared.Number.{Number}
 use Rattle.library_form.specs.declared.Number.the-variants.{Value, Wrong}
 use Rattle.library_image.specs.Image.{mostSets, mostModules, countAt}
@@ -32,7 +32,7 @@ module _ (f : ℕ → Tried) (most : ℕ) (s : List ℕ) (at : ℕ) (q : Number)
   unfolding listTried
   list-uncounted {p} e g = let c : countAt 0 most s at ≡ bad p = sym g ∙ ap numberSeen e in rw c
 
-  pub list-begun : {count : ℕ} {c : Cursor} → q ≡ Value count c → numberSeen q ≡ countAt 0 most s at → Left f (listTried most f s at) count (c .at)
+  pub list-begun : {count : ℕ} {c : ImageCursor} → q ≡ Value count c → numberSeen q ≡ countAt 0 most s at → Left f (listTried most f s at) count (c .at)
   unfolding listTried
   list-begun {count} {c} e g = let h : countAt 0 most s at ≡ good count (c .at) = sym g ∙ ap numberSeen e in record { rest = rw h }
 
@@ -60,7 +60,7 @@ module _ (s t : List ℕ) (x y : Bool) (q : Number) where
     unfolding entriesTried
     no-entries e g = list-uncounted (entryTried s t x y) mostModules s at q e g
 
-    pub entries-begun : {count : ℕ} {c : Cursor} → q ≡ Value count c → numberSeen q ≡ countAt 0 mostModules s at → Left (entryTried s t x y) (entriesTried s t x y at) count (c .at)
+    pub entries-begun : {count : ℕ} {c : ImageCursor} → q ≡ Value count c → numberSeen q ≡ countAt 0 mostModules s at → Left (entryTried s t x y) (entriesTried s t x y at) count (c .at)
     unfolding entriesTried
     entries-begun e g = list-begun (entryTried s t x y) mostModules s at q e g
 
@@ -68,7 +68,7 @@ module _ (s t : List ℕ) (x y : Bool) (q : Number) where
   unfolding setsTried
   no-sets e g = list-uncounted (setTried s t x y) mostSets s 0 q e g
 
-  pub sets-begun : {count : ℕ} {c : Cursor} → q ≡ Value count c → numberSeen q ≡ countAt 0 mostSets s 0 → Left (setTried s t x y) (setsTried s t x y) count (c .at)
+  pub sets-begun : {count : ℕ} {c : ImageCursor} → q ≡ Value count c → numberSeen q ≡ countAt 0 mostSets s 0 → Left (setTried s t x y) (setsTried s t x y) count (c .at)
   unfolding setsTried
   sets-begun e g = list-begun (setTried s t x y) mostSets s 0 q e g
 

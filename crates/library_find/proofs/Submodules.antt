@@ -8,7 +8,7 @@ use Prim.Native.Nat.{ℕ, zero, suc, _-_, _≤_, _<_}
 use native.Mathlib.Omega.{arith}
 use Rattle.text.specs.Keyword.{same}
 use Rattle.library_form.specs.Form.{Ans, good, bad, Word, numberSeen, nameAt}
-use Rattle.library_form.specs.declared.Cursor.{Cursor}
+use Rattle.library_form.specs.declared.ImageCursor.{ImageCursor}
 use Rattle.library_form.specs.declared.Number.{Number}
 use Rattle.library_form.specs.declared.Number.the-variants.{Value, Wrong as WrongNumber}
 use Rattle.library_form.proofs.Bounds.{name-end}
@@ -111,7 +111,7 @@ module _ (s t : List ℕ) where
     unfolding allSubmodulesTried
     no-image e f = ap foundBy (list-uncounted (setSubmodulesTried s t) mostSets s 0 q e f)
 
-    pub image-opened : (n : ℕ) (c : Cursor) → q ≡ Value n c → numberSeen q ≡ countAt 0 mostSets s 0 → Sets n (c .at) 0
+    pub image-opened : (n : ℕ) (c : ImageCursor) → q ≡ Value n c → numberSeen q ≡ countAt 0 mostSets s 0 → Sets n (c .at) 0
     unfolding allSubmodulesTried
     image-opened n c e f = record { rest = ap foundBy (list-begun (setSubmodulesTried s t) mostSets s 0 q e f .rest); none = refl }
 
@@ -125,7 +125,7 @@ module _ (s t : List ℕ) where
       pub no-modules : {p : ℕ} → q ≡ WrongNumber p → numberSeen q ≡ countAt 0 mostModules s at → 0 < left → Nothing ≡ whole
       no-modules e f h = sym (set-turn h ∙ ap (inSet left) (sym (list-uncounted (submodulesTried s t) mostModules s at q e f)))
 
-      pub set-entered : (n : ℕ) (c : Cursor) → q ≡ Value n c → numberSeen q ≡ countAt 0 mostModules s at → 0 < left → Modules left n (c .at) hit
+      pub set-entered : (n : ℕ) (c : ImageCursor) → q ≡ Value n c → numberSeen q ≡ countAt 0 mostModules s at → 0 < left → Modules left n (c .at) hit
       set-entered n c e f h = record { rest = set-turn h ∙ ap (inSet left) (list-begun (submodulesTried s t) mostModules s at q e f .rest); none = o .none }
 
     no-sets : left ≤ 0 → Ended hit
@@ -143,7 +143,7 @@ module _ (s t : List ℕ) where
       unfolding submodulesTried
       no-submodules {p} e f h = let c : submoduleCount s at ≡ bad p = sym f ∙ ap numberSeen e in sym (module-turn h ∙ rw c)
 
-      pub module-entered : (n : ℕ) (c : Cursor) → q ≡ Value n c → numberSeen q ≡ submoduleCount s at → 0 < more → Submodules left more n (c .at) hit
+      pub module-entered : (n : ℕ) (c : ImageCursor) → q ≡ Value n c → numberSeen q ≡ submoduleCount s at → 0 < more → Submodules left more n (c .at) hit
       unfolding submodulesTried
       module-entered n c e f h =
           let g : submoduleCount s at ≡ good n (c .at) = sym f ∙ ap numberSeen e in

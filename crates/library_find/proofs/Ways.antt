@@ -7,7 +7,7 @@ use Prim.Native.Nat.{ℕ, _+_, _-_}
 use lib.ListN.{take, drop}
 use Rattle.text.specs.Keyword.{same}
 use Rattle.library_form.specs.Form.{Ans, good, bad, wordAt, numberAt, numberSeen, nameAt, nameSeen}
-use Rattle.library_form.specs.declared.Cursor.{Cursor}
+use Rattle.library_form.specs.declared.ImageCursor.{ImageCursor}
 use Rattle.library_form.specs.declared.Number.{Number}
 use Rattle.library_form.specs.declared.Number.the-variants.{Value, Wrong as WrongNumber}
 use Rattle.library_form.specs.declared.Name.{Name}
@@ -35,7 +35,7 @@ module _ (s : List ℕ) (importOnly : Bool) (place end : ℕ) where
     unfolding hitAt
     no-revisions {p} e f d = let g : numberAt s end ≡ bad p = sym f ∙ ap numberSeen e in rw (d, g)
 
-    pub import-only-hit : (revisions : ℕ) (c : Cursor) → q ≡ Value revisions c → numberSeen q ≡ numberAt s end → importOnly ≡ true
+    pub import-only-hit : (revisions : ℕ) (c : ImageCursor) → q ≡ Value revisions c → numberSeen q ≡ numberAt s end → importOnly ≡ true
         → Hit place revisions ≡ hitAt s importOnly place end
     unfolding hitAt
     import-only-hit revisions c e f d = let g : numberAt s end ≡ good revisions (c .at) = sym f ∙ ap numberSeen e in rw (d, g)

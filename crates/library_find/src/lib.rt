@@ -1,6 +1,6 @@
 // The finds: a module, a submodule or an import-only module by its name, in the image's order. The image is read first, so that 20 is told wherever it
 // is broken; then the search goes through its bytes.
-use library_form::Cursor;
+use library_form::ImageCursor;
 use library_form::LookUp;
 use library_form::Name;
 use library_form::Number;
@@ -25,7 +25,7 @@ fn hit_at(s: &[u8], import_only: bool, place: usize, end: usize) -> Tried
     ensures { λ r. ⌜ r ≡ hitAt (now (s .entry)) «import_only» place end ⌝ }
 {
     if import_only {
-        let here = Cursor { at: end };
+        let here = ImageCursor { at: end };
         let Number::Value(revisions, next) = here.number(s) else {
             return Tried::Bad;
         };
@@ -52,7 +52,7 @@ fn pass_rest(s: &[u8], import_only: bool, at: usize) -> Tried
 fn try_entry(s: &[u8], import_only: bool, wanted: bool, at: usize, name: &[u8]) -> Tried
     ensures { λ r. ⌜ r ≡ entryTried (now (s .entry)) (now (name .entry)) «import_only» wanted at ⌝ }
 {
-    let here = Cursor { at: at };
+    let here = ImageCursor { at: at };
     let Name::Bytes(first, len) = here.name(s) else {
         return Tried::Bad;
     };
@@ -140,7 +140,7 @@ fn try_sets(s: &[u8], modules: bool, import_only: bool, name: &[u8]) -> Tried
 fn try_word(s: &[u8], at: usize, name: &[u8]) -> Tried
     ensures { λ r. ⌜ r ≡ wordTried (now (s .entry)) (now (name .entry)) at ⌝ }
 {
-    let here = Cursor { at: at };
+    let here = ImageCursor { at: at };
     let Name::Bytes(first, len) = here.name(s) else {
         return Tried::Bad;
     };
@@ -155,7 +155,7 @@ fn try_word(s: &[u8], at: usize, name: &[u8]) -> Tried
 fn enter_module(s: &[u8], at: usize) -> Number
     ensures { λ r. ⌜ numberSeen r ≡ submoduleCount (now (s .entry)) at ⌝ }
 {
-    let here = Cursor { at: at };
+    let here = ImageCursor { at: at };
     let Name::Bytes(first, len) = here.name(s) else {
         return Number::Wrong(at);
     };

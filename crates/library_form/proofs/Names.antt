@@ -1,4 +1,4 @@
--- The laws of `printableAt`, by which the loop of `printable` goes, and of `nameAt`, one for each `return` of `Cursor::name`.
+-- The laws of `printableAt`, by which the loop of `printable` goes, and of `nameAt`, one for each `return` of `ImageCursor::name`.
 -- Assumes nothing.
 use mathlib.Core.Path.{_≡_, sym, ap, _∙_}
 use mathlib.Core.List.{List}
@@ -8,7 +8,7 @@ use native.Mathlib.Numerals.{sub-one}
 use lib.ListN.{length, getD}
 use borrow.Author.Tests.{lt-ltb, le-ltb}
 use Rattle.library_form.specs.Form.{good, bad, numberAt, numberSeen, printableAt, wordAt, nameBody, nameAt}
-use Rattle.library_form.specs.declared.Cursor.{Cursor}
+use Rattle.library_form.specs.declared.ImageCursor.{ImageCursor}
 use Rattle.library_form.specs.declared.Number.{Number}
 use Rattle.library_form.specs.declared.Number.the-variants.{Value, Wrong}
 use Rattle.library_form.proofs.Bounds.{number-place, number-end}
@@ -39,7 +39,7 @@ module _ (s : List ℕ) where
   unfolding nameAt
   no-number r {p} at e f = let g : numberAt s at ≡ bad p = sym f ∙ ap numberSeen e in rw (g, number-place s at g)
 
-  module _ (r : Number) (len : ℕ) (n : Cursor) (at : ℕ) (e : r ≡ Value len n) (f : numberSeen r ≡ numberAt s at) where
+  module _ (r : Number) (len : ℕ) (n : ImageCursor) (at : ℕ) (e : r ≡ Value len n) (f : numberSeen r ≡ numberAt s at) where
     number : numberAt s at ≡ good len (n .at)
     number = sym f ∙ ap numberSeen e
 

@@ -1,4 +1,4 @@
--- What `numberAt` is on each way through the code of `Cursor::number`: one law for each `return`, stated as the need states it.
+-- What `numberAt` is on each way through the code of `ImageCursor::number`: one law for each `return`, stated as the need states it.
 -- Assumes nothing.
 use mathlib.Core.Path.{_≡_, refl, sym, ap, ap₂, _∙_}
 use mathlib.Core.List.{List}

@@ -18,14 +18,14 @@ const LEAST_BYTE: u8 = 33;
 
 const MOST_BYTE: u8 = 126;
 
-// A place in the image.
-pub struct Cursor {
+// A place in an image or a bundle.
+pub struct ImageCursor {
     pub at: usize,
 }
 
 // What the reading of a number finds: its value and the place behind it; or the place where it is wrong.
 pub enum Number {
-    Value(usize, Cursor),
+    Value(usize, ImageCursor),
     Wrong(usize),
 }
 
@@ -64,7 +64,7 @@ fn printable(s: &[u8], from: usize, count: usize) -> bool
     true
 }
 
-impl Cursor {
+impl ImageCursor {
     // The number that starts here: up to three groups, in the shortest form. If anything is wrong with it, it is wrong at its first byte.
     pub fn number(self, s: &[u8]) -> Number
         ensures { λ r. ⌜ numberSeen r ≡ numberAt (now (s .entry)) (self .at) ⌝ }
@@ -75,7 +75,7 @@ impl Cursor {
         }
         let a = s[at] as usize;
         if a < TOP_BIT {
-            return Number::Value(a, Cursor { at: at + 1 });
+            return Number::Value(a, ImageCursor { at: at + 1 });
         }
         let second = at + 1;
         if s.len() <= second {
@@ -86,7 +86,7 @@ impl Cursor {
             return Number::Wrong(at);
         }
         if b < TOP_BIT {
-            return Number::Value(a - TOP_BIT + TOP_BIT * b, Cursor { at: second + 1 });
+            return Number::Value(a - TOP_BIT + TOP_BIT * b, ImageCursor { at: second + 1 });
         }
         let third = second + 1;
         if s.len() <= third {
@@ -99,7 +99,7 @@ impl Cursor {
         if c < TOP_BIT {
             return Number::Value(
                 a - TOP_BIT + TOP_BIT * (b - TOP_BIT) + THIRD * c,
-                Cursor { at: third + 1 },
+                ImageCursor { at: third + 1 },
             );
         }
         Number::Wrong(at)

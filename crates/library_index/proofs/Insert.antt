@@ -16,7 +16,7 @@ use Rattle.library_form.proofs.Bounds.{part-word}
 use Rattle.library_index.specs.declared.Found.{Found}
 use Rattle.library_index.specs.declared.Found.the-variants.{At, Nothing}
 use Rattle.library_index.specs.Names.{firstOf, nameIn, namesIn, hashOf, topIn, Indexed, Room, Added, Stored, Cleared}
-use Rattle.library_index.proofs.Stores.{decide}
+use Rattle.text_lent.proofs.Numbers.{decide}
 
 -- ---- an empty table
 

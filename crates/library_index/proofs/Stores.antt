@@ -1,15 +1,13 @@
 -- What stores into the table leave.
 -- Assumes nothing.
 use mathlib.Core.Path.{_≡_, refl, _∙_}
-use mathlib.Core.Logic.{_⊎_, inl, inr, ⊎-elim}
+use mathlib.Core.Logic.{⊎-elim}
 use mathlib.Core.List.{List}
-use mathlib.Core.Bool.{Bool, true, false}
 use Prim.Native.Nat.{ℕ, _+_, _*_, _≤_, _<_}
 use native.Mathlib.Omega.{arith}
 use lib.ListN.{length, getD, set, length-set}
-use lib.Dec.{eqb}
-use borrow.Author.Tests.{eqb-true, eqb-false}
 use lib.Seq.{getD-set-same, getD-set-other}
+use Rattle.text_lent.proofs.Numbers.{decide}
 use Rattle.library_index.specs.Names.{Puts, Stored, Cleared}
 
 -- ---- the heads, one after another
@@ -23,13 +21,6 @@ pub record Clearing (before tab : List ℕ) (h : ℕ) : Type 0 where
 
 pub clear-begun : (tab : List ℕ) → 2048 ≤ length tab → Clearing tab tab 0
 clear-begun tab k = record { kept = refl; low = omega arith; long = k; zeros = λ i l. absurd (omega arith) }
-
-pub decide : (i h : ℕ) → (i ≡ h) ⊎ (i ≡ h → ⊥)
-decide i h = go (eqb i h) refl
-  where
-    go : (b : Bool) → eqb i h ≡ b → (i ≡ h) ⊎ (i ≡ h → ⊥)
-    go true e = inl (eqb-true i h e)
-    go false e = inr (eqb-false i h e)
 
 pub clear-more : (before tab : List ℕ) (h : ℕ) → Clearing before tab h → h < 2048 → Clearing before (set tab h 0) (h + 1)
 clear-more before tab h g l = record {

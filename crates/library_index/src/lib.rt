@@ -1,6 +1,6 @@
 // An index over names that stand in a slice of bytes. The table has the heads of the buckets, and three words for each name: its place, its
 // length and its link, which leads to the name before it in its bucket. A head and a link are one more than the number of a name, or 0 for none.
-use library_form::Cursor;
+use library_form::ImageCursor;
 use library_form::Name;
 ghost use mathlib.Core.Path.{_≡_};
 ghost use Prim.Native.Nat.{_+_, _≤_, _<_};
@@ -25,13 +25,6 @@ pub enum Found {
 // A byte as a number.
 fn of_byte(x: u8) -> usize
     ensures { λ r. ⌜ (r ≡ x) × (r < 256) ⌝ }
-{
-    x as usize
-}
-
-// A word as a number.
-pub fn of_word(x: u32) -> usize
-    ensures { λ r. ⌜ r ≡ x ⌝ }
 {
     x as usize
 }
@@ -66,7 +59,7 @@ pub fn place_of(tab: &[u32], i: usize) -> usize
     requires { ⌜ rowOf i + rowWords ≤ length (now tab) ⌝ }
     ensures { λ r. ⌜ r ≡ getD (now (tab .entry)) (rowOf i) 0 ⌝ }
 {
-    of_word(tab[BUCKETS + i * ROW])
+    text_lent::of_word(tab[BUCKETS + i * ROW])
 }
 
 // How long the name of number `i` is.
@@ -74,7 +67,7 @@ pub fn length_of(tab: &[u32], i: usize) -> usize
     requires { ⌜ rowOf i + rowWords ≤ length (now tab) ⌝ }
     ensures { λ r. ⌜ r ≡ getD (now (tab .entry)) (rowOf i + 1) 0 ⌝ }
 {
-    of_word(tab[BUCKETS + i * ROW + 1])
+    text_lent::of_word(tab[BUCKETS + i * ROW + 1])
 }
 
 // Goes through the names of the bucket `h`, which is that of `name`, to the one with its bytes.
@@ -82,17 +75,17 @@ fn seek(s: &[u8], tab: &[u32], count: usize, h: usize, name: &[u8]) -> Found
     requires { ⌜ Sought (now s) (now tab) count h (now name) ⌝ }
     ensures { λ r. ⌜ r ≡ firstOf (now (name .entry)) (namesIn (now (s .entry)) (now (tab .entry)) count) ⌝ }
 {
-    let mut j = of_word(tab[h]);
+    let mut j = text_lent::of_word(tab[h]);
     while 0 < j {
         let i = j - 1;
         let row = BUCKETS + i * ROW;
-        let place = of_word(tab[row]);
-        let len = of_word(tab[row + 1]);
+        let place = text_lent::of_word(tab[row]);
+        let len = text_lent::of_word(tab[row + 1]);
         let end = place + len;
         if check::same(&s[place..end], name) {
             return Found::At(i);
         }
-        j = of_word(tab[row + 2]);
+        j = text_lent::of_word(tab[row + 2]);
     }
     Found::Nothing
 }
@@ -139,7 +132,7 @@ pub fn take_name(s: &[u8], tab: &mut [u32], count: usize, at: usize) -> Name
     requires { ⌜ Space (now s) (now tab) count ⌝ }
     ensures { λ r. ⌜ Taken (now (s .entry)) (now (tab .entry)) count at r (now (tab .exit)) ⌝ }
 {
-    let here = Cursor { at: at };
+    let here = ImageCursor { at: at };
     let name = here.name(s);
     let Name::Bytes(first, len) = name else {
         return name;

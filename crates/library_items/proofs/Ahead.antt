@@ -6,7 +6,7 @@ use Prim.Native.Nat.{ℕ, suc, _-_, _≤_, _<_}
 use native.Mathlib.Omega.{arith}
 use lib.ListN.{length}
 use Rattle.library_form.specs.Form.{Ans, good, bad, bind, numberSeen}
-use Rattle.library_form.specs.declared.Cursor.{Cursor}
+use Rattle.library_form.specs.declared.ImageCursor.{ImageCursor}
 use Rattle.library_form.specs.declared.Number.{Number}
 use Rattle.library_form.specs.declared.Number.the-variants.{Value, Wrong}
 use Rattle.library_form.proofs.Bounds.{number-end}
@@ -130,7 +130,7 @@ module _ (least most : ℕ) (s : List ℕ) (at : ℕ) (v : Number) where
       let z : _≡_ {A = ℕ} 0 1 = cc in
       absurd (omega arith)
 
-  module _ {count : ℕ} {c : Cursor} (e : v ≡ Value count c) (k : numberSeen v ≡ countAt least most s at) where
+  module _ {count : ℕ} {c : ImageCursor} (e : v ≡ Value count c) (k : numberSeen v ≡ countAt least most s at) where
     count-read : countAt least most s at ≡ good count (c .at)
     count-read = sym k ∙ ap numberSeen e
 

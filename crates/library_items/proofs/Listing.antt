@@ -6,7 +6,7 @@ use Prim.Native.Nat.{ℕ, _≤_}
 use native.Mathlib.Omega.{arith}
 use lib.ListN.{length}
 use Rattle.library_form.specs.Form.{good, numberSeen}
-use Rattle.library_form.specs.declared.Cursor.{Cursor}
+use Rattle.library_form.specs.declared.ImageCursor.{ImageCursor}
 use Rattle.library_form.specs.declared.Number.{Number}
 use Rattle.library_form.specs.declared.Number.the-variants.{Value, Wrong}
 use Rattle.library_image.specs.Library.{Library}
@@ -37,7 +37,7 @@ module _ (s : List ℕ) (i : Reads (imageAt s)) where
   unfolding setsRead eachCounted
   no-sets v e k = counted-there 0 mostSets s 0 v _ e k sets-reads
 
-  pub sets-begun : (tab : List ℕ) (v : Number) {count : ℕ} {c : Cursor} → v ≡ Value count c → numberSeen v ≡ countAt 0 mostSets s 0 → tableWords ≤ length tab
+  pub sets-begun : (tab : List ℕ) (v : Number) {count : ℕ} {c : ImageCursor} → v ≡ Value count c → numberSeen v ≡ countAt 0 mostSets s 0 → tableWords ≤ length tab
       → Ahead (setRead s) s tab 0 (setsRead s 0) tab (record { items = 0; at = c .at }) count
   unfolding setsRead
   sets-begun tab v e k h = counted-begun 0 mostSets s 0 v e k (setRead s) tab 0 (empty-room tab h) sets-reads

@@ -5,7 +5,7 @@ use mathlib.Core.List.{List}
 use mathlib.Core.Bool.{Bool, true, false}
 use Prim.Native.Nat.{ℕ, _-_, _≤_}
 use Rattle.library_form.specs.Form.{Ans, numberSeen}
-use Rattle.library_form.specs.declared.Cursor.{Cursor}
+use Rattle.library_form.specs.declared.ImageCursor.{ImageCursor}
 use Rattle.library_form.specs.declared.Number.{Number}
 use Rattle.library_form.specs.declared.Number.the-variants.{Value, Wrong}
 use Rattle.library_image.specs.Image.{mostModules, mostNames, leastRevisions, mostRevisions, countAt}
@@ -22,7 +22,7 @@ module _ (s tab : List ℕ) (n kind at : ℕ) (v : Number) where
   unfolding listRead eachCounted
   no-list e k r = counted-there 0 mostNames s at v _ e k r
 
-  pub list-begun : {count : ℕ} {c : Cursor} → v ≡ Value count c → numberSeen v ≡ countAt 0 mostNames s at → Room s tab n at → Reads (listRead kind s at)
+  pub list-begun : {count : ℕ} {c : ImageCursor} → v ≡ Value count c → numberSeen v ≡ countAt 0 mostNames s at → Room s tab n at → Reads (listRead kind s at)
       → Ahead (nameRead kind s) s tab n (listRead kind s at) tab (record { items = n; at = c .at }) count
   unfolding listRead
   list-begun e k m r = counted-begun 0 mostNames s at v e k (nameRead kind s) tab n m r
@@ -61,7 +61,7 @@ module _ (s tab : List ℕ) (n at : ℕ) (v : Number) where
   unfolding revisionsRead
   no-revisions e k r = counted-there leastRevisions mostRevisions s at v _ e k r
 
-  module _ {count : ℕ} {c : Cursor} (e : v ≡ Value count c) (k : numberSeen v ≡ countAt leastRevisions mostRevisions s at) where
+  module _ {count : ℕ} {c : ImageCursor} (e : v ≡ Value count c) (k : numberSeen v ≡ countAt leastRevisions mostRevisions s at) where
     abbrev later : ℕ → Ans Items
     later m = each (listRead laterSubKind s) (count - 1) m
 
@@ -133,7 +133,7 @@ module _ (s tab : List ℕ) (n at : ℕ) (importOnly : Bool) (v : Number) where
   unfolding entriesRead eachCounted
   no-entries e k r = counted-there 0 mostModules s at v _ e k r
 
-  pub entries-begun : {count : ℕ} {c : Cursor} → v ≡ Value count c → numberSeen v ≡ countAt 0 mostModules s at → Room s tab n at → Reads (entriesRead importOnly s at)
+  pub entries-begun : {count : ℕ} {c : ImageCursor} → v ≡ Value count c → numberSeen v ≡ countAt 0 mostModules s at → Room s tab n at → Reads (entriesRead importOnly s at)
       → Ahead (entryRead importOnly s) s tab n (entriesRead importOnly s at) tab (record { items = n; at = c .at }) count
   unfolding entriesRead
   entries-begun e k m r = counted-begun 0 mostModules s at v e k (entryRead importOnly s) tab n m r

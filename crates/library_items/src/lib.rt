@@ -1,5 +1,5 @@
 // The names of a well-formed image in one list: where each stands, how long it is and what it is. Those who go through the library go through this list.
-use library_form::Cursor;
+use library_form::ImageCursor;
 use library_form::Name;
 use library_form::Number;
 ghost use mathlib.Core.Path.{_≡_};
@@ -73,7 +73,7 @@ fn take_item(s: &[u8], tab: &mut [u32], n: usize, kind: usize, at: usize) -> Rea
     requires { ⌜ Room (now s) (now tab) n at × (kind < mostKind) × Reads (nameRead kind (now s) at) ⌝ }
     ensures { λ r. ⌜ Gained (now (s .entry)) (now (tab .entry)) n (nameRead kind (now (s .entry)) at) r (now (tab .exit)) ⌝ }
 {
-    let here = Cursor { at: at };
+    let here = ImageCursor { at: at };
     let Name::Bytes(place, size) = here.name(s) else {
         return Reach { items: n, at: at };
     };

@@ -9,7 +9,7 @@ use native.Mathlib.Numerals.{add-one}
 use lib.Dec.{ltb}
 use borrow.Author.Tests.{lt-ltb, le-ltb}
 use Rattle.library_form.specs.Form.{Ans, good, bad, bind, numberAt, numberSeen, many}
-use Rattle.library_form.specs.declared.Cursor.{Cursor}
+use Rattle.library_form.specs.declared.ImageCursor.{ImageCursor}
 use Rattle.library_form.specs.declared.Number.{Number}
 use Rattle.library_form.specs.declared.Number.the-variants.{Value, Wrong}
 use Rattle.library_form.proofs.Bounds.{number-place}
@@ -92,7 +92,7 @@ module _ (least most : ℕ) (s : List ℕ) (at : ℕ) where
     unfolding countAt
     no-number {p} e f = let g : numberAt s at ≡ bad p = sym f ∙ ap numberSeen e in f ∙ rw g
 
-    module _ {count : ℕ} {c : Cursor} (e : q ≡ Value count c) (f : numberSeen q ≡ numberAt s at) where
+    module _ {count : ℕ} {c : ImageCursor} (e : q ≡ Value count c) (f : numberSeen q ≡ numberAt s at) where
       number : numberAt s at ≡ good count (c .at)
       number = sym f ∙ ap numberSeen e
 
@@ -128,7 +128,7 @@ module _ (least most : ℕ) (s : List ℕ) (at : ℕ) where
     unfolding counted
     no-count {u} e f = let g : countAt least most s at ≡ bad u = sym f ∙ ap numberSeen e in rw (g, count-place g)
 
-    module _ {count : ℕ} {c : Cursor} (e : q ≡ Value count c) (f : numberSeen q ≡ countAt least most s at) {i here : ℕ} (g : Going (p s) count (c .at) i here) where
+    module _ {count : ℕ} {c : ImageCursor} (e : q ≡ Value count c) (f : numberSeen q ≡ countAt least most s at) {i here : ℕ} (g : Going (p s) count (c .at) i here) where
       by-count : counted least most p s at ≡ many (p s) count [] (c .at)
       unfolding counted
       by-count = let h : countAt least most s at ≡ good count (c .at) = sym f ∙ ap numberSeen e in rw h

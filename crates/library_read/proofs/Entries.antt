@@ -10,7 +10,7 @@ use lib.ListN.{length}
 use mir.Syntax.{w64}
 use mir.Val.{Fits}
 use Rattle.library_form.specs.Form.{Ans, good, bad, bind, Word, wordAt, numberSeen, nameAt, nameSeen, many}
-use Rattle.library_form.specs.declared.Cursor.{Cursor}
+use Rattle.library_form.specs.declared.ImageCursor.{ImageCursor}
 use Rattle.library_form.specs.declared.Number.{Number}
 use Rattle.library_form.specs.declared.Number.the-variants.{Value, Wrong as WrongNumber}
 use Rattle.library_form.specs.declared.Name.{Name}
@@ -149,7 +149,7 @@ module _ (importOnly : Bool) (s : List ℕ) where
   unfolding entriesAt
   no-entries q tab at e f = record { answer = no-count 0 mostModules s at (entryAt importOnly) q e f; kept = refl }
 
-  pub entries-begun : (q : Number) (before tab : List ℕ) (at : ℕ) {count : ℕ} {c : Cursor} → q ≡ Value count c → numberSeen q ≡ countAt 0 mostModules s at → Cleared before tab → Roomy s before
+  pub entries-begun : (q : Number) (before tab : List ℕ) (at : ℕ) {count : ℕ} {c : ImageCursor} → q ≡ Value count c → numberSeen q ≡ countAt 0 mostModules s at → Cleared before tab → Roomy s before
       → Entering importOnly s tab tab count (c .at) 0 (c .at)
   unfolding namesIn going
   entries-begun q before tab at {count} {c} e f k m = record {
@@ -186,7 +186,7 @@ module _ (importOnly : Bool) (s : List ℕ) where
     pub entries-further : (r : Read) {n : ℕ} {after : List ℕ} → r ≡ End n → EntryTaken importOnly s tab i here r after → i < count → Entering importOnly s before after count from (i + 1) n
     entries-further r {n} {after} e a h = more (a .kept) (rw e at (a .answer)) h
 
-  module _ (q : Number) (at : ℕ) {count : ℕ} {c : Cursor} (k : q ≡ Value count c) (l : numberSeen q ≡ countAt 0 mostModules s at)
+  module _ (q : Number) (at : ℕ) {count : ℕ} {c : ImageCursor} (k : q ≡ Value count c) (l : numberSeen q ≡ countAt 0 mostModules s at)
       {before cleared : List ℕ} (m : Cleared before cleared) {tab : List ℕ} {i here : ℕ} (g : Entering importOnly s cleared tab count (c .at) i here) where
     pub entries-stopped : (r : Read) {p : ℕ} {after : List ℕ} → r ≡ Wrong p → EntryTaken importOnly s tab i here r after → i < count
         → ReadAs (Wrong p) (done (entriesAt importOnly s at)) before after

@@ -5,7 +5,7 @@ use mathlib.Core.List.{List}
 use mathlib.Core.Bool.{Bool, true, false}
 use Prim.Native.Nat.{ℕ, _+_, _≤_, _<_}
 use Rattle.library_form.specs.Form.{good, bad, numberSeen}
-use Rattle.library_form.specs.declared.Cursor.{Cursor}
+use Rattle.library_form.specs.declared.ImageCursor.{ImageCursor}
 use Rattle.library_form.specs.declared.Number.{Number}
 use Rattle.library_form.specs.declared.Number.the-variants.{Value, Wrong as WrongNumber}
 use Rattle.library_image.specs.Image.{leastRevisions, mostRevisions, countAt, revisionAt}
@@ -49,7 +49,7 @@ module _ (s : List ℕ) where
   unfolding listAt
   revisions-further g r e f h = further-behind (revisionAt s) g (sym (ap readSeen e) ∙ f) h
 
-  module _ (q : Number) (at : ℕ) {count : ℕ} {c : Cursor} (k : q ≡ Value count c) (l : numberSeen q ≡ countAt leastRevisions mostRevisions s at)
+  module _ (q : Number) (at : ℕ) {count : ℕ} {c : ImageCursor} (k : q ≡ Value count c) (l : numberSeen q ≡ countAt leastRevisions mostRevisions s at)
       {i here : ℕ} (g : Going (revisionAt s) count (c .at) i here) where
     pub revisions-stopped : (r : Read) {p : ℕ} → r ≡ Wrong p → readSeen r ≡ done (listAt true s here) → i < count → bad p ≡ restAt true s at
     unfolding restAt listAt

@@ -9,7 +9,7 @@ use lib.ListN.{length}
 use lib.Dec.{ltb}
 use borrow.Author.Tests.{lt-ltb, le-ltb}
 use Rattle.library_form.specs.Form.{Ans, good, bad, bind, numberSeen}
-use Rattle.library_form.specs.declared.Cursor.{Cursor}
+use Rattle.library_form.specs.declared.ImageCursor.{ImageCursor}
 use Rattle.library_form.specs.declared.Number.{Number}
 use Rattle.library_form.specs.declared.Number.the-variants.{Value, Wrong as WrongNumber}
 use Rattle.library_image.specs.Library.{Module, ImportOnly, ModuleSet, Library}
@@ -83,7 +83,7 @@ module _ (s : List ℕ) where
     kept = a .kept ∙ g .kept;
   }
 
-  module _ (q : Number) {count : ℕ} {c : Cursor} (k : q ≡ Value count c) (l : numberSeen q ≡ countAt 0 mostSets s 0)
+  module _ (q : Number) {count : ℕ} {c : ImageCursor} (k : q ≡ Value count c) (l : numberSeen q ≡ countAt 0 mostSets s 0)
       {before tab : List ℕ} {i here : ℕ} (g : Setting s before tab count (c .at) i here) where
     pub sets-stopped : (r : Read) {p : ℕ} {after : List ℕ} → r ≡ Wrong p → ReadAs r (done (setAt s [] here)) tab after → i < count
         → ReadAs (Wrong p) (done (libraryAt s 0)) before after

@@ -11,7 +11,7 @@ use mir.Val.{Fits}
 use Rattle.text.specs.Keyword.{same}
 use Rattle.text.proofs.Here.{or-none}
 use Rattle.library_form.specs.Form.{Ans, good, bad, bind, Word, wordAt, numberSeen, nameAt, nameSeen, many}
-use Rattle.library_form.specs.declared.Cursor.{Cursor}
+use Rattle.library_form.specs.declared.ImageCursor.{ImageCursor}
 use Rattle.library_form.specs.declared.Number.{Number}
 use Rattle.library_form.specs.declared.Number.the-variants.{Value, Wrong as WrongNumber}
 use Rattle.library_form.specs.declared.Name.{Name}
@@ -154,7 +154,7 @@ module _ (differ : Bool) (s : List ℕ) where
     pub names-further : i < count → Going (wordOf differ s) count from (i + 1) (first + len)
     names-further h = further (wordOf differ s) g (sym (next-word differ s g) ∙ it) h
 
-  module _ (q : Number) (at : ℕ) {count : ℕ} {c : Cursor} (k : q ≡ Value count c) (l : numberSeen q ≡ countAt 0 mostNames s at)
+  module _ (q : Number) (at : ℕ) {count : ℕ} {c : ImageCursor} (k : q ≡ Value count c) (l : numberSeen q ≡ countAt 0 mostNames s at)
       {i here : ℕ} (g : Going (wordOf differ s) count (c .at) i here) where
     pub names-stopped : (r : Name) {p : ℕ} → r ≡ Wrong p → nameSeen s r ≡ wordBehind differ s (c .at) i here → i < count → bad here ≡ done (listAt differ s at)
     unfolding listAt

@@ -1,6 +1,6 @@
 // The library image, read from its first byte to its last. Names of modules must differ in a set, and so must those of import-only modules: both go through
 // an index. Names of a revision's submodules must differ too; they are few and are compared with each other.
-use library_form::Cursor;
+use library_form::ImageCursor;
 use library_form::Name;
 use library_form::Number;
 ghost use mathlib.Core.Path.{_≡_};
@@ -40,7 +40,7 @@ pub enum Read {
 pub fn read_count(s: &[u8], at: usize, least: usize, most: usize) -> Number
     ensures { λ r. ⌜ numberSeen r ≡ countAt least most (now (s .entry)) at ⌝ }
 {
-    let here = Cursor { at: at };
+    let here = ImageCursor { at: at };
     let number = here.number(s);
     let Number::Value(count, next) = number else {
         return number;
@@ -61,7 +61,7 @@ fn among(s: &[u8], from: usize, count: usize, name: &[u8]) -> bool
     let mut at = from;
     let mut left = count;
     while 0 < left {
-        let here = Cursor { at: at };
+        let here = ImageCursor { at: at };
         let Name::Bytes(first, len) = here.name(s) else {
             return false;
         };
@@ -79,7 +79,7 @@ fn among(s: &[u8], from: usize, count: usize, name: &[u8]) -> bool
 fn read_word(s: &[u8], differ: bool, from: usize, i: usize, at: usize) -> Name
     ensures { λ r. ⌜ nameSeen (now (s .entry)) r ≡ wordBehind differ (now (s .entry)) from i at ⌝ }
 {
-    let here = Cursor { at: at };
+    let here = ImageCursor { at: at };
     let name = here.name(s);
     let Name::Bytes(first, len) = name else {
         return name;

@@ -11,7 +11,7 @@ use Rattle.yanglib.specs.ToGraph.{Leaves, lengthsOf, graphed, AnswerFits}
 use Rattle.yanglib.specs.declared.Graphed.{Graphed}
 use Rattle.yanglib.specs.declared.Graphed.the-variants.{Built, Refused}
 use Rattle.yanglib.proofs.Bounds.{answer-fits}
-use Rattle.host_words.specs.Words.{graphWords, GraphFits}
+use Rattle.nuvaleta.specs.Words.{graphWords, GraphFits}
 use Rattle.nuvaleta.specs.Graphs.{Drawn}
 
 -- ---- what is told fits its words

@@ -1,13 +1,13 @@
 -- An answer in words: counts are at most 256 or the text's length, a place lies within the text, and a text that is too long is refused at 0, so each fits its
 -- word.
 -- Assumes nothing.
-use mathlib.Core.Path.{_≡_, refl, sym, ap, subst, _∙_}
+use mathlib.Core.Path.{_≡_, refl, sym, ap, ap₂, subst, _∙_}
 use mathlib.Core.Bool.{Bool}
 use mathlib.Core.List.{List, [], _∷_, _++_}
 use Prim.Native.Nat.{ℕ, _+_, _<_, _≤_}
 use native.Mathlib.Omega.{arith}
 use lib.Dec.{ltb}
-use lib.ListN.{length}
+use lib.ListN.{length, getD}
 use borrow.Author.Tests.{ltb-true, ltb-false}
 use Rattle.text.specs.declared.Refusal.{Refusal}
 use Rattle.text.proofs.Here.{by-test}
@@ -19,8 +19,9 @@ use Rattle.yangparser.specs.Dependencies.{Dependencies, none, Scan, good, bad, 
 use Rattle.yangparser.specs.Promises.{Leaves}
 use Rattle.yangparser.specs.declared.Parsed.{Parsed}
 use Rattle.yangparser.proofs.KeptLaws.{entry-good, entry-refusal}
-use Rattle.host_words.specs.Words.{numberOf, answerWords, WordsFit}
+use Rattle.nuvaleta.specs.Words.{answerWords, WordsFit}
 use Rattle.nuvaleta.specs.Host.{Answered, AnsweredPage}
+use Rattle.nuvaleta.proofs.WordsLaws.{first-word}
 
 -- ---- a word for each count and place
 
@@ -50,18 +51,25 @@ module _ (s : List ℕ) (z : Bool) (d t u : List ℕ) {r : Parsed} {e f g : List
   again : Leaves (dependencies s z) d t u (parsedOf (dependencies s z)) e f g
   again = record { answer = refl; stored = w .stored; imports = w .imports; includes = w .includes }
 
-  pub answered : {n : ℕ} {a : List ℕ} → a ≡ answerWords r → n ≡ numberOf r → Answered (dependencies s z) d t u n e f g a
-  answered ae ne = record { scan = again; number = ne ∙ ap numberOf (w .answer); answer = ae ∙ ap answerWords (w .answer) }
+  -- the words are answered, and the first is returned
+  pub answered : {v : List ℕ} → v ≡ answerWords r → Answered (dependencies s z) d t u (getD v 0 0) e f g v
+  answered ve =
+      let k = ve ∙ ap answerWords (w .answer) in
+      record { scan = again; number = ap (λ v. getD v 0 0) k ∙ first-word (parsedOf (dependencies s z)); answer = k }
 
 module _ (s : List ℕ) (z : Bool) (d t u p : List ℕ) (r : Page) {e f g q : List ℕ} (w : PageLeft (dependencies s z) d t u p r e f g q) where
-  pub page-words-fit : WordsFit (r .parsed) × (r .length < 4294967296)
-  page-words-fit = (words-fit s z d t u (w .scan), omega (arith, w .length-is, page-fits s z))
+  pub page-words-fit : WordsFit (r .parsed)
+  page-words-fit = words-fit s z d t u (w .scan)
 
-  pub page-answered : {n : ℕ} {a : List ℕ} → a ≡ answerWords (r .parsed) ++ (r .length ∷ []) → n ≡ numberOf (r .parsed)
-      → AnsweredPage (dependencies s z) d t u p n e f g q a
-  page-answered ae ne = record {
-    scan = again s z d t u (w .scan);
-    page = w .page;
-    number = ne ∙ ap numberOf (w .scan .answer);
-    answer = ae ∙ ap (λ x. answerWords x ++ (r .length ∷ [])) (w .scan .answer) ∙ ap (λ n. answerWords (parsedOf (dependencies s z)) ++ (n ∷ [])) (w .length-is);
-  }
+  pub page-size-fits : r .length < 4294967296
+  page-size-fits = omega (arith, w .length-is, page-fits s z)
+
+  pub page-answered : {v a : List ℕ} → v ≡ answerWords (r .parsed) → a ≡ v ++ (r .length ∷ []) → AnsweredPage (dependencies s z) d t u p (getD v 0 0) e f g q a
+  page-answered ve ae =
+      let scan = answered s z d t u (w .scan) ve in
+      record {
+        scan = scan .scan;
+        page = w .page;
+        number = scan .number;
+        answer = ae ∙ ap₂ (λ x n. x ++ (n ∷ [])) (scan .answer) (w .length-is);
+      }

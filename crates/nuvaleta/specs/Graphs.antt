@@ -5,7 +5,7 @@ use Prim.Native.Nat.{ℕ}
 use mathlib.Core.List.{List}
 use Rattle.nuvaleta.specs.Finds.{Told}
 use Rattle.yanglib.specs.ToGraph.{Result, Leaves, lengthsOf, graphed}
-use Rattle.host_words.specs.Words.{graphWords}
+use Rattle.nuvaleta.specs.Words.{graphWords}
 
 -- the answer to a graph x, beside what it leaves
 pub record Drawn (x : Result) (n e d f g l : List ℕ) (r : ℕ) (n₁ e₁ d₁ f₁ g₁ l₁ a : List ℕ) : Type 0 where

@@ -10,7 +10,7 @@ use Rattle.text_lent.specs.Padded.{padded}
 use Rattle.scan_page.specs.Page.{pageOf}
 use Rattle.yangparser.specs.Dependencies.{Scan, tooShort, pageShort, dependencies, parsedOf}
 use Rattle.yangparser.specs.Promises.{Leaves}
-use Rattle.host_words.specs.Words.{numberOf, answerWords}
+use Rattle.nuvaleta.specs.Words.{numberOf, answerWords}
 
 -- the answer to a scan x, beside what it leaves
 pub record Answered (x : Scan) (d t u : List ℕ) (r : ℕ) (e f g a : List ℕ) : Type 0 where

@@ -1,13 +1,45 @@
 // What a C or Rust host calls, as include/nuvaleta.h declares it: one function a call, with the promises of the function that it calls.
+use yanglib::Graphed;
+use yangparser::Parsed;
+ghost use mathlib.Core.Path.{_≡_};
 ghost use Rattle.nuvaleta.specs.Host.{DependenciesAnswered, PrintedAnswered};
 ghost use Rattle.library_image.specs.Image.{imageBroken};
 ghost use Rattle.library_bundle.specs.Bundle.{bundleBroken, lookUp};
 ghost use Rattle.library_find.specs.Find.{findModule, findSubmodule, findImportModule};
 ghost use Rattle.host_words.specs.Words.{toldWords};
+ghost use Rattle.nuvaleta.specs.Words.{answerWords, WordsFit, graphWords, GraphFits};
 ghost use Rattle.nuvaleta.specs.Finds.{Told};
 ghost use Rattle.nuvaleta.specs.Graphs.{GraphAnswered};
 ghost use Rattle.nuvaleta.specs.Orders.{OrderAnswered, CheckAnswered};
 ghost use Rattle.nuvaleta.specs.Record.{MetadataAnswered};
+
+// The six words of a scan's answer.
+fn answer_of(parsed: Parsed) -> [u32; 6]
+    requires { ⌜ WordsFit parsed ⌝ }
+    ensures { λ r. ⌜ r ≡ answerWords parsed ⌝ }
+{
+    match parsed {
+        Parsed::Good {
+            imports,
+            includes,
+            used,
+        } => host_words::scan_read_words(imports, includes, used),
+        Parsed::Refused(r) => host_words::scan_refused_words(r),
+    }
+}
+
+// The eight words of a graph's answer.
+fn graph_words(graphed: Graphed) -> [u32; 8]
+    requires { ⌜ GraphFits graphed ⌝ }
+    ensures { λ r. ⌜ r ≡ graphWords graphed ⌝ }
+{
+    match graphed {
+        Graphed::Built(n, m) => host_words::graph_built_words(n, m),
+        Graphed::Refused(number, entry, scan, place) => {
+            host_words::graph_refused_words(number, entry, scan, place)
+        }
+    }
+}
 
 // The imports and includes of a text.
 #[no_mangle]
@@ -18,11 +50,14 @@ pub extern "C" fn nuvaleta_dependencies(
     includes: &mut [u32],
     answer: &mut [u32; 6],
 ) -> u32
-    ensures { λ r. ⌜ DependenciesAnswered (now (text .entry)) (now (store .entry)) (now (imports .entry)) (now (includes .entry)) r (now (store .exit)) (now (imports .exit)) (now (includes .exit)) (now (answer .exit)) ⌝ }
+    ensures { λ r. ⌜ DependenciesAnswered
+        (now (text .entry)) (now (store .entry)) (now (imports .entry)) (now (includes .entry)) r
+        (now (store .exit)) (now (imports .exit)) (now (includes .exit)) (now (answer .exit)) ⌝ }
 {
     let parsed = yangparser::extract_yang_dependencies(text, store, imports, includes);
-    *answer = host_words::answer_of(parsed);
-    host_words::number_of(parsed)
+    let words = answer_of(parsed);
+    *answer = words;
+    words[0]
 }
 
 // The imports and includes of a text, and their printed form.
@@ -35,13 +70,15 @@ pub extern "C" fn nuvaleta_printed(
     page: &mut [u8],
     answer: &mut [u32; 7],
 ) -> u32
-    ensures { λ r. ⌜ PrintedAnswered (now (text .entry)) (now (store .entry)) (now (imports .entry)) (now (includes .entry)) (now (page .entry)) r (now (store .exit)) (now (imports .exit)) (now (includes .exit)) (now (page .exit)) (now (answer .exit)) ⌝ }
+    ensures { λ r. ⌜ PrintedAnswered
+        (now (text .entry)) (now (store .entry)) (now (imports .entry)) (now (includes .entry)) (now (page .entry)) r
+        (now (store .exit)) (now (imports .exit)) (now (includes .exit)) (now (page .exit)) (now (answer .exit)) ⌝ }
 {
     let printed = scan_page::print_yang_dependencies(text, store, imports, includes, page);
     let parsed = printed.parsed;
-    let length = printed.length;
-    *answer = host_words::page_answer_of(parsed, length);
-    host_words::number_of(parsed)
+    let words = answer_of(parsed);
+    *answer = host_words::page_words(words, printed.length);
+    words[0]
 }
 
 // The metadata of a text.
@@ -58,8 +95,8 @@ pub extern "C" fn nuvaleta_metadata(
     let values = read.values;
     let told = read.answer;
     let used = read.used;
-    *words = host_words::record_of(values);
-    *answer = host_words::metadata_answer_of(told, used);
+    *words = host_words::record_words(values);
+    *answer = host_words::metadata_words(told, used);
     told.number
 }
 
@@ -68,10 +105,7 @@ pub extern "C" fn nuvaleta_metadata(
 pub extern "C" fn nuvaleta_find_module(image: &[u8], name: &[u8], answer: &mut [u32; 5]) -> u32
     ensures { λ r. ⌜ Told (toldWords imageBroken (findModule (now (image .entry)) (now (name .entry)))) r (now (answer .exit)) ⌝ }
 {
-    let words = host_words::told_words(
-        library_read::IMAGE_BROKEN,
-        library_find::find_module(image, name),
-    );
+    let words = host_words::find_words(library_find::find_module(image, name));
     *answer = words;
     words[0]
 }
@@ -81,10 +115,7 @@ pub extern "C" fn nuvaleta_find_module(image: &[u8], name: &[u8], answer: &mut [
 pub extern "C" fn nuvaleta_find_submodule(image: &[u8], name: &[u8], answer: &mut [u32; 5]) -> u32
     ensures { λ r. ⌜ Told (toldWords imageBroken (findSubmodule (now (image .entry)) (now (name .entry)))) r (now (answer .exit)) ⌝ }
 {
-    let words = host_words::told_words(
-        library_read::IMAGE_BROKEN,
-        library_find::find_submodule(image, name),
-    );
+    let words = host_words::find_words(library_find::find_submodule(image, name));
     *answer = words;
     words[0]
 }
@@ -98,10 +129,7 @@ pub extern "C" fn nuvaleta_find_import_module(
 ) -> u32
     ensures { λ r. ⌜ Told (toldWords imageBroken (findImportModule (now (image .entry)) (now (name .entry)))) r (now (answer .exit)) ⌝ }
 {
-    let words = host_words::told_words(
-        library_read::IMAGE_BROKEN,
-        library_find::find_import_module(image, name),
-    );
+    let words = host_words::find_words(library_find::find_import_module(image, name));
     *answer = words;
     words[0]
 }
@@ -111,10 +139,7 @@ pub extern "C" fn nuvaleta_find_import_module(
 pub extern "C" fn nuvaleta_text(bundle: &[u8], name: &[u8], answer: &mut [u32; 5]) -> u32
     ensures { λ r. ⌜ Told (toldWords bundleBroken (lookUp (now (bundle .entry)) (now (name .entry)))) r (now (answer .exit)) ⌝ }
 {
-    let words = host_words::told_words(
-        library_bundle::BUNDLE_BROKEN,
-        library_bundle::find_text(bundle, name),
-    );
+    let words = host_words::text_words(library_bundle::find_text(bundle, name));
     *answer = words;
     words[0]
 }
@@ -132,7 +157,11 @@ pub extern "C" fn nuvaleta_graph(
     levels: &mut [u32],
     answer: &mut [u32; 8],
 ) -> u32
-    ensures { λ r. ⌜ GraphAnswered (now (image .entry)) (now (bundle .entry)) (now (nodes .entry)) (now (edges .entry)) (now (store .entry)) (now (imports .entry)) (now (includes .entry)) (now (levels .entry)) r (now (nodes .exit)) (now (edges .exit)) (now (store .exit)) (now (imports .exit)) (now (includes .exit)) (now (levels .exit)) (now (answer .exit)) ⌝ }
+    ensures { λ r. ⌜ GraphAnswered
+        (now (image .entry)) (now (bundle .entry)) (now (nodes .entry)) (now (edges .entry))
+        (now (store .entry)) (now (imports .entry)) (now (includes .entry)) (now (levels .entry)) r
+        (now (nodes .exit)) (now (edges .exit)) (now (store .exit)) (now (imports .exit)) (now (includes .exit)) (now (levels .exit))
+        (now (answer .exit)) ⌝ }
 {
     let graphed = yanglib::to_graph(
         image,
@@ -144,7 +173,7 @@ pub extern "C" fn nuvaleta_graph(
         includes,
         levels,
     );
-    let words = host_words::graph_words(graphed);
+    let words = graph_words(graphed);
     *answer = words;
     words[0]
 }
@@ -159,11 +188,12 @@ pub extern "C" fn nuvaleta_order(
     table: &mut [u32],
     answer: &mut [u32; 2],
 ) -> u32
-    ensures { λ r. ⌜ OrderAnswered (now (nodes .entry)) n (now (edges .entry)) m (now (table .entry)) r (now (table .exit)) (now (answer .exit)) ⌝ }
+    ensures { λ r. ⌜ OrderAnswered (now (nodes .entry)) n (now (edges .entry)) m (now (table .entry)) r
+        (now (table .exit)) (now (answer .exit)) ⌝ }
 {
     let ordered = order::order(nodes, n, edges, m, table);
     let number = ordered.number;
-    *answer = [number, ordered.length];
+    *answer = host_words::order_words(number, ordered.length);
     number
 }
 
@@ -181,6 +211,6 @@ pub extern "C" fn nuvaleta_order_check(
 {
     let checked = order::order_check(nodes, n, edges, m, list);
     let number = checked.number;
-    *answer = [number, checked.place];
+    *answer = host_words::order_words(number, checked.place);
     number
 }

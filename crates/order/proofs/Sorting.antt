@@ -22,8 +22,8 @@ use Rattle.order_take.proofs.Taken.{taken-short, taken-stuck}
 use Rattle.order_ring.specs.Ring.{ringOf}
 use Rattle.order_ring.proofs.Round.{ring-ringed}
 use Rattle.order_places.specs.Places.{placeOf}
-use Rattle.order_places.specs.declared.Place.{Place}
-use Rattle.order_places.specs.declared.Place.the-variants.{Right, WrongAt}
+use Rattle.order_places.specs.declared.Verdict.{Verdict}
+use Rattle.order_places.specs.declared.Verdict.the-variants.{Right, WrongAt}
 use Rattle.order.specs.declared.Ordered.{Ordered}
 use Rattle.order.specs.declared.Checked.{Checked}
 use Rattle.order.specs.Order.{sortedOf, orderOf, Sorts, Orders, checked, toldPlace, checkOf}
@@ -134,14 +134,14 @@ module _ (nodes n : ℕ) (edges : List ℕ) (m : ℕ) (list : List ℕ) {b : Boo
   pub check-fit : not b ≡ false → Fit n edges m
   check-fit t = fitting nodes n edges m (sym f ∙ not-false b t)
 
-  pub check-told : not b ≡ false → {p : Place} {r : Checked} → p ≡ placeOf n (rowsIn m edges) list → r ≡ toldPlace p → r ≡ checkOf nodes n edges m list
+  pub check-told : not b ≡ false → {p : Verdict} {r : Checked} → p ≡ placeOf n (rowsIn m edges) list → r ≡ toldPlace p → r ≡ checkOf nodes n edges m list
   unfolding checkOf
   check-told t pp rr = rr ∙ ap toldPlace pp ∙ sym (rw (← f, not-false b t))
 
-pub right-told : (p : Place) → p ≡ Right → checked 0 0 ≡ toldPlace p
+pub right-told : (p : Verdict) → p ≡ Right → checked 0 0 ≡ toldPlace p
 unfolding toldPlace
 right-told p h = sym (ap toldPlace h)
 
-pub wrong-told : (p : Place) (i : ℕ) → p ≡ WrongAt i → checked 42 i ≡ toldPlace p
+pub wrong-told : (p : Verdict) (i : ℕ) → p ≡ WrongAt i → checked 42 i ≡ toldPlace p
 unfolding toldPlace
 wrong-told p i h = sym (ap toldPlace h)

@@ -14,8 +14,8 @@ use Rattle.order_tables.specs.Tables.{fits, tablesUnfit}
 use Rattle.order_take.specs.Taking.{taken}
 use Rattle.order_ring.specs.Ring.{ringOf}
 use Rattle.order_places.specs.Places.{placeOf}
-use Rattle.order_places.specs.declared.Place.{Place}
-use Rattle.order_places.specs.declared.Place.the-variants.{Right, WrongAt}
+use Rattle.order_places.specs.declared.Verdict.{Verdict}
+use Rattle.order_places.specs.declared.Verdict.the-variants.{Right, WrongAt}
 use Rattle.order.specs.declared.Ordered.{Ordered}
 use Rattle.order.specs.declared.Checked.{Checked}
 
@@ -62,7 +62,7 @@ pub record Orders (nodes : List ℕ) (n : ℕ) (edges : List ℕ) (m : ℕ) (tab
 abbrev pub checked : ℕ → ℕ → Checked
 checked k p = record { number = k; place = p }
 
-unfoldable pub toldPlace : Place → Checked
+unfoldable pub toldPlace : Verdict → Checked
 toldPlace Right = checked 0 0
 toldPlace (WrongAt i) = checked listWrong i
 

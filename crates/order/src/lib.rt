@@ -1,5 +1,5 @@
 // The order of registration from a built graph's tables, and the check of a list.
-use order_places::Place;
+use order_places::Verdict;
 ghost use mathlib.Core.Path.{_≡_};
 ghost use Prim.Native.Nat.{_≤_};
 ghost use lib.ListN.{length};
@@ -68,15 +68,15 @@ pub fn order(nodes: &[u32], n: usize, edges: &[u32], m: usize, table: &mut [u32]
 }
 
 // What the check found, as an answer.
-fn told_place(place: Place) -> Checked
+fn told_place(place: Verdict) -> Checked
     ensures { λ r. ⌜ r ≡ toldPlace place ⌝ }
 {
     match place {
-        Place::Right => Checked {
+        Verdict::Right => Checked {
             number: 0,
             place: 0,
         },
-        Place::WrongAt(i) => Checked {
+        Verdict::WrongAt(i) => Checked {
             number: LIST_WRONG,
             place: i,
         },

@@ -14,7 +14,7 @@ use lib.ListN.{getD}
 use borrow.Author.Tests.{eq-eqb, ne-eqb, lt-ltb, le-ltb, ltb-true, ltb-false, leb-true, leb-false}
 use Rattle.graph.specs.Numbers.{Row}
 use Rattle.graph_edges.specs.Edges.{rowAt, rowsIn}
-use Rattle.library_index.proofs.Stores.{decide}
+use Rattle.text_lent.proofs.Numbers.{decide}
 use Rattle.text.proofs.Here.{both}
 use Rattle.order_places.specs.Noted.{placeIn, lets, allLet, bars, Known, KnownAt, NodeAt, NextBreak, Unbroken}
 use Rattle.order_places.proofs.Noting.{read}

@@ -4,7 +4,7 @@ use mathlib.Core.Path.{_≡_, refl}
 use mathlib.Core.List.{List, [], _∷_}
 use Rattle.graph.specs.Numbers.{Row, row}
 use Rattle.order_tables.specs.Free.{mem, ready}
-use Rattle.order_places.specs.declared.Place.the-variants.{Right, WrongAt}
+use Rattle.order_places.specs.declared.Verdict.the-variants.{Right, WrongAt}
 use Rattle.order_places.specs.Places.{placeFrom, placeOf}
 
 abbrev edges : List Row

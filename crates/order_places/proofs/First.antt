@@ -14,11 +14,11 @@ use lib.Dec.{eqb, ltb}
 use borrow.Author.Tests.{eq-eqb, ne-eqb, lt-ltb, le-ltb, ltb-true, ltb-false}
 use Rattle.graph.specs.Numbers.{Row}
 use Rattle.graph_edges.specs.Edges.{rowsIn}
-use Rattle.library_index.proofs.Stores.{decide}
+use Rattle.text_lent.proofs.Numbers.{decide}
 use Rattle.order_tables.specs.Free.{mem, ready, free}
 use Rattle.order_tables.specs.Tables.{Fit}
 use Rattle.order_tables.proofs.Ready.{within-row}
-use Rattle.order_places.specs.declared.Place.the-variants.{Right, WrongAt}
+use Rattle.order_places.specs.declared.Verdict.the-variants.{Right, WrongAt}
 use Rattle.order_places.specs.Noted.{nowhere, placeIn, Blank, Noted, AllNoted, allLet, Known, Unbroken}
 use Rattle.order_places.specs.Places.{placeFrom, placeOf}
 use Rattle.order_places.proofs.Noting.{few, early, late}

@@ -12,7 +12,7 @@ use lib.ListN.{length, getD, set, take, length-set}
 use lib.Seq.{getD-set-same, getD-set-other, getD-take, length-take-le, take-suc}
 use mir.Syntax.{w32}
 use mir.Val.{Fits}
-use Rattle.library_index.proofs.Stores.{decide}
+use Rattle.text_lent.proofs.Numbers.{decide}
 use Rattle.order_tables.specs.Free.{mem}
 use Rattle.order_tables.proofs.Mem.{mem-place, place-mem}
 use Rattle.order_tables.proofs.Distinct.{Distinct, none, distinct-snoc, short}

@@ -8,7 +8,8 @@ use mathlib.Core.List.{List, [], _∷_}
 use lib.Dec.{eqb, leb, ltb}
 use lib.ListN.{length, getD}
 use Rattle.graph.specs.Numbers.{Row}
-use Rattle.graph_edges.specs.Edges.{mostNodes, rowAt}
+use Rattle.graph.specs.Limits.{mostNodes}
+use Rattle.graph_edges.specs.Edges.{rowAt}
 
 abbrev pub nowhere : ℕ
 nowhere = 4294967295

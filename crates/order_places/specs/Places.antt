@@ -8,13 +8,13 @@ use lib.Dec.{ltb}
 use lib.ListN.{length}
 use Rattle.graph.specs.Numbers.{Row}
 use Rattle.order_tables.specs.Free.{free}
-use Rattle.order_places.specs.declared.Place.{Place}
-use Rattle.order_places.specs.declared.Place.the-variants.{Right, WrongAt}
+use Rattle.order_places.specs.declared.Verdict.{Verdict}
+use Rattle.order_places.specs.declared.Verdict.the-variants.{Right, WrongAt}
 
 -- `done` is what stands before the rest of the list
-unfoldable pub placeFrom : ℕ → List Row → (done rest : List ℕ) → Place
+unfoldable pub placeFrom : ℕ → List Row → (done rest : List ℕ) → Verdict
 placeFrom n es done [] = cond (ltb (length done) n) (WrongAt (length done)) Right
 placeFrom n es done (x ∷ xs) = cond (free n es done x) (placeFrom n es (done ++ (x ∷ [])) xs) (WrongAt (length done))
 
-abbrev pub placeOf : ℕ → List Row → List ℕ → Place
+abbrev pub placeOf : ℕ → List Row → List ℕ → Verdict
 placeOf n es list = placeFrom n es [] list

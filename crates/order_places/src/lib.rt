@@ -1,5 +1,5 @@
 // The check of a list: the first place that is wrong.
-use graph_edges::NodeIndex;
+use graph::NodeIndex;
 ghost use mathlib.Core.Path.{_≡_};
 ghost use Prim.Native.Nat.{_≤_};
 ghost use lib.ListN.{getD};
@@ -13,7 +13,7 @@ ghost use Rattle.order_places.specs.Places.{placeOf};
 const NOWHERE: u32 = 4294967295;
 
 // The list holds each node once and breaks no edge; or this is its first wrong place.
-pub enum Place {
+pub enum Verdict {
     Right,
     WrongAt(u32),
 }
@@ -25,7 +25,7 @@ fn note_places(list: &[u32], n: usize, places: &mut [u32]) -> usize
 {
     let mut i = 0;
     while i < list.len() {
-        let v = graph_edges::node_row(NodeIndex(list[i]));
+        let v = graph::node_row(NodeIndex(list[i]));
         if n <= v {
             return i;
         }
@@ -43,7 +43,7 @@ fn place_at(edges: &[u32], at: usize, places: &[u32]) -> u32
     requires { ⌜ NodeAt (now edges) at (now places) ⌝ }
     ensures { λ r. ⌜ r ≡ placeIn (now (places .entry)) (getD (now (edges .entry)) at 0) ⌝ }
 {
-    places[graph_edges::node_row(NodeIndex(edges[at]))]
+    places[graph::node_row(NodeIndex(edges[at]))]
 }
 
 // Whether the edge at `i` makes one of the first `good` places wrong: the place of its second node, if its first node does not stand earlier. A second node
@@ -89,19 +89,19 @@ fn unbroken(edges: &[u32], m: usize, places: &[u32], good: u32) -> u32
 }
 
 // The first wrong place of a list.
-pub fn check_list(edges: &[u32], n: usize, m: usize, list: &[u32]) -> Place
+pub fn check_list(edges: &[u32], n: usize, m: usize, list: &[u32]) -> Verdict
     requires { ⌜ Fit n (now edges) m ⌝ }
     ensures { λ r. ⌜ r ≡ placeOf n (rowsIn m (now (edges .entry))) (now (list .entry)) ⌝ }
 {
-    let mut places: [u32; graph_edges::MOST_NODES] = [NOWHERE; graph_edges::MOST_NODES];
+    let mut places: [u32; graph::MOST_NODES] = [NOWHERE; graph::MOST_NODES];
     let noted = note_places(list, n, &mut places);
     let place = unbroken(edges, m, &places, noted as u32);
-    let good = library_index::of_word(place);
+    let good = text_lent::of_word(place);
     if good < list.len() {
-        return Place::WrongAt(place);
+        return Verdict::WrongAt(place);
     }
     if good < n {
-        return Place::WrongAt(place);
+        return Verdict::WrongAt(place);
     }
-    Place::Right
+    Verdict::Right
 }

@@ -11,9 +11,9 @@ use lib.ListN.{length, getD, set, drop, length-set, length-drop, drop-of-length-
 use lib.Seq.{getD-set-same, drop-cons, drop-set-lt}
 use mir.Syntax.{w32, w64}
 use mir.Val.{Fits}
-use Rattle.library_index.proofs.Stores.{decide}
+use Rattle.text_lent.proofs.Numbers.{decide}
 use Rattle.text.proofs.Here.{never}
-use Rattle.graph_edges.specs.Edges.{mostNodes}
+use Rattle.graph.specs.Limits.{mostNodes}
 use Rattle.order_tables.specs.Free.{mem}
 use Rattle.order_tables.proofs.Mem.{mem-append}
 use Rattle.order_tables.proofs.Distinct.{Distinct, none, more, mem-other, short}

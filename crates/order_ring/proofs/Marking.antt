@@ -11,8 +11,8 @@ use lib.ListN.{length, getD, set, take, length-set}
 use lib.Seq.{getD-set-same, getD-set-other, take-suc, length-take-le, getD-take}
 use mir.Syntax.{w64}
 use mir.Val.{Fits}
-use Rattle.library_index.proofs.Stores.{decide}
-use Rattle.graph_edges.specs.Edges.{mostNodes}
+use Rattle.text_lent.proofs.Numbers.{decide}
+use Rattle.graph.specs.Limits.{mostNodes}
 use Rattle.order_tables.specs.Free.{mem}
 use Rattle.order_tables.proofs.Mem.{mem-snoc-new, mem-snoc-else, place-mem}
 use Rattle.order_tables.proofs.Distinct.{mem-head, mem-other}

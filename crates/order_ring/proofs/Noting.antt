@@ -12,9 +12,10 @@ use lib.ListN.{length, getD, set, length-set}
 use lib.Seq.{getD-set-same, getD-set-other}
 use lib.Dec.{eqb, ltb}
 use borrow.Author.Tests.{eq-eqb, ne-eqb, lt-ltb, le-ltb, ltb-true, ltb-false}
-use Rattle.library_index.proofs.Stores.{decide}
+use Rattle.text_lent.proofs.Numbers.{decide}
 use Rattle.graph.specs.Numbers.{Row, row, memR}
-use Rattle.graph_edges.specs.Edges.{mostNodes, rowAt, rowsIn}
+use Rattle.graph.specs.Limits.{mostNodes}
+use Rattle.graph_edges.specs.Edges.{rowAt, rowsIn}
 use Rattle.graph.proofs.Tests.{or-not, always}
 use Rattle.graph_edges.proofs.Rows.{mem-snoc}
 use Rattle.order_tables.specs.Free.{lowest, zeroAt}

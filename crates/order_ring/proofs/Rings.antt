@@ -10,7 +10,7 @@ use Rattle.text_lent.specs.Padded.{zeros, padded}
 use Rattle.text_lent.proofs.Clears.{written-zero}
 use Rattle.text.proofs.Writing.{sets-append}
 use Rattle.graph.specs.Numbers.{Row}
-use Rattle.graph_edges.specs.Edges.{mostNodes}
+use Rattle.graph.specs.Limits.{mostNodes}
 use Rattle.order_ring.specs.declared.Met.{Met}
 use Rattle.order_ring.specs.Ring.{ringOf, lowestFirst}
 use Rattle.order_ring.specs.Trail.{Trailed, Behind, LowestAt}

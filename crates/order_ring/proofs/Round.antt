@@ -12,7 +12,7 @@ use lib.ListN.{length, getD}
 use lib.Seq.{append-snoc}
 use borrow.Author.Tests.{eqb-true, eqb-false, ltb-true, ltb-false, not-true}
 use Rattle.text.proofs.Here.{by-test, never, both}
-use Rattle.library_index.proofs.Stores.{decide}
+use Rattle.text_lent.proofs.Numbers.{decide}
 use Rattle.graph.specs.Numbers.{Row, row, memR}
 use Rattle.order_tables.specs.Free.{mem, Stuck}
 use Rattle.order_tables.specs.Tables.{allWithin}

@@ -11,7 +11,8 @@ use lib.Dec.{eqb, ltb}
 use borrow.Author.Tests.{ltb-true, lt-ltb, not-true}
 use Rattle.text.proofs.Here.{both}
 use Rattle.graph.specs.Numbers.{Row, row, memR}
-use Rattle.graph_edges.specs.Edges.{mostNodes, rowsIn}
+use Rattle.graph.specs.Limits.{mostNodes}
+use Rattle.graph_edges.specs.Edges.{rowsIn}
 use Rattle.order_tables.specs.Tables.{Fit}
 use Rattle.order_tables.specs.Free.{mem, lowestFrom, lowest, zeroAt, Stuck}
 use Rattle.order_tables.proofs.Lowest.{lowest-has, lowest-wider, lowest-same}

@@ -8,7 +8,8 @@ use lib.Dec.{ltb}
 use lib.ListN.{length, getD, set, take, drop}
 use lib.Seq.{slice}
 use Rattle.graph.specs.Numbers.{Row, row, memR}
-use Rattle.graph_edges.specs.Edges.{mostNodes, rowAt}
+use Rattle.graph.specs.Limits.{mostNodes}
+use Rattle.graph_edges.specs.Edges.{rowAt}
 use Rattle.order_tables.specs.Free.{mem, lowest, zeroAt}
 use Rattle.order_ring.specs.Ring.{firstLeft, before, until, goBack, lowestFirst}
 use Rattle.order_ring.specs.declared.Met.{Met}

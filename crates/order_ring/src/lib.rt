@@ -1,12 +1,13 @@
 // The ring that is written out where nodes are left over.
-use graph_edges::NodeIndex;
+use graph::NodeIndex;
 ghost use mathlib.Core.Path.{_≡_};
 ghost use mathlib.Core.Bool.{true};
 ghost use Prim.Native.Nat.{_+_, _-_, _*_, _≤_, _<_};
 ghost use lib.ListN.{length, take, drop};
 ghost use lib.Seq.{sets, slice};
 ghost use Rattle.text_lent.specs.Padded.{padded};
-ghost use Rattle.graph_edges.specs.Edges.{mostNodes, rowAt, rowsIn};
+ghost use Rattle.graph.specs.Limits.{mostNodes};
+ghost use Rattle.graph_edges.specs.Edges.{rowAt, rowsIn};
 ghost use Rattle.order_tables.specs.Tables.{Fit};
 ghost use Rattle.order_tables.specs.Free.{mem, Stuck};
 ghost use Rattle.order_ring.specs.Ring.{ringOf};
@@ -28,7 +29,7 @@ fn mark(list: &[u32], count: usize, gone: &mut [u32])
 {
     let mut i = 0;
     while i < count {
-        let v = graph_edges::node_row(NodeIndex(list[i]));
+        let v = graph::node_row(NodeIndex(list[i]));
         gone[v] = 1;
         i += 1;
     }
@@ -40,8 +41,8 @@ fn note_edge(edges: &[u32], i: usize, gone: &[u32], before: &mut [u32])
     ensures { λ _. ⌜ now (before .exit) ≡ noted (now (gone .entry)) (now (before .entry)) (rowAt (now (edges .entry)) i) ⌝ }
 {
     let from = edges[i * 2];
-    let u = graph_edges::node_row(NodeIndex(from));
-    let v = graph_edges::node_row(NodeIndex(edges[i * 2 + 1]));
+    let u = graph::node_row(NodeIndex(from));
+    let v = graph::node_row(NodeIndex(edges[i * 2 + 1]));
     if gone[u] == 0 {
         if from < before[v] {
             before[v] = from;
@@ -67,12 +68,12 @@ fn go_back(before: &[u32], v: usize, gone: &mut [u32], trail: &mut [u32]) -> Met
     ensures { λ r. ⌜ Went (now (before .entry)) v (now (trail .exit)) r ⌝ }
 {
     let mut node = v;
-    let mut at = graph_edges::MOST_NODES;
+    let mut at = graph::MOST_NODES;
     while gone[node] == 0 {
         gone[node] = 1;
         at -= 1;
         trail[at] = node as u32;
-        node = graph_edges::node_row(NodeIndex(before[node]));
+        node = graph::node_row(NodeIndex(before[node]));
     }
     Met { at, node }
 }
@@ -86,11 +87,12 @@ fn make_trail(
     count: usize,
     trail: &mut [u32],
 ) -> Met
-    requires { ⌜ Fit n (now edges) m × (count ≤ length (now list)) × Stuck n (rowsIn m (now edges)) (take count (now list)) × (length (now trail) ≡ mostNodes) ⌝ }
+    requires { ⌜ Fit n (now edges) m × (count ≤ length (now list)) × Stuck n (rowsIn m (now edges)) (take count (now list))
+        × (length (now trail) ≡ mostNodes) ⌝ }
     ensures { λ r. ⌜ Trailed n (rowsIn m (now (edges .entry))) (take count (now (list .entry))) (now (trail .exit)) r ⌝ }
 {
-    let mut gone: [u32; graph_edges::MOST_NODES] = [0; graph_edges::MOST_NODES];
-    let mut before: [u32; graph_edges::MOST_NODES] = [NOWHERE; graph_edges::MOST_NODES];
+    let mut gone: [u32; graph::MOST_NODES] = [0; graph::MOST_NODES];
+    let mut before: [u32; graph::MOST_NODES] = [NOWHERE; graph::MOST_NODES];
     mark(list, count, &mut gone);
     note_edges(edges, m, &gone, &mut before);
     let start = order_tables::first_zero(&gone, 0, n);
@@ -104,7 +106,7 @@ fn behind(trail: &[u32], at: usize, v: usize) -> usize
 {
     let mut i = at;
     while i < trail.len() {
-        if library_index::of_word(trail[i]) == v {
+        if text_lent::of_word(trail[i]) == v {
             return i + 1;
         }
         i += 1;
@@ -144,10 +146,13 @@ fn copy(trail: &[u32], from: usize, to: usize, table: &mut [u32], at: usize)
 
 // Writes the ring over the `count` nodes that were taken, behind which all is zero. Answers how many nodes it has.
 pub fn write_ring(edges: &[u32], n: usize, m: usize, order: &mut [u32], count: usize) -> usize
-    requires { ⌜ Fit n (now edges) m × (n ≤ length (now order)) × (count ≤ length (now order)) × Stuck n (rowsIn m (now edges)) (take count (now order)) × (now order ≡ padded (length (now order)) (take count (now order))) ⌝ }
-    ensures { λ r. ⌜ (r ≡ length (ringOf n (rowsIn m (now (edges .entry))) (take count (now (order .entry))))) × (now (order .exit) ≡ padded (length (now (order .entry))) (ringOf n (rowsIn m (now (edges .entry))) (take count (now (order .entry))))) ⌝ }
+    requires { ⌜ Fit n (now edges) m × (n ≤ length (now order)) × (count ≤ length (now order))
+        × Stuck n (rowsIn m (now edges)) (take count (now order))
+        × (now order ≡ padded (length (now order)) (take count (now order))) ⌝ }
+    ensures { λ r. ⌜ (r ≡ length (ringOf n (rowsIn m (now (edges .entry))) (take count (now (order .entry)))))
+        × (now (order .exit) ≡ padded (length (now (order .entry))) (ringOf n (rowsIn m (now (edges .entry))) (take count (now (order .entry))))) ⌝ }
 {
-    let mut trail: [u32; graph_edges::MOST_NODES] = [0; graph_edges::MOST_NODES];
+    let mut trail: [u32; graph::MOST_NODES] = [0; graph::MOST_NODES];
     let met = make_trail(edges, n, m, order, count, &mut trail);
     let at = met.at;
     let end = behind(&trail, at, met.node);

@@ -1,7 +1,7 @@
 // Replays recorded orders and checks of a plain implementation, and answers a few questions that are easy to get wrong.
-use libc::STDOUT_FILENO;
 use order::Checked;
 use order::Ordered;
+use replay::Run;
 
 // How many words a table of a record has at the most.
 const ROOM: usize = 256;
@@ -19,26 +19,7 @@ fn read_words(field: &[u8], first: usize, table: &mut [u32]) {
 
 // As many words of a table as a word says, or all.
 fn part(t: &[u32], n: u32) -> &[u32] {
-    let long = library_index::of_word(n);
-    if t.len() < long {
-        return t;
-    }
-    let start: usize = 0;
-    &t[start..long]
-}
-
-// Whether the words of a table are those that are recorded from a place on.
-fn words_agree(field: &[u8], first: usize, table: &[u32]) -> bool {
-    let mut i: usize = 0;
-    let mut at = first;
-    while i < table.len() {
-        if replay::word(field, at) != table[i] {
-            return false;
-        }
-        at = std::num::wrapping_add_usize(at, 4);
-        i += 1;
-    }
-    true
+    replay::first_words(t, text_lent::of_word(n))
 }
 
 // The answer is the one recorded: words of the order table, number, how many nodes, and what is in the table.
@@ -49,17 +30,17 @@ fn answer_agrees(ordered: Ordered, table: &[u32], told: &[u8]) -> bool {
     if ordered.length != replay::word(told, 8) {
         return false;
     }
-    words_agree(told, 12, table)
+    replay::words_agree(told, 12, table, 1)
 }
 
 // The order of a graph into the first words of a table.
 fn order_into(graph: &[u8], nodes: &[u32], edges: &[u32], table: &mut [u32], told: &[u8]) -> bool {
-    let long = library_index::of_word(replay::word(told, 0));
+    let long = text_lent::of_word(replay::word(told, 0));
     if table.len() < long {
         return false;
     }
-    let n = library_index::of_word(replay::word(graph, 0));
-    let m = library_index::of_word(replay::word(graph, 4));
+    let n = text_lent::of_word(replay::word(graph, 0));
+    let m = text_lent::of_word(replay::word(graph, 4));
     let start: usize = 0;
     let ordered = order::order(nodes, n, edges, m, &mut table[start..long]);
     answer_agrees(ordered, &table[start..long], told)
@@ -89,9 +70,9 @@ fn check_agrees(graph: &[u8], told: &[u8]) -> bool {
     read_words(told, 12, &mut list);
     let checked = order::order_check(
         part(&nodes, replay::word(graph, 8)),
-        library_index::of_word(replay::word(graph, 0)),
+        text_lent::of_word(replay::word(graph, 0)),
         part(&edges, replay::word(graph, 12)),
-        library_index::of_word(replay::word(graph, 4)),
+        text_lent::of_word(replay::word(graph, 4)),
         part(&list, replay::word(told, 0)),
     );
     is_checked(checked, replay::word(told, 4), replay::word(told, 8))
@@ -107,37 +88,22 @@ fn record_agrees(data: &[u8], at: usize) -> bool {
     check_agrees(graph, replay::field(data, replay::after(data, order_at)))
 }
 
-fn behind_record(data: &[u8], at: usize) -> usize {
-    replay::after(data, replay::after(data, replay::after(data, at)))
+// One record more, if there is one. It has three fields.
+fn step(data: &[u8], run: Run) -> Run {
+    let at = run.at;
+    if data.len() <= at {
+        return run;
+    }
+    run.past(record_agrees(data, at), replay::after_fields(data, at, 3))
 }
 
-// All records of a file, and how many of them are answered otherwise. A record takes a byte at least.
-fn replay_all(data: &[u8]) {
-    let mut at: usize = 0;
-    let mut records: u64 = 0;
-    let mut different: u64 = 0;
-    let mut turns = data.len();
-    while 0 < turns {
-        if at < data.len() {
-            different = replay::count_unless(record_agrees(data, at), different);
-            records = std::num::wrapping_add_u64(records, 1);
-            at = behind_record(data, at);
-        }
-        turns -= 1;
+// All records of a file. A record takes a byte at least.
+fn replay_all(data: &[u8]) -> Run {
+    let mut run = replay::start();
+    for _ in 0..data.len() {
+        run = step(data, run);
     }
-    io::print_decimal(STDOUT_FILENO, records);
-    io::write_all(STDOUT_FILENO, b" orders replayed, ");
-    io::print_decimal(STDOUT_FILENO, different);
-    io::write_all(STDOUT_FILENO, b" different\n");
-}
-
-fn trap(what: &[u8], right: bool) {
-    io::write_all(STDOUT_FILENO, what);
-    if right {
-        io::write_all(STDOUT_FILENO, b": right\n");
-        return;
-    }
-    io::write_all(STDOUT_FILENO, b": WRONG\n");
+    run
 }
 
 // The number and the length or place.
@@ -161,11 +127,11 @@ fn lowest_free_first() {
     let edges: [u32; 2] = [1, 0];
     let mut table = [7u32; 4];
     let ordered = order::order(&nodes, 3, &edges, 1, &mut table);
-    trap(b"three nodes are ordered", is_ordered(ordered, 0, 3));
-    trap(b"1, 0, 2: first", table[0] == 1);
-    trap(b"1, 0, 2: second", table[1] == 0);
-    trap(b"1, 0, 2: third", table[2] == 2);
-    trap(b"zero behind", table[3] == 0);
+    replay::trap(b"three nodes are ordered", is_ordered(ordered, 0, 3));
+    replay::trap(b"1, 0, 2: first", table[0] == 1);
+    replay::trap(b"1, 0, 2: second", table[1] == 0);
+    replay::trap(b"1, 0, 2: third", table[2] == 2);
+    replay::trap(b"zero behind", table[3] == 0);
 }
 
 // 0 waits for the ring 1 to 3 to 2 to 1.
@@ -174,33 +140,31 @@ fn ring_along_the_edges() {
     let edges: [u32; 8] = [1, 3, 3, 2, 2, 1, 1, 0];
     let mut table = [7u32; 4];
     let ordered = order::order(&nodes, 4, &edges, 4, &mut table);
-    trap(b"a ring of three", is_ordered(ordered, 40, 3));
-    trap(b"1, 3, 2: first", table[0] == 1);
-    trap(b"1, 3, 2: second", table[1] == 3);
-    trap(b"1, 3, 2: third", table[2] == 2);
-    trap(b"zero behind the ring", table[3] == 0);
+    replay::trap(b"a ring of three", is_ordered(ordered, 40, 3));
+    replay::trap(b"1, 3, 2: first", table[0] == 1);
+    replay::trap(b"1, 3, 2: second", table[1] == 3);
+    replay::trap(b"1, 3, 2: third", table[2] == 2);
+    replay::trap(b"zero behind the ring", table[3] == 0);
 }
 
 fn main() {
     let mut space = [0u8; 131072];
-    let fd = os::open_read(b"orders.vec");
-    let n = io::read_full(fd, &mut space);
-    libc::close(fd);
-    replay_all(&space[..n]);
+    let n = replay::read_file(b"orders.vec", &mut space);
+    replay_all(&space[..n]).say(b" orders");
     lowest_free_first();
     ring_along_the_edges();
     let none: [u32; 0] = [];
     let one: [u32; 1] = [0];
     let own: [u32; 2] = [0, 0];
-    trap(
+    replay::trap(
         b"a node alone is in order",
         is_checked(order::order_check(&own, 1, &none, 0, &one), 0, 0),
     );
-    trap(
+    replay::trap(
         b"a node before itself is wrong at its place",
         is_checked(order::order_check(&own, 1, &own, 1, &one), 42, 0),
     );
-    trap(
+    replay::trap(
         b"a node twice is wrong at the second place",
         is_checked(order::order_check(&own, 1, &none, 0, &own), 42, 1),
     );

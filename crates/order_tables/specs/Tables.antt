@@ -8,7 +8,8 @@ use mathlib.Core.List.{List, [], _∷_}
 use lib.Dec.{leb, ltb}
 use lib.ListN.{length}
 use Rattle.graph.specs.Numbers.{Row}
-use Rattle.graph_edges.specs.Edges.{mostNodes, mostEdges, rowsIn}
+use Rattle.graph.specs.Limits.{mostNodes, mostEdges}
+use Rattle.graph_edges.specs.Edges.{rowsIn}
 
 abbrev pub tablesUnfit : ℕ
 tablesUnfit = 43

@@ -56,17 +56,17 @@ fn all_within(edges: &[u32], m: usize, n: usize) -> bool
     let start: usize = 0;
     let end = m * 2;
     let most = largest(&edges[start..end]);
-    library_index::of_word(most) < n
+    text_lent::of_word(most) < n
 }
 
 // Whether the tables hold n nodes and m edges between them.
 pub fn fit(nodes: &[u32], n: usize, edges: &[u32], m: usize) -> bool
     ensures { λ r. ⌜ r ≡ fits (length (now (nodes .entry))) n (now (edges .entry)) m ⌝ }
 {
-    if graph_edges::MOST_NODES < n {
+    if graph::MOST_NODES < n {
         return false;
     }
-    if graph_edges::MOST_EDGES < m {
+    if graph::MOST_EDGES < m {
         return false;
     }
     if nodes.len() < n * 2 {

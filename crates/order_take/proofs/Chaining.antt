@@ -9,7 +9,7 @@ use native.Mathlib.Nat.{eq-or-lt-of-le}
 use native.Mathlib.Omega.{arith}
 use lib.ListN.{length, getD, set, length-set}
 use lib.Seq.{getD-set-same, getD-set-other}
-use Rattle.library_index.proofs.Stores.{decide}
+use Rattle.text_lent.proofs.Numbers.{decide}
 use Rattle.graph.specs.Numbers.{Row}
 use Rattle.graph_edges.proofs.Chains.{last-here, last-else}
 use Rattle.order_take.specs.Chains.{lastFrom, Rows, Links, Heads, Counts, Chained}

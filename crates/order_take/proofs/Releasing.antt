@@ -8,7 +8,7 @@ use Prim.Native.Nat.{ℕ, suc, _+_, _-_, _*_, _/_, _≤_, _<_}
 use native.Mathlib.Omega.{arith}
 use lib.ListN.{length, getD, set, length-set}
 use lib.Seq.{getD-set-same, getD-set-other}
-use Rattle.library_index.proofs.Stores.{decide}
+use Rattle.text_lent.proofs.Numbers.{decide}
 use Rattle.graph.specs.Numbers.{Row}
 use Rattle.graph_edges.proofs.Chains.{last-low, last-own}
 use Rattle.order_take.specs.Chains.{lastFrom, pending, Rows, Links, Lows, Lowered, Releases, Released, Chain, Takes, Freed, Took}

@@ -10,7 +10,7 @@ use lib.Dec.{ltb}
 use lib.ListN.{length, length-append}
 use borrow.Author.Tests.{ltb-true, ltb-false, lt-ltb, not-true, not-false}
 use Rattle.text.proofs.Here.{by-test, never, both}
-use Rattle.library_index.proofs.Stores.{decide}
+use Rattle.text_lent.proofs.Numbers.{decide}
 use Rattle.graph.specs.Numbers.{Row}
 use Rattle.order_tables.specs.Free.{mem, ready, free, lowest, Stuck}
 use Rattle.order_tables.proofs.Mem.{mem-snoc-else}

@@ -14,7 +14,7 @@ use lib.Dec.{eqb}
 use borrow.Author.Tests.{eqb-true, lt-ltb, le-ltb}
 use Rattle.text.proofs.Here.{by-test, never}
 use Rattle.text.proofs.Writing.{sets-append}
-use Rattle.library_index.proofs.Stores.{decide}
+use Rattle.text_lent.proofs.Numbers.{decide}
 use Rattle.graph_edges.specs.Edges.{rowsIn, lastBy}
 use Rattle.text_lent.proofs.Zeros.{zeros-zero}
 use Rattle.order_tables.specs.Free.{mem, ready, free, zeroAt}

@@ -14,7 +14,7 @@ use lib.Seq.{getD-set-same, getD-set-other}
 use lib.Dec.{ltb}
 use borrow.Author.Tests.{eq-eqb, ne-eqb, lt-ltb, ltb-true, ltb-false}
 use Rattle.text.proofs.Here.{by-test}
-use Rattle.library_index.proofs.Stores.{decide}
+use Rattle.text_lent.proofs.Numbers.{decide}
 use Rattle.text.specs.High.{larger}
 use Rattle.order_tables.specs.Free.{lowestFrom, zeroAt}
 use Rattle.order_tables.proofs.Lowest.{lowest-is, lowest-not, none-before, zero-there}

@@ -7,7 +7,8 @@ use mathlib.Core.List.{List, []}
 use lib.ListN.{length, getD}
 use lib.Dec.{eqb}
 use Rattle.graph.specs.Numbers.{Row}
-use Rattle.graph_edges.specs.Edges.{mostNodes, mostEdges, rowAt, lastBy}
+use Rattle.graph.specs.Limits.{mostNodes, mostEdges}
+use Rattle.graph_edges.specs.Edges.{rowAt, lastBy}
 use Rattle.order_tables.specs.Free.{mem, lowest, zeroAt}
 
 -- what stands for a node that was taken: more than there are edges

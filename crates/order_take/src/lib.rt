@@ -1,5 +1,5 @@
 // The order of registration: each time the lowest node that is free.
-use graph_edges::NodeIndex;
+use graph::NodeIndex;
 ghost use mathlib.Core.Path.{_≡_};
 ghost use Prim.Native.Nat.{_+_, _≤_, _<_};
 ghost use lib.ListN.{length};
@@ -26,8 +26,8 @@ fn chain_edge(edges: &[u32], i: usize, heads: &mut [u16], links: &mut [u16], wai
     requires { ⌜ Rows (now edges) (i + 1) × Chained (now edges) i (now heads) (now links) (now waits) ⌝ }
     ensures { λ r. ⌜ Chained (now (edges .entry)) (i + 1) (now (heads .exit)) (now (links .exit)) (now (waits .exit)) ⌝ }
 {
-    let from = graph_edges::node_row(NodeIndex(edges[i * 2]));
-    let to = graph_edges::node_row(NodeIndex(edges[i * 2 + 1]));
+    let from = graph::node_row(NodeIndex(edges[i * 2]));
+    let to = graph::node_row(NodeIndex(edges[i * 2 + 1]));
     links[i] = heads[from];
     heads[from] = i as u16 + 1;
     waits[to] += 1;
@@ -63,7 +63,7 @@ fn look_group(waits: &[u32], lows: &mut [u32], g: usize, n: usize) -> usize
 {
     let last = group_end(g * GROUP, n);
     let first = order_tables::larger((g * GROUP) as u32, lows[g]);
-    let v = order_tables::first_zero(waits, library_index::of_word(first), last);
+    let v = order_tables::first_zero(waits, text_lent::of_word(first), last);
     if v < last {
         lows[g] = v as u32;
         return v;
@@ -77,7 +77,7 @@ fn lowest_free(waits: &[u32], lows: &mut [u32], n: usize) -> usize
     requires { ⌜ Looks (now waits) (now lows) n ⌝ }
     ensures { λ r. ⌜ Looked (now (waits .entry)) n r (now (lows .exit)) ⌝ }
 {
-    let mut g = library_index::of_word(lows[GROUPS]);
+    let mut g = text_lent::of_word(lows[GROUPS]);
     while g * GROUP < n {
         let v = look_group(waits, lows, g, n);
         if v < n {
@@ -130,7 +130,7 @@ fn release_all(
         release(
             waits,
             lows,
-            graph_edges::node_row(NodeIndex(edges[i * 2 + 1])),
+            graph::node_row(NodeIndex(edges[i * 2 + 1])),
         );
         e = graph_edges::of_link(links[i]);
     }
@@ -155,11 +155,12 @@ fn take_node(
 // Takes nodes until none is free, and writes them into the order table. Answers how many they are.
 pub fn take_all(edges: &[u32], n: usize, m: usize, order: &mut [u32]) -> usize
     requires { ⌜ Fit n (now edges) m × (n ≤ length (now order)) ⌝ }
-    ensures { λ r. ⌜ (r ≡ length (taken n (rowsIn m (now (edges .entry))))) × (now (order .exit) ≡ sets (now (order .entry)) 0 (taken n (rowsIn m (now (edges .entry))))) ⌝ }
+    ensures { λ r. ⌜ (r ≡ length (taken n (rowsIn m (now (edges .entry)))))
+        × (now (order .exit) ≡ sets (now (order .entry)) 0 (taken n (rowsIn m (now (edges .entry))))) ⌝ }
 {
-    let mut heads: [u16; graph_edges::MOST_NODES] = [0; graph_edges::MOST_NODES];
-    let mut links: [u16; graph_edges::MOST_EDGES] = [0; graph_edges::MOST_EDGES];
-    let mut waits: [u32; graph_edges::MOST_NODES] = [0; graph_edges::MOST_NODES];
+    let mut heads: [u16; graph::MOST_NODES] = [0; graph::MOST_NODES];
+    let mut links: [u16; graph::MOST_EDGES] = [0; graph::MOST_EDGES];
+    let mut waits: [u32; graph::MOST_NODES] = [0; graph::MOST_NODES];
     let mut lows: [u32; LOWS] = [0; LOWS];
     chain_edges(edges, m, &mut heads, &mut links, &mut waits);
     let mut k = 0;

@@ -1,13 +1,19 @@
-// The fields of a file of recorded answers, for the programs that replay them.
+// What the programs that replay recorded answers share: the fields of a file, a run over its records, and what is said of it.
+use libc::STDOUT_FILENO;
+use text::Refusal;
 ghost use mathlib.Core.Path.{_≡_};
 ghost use mathlib.Core.Bool.{cond};
-ghost use Prim.Native.Nat.{_+_, _%_, _<_};
+ghost use Prim.Native.Nat.{_+_, _%_, _<_, _≤_};
+ghost use Rattle.io.specs.Counts.{Counts};
 ghost use Rattle.replay.specs.Fields.{byteAt, lengthAt, missingAt, onBy, behind, fieldAt, wordAt, toldAs};
 
 const MISSING: u32 = 65535;
 
 // What the Rust does not tell.
 pub const UNTOLD: u32 = 4294967295;
+
+// The Rust's one error for refusals 5 and 6 after an include's value.
+const FIVE_OR_SIX: u32 = 56;
 
 // The byte at a place, 0 behind the end.
 fn byte(d: &[u8], at: usize) -> u32
@@ -92,12 +98,132 @@ pub fn told(recorded: u32, is: u32) -> bool
     recorded == is
 }
 
-// One more of the records that differ, unless this one agrees.
-pub fn count_unless(agrees: bool, n: u64) -> u64
-    ensures { λ r. ⌜ r ≡ cond agrees n ((n + 1) % 18446744073709551616) ⌝ }
-{
-    if agrees {
-        return n;
+fn number_told(recorded: u32, is: u32) -> bool {
+    if recorded == FIVE_OR_SIX {
+        if is == text::OTHER_BYTE {
+            return true;
+        }
+        return is == text::END_OF_TEXT;
     }
-    std::num::wrapping_add_u64(n, 1)
+    recorded == is
+}
+
+// Whether a refusal is the recorded one: number, keyword and position, from a place on.
+pub fn refusal_agrees(answer: &[u8], at: usize, r: Refusal) -> bool
+    requires { ⌜ at ≤ 4 ⌝ }
+{
+    if !number_told(word(answer, at), r.number) {
+        return false;
+    }
+    if !told(word(answer, at + 4), r.keyword) {
+        return false;
+    }
+    let position = (r.at % 4294967296) as u32;
+    told(word(answer, at + 8), position)
+}
+
+// The first n words of a table, or all where there are fewer.
+pub fn first_words(t: &[u32], n: usize) -> &[u32] {
+    if t.len() < n {
+        return t;
+    }
+    let start: usize = 0;
+    &t[start..n]
+}
+
+// Whether words of a table are those that are recorded from a place on: each, or each second one and so on, by the step.
+pub fn words_agree(f: &[u8], first: usize, table: &[u32], step: usize) -> bool
+    requires { ⌜ 0 < step ⌝ }
+{
+    let mut at = first;
+    let mut i: usize = 0;
+    while i < table.len() {
+        if word(f, at) != table[i] {
+            return false;
+        }
+        if table.len() - i <= step {
+            return true;
+        }
+        at = std::num::wrapping_add_usize(at, 4);
+        i += step;
+    }
+    true
+}
+
+// The place behind so many fields.
+pub fn after_fields(d: &[u8], at: usize, count: u64) -> usize {
+    let mut next = at;
+    let mut left = count;
+    while 0 < left {
+        next = after(d, next);
+        left -= 1;
+    }
+    next
+}
+
+// A run over the records of a file: the place of the next one, how many there were, and how many of them are answered otherwise.
+pub struct Run {
+    pub at: usize,
+    pub records: u64,
+    pub different: u64,
+}
+
+pub fn start() -> Run {
+    Run {
+        at: 0,
+        records: 0,
+        different: 0,
+    }
+}
+
+impl Run {
+    // One record more, which agrees or not, and the place behind it.
+    pub fn past(self, agrees: bool, behind: usize) -> Run {
+        let records = std::num::wrapping_add_u64(self.records, 1);
+        let mut different = self.different;
+        if !agrees {
+            different = std::num::wrapping_add_u64(different, 1);
+        }
+        Run {
+            at: behind,
+            records,
+            different,
+        }
+    }
+
+    // Says how many records of a kind there were, and how many differ.
+    pub fn say(self, kind: &[u8]) {
+        io::print_decimal(STDOUT_FILENO, self.records);
+        io::write_all(STDOUT_FILENO, kind);
+        io::write_all(STDOUT_FILENO, b" replayed, ");
+        io::print_decimal(STDOUT_FILENO, self.different);
+        io::write_all(STDOUT_FILENO, b" different\n");
+    }
+}
+
+// The same of a file, by its name.
+pub fn say_file(name: &[u8], run: Run) {
+    io::write_all(STDOUT_FILENO, name);
+    io::write_all(STDOUT_FILENO, b": ");
+    run.say(b"");
+}
+
+// Reads a file into what is lent, and answers how many bytes it has.
+pub fn read_file(name: &[u8], space: &mut [u8]) -> usize
+    ensures { λ r. ⌜ Counts r (now (space .exit)) ⌝ }
+{
+    let fd = os::open_read(name);
+    let n = io::read_full(fd, space);
+    libc::close(fd);
+    n
+}
+
+// Says whether something that is easy to get wrong is right.
+pub fn trap(what: &[u8], right: bool) {
+    io::write_all(STDOUT_FILENO, what);
+    if right {
+        io::write_all(STDOUT_FILENO, b": right\n");
+        return;
+    }
+    io::write_all(STDOUT_FILENO, b": WRONG\n");
 }

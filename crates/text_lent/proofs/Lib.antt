@@ -1,3 +1,4 @@
 pub mod Clears
 pub mod LentLaws
+pub mod Numbers
 pub mod Zeros

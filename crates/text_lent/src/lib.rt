@@ -1,4 +1,4 @@
-// Lent slices: cleared, each loop one memset, and the part of one that is in use. Whether a text can be scanned with what was lent.
+// Lent slices: cleared, each loop one memset, the part of one that is in use, and a word of one as a number. Whether a text can be scanned with what was lent.
 use text::Refusal;
 ghost use mathlib.Core.Path.{_≡_};
 ghost use lib.ListN.{length, take};
@@ -45,6 +45,13 @@ pub fn first(s: &[u8], n: usize) -> &[u8]
     }
     let start: usize = 0;
     &s[start..n]
+}
+
+// A word as a number.
+pub fn of_word(x: u32) -> usize
+    ensures { λ r. ⌜ r ≡ x ⌝ }
+{
+    x as usize
 }
 
 // Whether a text can be scanned with what was lent, or a refusal.

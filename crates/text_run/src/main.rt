@@ -1,5 +1,5 @@
 // Replays recorded answers of the Rust for single values, statements and tokens, and runs the traps of document 01.
-use libc::STDOUT_FILENO;
+use replay::Run;
 use text::Cursor;
 use text::Match;
 use text_value::Argument;
@@ -10,32 +10,16 @@ ghost use Rattle.text.specs.Class.{classTable};
 // Document 01's number of the keyword namespace. The recorded texts are made around it and prefix.
 const NAMESPACE: u32 = 4;
 
-// How many records there are, and how many of them are answered otherwise.
-struct Tally {
-    records: u64,
-    different: u64,
-}
-
 // Whether what was read is what was recorded: answer has number, keyword and position, kept the value's bytes.
 fn agrees(read: Argument, store: &[u8], answer: &[u8], kept: &[u8]) -> bool {
-    let number = replay::word(answer, 0);
     match read {
         Argument::Read { next: _, used } => {
-            if number != 0 {
+            if replay::word(answer, 0) != 0 {
                 return false;
             }
             check::same(text_lent::first(store, used), kept)
         }
-        Argument::Refused(r) => {
-            if number != r.number {
-                return false;
-            }
-            if !replay::told(replay::word(answer, 4), r.keyword) {
-                return false;
-            }
-            let at = (r.at % 4294967296) as u32;
-            replay::told(replay::word(answer, 8), at)
-        }
+        Argument::Refused(r) => replay::refusal_agrees(answer, 0, r),
     }
 }
 
@@ -159,40 +143,29 @@ fn behind_record(data: &[u8], at: usize) -> usize {
     last
 }
 
-// All records of a file. A record takes a byte at least.
-fn replay_all(data: &[u8], values: bool) -> Tally {
-    let mut at: usize = 0;
-    let mut records: u64 = 0;
-    let mut different: u64 = 0;
-    let mut turns = data.len();
-    while 0 < turns {
-        if data.len() <= at {
-            return Tally { records, different };
-        }
-        different = replay::count_unless(record_agrees(data, at, values), different);
-        records = std::num::wrapping_add_u64(records, 1);
-        at = behind_record(data, at);
-        turns -= 1;
+// One record more, if there is one.
+fn step(data: &[u8], values: bool, run: Run) -> Run {
+    let at = run.at;
+    if data.len() <= at {
+        return run;
     }
-    Tally { records, different }
+    run.past(record_agrees(data, at, values), behind_record(data, at))
 }
 
-// Says how many records a file has and how many differ.
-fn say(name: &[u8], t: Tally) {
-    io::write_all(STDOUT_FILENO, name);
-    io::write_all(STDOUT_FILENO, b": ");
-    io::print_decimal(STDOUT_FILENO, t.records);
-    io::write_all(STDOUT_FILENO, b" replayed, ");
-    io::print_decimal(STDOUT_FILENO, t.different);
-    io::write_all(STDOUT_FILENO, b" different\n");
+// All records of a file. A record takes a byte at least.
+fn replay_all(data: &[u8], values: bool) -> Run {
+    let mut run = replay::start();
+    for _ in 0..data.len() {
+        run = step(data, values, run);
+    }
+    run
 }
 
 fn replay_file(name: &[u8], values: bool) {
     let mut space = [0u8; 524288];
-    let fd = os::open_read(name);
-    let n = io::read_full(fd, &mut space);
-    libc::close(fd);
-    say(name, replay_all(&space[..n], values));
+    let n = replay::read_file(name, &mut space);
+    let run = replay_all(&space[..n], values);
+    replay::say_file(name, run);
 }
 
 // Whether the statement at the text's start ends at a place.
@@ -227,25 +200,16 @@ fn value_is(s: &[u8], kept: &[u8], at: usize) -> bool {
 }
 
 // What document 01 calls easy to get wrong, as far as this layer goes.
-fn trap(name: &[u8], right: bool) {
-    io::write_all(STDOUT_FILENO, name);
-    if right {
-        io::write_all(STDOUT_FILENO, b": right\n");
-        return;
-    }
-    io::write_all(STDOUT_FILENO, b": WRONG\n");
-}
-
 fn traps() {
-    trap(
+    replay::trap(
         b"a skipped string closed by the value rules",
         statement_ends(b"x \"\\\\\";y", 8),
     );
-    trap(
+    replay::trap(
         b"a skipped string in single quotes",
         statement_ends(b"'a\\';';z", 7),
     );
-    trap(
+    replay::trap(
         b"the first part of an unclosed added string",
         value_is(b"\"m\"+\"x", b"m", 6),
     );

@@ -1,33 +1,8 @@
 // Replays recorded answers of the Rust for whole texts: dependencies and their printed form, and metadata.
-use libc::STDOUT_FILENO;
+use replay::Run;
 use scan_page::Page;
 use scan_rows::Span;
-use text::Refusal;
 use yangparser::Parsed;
-
-// The Rust's one error for refusals 5 and 6 after an include's value.
-const FIVE_OR_SIX: u32 = 56;
-
-fn number_told(recorded: u32, is: u32) -> bool {
-    if recorded == FIVE_OR_SIX {
-        if is == text::OTHER_BYTE {
-            return true;
-        }
-        return is == text::END_OF_TEXT;
-    }
-    recorded == is
-}
-
-fn refusal_agrees(answer: &[u8], r: Refusal) -> bool {
-    if !number_told(replay::word(answer, 0), r.number) {
-        return false;
-    }
-    if !replay::told(replay::word(answer, 4), r.keyword) {
-        return false;
-    }
-    let at = (r.at % 4294967296) as u32;
-    replay::told(replay::word(answer, 8), at)
-}
 
 // Whether a value is the recorded one at a place.
 fn value_agrees(store: &[u8], x: Span, data: &[u8], at: usize) -> bool {
@@ -175,19 +150,8 @@ fn record_agrees(data: &[u8], at: usize) -> bool {
             let shown = text_lent::first(&page, printed.length);
             read_agrees(&store, &imports, m, &includes, n, shown, data, values_at)
         }
-        Parsed::Refused(r) => refusal_agrees(answer, r),
+        Parsed::Refused(r) => replay::refusal_agrees(answer, 0, r),
     }
-}
-
-// Behind so many fields.
-fn behind_fields(data: &[u8], at: usize, count: u64) -> usize {
-    let mut next = at;
-    let mut left = count;
-    while 0 < left {
-        next = replay::after(data, next);
-        left -= 1;
-    }
-    next
 }
 
 // A good record has three values for each import, two for each include, and the page.
@@ -200,7 +164,7 @@ fn behind_record(data: &[u8], at: usize) -> usize {
     }
     let imports = replay::word(answer, 12) as u64;
     let includes = replay::word(answer, 16) as u64;
-    behind_fields(data, values_at, imports * 3 + includes * 2 + 1)
+    replay::after_fields(data, values_at, imports * 3 + includes * 2 + 1)
 }
 
 // The first five values of a metadata record; the Rust has no newest revision.
@@ -228,7 +192,7 @@ fn metadata_agrees(data: &[u8], at: usize) -> bool {
     let read = scan_metadata::extract_yang_metadata(s, &mut store);
     let r = read.answer;
     if r.number != text::NO_REFUSAL {
-        return refusal_agrees(answer, r);
+        return replay::refusal_agrees(answer, 0, r);
     }
     if replay::word(answer, 0) != 0 {
         return false;
@@ -245,7 +209,7 @@ fn behind_metadata(data: &[u8], at: usize) -> usize {
     if replay::word(answer, 0) != 0 {
         return values_at;
     }
-    behind_fields(data, values_at, 5)
+    replay::after_fields(data, values_at, 5)
 }
 
 // What the records of a file tell of.
@@ -268,42 +232,29 @@ fn behind(kind: Kind, data: &[u8], at: usize) -> usize {
     }
 }
 
-// How many records there are, and how many of them are answered otherwise.
-struct Tally {
-    records: u64,
-    different: u64,
+// One record more, if there is one.
+fn step(kind: Kind, data: &[u8], run: Run) -> Run {
+    let at = run.at;
+    if data.len() <= at {
+        return run;
+    }
+    run.past(agrees(kind, data, at), behind(kind, data, at))
 }
 
 // All records of a file. A record takes a byte at least.
-fn replay_all(kind: Kind, data: &[u8]) -> Tally {
-    let mut at: usize = 0;
-    let mut records: u64 = 0;
-    let mut different: u64 = 0;
-    let mut turns = data.len();
-    while 0 < turns {
-        if data.len() <= at {
-            return Tally { records, different };
-        }
-        different = replay::count_unless(agrees(kind, data, at), different);
-        records = std::num::wrapping_add_u64(records, 1);
-        at = behind(kind, data, at);
-        turns -= 1;
+fn replay_all(kind: Kind, data: &[u8]) -> Run {
+    let mut run = replay::start();
+    for _ in 0..data.len() {
+        run = step(kind, data, run);
     }
-    Tally { records, different }
+    run
 }
 
 fn replay_file(kind: Kind, name: &[u8]) {
     let mut space = [0u8; 524288];
-    let fd = os::open_read(name);
-    let n = io::read_full(fd, &mut space);
-    libc::close(fd);
-    let t = replay_all(kind, &space[..n]);
-    io::write_all(STDOUT_FILENO, name);
-    io::write_all(STDOUT_FILENO, b": ");
-    io::print_decimal(STDOUT_FILENO, t.records);
-    io::write_all(STDOUT_FILENO, b" replayed, ");
-    io::print_decimal(STDOUT_FILENO, t.different);
-    io::write_all(STDOUT_FILENO, b" different\n");
+    let n = replay::read_file(name, &mut space);
+    let run = replay_all(kind, &space[..n]);
+    replay::say_file(name, run);
 }
 
 fn main() {

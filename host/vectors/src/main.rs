@@ -166,7 +166,7 @@ fn all(oracle: &mut Oracle) -> Vec<File> {
         let text = if i % 2 == 0 { texts::one_statement(&mut r) } else { texts::some_tokens(&mut r) };
         skips.add(records::one_value(text.as_bytes(), &answers::metadata(oracle, text.as_bytes()), PREFIX));
     }
-    let mut finds = File::new("image_run/data/finds.vec");
+    let mut finds = File::new("library_run/data/finds.vec");
     let mut graph = File::new("yanglib_run/data/graph.vec");
     let mut r = Rng::new(2);
     for i in 0..500 {

@@ -1,9 +1,9 @@
--- `nuvaleta_dependencies`. What the scan answered, in words.
+-- `nuvaleta_dependencies`. What the scan answered, in words, and the first of them.
 -- Assumes nothing.
 use borrow.Author.Needs.{needs}
 use Rattle.nuvaleta.proofs.HostLaws.{words-fit, answered}
-use Rattle.nuvaleta.proofs.nuvaleta_dependencies.Tie as tie
 use Rattle.nuvaleta.proofs.nuvaleta_dependencies.Statement.{statement}
+use Rattle.nuvaleta.proofs.nuvaleta_dependencies.Tie as tie
 
 answer-of-requires : tie.Need-answer-of-requires
 answer-of-requires c κs = search words-fit
@@ -17,7 +17,7 @@ nuvaleta-dependencies-spec =
     (tie.spec
     (λ c κs. search needs)
     answer-of-requires
-    (λ c κs. search needs)
+    (λ c. search needs)
     (λ c. search needs)
     (λ c. search needs)
     (λ c. search needs)

@@ -9,4 +9,4 @@ returns : tie.Need-returns
 returns c = search check-told
 
 pub nuvaleta-order-check-spec : {M : Type 1} → statement M
-nuvaleta-order-check-spec = tie.close (tie.spec (λ c κs. search needs) returns)
+nuvaleta-order-check-spec = tie.close (tie.spec (λ c κs. search needs) (λ c κs. search needs) returns)

@@ -1,12 +1,15 @@
 -- `nuvaleta_printed`. What the scan answered, in words, and the page.
 -- Assumes nothing.
 use borrow.Author.Needs.{needs}
-use Rattle.nuvaleta.proofs.HostLaws.{page-words-fit, page-answered}
-use Rattle.nuvaleta.proofs.nuvaleta_printed.Tie as tie
+use Rattle.nuvaleta.proofs.HostLaws.{page-words-fit, page-size-fits, page-answered}
 use Rattle.nuvaleta.proofs.nuvaleta_printed.Statement.{statement}
+use Rattle.nuvaleta.proofs.nuvaleta_printed.Tie as tie
 
-page-answer-of-requires : tie.Need-page-answer-of-requires
-page-answer-of-requires c κs = search page-words-fit
+answer-of-requires : tie.Need-answer-of-requires
+answer-of-requires c κs = search page-words-fit
+
+page-words-requires : tie.Need-page-words-requires
+page-words-requires c κs = search page-size-fits
 
 returns : tie.Need-returns
 returns c = search page-answered
@@ -16,8 +19,9 @@ nuvaleta-printed-spec =
     tie.close
     (tie.spec
     (λ c κs. search needs)
-    page-answer-of-requires
-    (λ c κs. search needs)
+    answer-of-requires
+    page-words-requires
+    (λ c. search needs)
     (λ c. search needs)
     (λ c. search needs)
     (λ c. search needs)

@@ -5,11 +5,11 @@ use Rattle.nuvaleta.proofs.ToldLaws.{text-fits, told-as}
 use Rattle.nuvaleta.proofs.nuvaleta_text.Statement.{statement}
 use Rattle.nuvaleta.proofs.nuvaleta_text.Tie as tie
 
-told-words-requires : tie.Need-told-words-requires
-told-words-requires c κs = search text-fits
+text-words-requires : tie.Need-text-words-requires
+text-words-requires c κs = search text-fits
 
 returns : tie.Need-returns
 returns c = search told-as
 
 pub nuvaleta-text-spec : {M : Type 1} → statement M
-nuvaleta-text-spec = tie.close (tie.spec (λ c κs. search needs) told-words-requires (λ c. search needs) returns)
+nuvaleta-text-spec = tie.close (tie.spec (λ c κs. search needs) text-words-requires (λ c. search needs) returns)

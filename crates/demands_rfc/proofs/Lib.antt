@@ -1,0 +1,12 @@
+pub mod RfcCounts
+pub mod RfcCovers
+pub mod RfcDifferences
+pub mod RfcEqual
+pub mod RfcEquality
+pub mod RfcExamples
+pub mod RfcGaps
+pub mod RfcInstance
+pub mod RfcSame
+pub mod RfcStrings
+pub mod RfcTrim
+pub mod RfcTrimming

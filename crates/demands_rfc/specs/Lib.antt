@@ -1,0 +1,4 @@
+pub mod Rfc
+pub mod RfcDomain
+pub mod RfcQuoted
+pub mod RfcEquality
