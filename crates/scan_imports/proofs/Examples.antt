@@ -5,7 +5,8 @@ use mathlib.Core.List.{List, [], _∷_}
 use Prim.Native.Nat.{ℕ}
 use lib.Dec.{eqb, T}
 use Rattle.text.specs.Class.{classOf}
-use Rattle.text.specs.Due.{noValue, otherByte, endOfText, dueNumber, dueHere, dueAt}
+use Rattle.text.specs.Due.{dueNumber, dueHere, dueAt}
+use Rattle.text.specs.Refusal.{noValue, otherByte, endOfText}
 use Rattle.text.specs.Keyword.{startsIdent, endsKeyword, same, part, keywordAt, matchAt}
 use Rattle.text.specs.Scan.{inIdent, inRun, span, runEnd, pairAt, closing, blockEnd, commentEnd, afterWhite, gapTurn, gapEnd}
 use Rattle.text.specs.Turns.{turns}
@@ -14,9 +15,9 @@ use Rattle.text.specs.declared.Refusal.{Refusal}
 use Rattle.text_value.specs.Argument.{argumentOf, argumentAt, afterDue, afterArgument, lineAt}
 use Rattle.text_value.specs.Str.{escaped, escapes, strEnd, strBytes, closedBy, strAt}
 use Rattle.text_value.specs.Value.{isQuote, startsName, addedBy, afterPlus, afterGap, moreAt, addTo, joinTurn, joinedWith, joined, ofString, valueHere, valueAt, valueBytes}
-use Rattle.text_skip.specs.Statement.{closes, quotedLen, quotedEnd, atSemicolon, atClose, partOf, partAt, ofPart, statementTurn, statementFrom, statementAt, endedAt}
+use Rattle.text_skip.specs.Statement.{closes, quotedLen, quotedEnd, atSemicolon, atClose, partOf, partAt, ofPart, statementTurn, statementFrom, statementAt}
 use Rattle.scan_rows.specs.Rows.{importWords, includeWords}
-use Rattle.scan_imports.specs.Block.{openEnded, orRevision, orPrefix, lineKind, withPrefix, withRevision, afterKind, insideHere, insideAt, afterInside, blockTurn, blockFrom, blockAt}
+use Rattle.scan_imports.specs.Block.{openEnded, orRevision, orPrefix, lineKind, withPrefix, withRevision, withSkipped, afterKind, insideHere, insideAt, afterInside, blockTurn, blockFrom, blockAt}
 use Rattle.scan_imports.specs.Statement.{noPrefix, ofBody, importOf, withName, afterName, importAt, includeOf, plainOf, blockOf, openOrPlain, afterValue, includeAt}
 use Rattle.scan_imports.specs.declared.Imported.{Imported}
 use Rattle.scan_imports.specs.declared.Imported.the-variants.{Import, NoImport}
@@ -97,5 +98,5 @@ examples =
     ∷ []
 
 right : T (all examples)
-unfolding examples all holds isRefusal isImport isNoImport isInclude isNoInclude importWords includeWords importAt afterName withName importOf ofBody includeAt afterValue openOrPlain blockOf includeOf plainOf blockAt blockFrom blockTurn afterInside insideAt insideHere afterKind withPrefix withRevision lineKind orPrefix orRevision statementAt statementFrom statementTurn ofPart partAt partOf atSemicolon atClose quotedEnd quotedLen closes endedAt matchAt keywordAt startsIdent endsKeyword lineAt afterArgument afterDue argumentAt argumentOf dueAt dueHere dueNumber same valueAt valueBytes valueHere ofString joined joinedWith joinTurn addTo moreAt afterGap afterPlus addedBy isQuote startsName strAt closedBy strBytes strEnd escaped escapes part gapEnd gapTurn afterWhite commentEnd blockEnd closing pairAt runEnd span inRun inIdent classOf turns
+unfolding examples all holds isRefusal isImport isNoImport isInclude isNoInclude importWords includeWords importAt afterName withName importOf ofBody includeAt afterValue openOrPlain blockOf includeOf plainOf blockAt blockFrom blockTurn afterInside insideAt insideHere afterKind withPrefix withRevision withSkipped lineKind orPrefix orRevision statementAt statementFrom statementTurn ofPart partAt partOf atSemicolon atClose quotedEnd quotedLen closes matchAt keywordAt startsIdent endsKeyword lineAt afterArgument afterDue argumentAt argumentOf dueAt dueHere dueNumber same valueAt valueBytes valueHere ofString joined joinedWith joinTurn addTo moreAt afterGap afterPlus addedBy isQuote startsName strAt closedBy strBytes strEnd escaped escapes part gapEnd gapTurn afterWhite commentEnd blockEnd closing pairAt runEnd span inRun inIdent classOf turns
 right = tt

@@ -1,7 +1,7 @@
 -- How far one statement of a block goes: it takes more bytes of the text than it stores, so the block ends and its values fit the store.
 -- Assumes nothing.
 use mathlib.Core.Path.{_≡_, refl, sym, ap, subst, _∙_}
-use mathlib.Core.List.{List}
+use mathlib.Core.List.{List, []}
 use Prim.Native.Nat.{ℕ, _+_, _-_, _<_, _≤_}
 use native.Mathlib.Omega.{arith}
 use lib.ListN.{length, getD}
@@ -22,10 +22,12 @@ use Rattle.text_value.specs.declared.Argument.{Argument}
 use Rattle.text_value.specs.declared.Argument.the-variants.{Read, Refused as RefusedLine}
 use Rattle.text_value.proofs.ArgumentLaws.{line-far, line-refusal}
 use Rattle.text_value.proofs.JoinLaws.{value-size}
-use Rattle.text_skip.specs.Statement.{statementAt, endedAt}
-use Rattle.text_skip.proofs.StatementLaws.{statement-moves, statement-within}
+use Rattle.text_skip.specs.Statement.{statementAt}
+use Rattle.text_skip.specs.declared.Skipped.{Skipped}
+use Rattle.text_skip.specs.declared.Skipped.the-variants.{Past, Refused as RefusedSkip}
+use Rattle.text_skip.proofs.StatementLaws.{statement-far, statement-moves, statement-refused}
 use Rattle.scan_imports.specs.Left.{Left}
-use Rattle.scan_imports.specs.Block.{orRevision, orPrefix, lineKind, withPrefix, withRevision, afterKind, insideAt}
+use Rattle.scan_imports.specs.Block.{orRevision, orPrefix, lineKind, withPrefix, withRevision, withSkipped, afterKind, insideAt}
 use Rattle.scan_imports.specs.declared.Body.{Body}
 use Rattle.scan_imports.specs.declared.Line.{Line}
 use Rattle.scan_imports.specs.declared.Line.the-variants.{Prefix, Revision, Other}
@@ -109,6 +111,14 @@ module _ (s : List ℕ) (b : Body) (at : ℕ) (l : b .at ≤ at) (in-text : at �
 
 -- at the place g after the gap
 module _ (s : List ℕ) (b : Body) (g k : ℕ) (l : b .at ≤ g) (in-text : g < length s) (e : gapEnd s g ≡ g) (n : getD s g 256 ≡ 125 → ⊥) where
+  other-went : (x : Skipped) → statementAt s g ≡ x → Went s b [] (withSkipped b x)
+  unfolding withSkipped
+  other-went (Past c h) m =
+      let moves = statement-moves s g in-text (λ z. n (ap (λ i. getD s i 256) (sym e) ∙ z)) c h m in
+      let far = statement-far s g (omega arith) c h m in
+      (omega (arith, moves), far .1, omega arith, λ u d. sound-moved u b (c .at) d)
+  other-went (RefusedSkip r) m = absurd (statement-refused s g r m)
+
   kind-went : (x : Line) → lineKind s g k ≡ x → Went s b (afterKind s g b x .bytes) (afterKind s g b x .answer)
   unfolding afterKind
   kind-went (Prefix c) h =
@@ -117,9 +127,7 @@ module _ (s : List ℕ) (b : Body) (g k : ℕ) (l : b .at ≤ g) (in-text : g < 
   kind-went (Revision c) h =
       let f = kind-revision-far s g k c h in
       revision-went s b (c .at) (omega (arith, f)) (f .1) (lineAt s (c .at) (b .used) 10 59) refl
-  kind-went Other h =
-      let m = statement-moves s g in-text (λ z. n (ap (λ i. getD s i 256) (sym e) ∙ z)) in
-      (omega (arith, m), statement-within s g (omega arith), omega arith, λ u d. sound-moved u b (endedAt (statementAt s g)) d)
+  kind-went Other h = other-went (statementAt s g) refl
 
 went-is : (s : List ℕ) (b : Body) {x y : Left Inside} → x ≡ y → Went s b (y .bytes) (y .answer) → Went s b (x .bytes) (x .answer)
 went-is s b e w = subst (λ z. Went s b (z .bytes) (z .answer)) (sym e) w

@@ -24,14 +24,20 @@ use Rattle.text_value.specs.Value.{valueAt, valueBytes}
 use Rattle.text_value.specs.declared.Argument.{Argument}
 use Rattle.text_value.specs.declared.Argument.the-variants.{Read, Refused as RefusedLine}
 use Rattle.text_value.proofs.ArgumentLaws.{refusal-is, line-far, line-room}
-use Rattle.text_skip.specs.Statement.{statementAt, endedAt}
+use Rattle.text_skip.specs.Skip.{skipRefusal}
+use Rattle.text_skip.specs.Statement.{statementAt}
+use Rattle.text_skip.specs.declared.How.{How}
+use Rattle.text_skip.specs.declared.Skipped.{Skipped}
+use Rattle.text_skip.specs.declared.Skipped.the-variants.{Past, Refused as RefusedSkip}
+use Rattle.text_skip.proofs.SkipLaws.{skip-refusal-is}
 use Rattle.scan_rows.specs.Span.{held, missing}
 use Rattle.scan_rows.specs.declared.Span.{Span}
 use Rattle.scan_imports.specs.Left.{Left, nothing}
-use Rattle.scan_imports.specs.Block.{orRevision, orPrefix, lineKind, withPrefix, withRevision, begun, moved, afterKind, insideHere, insideAt}
+use Rattle.scan_imports.specs.Block.{orRevision, orPrefix, lineKind, withPrefix, withRevision, withSkipped, begun, moved, afterKind, insideHere, insideAt}
 use Rattle.scan_imports.specs.declared.Body.{Body}
 use Rattle.scan_imports.specs.declared.Line.{Line}
 use Rattle.scan_imports.specs.declared.Line.the-variants.{Prefix, Revision, Other}
+use Rattle.scan_imports.specs.declared.Inside.{Inside}
 use Rattle.scan_imports.specs.declared.Inside.the-variants.{On, Closed, Refused}
 
 -- ---- what is answered, and what is left in the store: it was d and is e, from the place u on
@@ -114,6 +120,18 @@ module _ (s : List ℕ) (at : ℕ) (b : Body) {l : Argument} (e : l ≡ lineAt s
   revision-read c n h p =
       ap (λ x. On (record { at = c .at; used = n; prefix = b .prefix; revision = x })) p ∙ sym (ap (withRevision b) (sym e ∙ h))
 
+-- ---- a statement skipped
+
+-- k: what the skip answered
+module _ (b : Body) {k x : Skipped} (e : k ≡ x) where
+  pub skip-refused : (r : Refusal) → k ≡ RefusedSkip r → {q : Refusal} → q ≡ skipRefusal k → Refused q ≡ withSkipped b x
+  unfolding withSkipped
+  skip-refused r h p = ap Refused (skip-refusal-is h p) ∙ sym (ap (withSkipped b) (sym e ∙ h))
+
+  pub skip-past : (c : Cursor) (h : How) → k ≡ Past c h → {y : Body} → y ≡ moved b (c .at) → On y ≡ withSkipped b x
+  unfolding withSkipped
+  skip-past c h m p = ap On p ∙ sym (ap (withSkipped b) (sym e ∙ m))
+
 -- ---- a statement, or the end of the block
 
 -- g after the gap, p what stands there
@@ -143,6 +161,6 @@ module _ (s : List ℕ) (k : ℕ) (b : Body) {g p : ℕ} (ge : g ≡ gapEnd s (b
       unfolding afterKind
       inside-revision c h = inside-kind ∙ ap (afterKind s g b) h
 
-      pub inside-other : l ≡ Other → {e : ℕ} → e ≡ endedAt (statementAt s g) → insideAt s k b ≡ nothing (On (moved b e))
+      pub inside-other : l ≡ Other → {r : Inside} → r ≡ withSkipped b (statementAt s g) → insideAt s k b ≡ nothing r
       unfolding afterKind
-      inside-other h q = inside-kind ∙ ap (afterKind s g b) h ∙ sym (ap (λ i. nothing (On (moved b i))) q)
+      inside-other h q = inside-kind ∙ ap (afterKind s g b) h ∙ sym (ap nothing q)

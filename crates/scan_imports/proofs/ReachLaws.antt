@@ -9,6 +9,7 @@ use native.Mathlib.Omega.{arith}
 use lib.ListN.{length, getD, length-append}
 use lib.Dec.{eqb}
 use borrow.Author.Tests.{eqb-true}
+use Rattle.text.specs.Refusal.{noRefusal}
 use Rattle.text.specs.Due.{dueHere, dueAt}
 use Rattle.text.specs.Scan.{gapEnd}
 use Rattle.text.specs.Turns.{stop}
@@ -74,7 +75,7 @@ on-ends s g h bs cs (Broken r) f l e = (omega (arith, f .0, f .1, e .0), λ i. e
 block-ends : (s : List ℕ) (k : ℕ) (g : Stored) → Ends s g (blockFrom s k g .bytes) (blockFrom s k g .answer)
 unfolding blockFrom blockTurn
 block-ends s k g =
-    turns-rule (blockTurn s k) (nothing (Broken (record { number = 0; keyword = 0; at = 0 }))) (λ b. length s - b .body .at) (block-falls s k)
+    turns-rule (blockTurn s k) (nothing (Broken noRefusal)) (λ b. length s - b .body .at) (block-falls s k)
     (λ a r. Ends s a (r .bytes) (r .answer)) (turn-stops s k)
     (λ a b r h e. let f = turn-far s k a b h in
     let bs = insideAt s k (a .body) .bytes in

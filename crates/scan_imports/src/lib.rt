@@ -6,6 +6,7 @@ use text::Cursor;
 use text::Due;
 use text::Match;
 use text::Refusal;
+use text_skip::Skipped;
 use text_value::Argument;
 ghost use mathlib.Core.Path.{_≡_};
 ghost use Prim.Native.Nat.{_+_, _-_, _≤_};
@@ -15,9 +16,10 @@ ghost use Rattle.text.specs.Bytes.{semicolon};
 ghost use Rattle.text.specs.Class.{classTable};
 ghost use Rattle.text.specs.Keyword.{matchAt};
 ghost use Rattle.text.specs.Words.{prefixWord, revisionDateWord, prefixKeyword, includeKeyword, revisionDateKeyword};
+ghost use Rattle.text_skip.specs.Statement.{statementAt};
 ghost use Rattle.text_value.specs.Argument.{lineAt};
 ghost use Rattle.text_value.specs.Value.{valueAt, valueBytes};
-ghost use Rattle.scan_imports.specs.Block.{orRevision, orPrefix, lineKind, withPrefix, withRevision, begun, moved, insideAt, blockRefusal, blockAt};
+ghost use Rattle.scan_imports.specs.Block.{orRevision, orPrefix, lineKind, withPrefix, withRevision, withSkipped, begun, moved, insideAt, blockRefusal, blockAt};
 ghost use Rattle.scan_imports.specs.Statement.{ofBody, importAt, includeOf, includeAt};
 
 // Refusals: an import closed without prefix, and the end inside a block.
@@ -235,16 +237,12 @@ fn parse_block(
     }
 }
 
-// The refusal of a block; 0, 0, 0 where there is none.
+// The refusal of a block, or none.
 fn block_refusal(b: Block) -> Refusal
     ensures { λ r. ⌜ r ≡ blockRefusal b ⌝ }
 {
     match b {
-        Block::Whole(_) => Refusal {
-            number: text::NO_REFUSAL,
-            keyword: 0,
-            at: 0,
-        },
+        Block::Whole(_) => text::no_refusal(),
         Block::Broken(r) => r,
     }
 }
@@ -279,11 +277,20 @@ fn parse_inside(body: Body, classes: &[u8; 128], s: &[u8], store: &mut [u8], key
     match line_kind(here, classes, s, keyword) {
         Line::Prefix(c) => read_prefix(body, c, classes, s, store),
         Line::Revision(c) => read_revision(body, c, classes, s, store),
-        Line::Other => {
-            let end = text_skip::ended_at(text_skip::skip_statement(here, classes, s));
-            Inside::On(moved(body, end.at))
-        }
+        Line::Other => skip_other(body, here, classes, s),
     }
+}
+
+// Skips a statement of which nothing is read.
+fn skip_other(body: Body, here: Cursor, classes: &[u8; 128], s: &[u8]) -> Inside
+    requires { ⌜ now classes ≡ classTable ⌝ }
+    ensures { λ r. ⌜ r ≡ withSkipped body (statementAt (now (s .entry)) (here .at)) ⌝ }
+{
+    let skipped = text_skip::skip_statement(here, classes, s);
+    let Skipped::Past(next, _) = skipped else {
+        return Inside::Refused(text_skip::skip_refusal(skipped));
+    };
+    Inside::On(moved(body, next.at))
 }
 
 // Reads the value of a prefix and its semicolon.
@@ -377,7 +384,8 @@ fn import_line(here: Cursor, classes: &[u8; 128], s: &[u8]) -> Line
     requires { ⌜ now classes ≡ classTable ⌝ }
     ensures { λ r. ⌜ r ≡ orPrefix (now (s .entry)) (here .at) (matchAt (now (s .entry)) (here .at) prefixWord) ⌝ }
 {
-    match text::match_prefix(here, classes, s) {
+    let prefix = here.match_keyword(classes, s, b"prefix");
+    match prefix {
         Match::After(c) => Line::Prefix(c),
         Match::Not => revision_line(here, classes, s),
     }
@@ -388,16 +396,9 @@ fn revision_line(here: Cursor, classes: &[u8; 128], s: &[u8]) -> Line
     requires { ⌜ now classes ≡ classTable ⌝ }
     ensures { λ r. ⌜ r ≡ orRevision (matchAt (now (s .entry)) (here .at) revisionDateWord) ⌝ }
 {
-    match match_revision_date(here, classes, s) {
+    let revision = here.match_keyword(classes, s, b"revision-date");
+    match revision {
         Match::After(c) => Line::Revision(c),
         Match::Not => Line::Other,
     }
-}
-
-// Past the keyword revision-date.
-fn match_revision_date(here: Cursor, classes: &[u8; 128], s: &[u8]) -> Match
-    requires { ⌜ now classes ≡ classTable ⌝ }
-    ensures { λ r. ⌜ r ≡ matchAt (now (s .entry)) (here .at) revisionDateWord ⌝ }
-{
-    here.match_keyword(classes, s, b"revision-date")
 }

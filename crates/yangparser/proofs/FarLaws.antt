@@ -11,15 +11,17 @@ use borrow.Author.Tests.{leb-true, leb-false}
 use Rattle.text.specs.Scan.{gapEnd}
 use Rattle.text.proofs.Here.{by-test}
 use Rattle.text.proofs.Laws.{gap-from}
-use Rattle.text_skip.specs.Skip.{tokenAt, tokenEnd}
-use Rattle.text_skip.proofs.SkipLaws.{token-far, token-within}
+use Rattle.text_skip.specs.Skip.{tokenAt}
+use Rattle.text_skip.specs.declared.Skipped.{Skipped}
+use Rattle.text_skip.specs.declared.Skipped.the-variants.{Past, Refused as RefusedSkip}
+use Rattle.text_skip.proofs.SkipLaws.{token-far, token-refused}
 use Rattle.scan_imports.specs.Statement.{importAt, includeAt}
 use Rattle.scan_imports.specs.declared.Imported.{Imported}
 use Rattle.scan_imports.specs.declared.Imported.the-variants.{Import as ReadImport, NoImport}
 use Rattle.scan_imports.specs.declared.Included.{Included}
 use Rattle.scan_imports.specs.declared.Included.the-variants.{Include as ReadInclude, NoInclude}
 use Rattle.scan_imports.proofs.ReachLaws.{ImportSaid, import-said, IncludeSaid, include-said}
-use Rattle.yangparser.specs.Dependencies.{Dependencies, none, Step, importStep, includeStep, unlessFull, importHere, includeHere, movedTo, wordStep, stepAt}
+use Rattle.yangparser.specs.Dependencies.{Dependencies, none, Step, importStep, includeStep, unlessFull, importHere, includeHere, movedTo, afterToken, wordStep, stepAt}
 use Rattle.yangparser.specs.Word.{wordAt}
 use Rattle.yangparser.specs.declared.Next.{Next}
 use Rattle.yangparser.specs.declared.Next.the-variants.{On, Done, Stop}
@@ -115,16 +117,21 @@ module _ (s : List ℕ) (far : Sofar) (at : ℕ) (behind : far .at < at) (in-tex
       said-unless (far .includes) 9 (includeStep far (x .bytes) (x .answer)) (include-went (x .bytes) (x .answer) (include-said s at (far .used)))
 
 -- at the place g after the gap
+token-went : (s : List ℕ) (far : Sofar) (g : ℕ) → far .at ≤ g → g < length s → (x : Skipped) → tokenAt s g ≡ x → Went s far none (afterToken far x)
+unfolding afterToken movedTo
+token-went s far g from in-text (Past c h) e =
+    let f = token-far s g in-text c h e in (omega (arith, f .0), f .1, omega arith, omega arith, omega arith)
+token-went s far g from in-text (RefusedSkip r) e = absurd (token-refused s g r e)
+
 word-said : (s : List ℕ) (far : Sofar) (g : ℕ) → far .at ≤ g → g < length s → (w : Word) → wordAt s g ≡ w → Said s far (wordStep s far g w)
-unfolding wordStep movedTo
+unfolding wordStep
 word-said s far g from in-text (Import c) h =
     let f = word-import-far s g c h in import-here s far (c .at) (omega (arith, f .0)) (f .1)
 word-said s far g from in-text (Include c) h =
     let f = word-include-far s g c h in include-here s far (c .at) (omega (arith, f .0)) (f .1)
 word-said s far g from in-text (Last c) h = said-none s far Done refl
 word-said s far g from in-text Other h =
-    said-none s far (On (movedTo far (tokenEnd (tokenAt s g))))
-    (omega (arith, token-far s g in-text), token-within s g (omega arith), omega arith, omega arith, omega arith)
+    said-none s far (afterToken far (tokenAt s g)) (token-went s far g from in-text (tokenAt s g) refl)
 
 pub step-said : (s : List ℕ) (far : Sofar) → Said s far (stepAt s far)
 step-said s far =

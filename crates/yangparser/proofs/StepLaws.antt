@@ -10,21 +10,25 @@ use lib.Seq.{sets}
 use borrow.Author.Tests.{le-leb, lt-leb, leb-true, leb-false}
 use Rattle.text.specs.Scan.{gapEnd}
 use Rattle.text.specs.declared.Cursor.{Cursor}
+use Rattle.text.specs.declared.Refusal.{Refusal}
 use Rattle.text.proofs.Here.{by-test}
 use Rattle.text.proofs.Laws.{gap-from}
-use Rattle.text_skip.specs.Skip.{tokenAt, tokenEnd}
-use Rattle.text_skip.specs.declared.Token.{Token}
+use Rattle.text_skip.specs.Skip.{skipRefusal, tokenAt}
+use Rattle.text_skip.specs.declared.How.{How}
+use Rattle.text_skip.specs.declared.Skipped.{Skipped}
+use Rattle.text_skip.specs.declared.Skipped.the-variants.{Past, Refused as RefusedSkip}
+use Rattle.text_skip.proofs.SkipLaws.{skip-refusal-is}
 use Rattle.scan_rows.specs.Rows.{importTable, includeTable, table}
 use Rattle.scan_imports.specs.Statement.{importAt, includeAt}
 use Rattle.scan_imports.specs.declared.Imported.{Imported}
 use Rattle.scan_imports.specs.declared.Imported.the-variants.{Import as ReadImport, NoImport}
 use Rattle.scan_imports.specs.declared.Included.{Included}
 use Rattle.scan_imports.specs.declared.Included.the-variants.{Include as ReadInclude, NoInclude}
-use Rattle.yangparser.specs.Dependencies.{Dependencies, none, importWordsOf, includeWordsOf, Step, importStep, includeStep, unlessFull, importHere, includeHere, movedTo, wordStep, stepHere, stepAt}
+use Rattle.yangparser.specs.Dependencies.{Dependencies, none, importWordsOf, includeWordsOf, Step, importStep, includeStep, unlessFull, importHere, includeHere, movedTo, afterToken, wordStep, stepHere, stepAt}
 use Rattle.yangparser.specs.Promises.{AddsImport, AddsInclude, Steps}
 use Rattle.yangparser.specs.Word.{wordAt}
 use Rattle.yangparser.specs.declared.Next.{Next}
-use Rattle.yangparser.specs.declared.Next.the-variants.{On, Done}
+use Rattle.yangparser.specs.declared.Next.the-variants.{On, Done, Stop}
 use Rattle.yangparser.specs.declared.Sofar.{Sofar}
 use Rattle.yangparser.specs.declared.Word.{Word}
 use Rattle.yangparser.specs.declared.Word.the-variants.{Import, Include, Last, Other}
@@ -59,6 +63,18 @@ include-only s far at =
     only : (bs : List ℕ) (x : Included) → includeStep far bs x .adds .imports ≡ []
     only bs (ReadInclude c n i) = refl
     only bs (NoInclude r) = refl
+
+-- ---- a token; k: what skipping it answered
+
+module _ (far : Sofar) {k x : Skipped} (e : k ≡ x) where
+  pub token-refused : (r : Refusal) → k ≡ RefusedSkip r → {q : Refusal} → q ≡ skipRefusal k → Stop q ≡ afterToken far x
+  unfolding afterToken
+  token-refused r h p = ap Stop (skip-refusal-is h p) ∙ sym (ap (afterToken far) (sym e ∙ h))
+
+  pub token-past : (c : Cursor) (h : How) → k ≡ Past c h
+      → On (record { at = c .at; used = far .used; imports = far .imports; includes = far .includes }) ≡ afterToken far x
+  unfolding afterToken movedTo
+  token-past c h m = sym (ap (afterToken far) (sym e ∙ m))
 
 -- ---- what a step is; g after the gap, w the keyword there
 
@@ -99,13 +115,9 @@ module _ (s : List ℕ) (far : Sofar) {d t u : List ℕ} where
       unfolding wordStep importWordsOf includeWordsOf importTable includeTable table
       steps-last c q = steps-is (step-word s far ge in-text we q) (record { answer = refl; stored = refl; imports = refl; includes = refl })
 
-      -- k: the token skipped, e its end
-      pub steps-token : w ≡ Other → {k : Token} → k ≡ tokenAt s g → {e : ℕ} → e ≡ tokenEnd k
-          → Steps (stepAt s far) far d t u (On (record { at = e; used = far .used; imports = far .imports; includes = far .includes })) d t u
-      unfolding wordStep movedTo importWordsOf includeWordsOf importTable includeTable table
-      steps-token q ke ee =
-          steps-is (step-word s far ge in-text we q)
-          (record { answer = ap (λ e. On (movedTo far e)) (ee ∙ ap tokenEnd ke); stored = refl; imports = refl; includes = refl })
+      pub steps-token : w ≡ Other → {r : Next} → r ≡ afterToken far (tokenAt s g) → Steps (stepAt s far) far d t u r d t u
+      unfolding wordStep importWordsOf includeWordsOf importTable includeTable table
+      steps-token q e = steps-is (step-word s far ge in-text we q) (record { answer = e; stored = refl; imports = refl; includes = refl })
 
 -- room in the store behind the keyword
 module _ (s : List ℕ) (at used : ℕ) {g : ℕ} (ge : g ≡ gapEnd s at) {w : Word} (we : w ≡ wordAt s g) (c : Cursor) (room : used + (length s - at) ≤ length s) where

@@ -1,7 +1,7 @@
 -- Which keyword stands at a place: the keywords' own answers, in the order in which they are tried. One that matched ends behind its first byte and
 -- within the text.
 -- Assumes nothing.
-use mathlib.Core.Path.{_≡_, refl, sym, ap₂, _∙_}
+use mathlib.Core.Path.{_≡_, refl, sym, ap, _∙_}
 use mathlib.Core.Bool.{Bool, false}
 use mathlib.Core.List.{List}
 use Prim.Native.Nat.{ℕ, _<_, _≤_}
@@ -17,11 +17,11 @@ use Rattle.yangparser.specs.Word.{lastAt, orWord, wordAt}
 use Rattle.yangparser.specs.declared.Word.{Word}
 use Rattle.yangparser.specs.declared.Word.the-variants.{Import, Include, Last, Other}
 
--- o, c, d, r: what the four keywords' functions answered; x, y, z: how they are joined
-pub last-is : (s : List ℕ) (at : ℕ) {o c d r x y z : Match} → o ≡ matchAt s at organizationWord → c ≡ matchAt s at contactWord → d ≡ matchAt s at descriptionWord
-    → r ≡ matchAt s at referenceWord → x ≡ orMatch d r → y ≡ orMatch c x → z ≡ orMatch o y → z ≡ lastAt s at
+-- each word before those after it
+pub last-is : (s : List ℕ) (at : ℕ) {r d c o : Match} → r ≡ matchAt s at referenceWord → d ≡ orMatch (matchAt s at descriptionWord) r
+    → c ≡ orMatch (matchAt s at contactWord) d → o ≡ orMatch (matchAt s at organizationWord) c → o ≡ lastAt s at
 unfolding lastAt
-last-is s at oe ce de re xe ye ze = ze ∙ ap₂ orMatch oe (ye ∙ ap₂ orMatch ce (xe ∙ ap₂ orMatch de re))
+last-is s at re de ce oe = oe ∙ ap (orMatch _) (ce ∙ ap (orMatch _) (de ∙ ap (orMatch _) re))
 
 -- i, n, l: what the functions answered for import, include and the four
 module _ (s : List ℕ) (at : ℕ) {i : Match} (ie : i ≡ matchAt s at importWord) where

@@ -9,7 +9,9 @@ use Rattle.text.specs.Scan.{gapEnd}
 use Rattle.text.specs.Turns.{Turn, stop, on, turns}
 use Rattle.text.specs.Words.{importKeyword, includeKeyword}
 use Rattle.text.specs.declared.Refusal.{Refusal}
-use Rattle.text_skip.specs.Skip.{tokenAt, tokenEnd}
+use Rattle.text_skip.specs.Skip.{tokenAt}
+use Rattle.text_skip.specs.declared.Skipped.{Skipped}
+use Rattle.text_skip.specs.declared.Skipped.the-variants.{Past, Refused as RefusedSkip}
 use Rattle.text_lent.specs.Lent.{lentAt}
 use Rattle.text_lent.specs.declared.Lent.{Lent}
 use Rattle.text_lent.specs.declared.Lent.the-variants.{Fit, Unfit}
@@ -95,11 +97,16 @@ includeHere s far at =
 unfoldable pub movedTo : Sofar → ℕ → Sofar
 movedTo far at = record { at = at; used = far .used; imports = far .imports; includes = far .includes }
 
+-- past a token, however it ended
+unfoldable pub afterToken : Sofar → Skipped → Next
+afterToken far (Past c h) = On (movedTo far (c .at))
+afterToken far (RefusedSkip r) = Stop r
+
 unfoldable pub wordStep : List ℕ → Sofar → ℕ → Word → Step
 wordStep s far at (Import c) = importHere s far (c .at)
 wordStep s far at (Include c) = includeHere s far (c .at)
 wordStep s far at (Last c) = adding Done none
-wordStep s far at Other = adding (On (movedTo far (tokenEnd (tokenAt s at)))) none
+wordStep s far at Other = adding (afterToken far (tokenAt s at)) none
 
 -- at the place after the gap
 unfoldable pub stepHere : List ℕ → Sofar → ℕ → Step

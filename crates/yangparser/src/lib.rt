@@ -5,16 +5,16 @@ use text::Cursor;
 use text::Match;
 use text::Refusal;
 use text_lent::Lent;
+use text_skip::Skipped;
 ghost use mathlib.Core.Path.{_≡_};
 ghost use mathlib.Core.Bool.{false};
 ghost use Prim.Native.Nat.{_+_, _-_, _*_, _≤_, _<_};
 ghost use lib.ListN.{length};
 ghost use Rattle.text.specs.Class.{classTable};
-ghost use Rattle.text.specs.Keyword.{matchAt};
-ghost use Rattle.text.specs.Words.{importWord, includeWord, organizationWord, contactWord, descriptionWord, referenceWord};
+ghost use Rattle.text_skip.specs.Skip.{tokenAt};
 ghost use Rattle.scan_rows.specs.Rows.{importSize, includeSize, mostRows};
 ghost use Rattle.yangparser.specs.Word.{lastAt, wordAt};
-ghost use Rattle.yangparser.specs.Dependencies.{tooShort, stepAt, scanned};
+ghost use Rattle.yangparser.specs.Dependencies.{tooShort, afterToken, stepAt, scanned};
 ghost use Rattle.yangparser.specs.Promises.{AddsImport, AddsInclude, Steps, Parses, Scans, Extracts};
 
 // The refusal of this layer.
@@ -180,17 +180,25 @@ fn parse_next(
         Word::Import(c) => add_import(far, c, classes, s, store, imports),
         Word::Include(c) => add_include(far, c, classes, s, store, includes),
         Word::Last(_) => Next::Done,
-        Word::Other => {
-            let token = text_skip::skip_one_token(here, classes, s);
-            let end = text_skip::token_end(token);
-            Next::On(Sofar {
-                at: end.at,
-                used: far.used,
-                imports: far.imports,
-                includes: far.includes,
-            })
-        }
+        Word::Other => skip_token(far, here, classes, s),
     }
+}
+
+// Skips the token that stands here.
+fn skip_token(far: Sofar, here: Cursor, classes: &[u8; 128], s: &[u8]) -> Next
+    requires { ⌜ now classes ≡ classTable ⌝ }
+    ensures { λ r. ⌜ r ≡ afterToken far (tokenAt (now (s .entry)) (here .at)) ⌝ }
+{
+    let token = text_skip::skip_one_token(here, classes, s);
+    let Skipped::Past(next, _) = token else {
+        return Next::Stop(text_skip::skip_refusal(token));
+    };
+    Next::On(Sofar {
+        at: next.at,
+        used: far.used,
+        imports: far.imports,
+        includes: far.includes,
+    })
 }
 
 // The keyword that stands at a place: import, include, one of the four after which nothing is imported or included, or none of these.
@@ -218,11 +226,11 @@ fn try_words(here: Cursor, classes: &[u8; 128], s: &[u8]) -> Word
     requires { ⌜ now classes ≡ classTable ⌝ }
     ensures { λ r. ⌜ r ≡ wordAt (now (s .entry)) (here .at) ⌝ }
 {
-    let import = match_import(here, classes, s);
+    let import = here.match_keyword(classes, s, b"import");
     if let Match::After(c) = import {
         return Word::Import(c);
     }
-    let include = match_include(here, classes, s);
+    let include = here.match_keyword(classes, s, b"include");
     if let Match::After(c) = include {
         return Word::Include(c);
     }
@@ -238,14 +246,10 @@ fn match_last(here: Cursor, classes: &[u8; 128], s: &[u8]) -> Match
     requires { ⌜ now classes ≡ classTable ⌝ }
     ensures { λ r. ⌜ r ≡ lastAt (now (s .entry)) (here .at) ⌝ }
 {
-    let organization = match_organization(here, classes, s);
-    let contact = match_contact(here, classes, s);
-    let description = match_description(here, classes, s);
-    let reference = match_reference(here, classes, s);
-    text::or_match(
-        organization,
-        text::or_match(contact, text::or_match(description, reference)),
-    )
+    let reference = here.match_keyword(classes, s, b"reference");
+    let description = text::or_word(here, classes, s, b"description", reference);
+    let contact = text::or_word(here, classes, s, b"contact", description);
+    text::or_word(here, classes, s, b"organization", contact)
 }
 
 // Reads an import and writes its row; the 257th is refused behind its keyword.
@@ -322,46 +326,4 @@ fn add_include(
         }
         Included::NoInclude(r) => Next::Stop(r),
     }
-}
-
-fn match_import(here: Cursor, classes: &[u8; 128], s: &[u8]) -> Match
-    requires { ⌜ now classes ≡ classTable ⌝ }
-    ensures { λ r. ⌜ r ≡ matchAt (now (s .entry)) (here .at) importWord ⌝ }
-{
-    here.match_keyword(classes, s, b"import")
-}
-
-fn match_include(here: Cursor, classes: &[u8; 128], s: &[u8]) -> Match
-    requires { ⌜ now classes ≡ classTable ⌝ }
-    ensures { λ r. ⌜ r ≡ matchAt (now (s .entry)) (here .at) includeWord ⌝ }
-{
-    here.match_keyword(classes, s, b"include")
-}
-
-fn match_organization(here: Cursor, classes: &[u8; 128], s: &[u8]) -> Match
-    requires { ⌜ now classes ≡ classTable ⌝ }
-    ensures { λ r. ⌜ r ≡ matchAt (now (s .entry)) (here .at) organizationWord ⌝ }
-{
-    here.match_keyword(classes, s, b"organization")
-}
-
-fn match_contact(here: Cursor, classes: &[u8; 128], s: &[u8]) -> Match
-    requires { ⌜ now classes ≡ classTable ⌝ }
-    ensures { λ r. ⌜ r ≡ matchAt (now (s .entry)) (here .at) contactWord ⌝ }
-{
-    here.match_keyword(classes, s, b"contact")
-}
-
-fn match_description(here: Cursor, classes: &[u8; 128], s: &[u8]) -> Match
-    requires { ⌜ now classes ≡ classTable ⌝ }
-    ensures { λ r. ⌜ r ≡ matchAt (now (s .entry)) (here .at) descriptionWord ⌝ }
-{
-    here.match_keyword(classes, s, b"description")
-}
-
-fn match_reference(here: Cursor, classes: &[u8; 128], s: &[u8]) -> Match
-    requires { ⌜ now classes ≡ classTable ⌝ }
-    ensures { λ r. ⌜ r ≡ matchAt (now (s .entry)) (here .at) referenceWord ⌝ }
-{
-    here.match_keyword(classes, s, b"reference")
 }

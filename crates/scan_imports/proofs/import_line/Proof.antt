@@ -6,19 +6,16 @@ use Rattle.scan_imports.proofs.import_line.Statement.{statement}
 use Rattle.scan_imports.proofs.import_line.Tie as tie
 
 returns : tie.Need-returns
-returns c =
-    let a = c .before .before .before .before .before .args in
-    prefix-after (a .s .now) (a .here .at) (c .before .before .before .match-prefix .ensures) (c .before .c .given .0 .0) (c .before .c .given .1)
+returns c = search prefix-after
 
 returns-2 : tie.Need-returns-2
-returns-2 c =
-    let a = c .before .before .before .before .before .args in
-    prefix-not (a .s .now) (a .here .at) (c .before .before .before .match-prefix .ensures) (c .before .enum-told .given .1) (c .revision-line .ensures)
+returns-2 c = search prefix-not
 
 pub import-line-spec : {M : Type 1} → statement M
 import-line-spec =
     tie.close
     (tie.spec
+    (λ c. search needs)
     (λ c κs. search needs)
     (λ c. search needs)
     (λ c. search needs)

@@ -4,8 +4,7 @@ use mathlib.Core.Path.{refl, sym, ap, _∙_}
 use native.Mathlib.Omega.{arith}
 use Rattle.text.proofs.Here.{here}
 use Rattle.text.proofs.Laws.{gap-from}
-use Rattle.text_skip.specs.Statement.{endedAt}
-use Rattle.scan_imports.specs.declared.Inside.the-variants.{On, Closed}
+use Rattle.scan_imports.specs.declared.Inside.the-variants.{Closed}
 use Rattle.scan_imports.proofs.FarLaws.{kind-prefix-far, kind-revision-far}
 use Rattle.scan_imports.proofs.InsideLaws.{leaves, inside-end, inside-close, inside-prefix, inside-revision, inside-other}
 use borrow.Author.Needs.{needs}
@@ -78,12 +77,11 @@ returns-4 c =
 
 returns-5 : tie.Need-returns-5
 returns-5 c =
-    let at-kind = c .before .before .before .before .before in
+    let at-kind = c .before .before .before in
     let at-peek = at-kind .before .before .before in
     let at-gap = at-peek .before in
     let a = at-gap .before .before .before .args in
-    let skipped = c .before .ended-at .ensures ∙ ap endedAt (c .before .before .skip-statement .ensures) in
-    leaves (inside-other (a .s .now) (a .keyword) (a .body) (at-gap .skip-whitespace-and-comments .ensures) (at-peek .peek-char .ensures) (at-kind .before .before .if1 .left) (at-kind .before .if2 .left) (at-kind .line-kind .ensures) (c .before .before .before .enum-told .given .1) skipped) (a .store .now) (a .body .used) (ap On (c .moved2 .ensures), refl)
+    leaves (inside-other (a .s .now) (a .keyword) (a .body) (at-gap .skip-whitespace-and-comments .ensures) (at-peek .peek-char .ensures) (at-kind .before .before .if1 .left) (at-kind .before .if2 .left) (at-kind .line-kind .ensures) (c .before .enum-told .given .1) (c .skip-other .ensures)) (a .store .now) (a .body .used) (refl, refl)
 
 pub parse-inside-spec : {M : Type 1} → statement M
 parse-inside-spec =
@@ -101,8 +99,6 @@ parse-inside-spec =
     (λ c. search needs)
     read-revision-requires
     (λ c. search needs)
-    (λ c κs. search needs)
-    (λ c κs. search needs)
     (λ c κs. search needs)
     (λ c. search needs)
     returns-3

@@ -6,15 +6,11 @@ use Rattle.scan_imports.proofs.revision_line.Statement.{statement}
 use Rattle.scan_imports.proofs.revision_line.Tie as tie
 
 returns : tie.Need-returns
-returns c =
-    let a = c .before .before .before .before .before .args in
-    revision-after (a .s .now) (a .here .at) (c .before .before .before .match-revision-date .ensures) (c .before .c .given .0 .0) (c .before .c .given .1)
+returns c = search revision-after
 
 returns-2 : tie.Need-returns-2
-returns-2 c =
-    let a = c .before .before .before .before .args in
-    revision-not (a .s .now) (a .here .at) (c .before .before .match-revision-date .ensures) (c .enum-told .given .1)
+returns-2 c = search revision-not
 
 pub revision-line-spec : {M : Type 1} → statement M
 revision-line-spec =
-    tie.close (tie.spec (λ c κs. search needs) (λ c. search needs) (λ c. search needs) returns returns-2)
+    tie.close (tie.spec (λ c. search needs) (λ c κs. search needs) (λ c. search needs) (λ c. search needs) returns returns-2)
