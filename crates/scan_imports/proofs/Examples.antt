@@ -17,7 +17,7 @@ use Rattle.text_value.specs.Str.{escaped, escapes, strEnd, strBytes, closedBy, 
 use Rattle.text_value.specs.Value.{isQuote, startsName, addedBy, afterPlus, afterGap, moreAt, addTo, joinTurn, joinedWith, joined, ofString, valueHere, valueAt, valueBytes}
 use Rattle.text_skip.specs.Statement.{closes, quotedLen, quotedEnd, atSemicolon, atClose, partOf, partAt, ofPart, statementTurn, statementFrom, statementAt}
 use Rattle.scan_rows.specs.Rows.{importWords, includeWords}
-use Rattle.scan_imports.specs.Block.{openEnded, orRevision, orPrefix, lineKind, withPrefix, withRevision, withSkipped, afterKind, insideHere, insideAt, afterInside, blockTurn, blockFrom, blockAt}
+use Rattle.scan_imports.specs.Block.{openEnded, orLine, lineKind, kept, withValue, withSkipped, afterKind, insideHere, insideAt, afterInside, blockTurn, blockFrom, blockAt}
 use Rattle.scan_imports.specs.Statement.{noPrefix, ofBody, importOf, withName, afterName, importAt, includeOf, plainOf, blockOf, openOrPlain, afterValue, includeAt}
 use Rattle.scan_imports.specs.declared.Imported.{Imported}
 use Rattle.scan_imports.specs.declared.Imported.the-variants.{Import, NoImport}
@@ -98,5 +98,5 @@ examples =
     ∷ []
 
 right : T (all examples)
-unfolding examples all holds isRefusal isImport isNoImport isInclude isNoInclude importWords includeWords importAt afterName withName importOf ofBody includeAt afterValue openOrPlain blockOf includeOf plainOf blockAt blockFrom blockTurn afterInside insideAt insideHere afterKind withPrefix withRevision withSkipped lineKind orPrefix orRevision statementAt statementFrom statementTurn ofPart partAt partOf atSemicolon atClose quotedEnd quotedLen closes matchAt keywordAt startsIdent endsKeyword lineAt afterArgument afterDue argumentAt argumentOf dueAt dueHere dueNumber same valueAt valueBytes valueHere ofString joined joinedWith joinTurn addTo moreAt afterGap afterPlus addedBy isQuote startsName strAt closedBy strBytes strEnd escaped escapes part gapEnd gapTurn afterWhite commentEnd blockEnd closing pairAt runEnd span inRun inIdent classOf turns
+unfolding examples all holds isRefusal isImport isNoImport isInclude isNoInclude importWords includeWords importAt afterName withName importOf ofBody includeAt afterValue openOrPlain blockOf includeOf plainOf blockAt blockFrom blockTurn afterInside insideAt insideHere afterKind withValue kept withSkipped lineKind orLine statementAt statementFrom statementTurn ofPart partAt partOf atSemicolon atClose quotedEnd quotedLen closes matchAt keywordAt startsIdent endsKeyword lineAt afterArgument afterDue argumentAt argumentOf dueAt dueHere dueNumber same valueAt valueBytes valueHere ofString joined joinedWith joinTurn addTo moreAt afterGap afterPlus addedBy isQuote startsName strAt closedBy strBytes strEnd escaped escapes part gapEnd gapTurn afterWhite commentEnd blockEnd closing pairAt runEnd span inRun inIdent classOf turns
 right = tt

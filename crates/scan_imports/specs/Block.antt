@@ -24,11 +24,12 @@ use Rattle.text_skip.specs.declared.Skipped.{Skipped}
 use Rattle.text_skip.specs.declared.Skipped.the-variants.{Past, Refused as RefusedSkip}
 use Rattle.scan_imports.specs.Left.{Left, nothing}
 use Rattle.scan_rows.specs.Span.{held, missing}
+use Rattle.scan_rows.specs.declared.Span.{Span}
 use Rattle.scan_imports.specs.declared.Block.{Block}
 use Rattle.scan_imports.specs.declared.Block.the-variants.{Whole, Broken}
 use Rattle.scan_imports.specs.declared.Body.{Body}
 use Rattle.scan_imports.specs.declared.Line.{Line}
-use Rattle.scan_imports.specs.declared.Line.the-variants.{Prefix, Revision, Other}
+use Rattle.scan_imports.specs.declared.Line.the-variants.{Value, Other}
 use Rattle.scan_imports.specs.declared.Inside.{Inside}
 use Rattle.scan_imports.specs.declared.Inside.the-variants.{On, Closed, Refused}
 
@@ -37,27 +38,32 @@ openEnded = 8
 
 -- ---- what a statement of the block is; k: import or include
 
-unfoldable pub orRevision : Match → Line
-orRevision (After c) = Revision c
-orRevision Not = Other
+-- the keyword j, if it matched
+unfoldable pub orLine : ℕ → Match → Line → Line
+orLine j (After c) l = Value j c
+orLine j Not l = l
 
-unfoldable pub orPrefix : List ℕ → ℕ → Match → Line
-orPrefix s at (After c) = Prefix c
-orPrefix s at Not = orRevision (matchAt s at revisionDateWord)
+abbrev pub revisionLine : List ℕ → ℕ → Line
+revisionLine s at = orLine revisionDateKeyword (matchAt s at revisionDateWord) Other
+
+abbrev pub prefixLine : List ℕ → ℕ → Line
+prefixLine s at = orLine prefixKeyword (matchAt s at prefixWord) (revisionLine s at)
 
 unfoldable pub lineKind : List ℕ → ℕ → ℕ → Line
-lineKind s at k =
-    cond (eqb k importKeyword) (orPrefix s at (matchAt s at prefixWord)) (orRevision (matchAt s at revisionDateWord))
+lineKind s at k = cond (eqb k importKeyword) (prefixLine s at) (revisionLine s at)
 
 -- ---- one statement, or the end of the block; b: what the block gave so far, and where it stands
 
-unfoldable pub withPrefix : Body → Argument → Inside
-withPrefix b (Read c n) = On (record { at = c .at; used = n; prefix = held (b .used) (n - b .used); revision = b .revision })
-withPrefix b (RefusedLine r) = Refused r
+-- the value x of the keyword j: the last one read wins
+unfoldable pub kept : Body → ℕ → ℕ → ℕ → Span → Body
+kept b j at n x =
+    cond (eqb j prefixKeyword)
+    (record { at = at; used = n; prefix = x; revision = b .revision })
+    (record { at = at; used = n; prefix = b .prefix; revision = x })
 
-unfoldable pub withRevision : Body → Argument → Inside
-withRevision b (Read c n) = On (record { at = c .at; used = n; prefix = b .prefix; revision = held (b .used) (n - b .used) })
-withRevision b (RefusedLine r) = Refused r
+unfoldable pub withValue : Body → ℕ → Argument → Inside
+withValue b j (Read c n) = On (kept b j (c .at) n (held (b .used) (n - b .used)))
+withValue b j (RefusedLine r) = Refused r
 
 -- the same from another place
 abbrev pub moved : Body → ℕ → Body
@@ -70,10 +76,8 @@ withSkipped b (RefusedSkip r) = Refused r
 
 -- a value's bytes are stored, also where the semicolon is missing after it
 unfoldable pub afterKind : List ℕ → ℕ → Body → Line → Left Inside
-afterKind s at b (Prefix c) =
-    record { answer = withPrefix b (lineAt s (c .at) (b .used) prefixKeyword semicolon); bytes = valueBytes (valueAt s (c .at)) }
-afterKind s at b (Revision c) =
-    record { answer = withRevision b (lineAt s (c .at) (b .used) revisionDateKeyword semicolon); bytes = valueBytes (valueAt s (c .at)) }
+afterKind s at b (Value j c) =
+    record { answer = withValue b j (lineAt s (c .at) (b .used) j semicolon); bytes = valueBytes (valueAt s (c .at)) }
 afterKind s at b Other = nothing (withSkipped b (statementAt s at))
 
 -- at the place after the gap

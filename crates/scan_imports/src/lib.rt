@@ -9,17 +9,18 @@ use text::Refusal;
 use text_skip::Skipped;
 use text_value::Argument;
 ghost use mathlib.Core.Path.{_≡_};
+ghost use mathlib.Core.Bool.{true};
 ghost use Prim.Native.Nat.{_+_, _-_, _≤_};
 ghost use lib.ListN.{length};
 ghost use lib.Seq.{sets};
 ghost use Rattle.text.specs.Bytes.{semicolon};
 ghost use Rattle.text.specs.Class.{classTable};
-ghost use Rattle.text.specs.Keyword.{matchAt};
-ghost use Rattle.text.specs.Words.{prefixWord, revisionDateWord, prefixKeyword, includeKeyword, revisionDateKeyword};
+ghost use Rattle.text.specs.Keyword.{wordly, matchAt};
+ghost use Rattle.text.specs.Words.{includeKeyword};
 ghost use Rattle.text_skip.specs.Statement.{statementAt};
 ghost use Rattle.text_value.specs.Argument.{lineAt};
 ghost use Rattle.text_value.specs.Value.{valueAt, valueBytes};
-ghost use Rattle.scan_imports.specs.Block.{orRevision, orPrefix, lineKind, withPrefix, withRevision, withSkipped, begun, moved, insideAt, blockRefusal, blockAt};
+ghost use Rattle.scan_imports.specs.Block.{orLine, lineKind, kept, withValue, withSkipped, begun, moved, insideAt, blockRefusal, blockAt};
 ghost use Rattle.scan_imports.specs.Statement.{ofBody, importAt, includeOf, includeAt};
 
 // Refusals: an import closed without prefix, and the end inside a block.
@@ -275,8 +276,10 @@ fn parse_inside(body: Body, classes: &[u8; 128], s: &[u8], store: &mut [u8], key
         return Inside::Closed(moved(body, end));
     }
     match line_kind(here, classes, s, keyword) {
-        Line::Prefix(c) => read_prefix(body, c, classes, s, store),
-        Line::Revision(c) => read_revision(body, c, classes, s, store),
+        Line::Value {
+            keyword: own,
+            after,
+        } => read_inside(body, after, classes, s, store, own),
         Line::Other => skip_other(body, here, classes, s),
     }
 }
@@ -293,112 +296,88 @@ fn skip_other(body: Body, here: Cursor, classes: &[u8; 128], s: &[u8]) -> Inside
     Inside::On(moved(body, next.at))
 }
 
-// Reads the value of a prefix and its semicolon.
-fn read_prefix(body: Body, here: Cursor, classes: &[u8; 128], s: &[u8], store: &mut [u8]) -> Inside
-    requires { ⌜ (now classes ≡ classTable) × (body .used + (length (now s) - here .at) ≤ length (now store)) ⌝ }
-    ensures { λ r. ⌜ (r ≡ withPrefix body (lineAt (now (s .entry)) (here .at) (body .used) prefixKeyword semicolon)) × (now (store .exit) ≡ sets (now (store .entry)) (body .used) (valueBytes (valueAt (now (s .entry)) (here .at)))) ⌝ }
-{
-    let used = body.used;
-    let revision = body.revision;
-    let line = text_value::read_argument(
-        here,
-        classes,
-        s,
-        store,
-        used,
-        text::PREFIX,
-        text::SEMICOLON,
-    );
-    let Argument::Read { next, used: n } = line else {
-        return Inside::Refused(text_value::argument_refusal(line));
-    };
-    let size = n - used;
-    let prefix = scan_rows::held(used, size);
-    Inside::On(Body {
-        at: next.at,
-        used: n,
-        prefix,
-        revision,
-    })
-}
-
-// Reads the value of a revision-date and its semicolon.
-fn read_revision(
+// Reads the value of a prefix or a revision-date and its semicolon. The keyword tells which.
+fn read_inside(
     body: Body,
     here: Cursor,
     classes: &[u8; 128],
     s: &[u8],
     store: &mut [u8],
+    keyword: u32,
 ) -> Inside
     requires { ⌜ (now classes ≡ classTable) × (body .used + (length (now s) - here .at) ≤ length (now store)) ⌝ }
-    ensures { λ r. ⌜ (r ≡ withRevision body (lineAt (now (s .entry)) (here .at) (body .used) revisionDateKeyword semicolon)) × (now (store .exit) ≡ sets (now (store .entry)) (body .used) (valueBytes (valueAt (now (s .entry)) (here .at)))) ⌝ }
+    ensures { λ r. ⌜ (r ≡ withValue body keyword (lineAt (now (s .entry)) (here .at) (body .used) keyword semicolon))
+        × (now (store .exit) ≡ sets (now (store .entry)) (body .used) (valueBytes (valueAt (now (s .entry)) (here .at)))) ⌝ }
 {
     let used = body.used;
-    let prefix = body.prefix;
-    let line = text_value::read_argument(
-        here,
-        classes,
-        s,
-        store,
-        used,
-        text::REVISION_DATE,
-        text::SEMICOLON,
-    );
+    let line = text_value::read_argument(here, classes, s, store, used, keyword, text::SEMICOLON);
     let Argument::Read { next, used: n } = line else {
         return Inside::Refused(text_value::argument_refusal(line));
     };
     let size = n - used;
-    let revision = scan_rows::held(used, size);
-    Inside::On(Body {
-        at: next.at,
-        used: n,
-        prefix,
-        revision,
-    })
+    let value = scan_rows::held(used, size);
+    Inside::On(kept(body, keyword, next, n, value))
 }
 
-// What stands in a block: the prefix of an import, a revision-date, or any other statement.
+// The block with one more value. Of several prefixes or revision-dates the last one read stays.
+fn kept(body: Body, keyword: u32, next: Cursor, used: usize, value: Span) -> Body
+    ensures { λ r. ⌜ r ≡ kept body keyword (next .at) used value ⌝ }
+{
+    let prefix = body.prefix;
+    let revision = body.revision;
+    if keyword == text::PREFIX {
+        return Body {
+            at: next.at,
+            used,
+            prefix: value,
+            revision,
+        };
+    }
+    Body {
+        at: next.at,
+        used,
+        prefix,
+        revision: value,
+    }
+}
+
+// What stands in a block: a keyword whose value is read, or any other statement.
 pub enum Line {
-    Prefix(Cursor),
-    Revision(Cursor),
+    Value { keyword: u32, after: Cursor },
     Other,
 }
 
-// What the statement is that stands here. No keyword is tried where no identifier begins.
+// What the statement is that stands here: in an import's block a prefix counts too. No keyword is tried where no identifier begins.
 fn line_kind(here: Cursor, classes: &[u8; 128], s: &[u8], keyword: u32) -> Line
     requires { ⌜ now classes ≡ classTable ⌝ }
     ensures { λ r. ⌜ r ≡ lineKind (now (s .entry)) (here .at) keyword ⌝ }
 {
     let at = here.at;
     if text::starts_ident(classes, text::peek_char(s, at)) {
+        let revision = or_line(
+            here,
+            classes,
+            s,
+            b"revision-date",
+            text::REVISION_DATE,
+            Line::Other,
+        );
         if keyword == text::IMPORT {
-            return import_line(here, classes, s);
+            return or_line(here, classes, s, b"prefix", text::PREFIX, revision);
         }
-        return revision_line(here, classes, s);
+        return revision;
     }
     Line::Other
 }
 
-// In an import's block.
-fn import_line(here: Cursor, classes: &[u8; 128], s: &[u8]) -> Line
-    requires { ⌜ now classes ≡ classTable ⌝ }
-    ensures { λ r. ⌜ r ≡ orPrefix (now (s .entry)) (here .at) (matchAt (now (s .entry)) (here .at) prefixWord) ⌝ }
+// The keyword, if its word stands here.
+fn or_line(here: Cursor, classes: &[u8; 128], s: &[u8], word: &[u8], keyword: u32, l: Line) -> Line
+    requires { ⌜ (now classes ≡ classTable) × (wordly (now word) ≡ true) ⌝ }
+    ensures { λ r. ⌜ r ≡ orLine keyword (matchAt (now (s .entry)) (here .at) (now (word .entry))) l ⌝ }
 {
-    let prefix = here.match_keyword(classes, s, b"prefix");
-    match prefix {
-        Match::After(c) => Line::Prefix(c),
-        Match::Not => revision_line(here, classes, s),
-    }
-}
-
-// In an include's block.
-fn revision_line(here: Cursor, classes: &[u8; 128], s: &[u8]) -> Line
-    requires { ⌜ now classes ≡ classTable ⌝ }
-    ensures { λ r. ⌜ r ≡ orRevision (matchAt (now (s .entry)) (here .at) revisionDateWord) ⌝ }
-{
-    let revision = here.match_keyword(classes, s, b"revision-date");
-    match revision {
-        Match::After(c) => Line::Revision(c),
-        Match::Not => Line::Other,
+    let m = here.match_keyword(classes, s, word);
+    match m {
+        Match::After(after) => Line::Value { keyword, after },
+        Match::Not => l,
     }
 }
