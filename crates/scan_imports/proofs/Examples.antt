@@ -19,10 +19,10 @@ use Rattle.text_skip.specs.Statement.{closes, quotedLen, quotedEnd, atSemicolon
 use Rattle.scan_rows.specs.Rows.{importWords, includeWords}
 use Rattle.scan_imports.specs.Block.{openEnded, orLine, lineKind, kept, withValue, withSkipped, afterKind, insideHere, insideAt, afterInside, blockTurn, blockFrom, blockAt}
 use Rattle.scan_imports.specs.Statement.{noPrefix, ofBody, importOf, withName, afterName, importAt, includeOf, plainOf, blockOf, openOrPlain, afterValue, includeAt}
-use Rattle.scan_imports.specs.declared.Imported.{Imported}
-use Rattle.scan_imports.specs.declared.Imported.the-variants.{Import, NoImport}
-use Rattle.scan_imports.specs.declared.Included.{Included}
-use Rattle.scan_imports.specs.declared.Included.the-variants.{Include, NoInclude}
+use Rattle.scan_imports.specs.declared.ParsedImport.{ParsedImport}
+use Rattle.scan_imports.specs.declared.ParsedImport.the-variants.{Import, NoImport}
+use Rattle.scan_imports.specs.declared.ParsedInclude.{ParsedInclude}
+use Rattle.scan_imports.specs.declared.ParsedInclude.the-variants.{Include, NoInclude}
 
 -- an import or include at the text's start: the place after it, the bytes stored and the words of its row; or the number, keyword and place
 -- of its refusal
@@ -35,19 +35,19 @@ data Example : Type 0 where
 isRefusal : ℕ → ℕ → ℕ → Refusal → Bool
 isRefusal n k at r = eqb (r .number) n && eqb (r .keyword) k && eqb (r .at) at
 
-isImport : ℕ → List ℕ → Imported → Bool
+isImport : ℕ → List ℕ → ParsedImport → Bool
 isImport at ws (Import c n i) = eqb (c .at) at && same (importWords i) ws
 isImport at ws (NoImport r) = false
 
-isNoImport : ℕ → ℕ → ℕ → Imported → Bool
+isNoImport : ℕ → ℕ → ℕ → ParsedImport → Bool
 isNoImport n k at (Import c m i) = false
 isNoImport n k at (NoImport r) = isRefusal n k at r
 
-isInclude : ℕ → List ℕ → Included → Bool
+isInclude : ℕ → List ℕ → ParsedInclude → Bool
 isInclude at ws (Include c n i) = eqb (c .at) at && same (includeWords i) ws
 isInclude at ws (NoInclude r) = false
 
-isNoInclude : ℕ → ℕ → ℕ → Included → Bool
+isNoInclude : ℕ → ℕ → ℕ → ParsedInclude → Bool
 isNoInclude n k at (Include c m i) = false
 isNoInclude n k at (NoInclude r) = isRefusal n k at r
 

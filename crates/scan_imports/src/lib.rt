@@ -29,7 +29,7 @@ pub const NO_PREFIX: u32 = 7;
 pub const OPEN_ENDED: u32 = 8;
 
 // An import with the cursor after it and the store's next place, or a refusal.
-pub enum Imported {
+pub enum ParsedImport {
     Import {
         next: Cursor,
         used: usize,
@@ -45,7 +45,7 @@ pub fn parse_import(
     s: &[u8],
     store: &mut [u8],
     used: usize,
-) -> Imported
+) -> ParsedImport
     requires { ⌜ (now classes ≡ classTable) × (used + (length (now s) - here .at) ≤ length (now store)) ⌝ }
     ensures { λ r. ⌜ (r ≡ importAt (now (s .entry)) (here .at) used .answer) × (now (store .exit) ≡ sets (now (store .entry)) used (importAt (now (s .entry)) (here .at) used .bytes)) ⌝ }
 {
@@ -59,25 +59,25 @@ pub fn parse_import(
         text::OPEN_BRACE,
     );
     let Argument::Read { next, used: n } = name else {
-        return Imported::NoImport(text_value::argument_refusal(name));
+        return ParsedImport::NoImport(text_value::argument_refusal(name));
     };
     let size = n - used;
     let module_name = scan_rows::held(used, size);
     let block = parse_block(next, classes, s, store, n, text::IMPORT);
     let Block::Whole(body) = block else {
-        return Imported::NoImport(block_refusal(block));
+        return ParsedImport::NoImport(block_refusal(block));
     };
     import_of(module_name, body)
 }
 
 // The import of a name and its block. A prefix is required.
-fn import_of(name: Span, body: Body) -> Imported
+fn import_of(name: Span, body: Body) -> ParsedImport
     ensures { λ r. ⌜ r ≡ ofBody name body ⌝ }
 {
     let prefix = body.prefix;
     let revision_date = body.revision;
     if prefix.present {
-        return Imported::Import {
+        return ParsedImport::Import {
             next: Cursor { at: body.at },
             used: body.used,
             import: YangImport {
@@ -87,7 +87,7 @@ fn import_of(name: Span, body: Body) -> Imported
             },
         };
     }
-    Imported::NoImport(Refusal {
+    ParsedImport::NoImport(Refusal {
         number: NO_PREFIX,
         keyword: text::IMPORT,
         at: body.at,
@@ -95,7 +95,7 @@ fn import_of(name: Span, body: Body) -> Imported
 }
 
 // An include with the cursor after it and the store's next place, or a refusal.
-pub enum Included {
+pub enum ParsedInclude {
     Include {
         next: Cursor,
         used: usize,
@@ -111,13 +111,13 @@ pub fn parse_include(
     s: &[u8],
     store: &mut [u8],
     used: usize,
-) -> Included
+) -> ParsedInclude
     requires { ⌜ (now classes ≡ classTable) × (used + (length (now s) - here .at) ≤ length (now store)) ⌝ }
     ensures { λ r. ⌜ (r ≡ includeAt (now (s .entry)) (here .at) used .answer) × (now (store .exit) ≡ sets (now (store .entry)) used (includeAt (now (s .entry)) (here .at) used .bytes)) ⌝ }
 {
     let name = text_value::read_value(here, classes, s, store, used, text::INCLUDE);
     let Argument::Read { next, used: n } = name else {
-        return Included::NoInclude(text_value::argument_refusal(name));
+        return ParsedInclude::NoInclude(text_value::argument_refusal(name));
     };
     let size = n - used;
     let submodule_name = scan_rows::held(used, size);
@@ -129,9 +129,9 @@ pub fn parse_include(
     }
     let due = end.expect_char(classes, s, text::SEMICOLON, text::INCLUDE);
     let Due::After(after) = due else {
-        return Included::NoInclude(text::refusal_of(due));
+        return ParsedInclude::NoInclude(text::refusal_of(due));
     };
-    Included::Include {
+    ParsedInclude::Include {
         next: after,
         used: n,
         include: YangInclude {
@@ -149,16 +149,16 @@ fn include_block(
     s: &[u8],
     store: &mut [u8],
     used: usize,
-) -> Included
+) -> ParsedInclude
     requires { ⌜ (now classes ≡ classTable) × (used + (length (now s) - here .at) ≤ length (now store)) ⌝ }
     ensures { λ r. ⌜ (r ≡ includeOf name (blockAt (now (s .entry)) (here .at) used includeKeyword .answer)) × (now (store .exit) ≡ sets (now (store .entry)) used (blockAt (now (s .entry)) (here .at) used includeKeyword .bytes)) ⌝ }
 {
     let block = parse_block(here, classes, s, store, used, text::INCLUDE);
     let Block::Whole(body) = block else {
-        return Included::NoInclude(block_refusal(block));
+        return ParsedInclude::NoInclude(block_refusal(block));
     };
     let revision_date = body.revision;
-    Included::Include {
+    ParsedInclude::Include {
         next: Cursor { at: body.at },
         used: body.used,
         include: YangInclude {

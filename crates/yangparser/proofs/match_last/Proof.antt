@@ -1,6 +1,6 @@
 -- `yangparser::match_last`. Four words, in the order of the definition.
 -- Assumes nothing.
-use Rattle.yangparser.proofs.WordLaws.{last-is}
+use Rattle.yangparser.proofs.HeadLaws.{last-is}
 use borrow.Author.Needs.{needs}
 use Rattle.yangparser.proofs.match_last.Statement.{statement}
 use Rattle.yangparser.proofs.match_last.Tie as tie
