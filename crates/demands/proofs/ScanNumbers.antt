@@ -38,19 +38,19 @@ use Rattle.scan_imports.specs.declared.Inside.{Inside}
 use Rattle.scan_imports.specs.declared.Inside.the-variants.{On as OnInside, Closed, Refused as RefusedInside}
 use Rattle.scan_imports.specs.declared.Line.{Line}
 use Rattle.scan_imports.specs.declared.Line.the-variants.{Prefix, Revision, Other as OtherLine}
-use Rattle.scan_imports.specs.declared.Imported.{Imported}
-use Rattle.scan_imports.specs.declared.Imported.the-variants.{Import as ReadImport, NoImport}
-use Rattle.scan_imports.specs.declared.Included.{Included}
-use Rattle.scan_imports.specs.declared.Included.the-variants.{Include as ReadInclude, NoInclude}
+use Rattle.scan_imports.specs.declared.ParsedImport.{ParsedImport}
+use Rattle.scan_imports.specs.declared.ParsedImport.the-variants.{Import as ReadImport, NoImport}
+use Rattle.scan_imports.specs.declared.ParsedInclude.{ParsedInclude}
+use Rattle.scan_imports.specs.declared.ParsedInclude.the-variants.{Include as ReadInclude, NoInclude}
 use Rattle.scan_imports.proofs.BlockLaws.{block-falls}
 use Rattle.yangparser.specs.Dependencies as Deps
-use Rattle.yangparser.specs.Dependencies.{Step, importStep, includeStep, unlessFull, importHere, includeHere, wordStep, stepHere, stepAt, afterStep, scanTurn}
-use Rattle.yangparser.specs.Word.{wordAt}
+use Rattle.yangparser.specs.Dependencies.{Step, importStep, includeStep, unlessFull, importHere, includeHere, headStep, stepHere, stepAt, afterStep, scanTurn}
+use Rattle.yangparser.specs.Head.{headAt}
 use Rattle.yangparser.specs.declared.Next.{Next}
 use Rattle.yangparser.specs.declared.Next.the-variants.{On, Done, Stop}
 use Rattle.yangparser.specs.declared.Sofar.{Sofar}
-use Rattle.yangparser.specs.declared.Word.{Word}
-use Rattle.yangparser.specs.declared.Word.the-variants.{Import, Include, Last, Other}
+use Rattle.yangparser.specs.declared.Head.{Head}
+use Rattle.yangparser.specs.declared.Head.the-variants.{Import, Include, Last, Other}
 use Rattle.demands.specs.Demand1.{OneOf, FirstRefusal, too-long, too-little, high, Fits, RefusedAs, first, read, DependenciesRefusal, argument, no-prefix, block-or-rows}
 
 -- ---- membership of numerals, by test
@@ -187,11 +187,11 @@ module _ (s : List ℕ) (k : ℕ) (own : isOne k (8 ∷ 9 ∷ []) ≡ true) wher
       (λ a r e. stop-is (a .bytes ++ insideAt s k (a .body) .bytes) (insideAt s k (a .body) .answer) r (inside-is (a .body)) e)
       (λ a b r e h. h) (suc (length s)) (record { body = begun at u; bytes = [] }) (omega arith)
 
-abbrev ImportedIs : Imported → Type 0
+abbrev ImportedIs : ParsedImport → Type 0
 ImportedIs (ReadImport c n i) = Unit {0}
 ImportedIs (NoImport r) = D r
 
-abbrev IncludedIs : Included → Type 0
+abbrev IncludedIs : ParsedInclude → Type 0
 IncludedIs (ReadInclude c n i) = Unit {0}
 IncludedIs (NoInclude r) = D r
 
@@ -248,30 +248,30 @@ unfolding unlessFull isOne
 full-is rows k at x own h =
     by-test (leb 256 rows) (λ t. rw t (block-or-rows (of (8 ∷ 10 ∷ []) (8 ∷ 9 ∷ []) 10 k at refl own))) (λ t. rw t h)
 
-import-step-is : (far : Sofar) (bs : List ℕ) (i : Imported) → ImportedIs i → NextIs (importStep far bs i .answer)
+import-step-is : (far : Sofar) (bs : List ℕ) (i : ParsedImport) → ImportedIs i → NextIs (importStep far bs i .answer)
 unfolding importStep
 import-step-is far bs (ReadImport c n i) h = tt
 import-step-is far bs (NoImport r) h = h
 
-include-step-is : (far : Sofar) (bs : List ℕ) (i : Included) → IncludedIs i → NextIs (includeStep far bs i .answer)
+include-step-is : (far : Sofar) (bs : List ℕ) (i : ParsedInclude) → IncludedIs i → NextIs (includeStep far bs i .answer)
 unfolding includeStep
 include-step-is far bs (ReadInclude c n i) h = tt
 include-step-is far bs (NoInclude r) h = h
 
-word-is : (s : List ℕ) (far : Sofar) (at : ℕ) (w : Word) → NextIs (wordStep s far at w .answer)
-unfolding wordStep importHere includeHere isOne
-word-is s far at (Import c) =
+head-is : (s : List ℕ) (far : Sofar) (at : ℕ) (w : Head) → NextIs (headStep s far at w .answer)
+unfolding headStep importHere includeHere isOne
+head-is s far at (Import c) =
     full-is (far .imports) 8 (c .at) _ refl (import-step-is far _ (importAt s (c .at) (far .used) .answer) (import-is s (c .at) (far .used)))
-word-is s far at (Include c) =
+head-is s far at (Include c) =
     full-is (far .includes) 9 (c .at) _ refl (include-step-is far _ (includeAt s (c .at) (far .used) .answer) (include-is s (c .at) (far .used)))
-word-is s far at (Last c) = tt
-word-is s far at Other = tt
+head-is s far at (Last c) = tt
+head-is s far at Other = tt
 
 step-is : (s : List ℕ) (far : Sofar) → NextIs (stepAt s far .answer)
 unfolding stepAt stepHere
 step-is s far =
     let g = gapEnd s (far .at) in
-    by-test (leb (length s) g) (λ t. rw t tt) (λ t. rw t (word-is s far g (wordAt s g)))
+    by-test (leb (length s) g) (λ t. rw t tt) (λ t. rw t (head-is s far g (headAt s g)))
 
 -- what holds of every answer of a turn holds of the loop's
 module _ {A R : Type 0} (step : A → Turn A R) (nothing-read : R) (P : R → Type 0)

@@ -18,10 +18,14 @@ use Rattle.text.specs.declared.Due.the-variants.{After as AfterDue, Not as NotD
 use Rattle.text.specs.declared.Match.{Match}
 use Rattle.text.specs.declared.Match.the-variants.{After, Not}
 use Rattle.text.specs.declared.Refusal.{Refusal}
-use Rattle.text_skip.specs.Statement.{statementAt, endedAt}
-use Rattle.text_skip.specs.declared.Ended.{Ended}
+use Rattle.text_skip.specs.Skip.{skipRefusal}
+use Rattle.text_skip.specs.Statement.{statementAt}
+use Rattle.text_skip.specs.declared.How.{How}
+use Rattle.text_skip.specs.declared.Skipped.{Skipped}
+use Rattle.text_skip.specs.declared.Skipped.the-variants.{Past, Refused as RefusedSkip}
+use Rattle.text_skip.proofs.SkipLaws.{skip-refusal-is}
 use Rattle.scan_header.specs.Tag.{laterDataAt, dataAt, lastTag, orTag, laterTagAt, tagAt}
-use Rattle.scan_header.specs.Header.{dueFor, pastStatement, afterRevision, afterValue, passed}
+use Rattle.scan_header.specs.Header.{dueFor, pastOf, pastStatement, afterRevision, afterValue, passed}
 use Rattle.scan_header.specs.declared.Heard.the-variants.{Passed, Refused}
 use Rattle.scan_header.specs.declared.Tag.{Tag}
 use Rattle.scan_header.specs.declared.Tag.the-variants.{Statement, Last}
@@ -41,9 +45,6 @@ module _ {m : Match} where
     pub tag-not : m ≡ Not → t ≡ orTag k n t
     unfolding orTag
     tag-not h = sym (ap (λ z. orTag k z t) (sym e ∙ h))
-
-  pub or-word-is : {n r : Match} (x : Match) → m ≡ n → r ≡ orMatch m x → r ≡ orMatch n x
-  or-word-is x e h = h ∙ ap (λ z. orMatch z x) e
 
 -- each word before those after it
 module _ (s : List ℕ) (at : ℕ) where
@@ -119,6 +120,16 @@ module _ (s : List ℕ) (at : ℕ) {p : ℕ} (pe : p ≡ getD s at 256) {d : Due
   unfolding afterRevision
   revision-line h e = rw (ne-eqb (getD s at 256) 123 (λ q. h (pe ∙ q))) e
 
-pub past-is : (s : List ℕ) (at : ℕ) {e : Ended} {c : Cursor} → e ≡ statementAt s at → c .at ≡ endedAt e → AfterDue c ≡ pastStatement s at
-unfolding pastStatement
-past-is s at {e} {c} ee ce = ap (λ n. AfterDue (record { at = n })) (ce ∙ ap endedAt ee)
+-- k: what a skip answered
+module _ {k : Skipped} where
+  pub past-refused : (r : Refusal) → k ≡ RefusedSkip r → {q : Refusal} → q ≡ skipRefusal k → NotDue q ≡ pastOf k
+  unfolding pastOf
+  past-refused r h e = ap NotDue (skip-refusal-is h e) ∙ sym (ap pastOf h)
+
+  pub past-after : (c : Cursor) (h : How) → k ≡ Past c h → AfterDue c ≡ pastOf k
+  unfolding pastOf
+  past-after c h e = sym (ap pastOf e)
+
+  pub past-is : (s : List ℕ) (at : ℕ) → k ≡ statementAt s at → {d : Due} → d ≡ pastOf k → d ≡ pastStatement s at
+  unfolding pastStatement
+  past-is s at e p = p ∙ ap pastOf e

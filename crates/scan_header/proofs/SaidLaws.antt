@@ -18,16 +18,20 @@ use Rattle.text.specs.declared.Refusal.{Refusal}
 use Rattle.text.proofs.DueLaws.{due-far, due-refused-within}
 use Rattle.text.proofs.Laws.{gap-from, gap-within}
 use Rattle.text_value.specs.Argument.{argumentAt}
-use Rattle.text_value.specs.Value.{valueAt, valueBytes, placeOf}
+use Rattle.text_value.specs.Value.{valueAt, valueBytes}
 use Rattle.text_value.specs.declared.Argument.{Argument}
 use Rattle.text_value.specs.declared.Argument.the-variants.{Read, Refused as NoArgument}
 use Rattle.text_value.proofs.ArgumentLaws.{argument-far, argument-refused}
-use Rattle.text_value.proofs.JoinLaws.{place-size}
-use Rattle.text_skip.proofs.SkipLaws.{token-far, token-within}
-use Rattle.text_skip.proofs.StatementLaws.{statement-from, statement-within}
+use Rattle.text_skip.specs.Skip.{tokenAt, skippedAt}
+use Rattle.text_skip.specs.Statement.{statementAt}
+use Rattle.text_skip.specs.declared.Skipped.{Skipped}
+use Rattle.text_skip.specs.declared.Skipped.the-variants.{Past, Refused as RefusedSkip}
+use Rattle.text_skip.proofs.PassLaws.{skipped-far, skipped-refused}
+use Rattle.text_skip.proofs.SkipLaws.{token-far, token-refused}
+use Rattle.text_skip.proofs.StatementLaws.{statement-far, statement-refused}
 use Rattle.scan_rows.specs.Span.{held}
 use Rattle.scan_rows.specs.declared.Span.{Span}
-use Rattle.scan_header.specs.Header.{laterPrefix, pastStatement, dueFor, afterRevision, afterValue, Said, said, passed, kept, withRest, fieldAt, statementSaid, tagSaid, saidHere, saidAt}
+use Rattle.scan_header.specs.Header.{laterPrefix, pastOf, pastStatement, dueFor, afterRevision, afterValue, Said, said, passed, kept, withRest, fieldAt, afterSkipped, statementSaid, tagSaid, saidHere, saidAt}
 use Rattle.scan_header.specs.Tag.{tagAt}
 use Rattle.scan_header.specs.declared.Heard.{Heard}
 use Rattle.scan_header.specs.declared.Heard.the-variants.{Value, Passed, Done, Refused}
@@ -54,8 +58,12 @@ due-ends s at b k l small = of (dueAt s at b k) refl
     of (Not r) h = due-refused-within s at b k r l h .1
 
 past-ends : (s : List ℕ) (at : ℕ) → at ≤ length s → Ends s at (pastStatement s at)
-unfolding pastStatement
-past-ends s at l = (statement-from s at, statement-within s at l)
+unfolding pastStatement pastOf
+past-ends s at l = of (statementAt s at) refl
+  where
+    of : (x : Skipped) → statementAt s at ≡ x → Ends s at (pastOf x)
+    of (Past c h) e = statement-far s at l c h e
+    of (RefusedSkip r) e = absurd (statement-refused s at r e)
 
 due-small : (k : ℕ) → dueFor k < 256
 unfolding dueFor
@@ -119,26 +127,37 @@ module _ (s : List ℕ) (at i u : ℕ) (behind : at < i) (in-text : i ≤ length
   unfolding fieldAt
   field-goes k = rest-went k (argumentAt s i u k) refl
 
+  skipped-went : (k : ℕ) (x : Skipped) → skippedAt s i ≡ x → Went s at u [] (afterSkipped s k x)
+  unfolding afterSkipped
+  skipped-went k (Past c h) e =
+      let f = skipped-far s i in-text c h e in
+      passed-went (c .at) (afterValue s (c .at) k) (f .0) (value-ends s (c .at) k (f .1))
+  skipped-went k (RefusedSkip r) e = absurd (skipped-refused s i r e)
+
   statement-goes : (k : ℕ) (p : Bool) → Goes s at u (statementSaid s i k u p)
   unfolding statementSaid
   statement-goes k p =
-      let j = placeOf (valueAt s i) in
-      let w = place-size s i in-text in
+      let version = said (afterSkipped s k (skippedAt s i)) in
       let again = said (passed (pastStatement s i)) in
-      by-cond (Goes s at u) (eqb k 6) (said (passed (afterValue s j k))) (cond (laterPrefix k p) again (fieldAt s i k u))
-      (λ t. passed-went j (afterValue s j k) (w .0) (value-ends s j k (w .1)))
+      by-cond (Goes s at u) (eqb k 6) version (cond (laterPrefix k p) again (fieldAt s i k u))
+      (λ t. skipped-went k (skippedAt s i) refl)
       (λ t. by-cond (Goes s at u) (laterPrefix k p) again (fieldAt s i k u)
       (λ v. passed-went i (pastStatement s i) (omega arith) (past-ends s i in-text))
       (λ v. field-goes k))
 
 -- at the place g after the gap
+token-went : (s : List ℕ) (at g u : ℕ) → at ≤ g → g < length s → (x : Skipped) → tokenAt s g ≡ x → Went s at u [] (passed (pastOf x))
+unfolding passed pastOf
+token-went s at g u from in-text (Past c h) e = let f = token-far s g in-text c h e in (omega (arith, f .0), f .1, refl)
+token-went s at g u from in-text (RefusedSkip r) e = absurd (token-refused s g r e)
+
 tag-goes : (s : List ℕ) (at g u : ℕ) (p : Bool) → at ≤ g → g < length s → (t : Tag) → tagAt s g ≡ t → Goes s at u (tagSaid s g u p t)
 unfolding tagSaid
 tag-goes s at g u p from in-text (Statement k c) h =
     let f = tag-far s g k c h in statement-goes s at (c .at) u (omega (arith, f .0)) (f .1) k p
 tag-goes s at g u p from in-text (Last c) h =
     let f = tag-last-far s g c h in (omega (arith, f .0), λ l. f .1, refl)
-tag-goes s at g u p from in-text Other h = (omega (arith, token-far s g in-text), token-within s g (omega arith), refl)
+tag-goes s at g u p from in-text Other h = token-went s at g u from in-text (tokenAt s g) refl
 
 said-goes : (s : List ℕ) (at u : ℕ) (p : Bool) → Goes s at u (saidAt s at u p)
 unfolding saidAt saidHere

@@ -16,17 +16,20 @@ use Rattle.text.specs.declared.Due.the-variants.{After, Not}
 use Rattle.text.specs.declared.Refusal.{Refusal}
 use Rattle.text.proofs.Laws.{gap-from}
 use Rattle.text_value.specs.Argument.{argumentAt, argumentRefusal}
-use Rattle.text_value.specs.Value.{valueAt, valueBytes, placeOf}
+use Rattle.text_value.specs.Value.{valueAt, valueBytes}
 use Rattle.text_value.specs.declared.Argument.{Argument}
 use Rattle.text_value.specs.declared.Argument.the-variants.{Read, Refused as NoArgument}
-use Rattle.text_skip.specs.Skip.{tokenAt, tokenEnd}
-use Rattle.text_skip.specs.declared.Token.{Token}
+use Rattle.text_skip.specs.Skip.{skipRefusal, tokenAt, skippedAt}
+use Rattle.text_skip.specs.declared.How.{How}
+use Rattle.text_skip.specs.declared.Skipped.{Skipped}
+use Rattle.text_skip.specs.declared.Skipped.the-variants.{Past, Refused as RefusedSkip}
+use Rattle.text_skip.proofs.SkipLaws.{skip-refusal-is}
 use Rattle.scan_rows.specs.Span.{held}
 use Rattle.scan_rows.specs.declared.Span.{Span}
 use Rattle.scan_header.specs.Tag.{tagAt}
-use Rattle.scan_header.specs.Header.{pastStatement, afterValue, passed, kept, withRest, fieldAt, laterPrefix, statementSaid, tagSaid, saidHere, saidAt}
+use Rattle.scan_header.specs.Header.{pastOf, pastStatement, afterValue, passed, kept, withRest, fieldAt, afterSkipped, laterPrefix, statementSaid, tagSaid, saidHere, saidAt}
 use Rattle.scan_header.specs.declared.Heard.{Heard}
-use Rattle.scan_header.specs.declared.Heard.the-variants.{Value, Passed, Done, Refused}
+use Rattle.scan_header.specs.declared.Heard.the-variants.{Value, Done, Refused}
 use Rattle.scan_header.specs.declared.Tag.{Tag}
 use Rattle.scan_header.specs.declared.Tag.the-variants.{Statement, Last, Other}
 use Rattle.scan_header.proofs.TagLaws.{tag-far}
@@ -68,12 +71,21 @@ pub later-no : (k : ℕ) (p : Bool) → (k ≡ 5 → ⊥) → false ≡ laterPre
 unfolding laterPrefix
 later-no k p h = rw (ne-eqb k 5 h) refl
 
+-- v: what skipping a value answered, b: what is due after it
+module _ (s : List ℕ) (k : ℕ) {v x : Skipped} (e : v ≡ x) where
+  pub skip-refused : (r : Refusal) → v ≡ RefusedSkip r → {q : Refusal} → q ≡ skipRefusal v → Refused q ≡ afterSkipped s k x
+  unfolding afterSkipped
+  skip-refused r h p = ap Refused (skip-refusal-is h p) ∙ sym (ap (afterSkipped s k) (sym e ∙ h))
+
+  pub skip-past : (c : Cursor) (h : How) → v ≡ Past c h → {b : Due} → b ≡ afterValue s (c .at) k → {r : Heard} → r ≡ passed b → r ≡ afterSkipped s k x
+  unfolding afterSkipped
+  skip-past c h m be re = re ∙ ap passed be ∙ sym (ap (afterSkipped s k) (sym e ∙ m))
+
 module _ (s : List ℕ) (at k u : ℕ) (p : Bool) (d : List ℕ) where
-  -- the value of yang-version ends at the place c, and b is what is due after it
-  pub version-said : k ≡ 6 → {c : ℕ} → c ≡ placeOf (valueAt s at) → {b : Due} → b ≡ afterValue s c k → {r : Heard} → r ≡ passed b
+  pub version-said : k ≡ 6 → {r : Heard} → r ≡ afterSkipped s k (skippedAt s at)
       → (r ≡ statementSaid s at k u p .answer) × (d ≡ sets d u (statementSaid s at k u p .bytes))
   unfolding statementSaid
-  version-said h {c} ce be re = rw (eq-eqb k 6 h) (re ∙ ap passed (be ∙ ap (λ z. afterValue s z k) ce), refl)
+  version-said h re = rw (eq-eqb k 6 h) (re, refl)
 
   module _ (n : k ≡ 6 → ⊥) {t : Bool} (te : t ≡ laterPrefix k p) where
     pub prefix-said : t ≡ true → {b : Due} → b ≡ pastStatement s at → {r : Heard} → r ≡ passed b
@@ -108,10 +120,11 @@ module _ (s : List ℕ) (at u : ℕ) (p : Bool) (d : List ℕ) {g : Cursor} (ge 
     unfolding tagSaid
     said-last c m = rw (said-tag, m) (refl, refl)
 
-    pub said-other : t ≡ Other → {k : Token} → k ≡ tokenAt s (g .at) → {c : Cursor} → c .at ≡ tokenEnd k
-        → (Passed c ≡ saidAt s at u p .answer) × (d ≡ sets d u (saidAt s at u p .bytes))
+    -- k: the token skipped, b: the place behind it
+    pub said-other : t ≡ Other → {k : Skipped} → k ≡ tokenAt s (g .at) → {b : Due} → b ≡ pastOf k → {r : Heard} → r ≡ passed b
+        → (r ≡ saidAt s at u p .answer) × (d ≡ sets d u (saidAt s at u p .bytes))
     unfolding tagSaid
-    said-other m ke ce = rw (said-tag, m) (ap (λ n. Passed (record { at = n })) (ce ∙ ap tokenEnd ke), refl)
+    said-other m ke be re = rw (said-tag, m) (re ∙ ap passed (be ∙ ap pastOf ke), refl)
 
 -- what is lent for the whole is enough behind a keyword
 pub statement-room : (s : List ℕ) (at u l : ℕ) {g : Cursor} → g .at ≡ gapEnd s at → {t : Tag} → t ≡ tagAt s (g .at) → (k : ℕ) (c : Cursor) → t ≡ Statement k c

@@ -13,11 +13,13 @@ use Rattle.text.specs.Words.{moduleKeyword, submoduleKeyword, belongsToKeyword,
 use Rattle.text.specs.declared.Due.{Due}
 use Rattle.text.specs.declared.Due.the-variants.{After, Not}
 use Rattle.text_value.specs.Argument.{argumentAt}
-use Rattle.text_value.specs.Value.{valueAt, valueBytes, placeOf}
+use Rattle.text_value.specs.Value.{valueAt, valueBytes}
 use Rattle.text_value.specs.declared.Argument.{Argument}
 use Rattle.text_value.specs.declared.Argument.the-variants.{Read, Refused as NoArgument}
-use Rattle.text_skip.specs.Skip.{tokenAt, tokenEnd}
-use Rattle.text_skip.specs.Statement.{statementAt, endedAt}
+use Rattle.text_skip.specs.Skip.{tokenAt, skippedAt}
+use Rattle.text_skip.specs.Statement.{statementAt}
+use Rattle.text_skip.specs.declared.Skipped.{Skipped}
+use Rattle.text_skip.specs.declared.Skipped.the-variants.{Past, Refused as RefusedSkip}
 use Rattle.scan_rows.specs.Span.{held}
 use Rattle.scan_header.specs.Tag.{tagAt}
 use Rattle.scan_header.specs.declared.Heard.{Heard}
@@ -27,9 +29,14 @@ use Rattle.scan_header.specs.declared.Tag.the-variants.{Statement, Last,
 
 -- ---- what follows a value; k: the keyword, at: the place after the value
 
+-- past what was skipped, however it ended, or the refusal
+unfoldable pub pastOf : Skipped → Due
+pastOf (Past c h) = After c
+pastOf (RefusedSkip r) = Not r
+
 -- past a statement
 unfoldable pub pastStatement : List ℕ → ℕ → Due
-pastStatement s at = After (record { at = endedAt (statementAt s at) })
+pastStatement s at = pastOf (statementAt s at)
 
 -- { after a module's name, else ;
 unfoldable pub dueFor : ℕ → ℕ
@@ -71,6 +78,11 @@ withRest s k u (NoArgument r) = Refused r
 unfoldable pub fieldAt : List ℕ → ℕ → ℕ → ℕ → Said
 fieldAt s at k u = record { answer = withRest s k u (argumentAt s at u k); bytes = valueBytes (valueAt s at) }
 
+-- a keyword with a value that is skipped
+unfoldable pub afterSkipped : List ℕ → ℕ → Skipped → Heard
+afterSkipped s k (Past c h) = passed (afterValue s (c .at) k)
+afterSkipped s k (RefusedSkip r) = Refused r
+
 -- hasPrefix: whether a prefix was read before
 unfoldable pub laterPrefix : ℕ → Bool → Bool
 laterPrefix k hasPrefix = eqb k prefixKeyword && hasPrefix
@@ -78,13 +90,13 @@ laterPrefix k hasPrefix = eqb k prefixKeyword && hasPrefix
 -- behind the keyword k
 unfoldable pub statementSaid : List ℕ → ℕ → ℕ → ℕ → Bool → Said
 statementSaid s at k u hasPrefix =
-    cond (eqb k yangVersionKeyword) (said (passed (afterValue s (placeOf (valueAt s at)) k)))
+    cond (eqb k yangVersionKeyword) (said (afterSkipped s k (skippedAt s at)))
     (cond (laterPrefix k hasPrefix) (said (passed (pastStatement s at))) (fieldAt s at k u))
 
 unfoldable pub tagSaid : List ℕ → ℕ → ℕ → Bool → Tag → Said
 tagSaid s at u hasPrefix (Statement k c) = statementSaid s (c .at) k u hasPrefix
 tagSaid s at u hasPrefix (Last c) = said (Done c)
-tagSaid s at u hasPrefix Other = said (Passed (record { at = tokenEnd (tokenAt s at) }))
+tagSaid s at u hasPrefix Other = said (passed (pastOf (tokenAt s at)))
 
 -- at the place after the gap
 unfoldable pub saidHere : List ℕ → ℕ → ℕ → Bool → Said

@@ -4,6 +4,7 @@ use text::Cursor;
 use text::Due;
 use text::Match;
 use text::Refusal;
+use text_skip::Skipped;
 use text_value::Argument;
 ghost use mathlib.Core.Path.{_≡_};
 ghost use mathlib.Core.Bool.{true};
@@ -11,9 +12,10 @@ ghost use Prim.Native.Nat.{_+_, _-_, _≤_};
 ghost use lib.ListN.{length};
 ghost use lib.Seq.{sets};
 ghost use Rattle.text.specs.Class.{classTable};
-ghost use Rattle.text.specs.Keyword.{wordly, matchAt, orMatch};
+ghost use Rattle.text.specs.Keyword.{wordly, matchAt};
+ghost use Rattle.text_skip.specs.Skip.{skippedAt};
 ghost use Rattle.scan_header.specs.Tag.{laterDataAt, dataAt, lastTag, orTag, laterTagAt, tagAt};
-ghost use Rattle.scan_header.specs.Header.{dueFor, pastStatement, afterRevision, afterValue, passed, fieldAt, laterPrefix, statementSaid, saidAt};
+ghost use Rattle.scan_header.specs.Header.{pastOf, pastStatement, dueFor, afterRevision, afterValue, passed, afterSkipped, fieldAt, laterPrefix, statementSaid, saidAt};
 
 // A value was read for a keyword; or something was passed that is not kept; or the scan is over; or a refusal.
 pub enum Heard {
@@ -59,7 +61,7 @@ pub fn hear(
         Tag::Last(c) => Heard::Done(c),
         Tag::Other => {
             let token = text_skip::skip_one_token(here, classes, s);
-            Heard::Passed(text_skip::token_end(token))
+            passed(past(token))
         }
     }
 }
@@ -78,13 +80,24 @@ fn read_statement(
     ensures { λ r. ⌜ (r ≡ statementSaid (now (s .entry)) (here .at) keyword used prefixed .answer) × (now (store .exit) ≡ sets (now (store .entry)) used (statementSaid (now (s .entry)) (here .at) keyword used prefixed .bytes)) ⌝ }
 {
     if keyword == text::YANG_VERSION {
-        let end = text_skip::skip_value(here, classes, s);
-        return passed(after_value(end, classes, s, keyword));
+        return skip_field(here, classes, s, keyword);
     }
     if later_prefix(keyword, prefixed) {
         return passed(past_statement(here, classes, s));
     }
     read_field(here, classes, s, store, used, keyword)
+}
+
+// Skips a keyword's value, if there is one, and reads what is due after it.
+fn skip_field(here: Cursor, classes: &[u8; 128], s: &[u8], keyword: u32) -> Heard
+    requires { ⌜ now classes ≡ classTable ⌝ }
+    ensures { λ r. ⌜ r ≡ afterSkipped (now (s .entry)) keyword (skippedAt (now (s .entry)) (here .at)) ⌝ }
+{
+    let value = text_skip::skip_value(here, classes, s);
+    let Skipped::Past(next, _) = value else {
+        return Heard::Refused(text_skip::skip_refusal(value));
+    };
+    passed(after_value(next, classes, s, keyword))
 }
 
 // Whether a prefix was read before this one.
@@ -156,8 +169,18 @@ fn past_statement(here: Cursor, classes: &[u8; 128], s: &[u8]) -> Due
     requires { ⌜ now classes ≡ classTable ⌝ }
     ensures { λ r. ⌜ r ≡ pastStatement (now (s .entry)) (here .at) ⌝ }
 {
-    let ended = text_skip::skip_statement(here, classes, s);
-    Due::After(text_skip::ended_at(ended))
+    let statement = text_skip::skip_statement(here, classes, s);
+    past(statement)
+}
+
+// Past what was skipped, however it ended, or the refusal.
+fn past(k: Skipped) -> Due
+    ensures { λ r. ⌜ r ≡ pastOf k ⌝ }
+{
+    let Skipped::Past(next, _) = k else {
+        return Due::Not(text_skip::skip_refusal(k));
+    };
+    Due::After(next)
 }
 
 // A revision's block, or a semicolon.
@@ -261,10 +284,10 @@ fn match_data(here: Cursor, classes: &[u8; 128], s: &[u8]) -> Match
     ensures { λ r. ⌜ r ≡ dataAt (now (s .entry)) (here .at) ⌝ }
 {
     let later = match_later_data(here, classes, s);
-    let grouping = or_word(here, classes, s, b"grouping", later);
-    let leaf = or_word(here, classes, s, b"leaf", grouping);
-    let list = or_word(here, classes, s, b"list", leaf);
-    or_word(here, classes, s, b"container", list)
+    let grouping = text::or_word(here, classes, s, b"grouping", later);
+    let leaf = text::or_word(here, classes, s, b"leaf", grouping);
+    let list = text::or_word(here, classes, s, b"list", leaf);
+    text::or_word(here, classes, s, b"container", list)
 }
 
 fn match_later_data(here: Cursor, classes: &[u8; 128], s: &[u8]) -> Match
@@ -272,16 +295,8 @@ fn match_later_data(here: Cursor, classes: &[u8; 128], s: &[u8]) -> Match
     ensures { λ r. ⌜ r ≡ laterDataAt (now (s .entry)) (here .at) ⌝ }
 {
     let notification = here.match_keyword(classes, s, b"notification");
-    let rpc = or_word(here, classes, s, b"rpc", notification);
-    let augment = or_word(here, classes, s, b"augment", rpc);
-    let identity = or_word(here, classes, s, b"identity", augment);
-    or_word(here, classes, s, b"typedef", identity)
-}
-
-// Past the word, if it stands here, else what is given.
-fn or_word(here: Cursor, classes: &[u8; 128], s: &[u8], word: &[u8], m: Match) -> Match
-    requires { ⌜ (now classes ≡ classTable) × (wordly (now word) ≡ true) ⌝ }
-    ensures { λ r. ⌜ r ≡ orMatch (matchAt (now (s .entry)) (here .at) (now (word .entry))) m ⌝ }
-{
-    text::or_match(here.match_keyword(classes, s, word), m)
+    let rpc = text::or_word(here, classes, s, b"rpc", notification);
+    let augment = text::or_word(here, classes, s, b"augment", rpc);
+    let identity = text::or_word(here, classes, s, b"identity", augment);
+    text::or_word(here, classes, s, b"typedef", identity)
 }

@@ -7,6 +7,7 @@ use Prim.Native.Nat.{ℕ, suc, _+_, _-_, _<_, _≤_}
 use native.Mathlib.Omega.{arith}
 use lib.ListN.{length, length-append}
 use lib.Seq.{sets, length-sets}
+use Rattle.text.specs.Refusal.{noRefusal}
 use Rattle.text.specs.Turns.{on}
 use Rattle.text.specs.declared.Refusal.{Refusal}
 use Rattle.text.proofs.Turns.{turns-stop, turns-on}
@@ -45,7 +46,7 @@ module _ (s : List ℕ) (k : ℕ) (g : Stored) where
       → blockFrom s k g ≡ blockFrom s k (record { body = y; bytes = g .bytes ++ insideAt s k (g .body) .bytes })
   unfolding blockFrom blockTurn afterInside
   block-on y h =
-      turns-on (blockTurn s k) (nothing (Broken (record { number = 0; keyword = 0; at = 0 }))) (λ b. length s - b .body .at) (block-falls s k)
+      turns-on (blockTurn s k) (nothing (Broken noRefusal)) (λ b. length s - b .body .at) (block-falls s k)
       (suc (length s)) (suc (length s)) g _ (omega arith) (omega arith) (ap (afterInside (g .bytes ++ insideAt s k (g .body) .bytes)) h)
 
   -- its end
@@ -53,7 +54,7 @@ module _ (s : List ℕ) (k : ℕ) (g : Stored) where
       → blockFrom s k g ≡ record { answer = Whole y; bytes = g .bytes ++ insideAt s k (g .body) .bytes }
   unfolding blockFrom blockTurn afterInside
   block-close y h =
-      turns-stop (blockTurn s k) (nothing (Broken (record { number = 0; keyword = 0; at = 0 }))) (λ b. length s - b .body .at) (block-falls s k)
+      turns-stop (blockTurn s k) (nothing (Broken noRefusal)) (λ b. length s - b .body .at) (block-falls s k)
       (suc (length s)) g _ (omega arith) (ap (afterInside (g .bytes ++ insideAt s k (g .body) .bytes)) h)
 
   -- a refusal
@@ -61,7 +62,7 @@ module _ (s : List ℕ) (k : ℕ) (g : Stored) where
       → blockFrom s k g ≡ record { answer = Broken r; bytes = g .bytes ++ insideAt s k (g .body) .bytes }
   unfolding blockFrom blockTurn afterInside
   block-broken r h =
-      turns-stop (blockTurn s k) (nothing (Broken (record { number = 0; keyword = 0; at = 0 }))) (λ b. length s - b .body .at) (block-falls s k)
+      turns-stop (blockTurn s k) (nothing (Broken noRefusal)) (λ b. length s - b .body .at) (block-falls s k)
       (suc (length s)) g _ (omega arith) (ap (afterInside (g .bytes ++ insideAt s k (g .body) .bytes)) h)
 
 -- ---- the loop

@@ -5,7 +5,8 @@ use mathlib.Core.List.{List, [], _∷_}
 use Prim.Native.Nat.{ℕ}
 use lib.Dec.{eqb, T}
 use Rattle.text.specs.Class.{classOf}
-use Rattle.text.specs.Due.{noValue, otherByte, endOfText, dueNumber, dueHere, dueAt}
+use Rattle.text.specs.Due.{dueNumber, dueHere, dueAt}
+use Rattle.text.specs.Refusal.{noValue, otherByte, endOfText}
 use Rattle.text.specs.Keyword.{startsIdent, endsKeyword, same, part, keywordAt, matchAt}
 use Rattle.text.specs.Scan.{inIdent, inRun, span, runEnd, pairAt, closing, blockEnd, commentEnd, afterWhite, gapTurn, gapEnd}
 use Rattle.text.specs.Turns.{turns}
@@ -14,14 +15,14 @@ use Rattle.text.specs.declared.Refusal.{Refusal}
 use Rattle.text_value.specs.Argument.{argumentOf, argumentAt, afterDue, afterArgument, lineAt}
 use Rattle.text_value.specs.Str.{escaped, escapes, strEnd, strBytes, closedBy, strAt}
 use Rattle.text_value.specs.Value.{isQuote, startsName, addedBy, afterPlus, afterGap, moreAt, addTo, joinTurn, joinedWith, joined, ofString, valueHere, valueAt, valueBytes}
-use Rattle.text_skip.specs.Statement.{closes, quotedLen, quotedEnd, atSemicolon, atClose, partOf, partAt, ofPart, statementTurn, statementFrom, statementAt, endedAt}
+use Rattle.text_skip.specs.Statement.{closes, quotedLen, quotedEnd, atSemicolon, atClose, partOf, partAt, ofPart, statementTurn, statementFrom, statementAt}
 use Rattle.scan_rows.specs.Rows.{importWords, includeWords}
-use Rattle.scan_imports.specs.Block.{openEnded, orRevision, orPrefix, lineKind, withPrefix, withRevision, afterKind, insideHere, insideAt, afterInside, blockTurn, blockFrom, blockAt}
+use Rattle.scan_imports.specs.Block.{openEnded, orLine, lineKind, kept, withValue, withSkipped, afterKind, insideHere, insideAt, afterInside, blockTurn, blockFrom, blockAt}
 use Rattle.scan_imports.specs.Statement.{noPrefix, ofBody, importOf, withName, afterName, importAt, includeOf, plainOf, blockOf, openOrPlain, afterValue, includeAt}
-use Rattle.scan_imports.specs.declared.Imported.{Imported}
-use Rattle.scan_imports.specs.declared.Imported.the-variants.{Import, NoImport}
-use Rattle.scan_imports.specs.declared.Included.{Included}
-use Rattle.scan_imports.specs.declared.Included.the-variants.{Include, NoInclude}
+use Rattle.scan_imports.specs.declared.ParsedImport.{ParsedImport}
+use Rattle.scan_imports.specs.declared.ParsedImport.the-variants.{Import, NoImport}
+use Rattle.scan_imports.specs.declared.ParsedInclude.{ParsedInclude}
+use Rattle.scan_imports.specs.declared.ParsedInclude.the-variants.{Include, NoInclude}
 
 -- an import or include at the text's start: the place after it, the bytes stored and the words of its row; or the number, keyword and place
 -- of its refusal
@@ -34,19 +35,19 @@ data Example : Type 0 where
 isRefusal : ℕ → ℕ → ℕ → Refusal → Bool
 isRefusal n k at r = eqb (r .number) n && eqb (r .keyword) k && eqb (r .at) at
 
-isImport : ℕ → List ℕ → Imported → Bool
+isImport : ℕ → List ℕ → ParsedImport → Bool
 isImport at ws (Import c n i) = eqb (c .at) at && same (importWords i) ws
 isImport at ws (NoImport r) = false
 
-isNoImport : ℕ → ℕ → ℕ → Imported → Bool
+isNoImport : ℕ → ℕ → ℕ → ParsedImport → Bool
 isNoImport n k at (Import c m i) = false
 isNoImport n k at (NoImport r) = isRefusal n k at r
 
-isInclude : ℕ → List ℕ → Included → Bool
+isInclude : ℕ → List ℕ → ParsedInclude → Bool
 isInclude at ws (Include c n i) = eqb (c .at) at && same (includeWords i) ws
 isInclude at ws (NoInclude r) = false
 
-isNoInclude : ℕ → ℕ → ℕ → Included → Bool
+isNoInclude : ℕ → ℕ → ℕ → ParsedInclude → Bool
 isNoInclude n k at (Include c m i) = false
 isNoInclude n k at (NoInclude r) = isRefusal n k at r
 
@@ -97,5 +98,5 @@ examples =
     ∷ []
 
 right : T (all examples)
-unfolding examples all holds isRefusal isImport isNoImport isInclude isNoInclude importWords includeWords importAt afterName withName importOf ofBody includeAt afterValue openOrPlain blockOf includeOf plainOf blockAt blockFrom blockTurn afterInside insideAt insideHere afterKind withPrefix withRevision lineKind orPrefix orRevision statementAt statementFrom statementTurn ofPart partAt partOf atSemicolon atClose quotedEnd quotedLen closes endedAt matchAt keywordAt startsIdent endsKeyword lineAt afterArgument afterDue argumentAt argumentOf dueAt dueHere dueNumber same valueAt valueBytes valueHere ofString joined joinedWith joinTurn addTo moreAt afterGap afterPlus addedBy isQuote startsName strAt closedBy strBytes strEnd escaped escapes part gapEnd gapTurn afterWhite commentEnd blockEnd closing pairAt runEnd span inRun inIdent classOf turns
+unfolding examples all holds isRefusal isImport isNoImport isInclude isNoInclude importWords includeWords importAt afterName withName importOf ofBody includeAt afterValue openOrPlain blockOf includeOf plainOf blockAt blockFrom blockTurn afterInside insideAt insideHere afterKind withValue kept withSkipped lineKind orLine statementAt statementFrom statementTurn ofPart partAt partOf atSemicolon atClose quotedEnd quotedLen closes matchAt keywordAt startsIdent endsKeyword lineAt afterArgument afterDue argumentAt argumentOf dueAt dueHere dueNumber same valueAt valueBytes valueHere ofString joined joinedWith joinTurn addTo moreAt afterGap afterPlus addedBy isQuote startsName strAt closedBy strBytes strEnd escaped escapes part gapEnd gapTurn afterWhite commentEnd blockEnd closing pairAt runEnd span inRun inIdent classOf turns
 right = tt

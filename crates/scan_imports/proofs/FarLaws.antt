@@ -1,7 +1,7 @@
 -- How far one statement of a block goes: it takes more bytes of the text than it stores, so the block ends and its values fit the store.
 -- Assumes nothing.
 use mathlib.Core.Path.{_≡_, refl, sym, ap, subst, _∙_}
-use mathlib.Core.List.{List}
+use mathlib.Core.List.{List, []}
 use Prim.Native.Nat.{ℕ, _+_, _-_, _<_, _≤_}
 use native.Mathlib.Omega.{arith}
 use lib.ListN.{length, getD}
@@ -22,17 +22,20 @@ use Rattle.text_value.specs.declared.Argument.{Argument}
 use Rattle.text_value.specs.declared.Argument.the-variants.{Read, Refused as RefusedLine}
 use Rattle.text_value.proofs.ArgumentLaws.{line-far, line-refusal}
 use Rattle.text_value.proofs.JoinLaws.{value-size}
-use Rattle.text_skip.specs.Statement.{statementAt, endedAt}
-use Rattle.text_skip.proofs.StatementLaws.{statement-moves, statement-within}
+use Rattle.text_skip.specs.Statement.{statementAt}
+use Rattle.text_skip.specs.declared.Skipped.{Skipped}
+use Rattle.text_skip.specs.declared.Skipped.the-variants.{Past, Refused as RefusedSkip}
+use Rattle.text_skip.proofs.StatementLaws.{statement-far, statement-moves, statement-refused}
+use Rattle.scan_rows.specs.Span.{held}
 use Rattle.scan_imports.specs.Left.{Left}
-use Rattle.scan_imports.specs.Block.{orRevision, orPrefix, lineKind, withPrefix, withRevision, afterKind, insideAt}
+use Rattle.scan_imports.specs.Block.{orLine, revisionLine, lineKind, withValue, withSkipped, afterKind, insideAt}
 use Rattle.scan_imports.specs.declared.Body.{Body}
 use Rattle.scan_imports.specs.declared.Line.{Line}
-use Rattle.scan_imports.specs.declared.Line.the-variants.{Prefix, Revision, Other}
+use Rattle.scan_imports.specs.declared.Line.the-variants.{Value, Other}
 use Rattle.scan_imports.specs.declared.Inside.{Inside}
 use Rattle.scan_imports.specs.declared.Inside.the-variants.{On, Closed, Refused}
 use Rattle.scan_imports.proofs.InsideLaws.{inside-end, inside-close, inside-kind}
-use Rattle.scan_imports.proofs.Spans.{Sound, sound-moved, sound-prefix, sound-revision}
+use Rattle.scan_imports.proofs.Spans.{Sound, sound-moved, sound-kept, kept-place}
 
 -- what is stored of a value fits the rest of the text
 value-fits : (s : List ℕ) (at : ℕ) (v : Val) → valueAt s at ≡ v → length (valueBytes v) ≤ length s - at
@@ -45,40 +48,24 @@ bytes-fit s at = value-fits s at (valueAt s at) refl
 
 -- ---- a keyword
 
-revision-far : (s : List ℕ) (at : ℕ) (m : Match) (c : Cursor) → matchAt s at revisionDateWord ≡ m → orRevision m ≡ Revision c → (at < c .at) × (c .at ≤ length s)
-unfolding orRevision
-revision-far s at (After d) c e h = let k : d .at ≡ c .at = cc in omega (arith, match-far s at revisionDateWord d e)
-revision-far s at Not c e h = let z : _≡_ {A = ℕ} 0 1 = cc in absurd (omega arith)
+-- m: what a word answered, l: what it is else
+or-far : (s : List ℕ) (at : ℕ) (word : List ℕ) (k : ℕ) (m : Match) (l : Line) (j : ℕ) (c : Cursor) → matchAt s at word ≡ m
+    → (l ≡ Value j c → (at < c .at) × (c .at ≤ length s)) → orLine k m l ≡ Value j c → (at < c .at) × (c .at ≤ length s)
+unfolding orLine
+or-far s at word k (After d) l j c e else h = let q : d .at ≡ c .at = cc in omega (arith, match-far s at word d e)
+or-far s at word k Not l j c e else h = else h
 
-not-import : (m : Match) (c : Cursor) → orRevision m ≡ Prefix c → ⊥
-unfolding orRevision
-not-import (After d) c h = let z : _≡_ {A = ℕ} 0 1 = cc in omega arith
-not-import Not c h = let z : _≡_ {A = ℕ} 0 1 = cc in omega arith
-
-prefix-far : (s : List ℕ) (at : ℕ) (m : Match) (c : Cursor) → matchAt s at prefixWord ≡ m → orPrefix s at m ≡ Prefix c → (at < c .at) × (c .at ≤ length s)
-unfolding orPrefix
-prefix-far s at (After d) c e h = let k : d .at ≡ c .at = cc in omega (arith, match-far s at prefixWord d e)
-prefix-far s at Not c e h = absurd (not-import (matchAt s at revisionDateWord) c h)
-
-either-far : (s : List ℕ) (at : ℕ) (m : Match) (c : Cursor) → matchAt s at prefixWord ≡ m → orPrefix s at m ≡ Revision c → (at < c .at) × (c .at ≤ length s)
-unfolding orPrefix
-either-far s at (After d) c e h = let z : _≡_ {A = ℕ} 0 1 = cc in absurd (omega arith)
-either-far s at Not c e h = revision-far s at (matchAt s at revisionDateWord) c refl h
+other-not : {A : Type 0} {l : Line} (j : ℕ) (c : Cursor) → l ≡ Other → l ≡ Value j c → A
+other-not j c e h = let z : _≡_ {A = ℕ} 0 1 = cc in absurd (omega arith)
 
 -- the value begins behind the keyword
-pub kind-prefix-far : (s : List ℕ) (at k : ℕ) (c : Cursor) → lineKind s at k ≡ Prefix c → (at < c .at) × (c .at ≤ length s)
+pub kind-value-far : (s : List ℕ) (at k j : ℕ) (c : Cursor) → lineKind s at k ≡ Value j c → (at < c .at) × (c .at ≤ length s)
 unfolding lineKind
-kind-prefix-far s at k c h =
+kind-value-far s at k j c h =
+    let revision = or-far s at revisionDateWord 10 (matchAt s at revisionDateWord) Other j c refl (other-not j c refl) in
     by-test (eqb k 8)
-    (λ t. prefix-far s at (matchAt s at prefixWord) c refl (rw t at h))
-    (λ t. absurd (not-import (matchAt s at revisionDateWord) c (rw t at h)))
-
-pub kind-revision-far : (s : List ℕ) (at k : ℕ) (c : Cursor) → lineKind s at k ≡ Revision c → (at < c .at) × (c .at ≤ length s)
-unfolding lineKind
-kind-revision-far s at k c h =
-    by-test (eqb k 8)
-    (λ t. either-far s at (matchAt s at prefixWord) c refl (rw t at h))
-    (λ t. revision-far s at (matchAt s at revisionDateWord) c refl (rw t at h))
+    (λ t. or-far s at prefixWord 5 (matchAt s at prefixWord) (revisionLine s at) j c refl revision (rw t at h))
+    (λ t. revision (rw t at h))
 
 -- ---- a statement
 
@@ -93,33 +80,31 @@ Went s b bs (Closed y) = Forth s b bs y
 Went s b bs (Refused r) = (length bs ≤ length s - b .at) × (b .at ≤ length s → r .at ≤ length s)
 
 module _ (s : List ℕ) (b : Body) (at : ℕ) (l : b .at ≤ at) (in-text : at ≤ length s) where
-  prefix-went : (a : Argument) → lineAt s at (b .used) 5 59 ≡ a → Went s b (valueBytes (valueAt s at)) (withPrefix b a)
-  unfolding withPrefix
-  prefix-went (Read c n) h =
-      let f = line-far s at (b .used) 5 59 c n (omega arith) h in
-      (omega (arith, f), f .1, f .2, λ u d. sound-prefix u b (c .at) n (omega (arith, f)) d)
-  prefix-went (RefusedLine r) h = (omega (arith, bytes-fit s at), λ i. line-refusal s at (b .used) 5 59 r in-text h .2)
-
-  revision-went : (a : Argument) → lineAt s at (b .used) 10 59 ≡ a → Went s b (valueBytes (valueAt s at)) (withRevision b a)
-  unfolding withRevision
-  revision-went (Read c n) h =
-      let f = line-far s at (b .used) 10 59 c n (omega arith) h in
-      (omega (arith, f), f .1, f .2, λ u d. sound-revision u b (c .at) n (omega (arith, f)) d)
-  revision-went (RefusedLine r) h = (omega (arith, bytes-fit s at), λ i. line-refusal s at (b .used) 10 59 r in-text h .2)
+  value-went : (j : ℕ) (a : Argument) → lineAt s at (b .used) j 59 ≡ a → Went s b (valueBytes (valueAt s at)) (withValue b j a)
+  unfolding withValue
+  value-went j (Read c n) h =
+      let f = line-far s at (b .used) j 59 c n (omega arith) h in
+      let x = held (b .used) (n - b .used) in
+      let p = kept-place b j (c .at) n x in
+      (omega (arith, f, p .0), omega (arith, f .1, p .0), p .1 ∙ f .2, λ u d. sound-kept u b (c .at) n (omega (arith, f)) d j)
+  value-went j (RefusedLine r) h = (omega (arith, bytes-fit s at), λ i. line-refusal s at (b .used) j 59 r in-text h .2)
 
 -- at the place g after the gap
 module _ (s : List ℕ) (b : Body) (g k : ℕ) (l : b .at ≤ g) (in-text : g < length s) (e : gapEnd s g ≡ g) (n : getD s g 256 ≡ 125 → ⊥) where
+  other-went : (x : Skipped) → statementAt s g ≡ x → Went s b [] (withSkipped b x)
+  unfolding withSkipped
+  other-went (Past c h) m =
+      let moves = statement-moves s g in-text (λ z. n (ap (λ i. getD s i 256) (sym e) ∙ z)) c h m in
+      let far = statement-far s g (omega arith) c h m in
+      (omega (arith, moves), far .1, omega arith, λ u d. sound-moved u b (c .at) d)
+  other-went (RefusedSkip r) m = absurd (statement-refused s g r m)
+
   kind-went : (x : Line) → lineKind s g k ≡ x → Went s b (afterKind s g b x .bytes) (afterKind s g b x .answer)
   unfolding afterKind
-  kind-went (Prefix c) h =
-      let f = kind-prefix-far s g k c h in
-      prefix-went s b (c .at) (omega (arith, f)) (f .1) (lineAt s (c .at) (b .used) 5 59) refl
-  kind-went (Revision c) h =
-      let f = kind-revision-far s g k c h in
-      revision-went s b (c .at) (omega (arith, f)) (f .1) (lineAt s (c .at) (b .used) 10 59) refl
-  kind-went Other h =
-      let m = statement-moves s g in-text (λ z. n (ap (λ i. getD s i 256) (sym e) ∙ z)) in
-      (omega (arith, m), statement-within s g (omega arith), omega arith, λ u d. sound-moved u b (endedAt (statementAt s g)) d)
+  kind-went (Value j c) h =
+      let f = kind-value-far s g k j c h in
+      value-went s b (c .at) (omega (arith, f)) (f .1) j (lineAt s (c .at) (b .used) j 59) refl
+  kind-went Other h = other-went (statementAt s g) refl
 
 went-is : (s : List ℕ) (b : Body) {x y : Left Inside} → x ≡ y → Went s b (y .bytes) (y .answer) → Went s b (x .bytes) (x .answer)
 went-is s b e w = subst (λ z. Went s b (z .bytes) (z .answer)) (sym e) w

@@ -24,14 +24,20 @@ use Rattle.text_value.specs.Value.{valueAt, valueBytes}
 use Rattle.text_value.specs.declared.Argument.{Argument}
 use Rattle.text_value.specs.declared.Argument.the-variants.{Read, Refused as RefusedLine}
 use Rattle.text_value.proofs.ArgumentLaws.{refusal-is, line-far, line-room}
-use Rattle.text_skip.specs.Statement.{statementAt, endedAt}
+use Rattle.text_skip.specs.Skip.{skipRefusal}
+use Rattle.text_skip.specs.Statement.{statementAt}
+use Rattle.text_skip.specs.declared.How.{How}
+use Rattle.text_skip.specs.declared.Skipped.{Skipped}
+use Rattle.text_skip.specs.declared.Skipped.the-variants.{Past, Refused as RefusedSkip}
+use Rattle.text_skip.proofs.SkipLaws.{skip-refusal-is}
 use Rattle.scan_rows.specs.Span.{held, missing}
 use Rattle.scan_rows.specs.declared.Span.{Span}
 use Rattle.scan_imports.specs.Left.{Left, nothing}
-use Rattle.scan_imports.specs.Block.{orRevision, orPrefix, lineKind, withPrefix, withRevision, begun, moved, afterKind, insideHere, insideAt}
+use Rattle.scan_imports.specs.Block.{orLine, revisionLine, lineKind, kept, withValue, withSkipped, begun, moved, afterKind, insideHere, insideAt}
 use Rattle.scan_imports.specs.declared.Body.{Body}
 use Rattle.scan_imports.specs.declared.Line.{Line}
-use Rattle.scan_imports.specs.declared.Line.the-variants.{Prefix, Revision, Other}
+use Rattle.scan_imports.specs.declared.Line.the-variants.{Value, Other}
+use Rattle.scan_imports.specs.declared.Inside.{Inside}
 use Rattle.scan_imports.specs.declared.Inside.the-variants.{On, Closed, Refused}
 
 -- ---- what is answered, and what is left in the store: it was d and is e, from the place u on
@@ -48,39 +54,31 @@ begun-is at u h k = ap₂ (λ p q. record { at = at; used = u; prefix = p; revis
 
 -- ---- which statement it is
 
-module _ (s : List ℕ) (at : ℕ) {m : Match} where
-  pub revision-after : m ≡ matchAt s at revisionDateWord → (c : Cursor) → m ≡ After c → Revision c ≡ orRevision (matchAt s at revisionDateWord)
-  unfolding orRevision
-  revision-after e c h = sym (ap orRevision (sym e ∙ h))
+-- m: what the keyword j answered
+module _ (j : ℕ) (l : Line) {m n : Match} (e : m ≡ n) where
+  pub line-after : (c : Cursor) → m ≡ After c → Value j c ≡ orLine j n l
+  unfolding orLine
+  line-after c h = sym (ap (λ z. orLine j z l) (sym e ∙ h))
 
-  pub revision-not : m ≡ matchAt s at revisionDateWord → m ≡ Not → Other ≡ orRevision (matchAt s at revisionDateWord)
-  unfolding orRevision
-  revision-not e h = sym (ap orRevision (sym e ∙ h))
+  pub line-not : m ≡ Not → l ≡ orLine j n l
+  unfolding orLine
+  line-not h = sym (ap (λ z. orLine j z l) (sym e ∙ h))
 
-  pub prefix-after : m ≡ matchAt s at prefixWord → (c : Cursor) → m ≡ After c → Prefix c ≡ orPrefix s at (matchAt s at prefixWord)
-  unfolding orPrefix
-  prefix-after e c h = sym (ap (orPrefix s at) (sym e ∙ h))
-
-  pub prefix-not : m ≡ matchAt s at prefixWord → m ≡ Not → {l : Line} → l ≡ orRevision (matchAt s at revisionDateWord)
-      → l ≡ orPrefix s at (matchAt s at prefixWord)
-  unfolding orPrefix
-  prefix-not e h q = q ∙ sym (ap (orPrefix s at) (sym e ∙ h))
-
-module _ (s : List ℕ) (at k : ℕ) where
-  pub kind-import : k ≡ 8 → {l : Line} → l ≡ orPrefix s at (matchAt s at prefixWord) → l ≡ lineKind s at k
+module _ (s : List ℕ) (at k : ℕ) {r : Line} (re : r ≡ revisionLine s at) where
+  pub kind-import : k ≡ 8 → {p : Line} → p ≡ orLine 5 (matchAt s at prefixWord) r → p ≡ lineKind s at k
   unfolding lineKind
-  kind-import h q = rw (eq-eqb k 8 h) q
+  kind-import h pe = rw (eq-eqb k 8 h) (pe ∙ ap (orLine 5 _) re)
 
-  pub kind-include : (k ≡ 8 → ⊥) → {l : Line} → l ≡ orRevision (matchAt s at revisionDateWord) → l ≡ lineKind s at k
+  pub kind-include : (k ≡ 8 → ⊥) → r ≡ lineKind s at k
   unfolding lineKind
-  kind-include h q = rw (ne-eqb k 8 h) q
+  kind-include h = rw (ne-eqb k 8 h) re
 
-  -- where no identifier begins, no keyword matches
-  pub kind-none : {b : ℕ} {t : Bool} → b ≡ getD s at 256 → t ≡ startsIdent b → t ≡ false → Other ≡ lineKind s at k
-  unfolding lineKind orPrefix orRevision
-  kind-none be te f =
-      rw (match-none s at prefixWord be te f, match-none s at revisionDateWord be te f)
-      (by-test (eqb k 8) (λ t. rw t refl) (λ t. rw t refl))
+-- where no identifier begins, no keyword matches
+pub kind-none : (s : List ℕ) (at k : ℕ) {b : ℕ} {t : Bool} → b ≡ getD s at 256 → t ≡ startsIdent b → t ≡ false → Other ≡ lineKind s at k
+unfolding lineKind orLine
+kind-none s at k be te f =
+    rw (match-none s at prefixWord be te f, match-none s at revisionDateWord be te f)
+    (by-test (eqb k 8) (λ t. rw t refl) (λ t. rw t refl))
 
 -- ---- a value read
 
@@ -92,27 +90,37 @@ pub room-left : (s : List ℕ) (at u k b m : ℕ) (c : Cursor) (n : ℕ) → b <
     → u + (length s - at) ≤ m → n + (length s - c .at) ≤ m
 room-left s at u k b m c n small e h r = line-room s at u k b m c n small (sym e ∙ h) r
 
-module _ (s : List ℕ) (at : ℕ) (b : Body) {l : Argument} (e : l ≡ lineAt s at (b .used) 5 59) where
-  pub prefix-refused : (r : Refusal) → l ≡ RefusedLine r → {q : Refusal} → q ≡ argumentRefusal l → Refused q ≡ withPrefix b (lineAt s at (b .used) 5 59)
-  unfolding withPrefix
-  prefix-refused r h p = ap Refused (refusal-is h p) ∙ sym (ap (withPrefix b) (sym e ∙ h))
+module _ (b : Body) (j at n : ℕ) (x : Span) where
+  pub kept-prefix : j ≡ 5 → record { at = at; used = n; prefix = x; revision = b .revision } ≡ kept b j at n x
+  unfolding kept
+  kept-prefix h = rw h refl
 
-  pub prefix-read : (c : Cursor) (n : ℕ) → l ≡ Read c n → {x : Span} → x ≡ held (b .used) (n - b .used)
-      → On (record { at = c .at; used = n; prefix = x; revision = b .revision }) ≡ withPrefix b (lineAt s at (b .used) 5 59)
-  unfolding withPrefix
-  prefix-read c n h p =
-      ap (λ x. On (record { at = c .at; used = n; prefix = x; revision = b .revision })) p ∙ sym (ap (withPrefix b) (sym e ∙ h))
+  pub kept-revision : (j ≡ 5 → ⊥) → record { at = at; used = n; prefix = b .prefix; revision = x } ≡ kept b j at n x
+  unfolding kept
+  kept-revision h = rw (ne-eqb j 5 h) refl
 
-module _ (s : List ℕ) (at : ℕ) (b : Body) {l : Argument} (e : l ≡ lineAt s at (b .used) 10 59) where
-  pub revision-refused : (r : Refusal) → l ≡ RefusedLine r → {q : Refusal} → q ≡ argumentRefusal l → Refused q ≡ withRevision b (lineAt s at (b .used) 10 59)
-  unfolding withRevision
-  revision-refused r h p = ap Refused (refusal-is h p) ∙ sym (ap (withRevision b) (sym e ∙ h))
+-- l: the line of the keyword j
+module _ (s : List ℕ) (at : ℕ) (b : Body) (j : ℕ) {l : Argument} (e : l ≡ lineAt s at (b .used) j 59) where
+  pub value-refused : (r : Refusal) → l ≡ RefusedLine r → {q : Refusal} → q ≡ argumentRefusal l → Refused q ≡ withValue b j (lineAt s at (b .used) j 59)
+  unfolding withValue
+  value-refused r h p = ap Refused (refusal-is h p) ∙ sym (ap (withValue b j) (sym e ∙ h))
 
-  pub revision-read : (c : Cursor) (n : ℕ) → l ≡ Read c n → {x : Span} → x ≡ held (b .used) (n - b .used)
-      → On (record { at = c .at; used = n; prefix = b .prefix; revision = x }) ≡ withRevision b (lineAt s at (b .used) 10 59)
-  unfolding withRevision
-  revision-read c n h p =
-      ap (λ x. On (record { at = c .at; used = n; prefix = b .prefix; revision = x })) p ∙ sym (ap (withRevision b) (sym e ∙ h))
+  pub value-read : (c : Cursor) (n : ℕ) → l ≡ Read c n → {x : Span} → x ≡ held (b .used) (n - b .used) → {y : Body} → y ≡ kept b j (c .at) n x
+      → On y ≡ withValue b j (lineAt s at (b .used) j 59)
+  unfolding withValue
+  value-read c n h p q = ap On (q ∙ ap (kept b j (c .at) n) p) ∙ sym (ap (withValue b j) (sym e ∙ h))
+
+-- ---- a statement skipped
+
+-- k: what the skip answered
+module _ (b : Body) {k x : Skipped} (e : k ≡ x) where
+  pub skip-refused : (r : Refusal) → k ≡ RefusedSkip r → {q : Refusal} → q ≡ skipRefusal k → Refused q ≡ withSkipped b x
+  unfolding withSkipped
+  skip-refused r h p = ap Refused (skip-refusal-is h p) ∙ sym (ap (withSkipped b) (sym e ∙ h))
+
+  pub skip-past : (c : Cursor) (h : How) → k ≡ Past c h → {y : Body} → y ≡ moved b (c .at) → On y ≡ withSkipped b x
+  unfolding withSkipped
+  skip-past c h m p = ap On p ∙ sym (ap (withSkipped b) (sym e ∙ m))
 
 -- ---- a statement, or the end of the block
 
@@ -133,16 +141,11 @@ module _ (s : List ℕ) (k : ℕ) (b : Body) {g p : ℕ} (ge : g ≡ gapEnd s (b
       inside-kind =
           rw (← ge) (rw (ne-eqb (getD s g 256) 256 (λ z. n (pe ∙ z))) (rw (ne-eqb (getD s g 256) 125 (λ z. m (pe ∙ z))) (rw (← le) refl)))
 
-      pub inside-prefix : (c : Cursor) → l ≡ Prefix c
-          → insideAt s k b ≡ record { answer = withPrefix b (lineAt s (c .at) (b .used) 5 59); bytes = valueBytes (valueAt s (c .at)) }
+      pub inside-value : (j : ℕ) (c : Cursor) → l ≡ Value j c
+          → insideAt s k b ≡ record { answer = withValue b j (lineAt s (c .at) (b .used) j 59); bytes = valueBytes (valueAt s (c .at)) }
       unfolding afterKind
-      inside-prefix c h = inside-kind ∙ ap (afterKind s g b) h
+      inside-value j c h = inside-kind ∙ ap (afterKind s g b) h
 
-      pub inside-revision : (c : Cursor) → l ≡ Revision c
-          → insideAt s k b ≡ record { answer = withRevision b (lineAt s (c .at) (b .used) 10 59); bytes = valueBytes (valueAt s (c .at)) }
+      pub inside-other : l ≡ Other → {r : Inside} → r ≡ withSkipped b (statementAt s g) → insideAt s k b ≡ nothing r
       unfolding afterKind
-      inside-revision c h = inside-kind ∙ ap (afterKind s g b) h
-
-      pub inside-other : l ≡ Other → {e : ℕ} → e ≡ endedAt (statementAt s g) → insideAt s k b ≡ nothing (On (moved b e))
-      unfolding afterKind
-      inside-other h q = inside-kind ∙ ap (afterKind s g b) h ∙ sym (ap (λ i. nothing (On (moved b i))) q)
+      inside-other h q = inside-kind ∙ ap (afterKind s g b) h ∙ sym (ap nothing q)

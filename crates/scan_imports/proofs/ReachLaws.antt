@@ -9,6 +9,7 @@ use native.Mathlib.Omega.{arith}
 use lib.ListN.{length, getD, length-append}
 use lib.Dec.{eqb}
 use borrow.Author.Tests.{eqb-true}
+use Rattle.text.specs.Refusal.{noRefusal}
 use Rattle.text.specs.Due.{dueHere, dueAt}
 use Rattle.text.specs.Scan.{gapEnd}
 use Rattle.text.specs.Turns.{stop}
@@ -35,10 +36,10 @@ use Rattle.scan_imports.specs.declared.Block.the-variants.{Whole, Broken
 use Rattle.scan_imports.specs.declared.Body.{Body}
 use Rattle.scan_imports.specs.declared.Inside.{Inside}
 use Rattle.scan_imports.specs.declared.Inside.the-variants.{On, Closed, Refused}
-use Rattle.scan_imports.specs.declared.Imported.{Imported}
-use Rattle.scan_imports.specs.declared.Imported.the-variants.{Import, NoImport}
-use Rattle.scan_imports.specs.declared.Included.{Included}
-use Rattle.scan_imports.specs.declared.Included.the-variants.{Include, NoInclude}
+use Rattle.scan_imports.specs.declared.ParsedImport.{ParsedImport}
+use Rattle.scan_imports.specs.declared.ParsedImport.the-variants.{Import, NoImport}
+use Rattle.scan_imports.specs.declared.ParsedInclude.{ParsedInclude}
+use Rattle.scan_imports.specs.declared.ParsedInclude.the-variants.{Include, NoInclude}
 use Rattle.scan_imports.proofs.BlockLaws.{turn-far, block-falls}
 use Rattle.scan_imports.proofs.FarLaws.{Forth, Went, inside-went, bytes-fit}
 use Rattle.scan_imports.proofs.Spans.{Lies, MayLie, Sound, lies-held, lies-more, may-more, may-lies, sound-begun}
@@ -74,7 +75,7 @@ on-ends s g h bs cs (Broken r) f l e = (omega (arith, f .0, f .1, e .0), λ i. e
 block-ends : (s : List ℕ) (k : ℕ) (g : Stored) → Ends s g (blockFrom s k g .bytes) (blockFrom s k g .answer)
 unfolding blockFrom blockTurn
 block-ends s k g =
-    turns-rule (blockTurn s k) (nothing (Broken (record { number = 0; keyword = 0; at = 0 }))) (λ b. length s - b .body .at) (block-falls s k)
+    turns-rule (blockTurn s k) (nothing (Broken noRefusal)) (λ b. length s - b .body .at) (block-falls s k)
     (λ a r. Ends s a (r .bytes) (r .answer)) (turn-stops s k)
     (λ a b r h e. let f = turn-far s k a b h in
     let bs = insideAt s k (a .body) .bytes in
@@ -103,7 +104,7 @@ block-said s at u k =
 
 -- read: behind its start, within the text, more bytes taken than stored; its values lie in what was stored, no two at one place.
 -- refused: what was stored fits the rest of the text, and the refusal's place is within it
-abbrev pub ImportSaid : List ℕ → ℕ → ℕ → List ℕ → Imported → Type 0
+abbrev pub ImportSaid : List ℕ → ℕ → ℕ → List ℕ → ParsedImport → Type 0
 ImportSaid s at u bs (Import c n i) =
     (at + length bs < c .at) × (c .at ≤ length s) × (n ≡ u + length bs)
     × Lies u n (i .«module_name») × Lies u n (i .prefix) × MayLie u n (i .«revision_date»)
@@ -148,7 +149,7 @@ unfolding importAt
 import-said s at u = name-said s at u (lineAt s at u 8 123) refl
 
 module _ (s : List ℕ) (at u : ℕ) where
-  told : {r : Imported} → importAt s at u .answer ≡ r → ImportSaid s at u (importAt s at u .bytes) r
+  told : {r : ParsedImport} → importAt s at u .answer ≡ r → ImportSaid s at u (importAt s at u .bytes) r
   told h = subst (ImportSaid s at u (importAt s at u .bytes)) h (import-said s at u)
 
   module _ (c : Cursor) (n : ℕ) (i : YangImport) (h : importAt s at u .answer ≡ Import c n i) where
@@ -162,7 +163,7 @@ module _ (s : List ℕ) (at u : ℕ) where
 
 -- ---- an include
 
-abbrev pub IncludeSaid : List ℕ → ℕ → ℕ → List ℕ → Included → Type 0
+abbrev pub IncludeSaid : List ℕ → ℕ → ℕ → List ℕ → ParsedInclude → Type 0
 IncludeSaid s at u bs (Include c n i) =
     (at + length bs < c .at) × (c .at ≤ length s) × (n ≡ u + length bs) × Lies u n (i .«submodule_name») × MayLie u n (i .«revision_date»)
     × (u + (i .«submodule_name» .size + i .«revision_date» .size) ≤ n)
@@ -215,7 +216,7 @@ unfolding includeAt
 include-said s at u = value-said s at u (argumentAt s at u 9) refl
 
 module _ (s : List ℕ) (at u : ℕ) where
-  given : {r : Included} → includeAt s at u .answer ≡ r → IncludeSaid s at u (includeAt s at u .bytes) r
+  given : {r : ParsedInclude} → includeAt s at u .answer ≡ r → IncludeSaid s at u (includeAt s at u .bytes) r
   given h = subst (IncludeSaid s at u (includeAt s at u .bytes)) h (include-said s at u)
 
   module _ (c : Cursor) (n : ℕ) (i : YangInclude) (h : includeAt s at u .answer ≡ Include c n i) where

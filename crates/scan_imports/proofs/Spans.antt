@@ -6,10 +6,11 @@ use mathlib.Core.Logic.{_⊎_, inl, inr, ⊎-elim}
 use mathlib.Core.Bool.{true}
 use Prim.Native.Nat.{ℕ, _+_, _-_, _≤_}
 use native.Mathlib.Omega.{arith}
-use Rattle.text.proofs.Here.{never}
+use lib.Dec.{eqb}
+use Rattle.text.proofs.Here.{by-test, never}
 use Rattle.scan_rows.specs.Span.{held, missing}
 use Rattle.scan_rows.specs.declared.Span.{Span}
-use Rattle.scan_imports.specs.Block.{moved, begun}
+use Rattle.scan_imports.specs.Block.{kept, moved, begun}
 use Rattle.scan_imports.specs.declared.Body.{Body}
 
 -- a value from u up to n
@@ -56,10 +57,19 @@ pub sound-moved : (u : ℕ) (b : Body) (at : ℕ) → Sound u b → Sound u (mov
 sound-moved u b at h = (h .0, h .1, h .2, h .3)
 
 module _ (u : ℕ) (b : Body) (at n : ℕ) (k : b .used ≤ n) (h : Sound u b) where
-  pub sound-prefix : Sound u (record { at = at; used = n; prefix = held (b .used) (n - b .used); revision = b .revision })
+  sound-prefix : Sound u (record { at = at; used = n; prefix = held (b .used) (n - b .used); revision = b .revision })
   sound-prefix =
       (omega (arith, h .0), inr (lies-held u (b .used) n (h .0) k), may-more (omega arith) k (h .2), omega (arith, h .0, may-size (h .0) (h .2)))
 
-  pub sound-revision : Sound u (record { at = at; used = n; prefix = b .prefix; revision = held (b .used) (n - b .used) })
+  sound-revision : Sound u (record { at = at; used = n; prefix = b .prefix; revision = held (b .used) (n - b .used) })
   sound-revision =
       (omega (arith, h .0), may-more (omega arith) k (h .1), inr (lies-held u (b .used) n (h .0) k), omega (arith, h .0, may-size (h .0) (h .1)))
+
+  -- j: the keyword of the value
+  pub sound-kept : (j : ℕ) → Sound u (kept b j at n (held (b .used) (n - b .used)))
+  unfolding kept
+  sound-kept j = by-test (eqb j 5) (λ t. rw t sound-prefix) (λ t. rw t sound-revision)
+
+pub kept-place : (b : Body) (j at n : ℕ) (x : Span) → (kept b j at n x .at ≡ at) × (kept b j at n x .used ≡ n)
+unfolding kept
+kept-place b j at n x = by-test (eqb j 5) (λ t. rw t (refl, refl)) (λ t. rw t (refl, refl))

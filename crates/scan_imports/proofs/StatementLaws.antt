@@ -28,10 +28,10 @@ use Rattle.scan_imports.specs.Statement.{ofBody, importOf, withName, aft
 use Rattle.scan_imports.specs.declared.Block.{Block}
 use Rattle.scan_imports.specs.declared.Block.the-variants.{Whole, Broken}
 use Rattle.scan_imports.specs.declared.Body.{Body}
-use Rattle.scan_imports.specs.declared.Imported.{Imported}
-use Rattle.scan_imports.specs.declared.Imported.the-variants.{Import, NoImport}
-use Rattle.scan_imports.specs.declared.Included.{Included}
-use Rattle.scan_imports.specs.declared.Included.the-variants.{Include, NoInclude}
+use Rattle.scan_imports.specs.declared.ParsedImport.{ParsedImport}
+use Rattle.scan_imports.specs.declared.ParsedImport.the-variants.{Import, NoImport}
+use Rattle.scan_imports.specs.declared.ParsedInclude.{ParsedInclude}
+use Rattle.scan_imports.specs.declared.ParsedInclude.the-variants.{Include, NoInclude}
 use Rattle.scan_imports.proofs.InsideLaws.{Leaves, leaves}
 
 pub broken-is : {b : Block} {r q : Refusal} → b ≡ Broken r → q ≡ blockRefusal b → q ≡ r
@@ -72,7 +72,7 @@ module _ (s : List ℕ) (at u : ℕ) (d : List ℕ) {a : Argument} {e : List ℕ
     import-broken r k p =
         leaves import-named d u (ap NoImport (broken-is k p) ∙ sym (ap (importOf (held u (n - u))) (sym (w .0) ∙ k)), import-stored)
 
-    pub import-whole : {x : Span} → x ≡ held u (n - u) → (y : Body) → b ≡ Whole y → {i : Imported} → i ≡ ofBody x y → Leaves (importAt s at u) d u i f
+    pub import-whole : {x : Span} → x ≡ held u (n - u) → (y : Body) → b ≡ Whole y → {i : ParsedImport} → i ≡ ofBody x y → Leaves (importAt s at u) d u i f
     unfolding withName importOf
     import-whole xe y k p =
         leaves import-named d u (p ∙ ap (λ z. ofBody z y) xe ∙ sym (ap (importOf (held u (n - u))) (sym (w .0) ∙ k)), import-stored)
@@ -113,7 +113,7 @@ module _ (s : List ℕ) (at u : ℕ) (d : List ℕ) {a : Argument} {e : List ℕ
         ∙ ap (λ z. openOrPlain s g n z (valueBytes (valueAt s at))) (sym xe)
 
     -- r, f: what the block answered, and the store then
-    pub include-open : p ≡ 123 → {r : Included} {f : List ℕ} → r ≡ includeOf x (blockAt s (g + 1) n 9 .answer)
+    pub include-open : p ≡ 123 → {r : ParsedInclude} {f : List ℕ} → r ≡ includeOf x (blockAt s (g + 1) n 9 .answer)
         → f ≡ sets e n (blockAt s (g + 1) n 9 .bytes) → Leaves (includeAt s at u) d u r f
     unfolding openOrPlain blockOf
     include-open k {r} {f} re fe =

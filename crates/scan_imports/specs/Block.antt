@@ -12,21 +12,24 @@ use Rattle.text.specs.Scan.{gapEnd}
 use Rattle.text.specs.Turns.{Turn, stop, on, turns}
 use Rattle.text.specs.declared.Match.{Match}
 use Rattle.text.specs.declared.Match.the-variants.{After, Not}
-use Rattle.text.specs.Due.{noRefusal}
+use Rattle.text.specs.Refusal.{noRefusal}
 use Rattle.text.specs.Words.{prefixWord, revisionDateWord, prefixKeyword, importKeyword, revisionDateKeyword}
 use Rattle.text.specs.declared.Refusal.{Refusal}
 use Rattle.text_value.specs.Value.{valueAt, valueBytes}
 use Rattle.text_value.specs.Argument.{lineAt}
 use Rattle.text_value.specs.declared.Argument.{Argument}
 use Rattle.text_value.specs.declared.Argument.the-variants.{Read, Refused as RefusedLine}
-use Rattle.text_skip.specs.Statement.{statementAt, endedAt}
+use Rattle.text_skip.specs.Statement.{statementAt}
+use Rattle.text_skip.specs.declared.Skipped.{Skipped}
+use Rattle.text_skip.specs.declared.Skipped.the-variants.{Past, Refused as RefusedSkip}
 use Rattle.scan_imports.specs.Left.{Left, nothing}
 use Rattle.scan_rows.specs.Span.{held, missing}
+use Rattle.scan_rows.specs.declared.Span.{Span}
 use Rattle.scan_imports.specs.declared.Block.{Block}
 use Rattle.scan_imports.specs.declared.Block.the-variants.{Whole, Broken}
 use Rattle.scan_imports.specs.declared.Body.{Body}
 use Rattle.scan_imports.specs.declared.Line.{Line}
-use Rattle.scan_imports.specs.declared.Line.the-variants.{Prefix, Revision, Other}
+use Rattle.scan_imports.specs.declared.Line.the-variants.{Value, Other}
 use Rattle.scan_imports.specs.declared.Inside.{Inside}
 use Rattle.scan_imports.specs.declared.Inside.the-variants.{On, Closed, Refused}
 
@@ -35,39 +38,47 @@ openEnded = 8
 
 -- ---- what a statement of the block is; k: import or include
 
-unfoldable pub orRevision : Match → Line
-orRevision (After c) = Revision c
-orRevision Not = Other
+-- the keyword j, if it matched
+unfoldable pub orLine : ℕ → Match → Line → Line
+orLine j (After c) l = Value j c
+orLine j Not l = l
 
-unfoldable pub orPrefix : List ℕ → ℕ → Match → Line
-orPrefix s at (After c) = Prefix c
-orPrefix s at Not = orRevision (matchAt s at revisionDateWord)
+abbrev pub revisionLine : List ℕ → ℕ → Line
+revisionLine s at = orLine revisionDateKeyword (matchAt s at revisionDateWord) Other
+
+abbrev pub prefixLine : List ℕ → ℕ → Line
+prefixLine s at = orLine prefixKeyword (matchAt s at prefixWord) (revisionLine s at)
 
 unfoldable pub lineKind : List ℕ → ℕ → ℕ → Line
-lineKind s at k =
-    cond (eqb k importKeyword) (orPrefix s at (matchAt s at prefixWord)) (orRevision (matchAt s at revisionDateWord))
+lineKind s at k = cond (eqb k importKeyword) (prefixLine s at) (revisionLine s at)
 
 -- ---- one statement, or the end of the block; b: what the block gave so far, and where it stands
 
-unfoldable pub withPrefix : Body → Argument → Inside
-withPrefix b (Read c n) = On (record { at = c .at; used = n; prefix = held (b .used) (n - b .used); revision = b .revision })
-withPrefix b (RefusedLine r) = Refused r
+-- the value x of the keyword j: the last one read wins
+unfoldable pub kept : Body → ℕ → ℕ → ℕ → Span → Body
+kept b j at n x =
+    cond (eqb j prefixKeyword)
+    (record { at = at; used = n; prefix = x; revision = b .revision })
+    (record { at = at; used = n; prefix = b .prefix; revision = x })
 
-unfoldable pub withRevision : Body → Argument → Inside
-withRevision b (Read c n) = On (record { at = c .at; used = n; prefix = b .prefix; revision = held (b .used) (n - b .used) })
-withRevision b (RefusedLine r) = Refused r
+unfoldable pub withValue : Body → ℕ → Argument → Inside
+withValue b j (Read c n) = On (kept b j (c .at) n (held (b .used) (n - b .used)))
+withValue b j (RefusedLine r) = Refused r
 
 -- the same from another place
 abbrev pub moved : Body → ℕ → Body
 moved b at = record { at = at; used = b .used; prefix = b .prefix; revision = b .revision }
 
+-- any other statement is skipped, however it ends
+unfoldable pub withSkipped : Body → Skipped → Inside
+withSkipped b (Past c h) = On (moved b (c .at))
+withSkipped b (RefusedSkip r) = Refused r
+
 -- a value's bytes are stored, also where the semicolon is missing after it
 unfoldable pub afterKind : List ℕ → ℕ → Body → Line → Left Inside
-afterKind s at b (Prefix c) =
-    record { answer = withPrefix b (lineAt s (c .at) (b .used) prefixKeyword semicolon); bytes = valueBytes (valueAt s (c .at)) }
-afterKind s at b (Revision c) =
-    record { answer = withRevision b (lineAt s (c .at) (b .used) revisionDateKeyword semicolon); bytes = valueBytes (valueAt s (c .at)) }
-afterKind s at b Other = nothing (On (moved b (endedAt (statementAt s at))))
+afterKind s at b (Value j c) =
+    record { answer = withValue b j (lineAt s (c .at) (b .used) j semicolon); bytes = valueBytes (valueAt s (c .at)) }
+afterKind s at b Other = nothing (withSkipped b (statementAt s at))
 
 -- at the place after the gap
 unfoldable pub insideHere : List ℕ → ℕ → ℕ → Body → Left Inside
@@ -94,7 +105,7 @@ unfoldable pub blockTurn : List ℕ → ℕ → Stored → Turn Stored (Left Blo
 blockTurn s k g = afterInside (g .bytes ++ insideAt s k (g .body) .bytes) (insideAt s k (g .body) .answer)
 
 unfoldable pub blockFrom : List ℕ → ℕ → Stored → Left Block
-blockFrom s k g = turns (blockTurn s k) (nothing (Broken (record { number = noRefusal; keyword = 0; at = 0 }))) (suc (length s)) g
+blockFrom s k g = turns (blockTurn s k) (nothing (Broken noRefusal)) (suc (length s)) g
 
 -- nothing read yet: behind its `{`, at the store's place u
 abbrev pub begun : ℕ → ℕ → Body
@@ -103,7 +114,7 @@ begun at u = record { at = at; used = u; prefix = missing; revision = missing }
 unfoldable pub blockAt : List ℕ → ℕ → ℕ → ℕ → Left Block
 blockAt s at u k = blockFrom s k (record { body = begun at u; bytes = [] })
 
--- its refusal; 0, 0, 0 where there is none
+-- its refusal, or none
 unfoldable pub blockRefusal : Block → Refusal
-blockRefusal (Whole b) = record { number = noRefusal; keyword = 0; at = 0 }
+blockRefusal (Whole b) = noRefusal
 blockRefusal (Broken r) = r

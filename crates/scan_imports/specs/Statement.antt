@@ -21,10 +21,10 @@ use Rattle.scan_rows.specs.Span.{held, missing}
 use Rattle.scan_imports.specs.declared.Block.{Block}
 use Rattle.scan_imports.specs.declared.Block.the-variants.{Whole, Broken}
 use Rattle.scan_imports.specs.declared.Body.{Body}
-use Rattle.scan_imports.specs.declared.Imported.{Imported}
-use Rattle.scan_imports.specs.declared.Imported.the-variants.{Import, NoImport}
-use Rattle.scan_imports.specs.declared.Included.{Included}
-use Rattle.scan_imports.specs.declared.Included.the-variants.{Include, NoInclude}
+use Rattle.scan_imports.specs.declared.ParsedImport.{ParsedImport}
+use Rattle.scan_imports.specs.declared.ParsedImport.the-variants.{Import, NoImport}
+use Rattle.scan_imports.specs.declared.ParsedInclude.{ParsedInclude}
+use Rattle.scan_imports.specs.declared.ParsedInclude.the-variants.{Include, NoInclude}
 use Rattle.scan_rows.specs.declared.Span.{Span}
 
 abbrev pub noPrefix : ℕ
@@ -33,49 +33,49 @@ noPrefix = 7
 -- ---- an import, behind its keyword, at the store's place u
 
 -- prefix is required
-unfoldable pub ofBody : Span → Body → Imported
+unfoldable pub ofBody : Span → Body → ParsedImport
 ofBody name b =
     cond (b .prefix .present)
     (Import (record { at = b .at }) (b .used) (record { «module_name» = name; prefix = b .prefix; «revision_date» = b .revision }))
     (NoImport (record { number = noPrefix; keyword = importKeyword; at = b .at }))
 
-unfoldable pub importOf : Span → Block → Imported
+unfoldable pub importOf : Span → Block → ParsedImport
 importOf name (Whole b) = ofBody name b
 importOf name (Broken r) = NoImport r
 
-unfoldable pub withName : Span → List ℕ → Left Block → Left Imported
+unfoldable pub withName : Span → List ℕ → Left Block → Left ParsedImport
 withName name bytes b = record { answer = importOf name (b .answer); bytes = bytes ++ b .bytes }
 
-unfoldable pub afterName : List ℕ → ℕ → List ℕ → Argument → Left Imported
+unfoldable pub afterName : List ℕ → ℕ → List ℕ → Argument → Left ParsedImport
 afterName s u bytes (ReadValue c n) = withName (held u (n - u)) bytes (blockAt s (c .at) n importKeyword)
 afterName s u bytes (RefusedValue r) = record { answer = NoImport r; bytes = bytes }
 
-unfoldable pub importAt : List ℕ → ℕ → ℕ → Left Imported
+unfoldable pub importAt : List ℕ → ℕ → ℕ → Left ParsedImport
 importAt s at u = afterName s u (valueBytes (valueAt s at)) (lineAt s at u importKeyword openBrace)
 
 -- ---- an include
 
-unfoldable pub includeOf : Span → Block → Included
+unfoldable pub includeOf : Span → Block → ParsedInclude
 includeOf name (Whole b) =
     Include (record { at = b .at }) (b .used) (record { «submodule_name» = name; «revision_date» = b .revision })
 includeOf name (Broken r) = NoInclude r
 
-unfoldable pub plainOf : Span → ℕ → Due → Included
+unfoldable pub plainOf : Span → ℕ → Due → ParsedInclude
 plainOf name n (After c) = Include c n (record { «submodule_name» = name; «revision_date» = missing })
 plainOf name n (Not r) = NoInclude r
 
-unfoldable pub blockOf : Span → List ℕ → Left Block → Left Included
+unfoldable pub blockOf : Span → List ℕ → Left Block → Left ParsedInclude
 blockOf name bytes b = record { answer = includeOf name (b .answer); bytes = bytes ++ b .bytes }
 
 -- at the place after the value and its gap
-unfoldable pub openOrPlain : List ℕ → ℕ → ℕ → Span → List ℕ → Left Included
+unfoldable pub openOrPlain : List ℕ → ℕ → ℕ → Span → List ℕ → Left ParsedInclude
 openOrPlain s at n name bytes =
     cond (eqb (look s at) openBrace) (blockOf name bytes (blockAt s (at + 1) n includeKeyword))
     (record { answer = plainOf name n (dueHere s at semicolon includeKeyword); bytes = bytes })
 
-unfoldable pub afterValue : List ℕ → ℕ → List ℕ → Argument → Left Included
+unfoldable pub afterValue : List ℕ → ℕ → List ℕ → Argument → Left ParsedInclude
 afterValue s u bytes (ReadValue c n) = openOrPlain s (gapEnd s (c .at)) n (held u (n - u)) bytes
 afterValue s u bytes (RefusedValue r) = record { answer = NoInclude r; bytes = bytes }
 
-unfoldable pub includeAt : List ℕ → ℕ → ℕ → Left Included
+unfoldable pub includeAt : List ℕ → ℕ → ℕ → Left ParsedInclude
 includeAt s at u = afterValue s u (valueBytes (valueAt s at)) (argumentAt s at u includeKeyword)

@@ -6,18 +6,21 @@ use text::Cursor;
 use text::Due;
 use text::Match;
 use text::Refusal;
+use text_skip::Skipped;
 use text_value::Argument;
 ghost use mathlib.Core.Path.{_≡_};
+ghost use mathlib.Core.Bool.{true};
 ghost use Prim.Native.Nat.{_+_, _-_, _≤_};
 ghost use lib.ListN.{length};
 ghost use lib.Seq.{sets};
 ghost use Rattle.text.specs.Bytes.{semicolon};
 ghost use Rattle.text.specs.Class.{classTable};
-ghost use Rattle.text.specs.Keyword.{matchAt};
-ghost use Rattle.text.specs.Words.{prefixWord, revisionDateWord, prefixKeyword, includeKeyword, revisionDateKeyword};
+ghost use Rattle.text.specs.Keyword.{wordly, matchAt};
+ghost use Rattle.text.specs.Words.{includeKeyword};
+ghost use Rattle.text_skip.specs.Statement.{statementAt};
 ghost use Rattle.text_value.specs.Argument.{lineAt};
 ghost use Rattle.text_value.specs.Value.{valueAt, valueBytes};
-ghost use Rattle.scan_imports.specs.Block.{orRevision, orPrefix, lineKind, withPrefix, withRevision, begun, moved, insideAt, blockRefusal, blockAt};
+ghost use Rattle.scan_imports.specs.Block.{orLine, lineKind, kept, withValue, withSkipped, begun, moved, insideAt, blockRefusal, blockAt};
 ghost use Rattle.scan_imports.specs.Statement.{ofBody, importAt, includeOf, includeAt};
 
 // Refusals: an import closed without prefix, and the end inside a block.
@@ -26,7 +29,7 @@ pub const NO_PREFIX: u32 = 7;
 pub const OPEN_ENDED: u32 = 8;
 
 // An import with the cursor after it and the store's next place, or a refusal.
-pub enum Imported {
+pub enum ParsedImport {
     Import {
         next: Cursor,
         used: usize,
@@ -42,7 +45,7 @@ pub fn parse_import(
     s: &[u8],
     store: &mut [u8],
     used: usize,
-) -> Imported
+) -> ParsedImport
     requires { ⌜ (now classes ≡ classTable) × (used + (length (now s) - here .at) ≤ length (now store)) ⌝ }
     ensures { λ r. ⌜ (r ≡ importAt (now (s .entry)) (here .at) used .answer) × (now (store .exit) ≡ sets (now (store .entry)) used (importAt (now (s .entry)) (here .at) used .bytes)) ⌝ }
 {
@@ -56,25 +59,25 @@ pub fn parse_import(
         text::OPEN_BRACE,
     );
     let Argument::Read { next, used: n } = name else {
-        return Imported::NoImport(text_value::argument_refusal(name));
+        return ParsedImport::NoImport(text_value::argument_refusal(name));
     };
     let size = n - used;
     let module_name = scan_rows::held(used, size);
     let block = parse_block(next, classes, s, store, n, text::IMPORT);
     let Block::Whole(body) = block else {
-        return Imported::NoImport(block_refusal(block));
+        return ParsedImport::NoImport(block_refusal(block));
     };
     import_of(module_name, body)
 }
 
 // The import of a name and its block. A prefix is required.
-fn import_of(name: Span, body: Body) -> Imported
+fn import_of(name: Span, body: Body) -> ParsedImport
     ensures { λ r. ⌜ r ≡ ofBody name body ⌝ }
 {
     let prefix = body.prefix;
     let revision_date = body.revision;
     if prefix.present {
-        return Imported::Import {
+        return ParsedImport::Import {
             next: Cursor { at: body.at },
             used: body.used,
             import: YangImport {
@@ -84,7 +87,7 @@ fn import_of(name: Span, body: Body) -> Imported
             },
         };
     }
-    Imported::NoImport(Refusal {
+    ParsedImport::NoImport(Refusal {
         number: NO_PREFIX,
         keyword: text::IMPORT,
         at: body.at,
@@ -92,7 +95,7 @@ fn import_of(name: Span, body: Body) -> Imported
 }
 
 // An include with the cursor after it and the store's next place, or a refusal.
-pub enum Included {
+pub enum ParsedInclude {
     Include {
         next: Cursor,
         used: usize,
@@ -108,13 +111,13 @@ pub fn parse_include(
     s: &[u8],
     store: &mut [u8],
     used: usize,
-) -> Included
+) -> ParsedInclude
     requires { ⌜ (now classes ≡ classTable) × (used + (length (now s) - here .at) ≤ length (now store)) ⌝ }
     ensures { λ r. ⌜ (r ≡ includeAt (now (s .entry)) (here .at) used .answer) × (now (store .exit) ≡ sets (now (store .entry)) used (includeAt (now (s .entry)) (here .at) used .bytes)) ⌝ }
 {
     let name = text_value::read_value(here, classes, s, store, used, text::INCLUDE);
     let Argument::Read { next, used: n } = name else {
-        return Included::NoInclude(text_value::argument_refusal(name));
+        return ParsedInclude::NoInclude(text_value::argument_refusal(name));
     };
     let size = n - used;
     let submodule_name = scan_rows::held(used, size);
@@ -126,9 +129,9 @@ pub fn parse_include(
     }
     let due = end.expect_char(classes, s, text::SEMICOLON, text::INCLUDE);
     let Due::After(after) = due else {
-        return Included::NoInclude(text::refusal_of(due));
+        return ParsedInclude::NoInclude(text::refusal_of(due));
     };
-    Included::Include {
+    ParsedInclude::Include {
         next: after,
         used: n,
         include: YangInclude {
@@ -146,16 +149,16 @@ fn include_block(
     s: &[u8],
     store: &mut [u8],
     used: usize,
-) -> Included
+) -> ParsedInclude
     requires { ⌜ (now classes ≡ classTable) × (used + (length (now s) - here .at) ≤ length (now store)) ⌝ }
     ensures { λ r. ⌜ (r ≡ includeOf name (blockAt (now (s .entry)) (here .at) used includeKeyword .answer)) × (now (store .exit) ≡ sets (now (store .entry)) used (blockAt (now (s .entry)) (here .at) used includeKeyword .bytes)) ⌝ }
 {
     let block = parse_block(here, classes, s, store, used, text::INCLUDE);
     let Block::Whole(body) = block else {
-        return Included::NoInclude(block_refusal(block));
+        return ParsedInclude::NoInclude(block_refusal(block));
     };
     let revision_date = body.revision;
-    Included::Include {
+    ParsedInclude::Include {
         next: Cursor { at: body.at },
         used: body.used,
         include: YangInclude {
@@ -235,16 +238,12 @@ fn parse_block(
     }
 }
 
-// The refusal of a block; 0, 0, 0 where there is none.
+// The refusal of a block, or none.
 fn block_refusal(b: Block) -> Refusal
     ensures { λ r. ⌜ r ≡ blockRefusal b ⌝ }
 {
     match b {
-        Block::Whole(_) => Refusal {
-            number: text::NO_REFUSAL,
-            keyword: 0,
-            at: 0,
-        },
+        Block::Whole(_) => text::no_refusal(),
         Block::Broken(r) => r,
     }
 }
@@ -277,127 +276,108 @@ fn parse_inside(body: Body, classes: &[u8; 128], s: &[u8], store: &mut [u8], key
         return Inside::Closed(moved(body, end));
     }
     match line_kind(here, classes, s, keyword) {
-        Line::Prefix(c) => read_prefix(body, c, classes, s, store),
-        Line::Revision(c) => read_revision(body, c, classes, s, store),
-        Line::Other => {
-            let end = text_skip::ended_at(text_skip::skip_statement(here, classes, s));
-            Inside::On(moved(body, end.at))
-        }
+        Line::Value {
+            keyword: own,
+            after,
+        } => read_inside(body, after, classes, s, store, own),
+        Line::Other => skip_other(body, here, classes, s),
     }
 }
 
-// Reads the value of a prefix and its semicolon.
-fn read_prefix(body: Body, here: Cursor, classes: &[u8; 128], s: &[u8], store: &mut [u8]) -> Inside
-    requires { ⌜ (now classes ≡ classTable) × (body .used + (length (now s) - here .at) ≤ length (now store)) ⌝ }
-    ensures { λ r. ⌜ (r ≡ withPrefix body (lineAt (now (s .entry)) (here .at) (body .used) prefixKeyword semicolon)) × (now (store .exit) ≡ sets (now (store .entry)) (body .used) (valueBytes (valueAt (now (s .entry)) (here .at)))) ⌝ }
+// Skips a statement of which nothing is read.
+fn skip_other(body: Body, here: Cursor, classes: &[u8; 128], s: &[u8]) -> Inside
+    requires { ⌜ now classes ≡ classTable ⌝ }
+    ensures { λ r. ⌜ r ≡ withSkipped body (statementAt (now (s .entry)) (here .at)) ⌝ }
 {
-    let used = body.used;
-    let revision = body.revision;
-    let line = text_value::read_argument(
-        here,
-        classes,
-        s,
-        store,
-        used,
-        text::PREFIX,
-        text::SEMICOLON,
-    );
-    let Argument::Read { next, used: n } = line else {
-        return Inside::Refused(text_value::argument_refusal(line));
+    let skipped = text_skip::skip_statement(here, classes, s);
+    let Skipped::Past(next, _) = skipped else {
+        return Inside::Refused(text_skip::skip_refusal(skipped));
     };
-    let size = n - used;
-    let prefix = scan_rows::held(used, size);
-    Inside::On(Body {
-        at: next.at,
-        used: n,
-        prefix,
-        revision,
-    })
+    Inside::On(moved(body, next.at))
 }
 
-// Reads the value of a revision-date and its semicolon.
-fn read_revision(
+// Reads the value of a prefix or a revision-date and its semicolon. The keyword tells which.
+fn read_inside(
     body: Body,
     here: Cursor,
     classes: &[u8; 128],
     s: &[u8],
     store: &mut [u8],
+    keyword: u32,
 ) -> Inside
     requires { ⌜ (now classes ≡ classTable) × (body .used + (length (now s) - here .at) ≤ length (now store)) ⌝ }
-    ensures { λ r. ⌜ (r ≡ withRevision body (lineAt (now (s .entry)) (here .at) (body .used) revisionDateKeyword semicolon)) × (now (store .exit) ≡ sets (now (store .entry)) (body .used) (valueBytes (valueAt (now (s .entry)) (here .at)))) ⌝ }
+    ensures { λ r. ⌜ (r ≡ withValue body keyword (lineAt (now (s .entry)) (here .at) (body .used) keyword semicolon))
+        × (now (store .exit) ≡ sets (now (store .entry)) (body .used) (valueBytes (valueAt (now (s .entry)) (here .at)))) ⌝ }
 {
     let used = body.used;
-    let prefix = body.prefix;
-    let line = text_value::read_argument(
-        here,
-        classes,
-        s,
-        store,
-        used,
-        text::REVISION_DATE,
-        text::SEMICOLON,
-    );
+    let line = text_value::read_argument(here, classes, s, store, used, keyword, text::SEMICOLON);
     let Argument::Read { next, used: n } = line else {
         return Inside::Refused(text_value::argument_refusal(line));
     };
     let size = n - used;
-    let revision = scan_rows::held(used, size);
-    Inside::On(Body {
-        at: next.at,
-        used: n,
-        prefix,
-        revision,
-    })
+    let value = scan_rows::held(used, size);
+    Inside::On(kept(body, keyword, next, n, value))
 }
 
-// What stands in a block: the prefix of an import, a revision-date, or any other statement.
+// The block with one more value. Of several prefixes or revision-dates the last one read stays.
+fn kept(body: Body, keyword: u32, next: Cursor, used: usize, value: Span) -> Body
+    ensures { λ r. ⌜ r ≡ kept body keyword (next .at) used value ⌝ }
+{
+    let prefix = body.prefix;
+    let revision = body.revision;
+    if keyword == text::PREFIX {
+        return Body {
+            at: next.at,
+            used,
+            prefix: value,
+            revision,
+        };
+    }
+    Body {
+        at: next.at,
+        used,
+        prefix,
+        revision: value,
+    }
+}
+
+// What stands in a block: a keyword whose value is read, or any other statement.
 pub enum Line {
-    Prefix(Cursor),
-    Revision(Cursor),
+    Value { keyword: u32, after: Cursor },
     Other,
 }
 
-// What the statement is that stands here. No keyword is tried where no identifier begins.
+// What the statement is that stands here: in an import's block a prefix counts too. No keyword is tried where no identifier begins.
 fn line_kind(here: Cursor, classes: &[u8; 128], s: &[u8], keyword: u32) -> Line
     requires { ⌜ now classes ≡ classTable ⌝ }
     ensures { λ r. ⌜ r ≡ lineKind (now (s .entry)) (here .at) keyword ⌝ }
 {
     let at = here.at;
     if text::starts_ident(classes, text::peek_char(s, at)) {
+        let revision = or_line(
+            here,
+            classes,
+            s,
+            b"revision-date",
+            text::REVISION_DATE,
+            Line::Other,
+        );
         if keyword == text::IMPORT {
-            return import_line(here, classes, s);
+            return or_line(here, classes, s, b"prefix", text::PREFIX, revision);
         }
-        return revision_line(here, classes, s);
+        return revision;
     }
     Line::Other
 }
 
-// In an import's block.
-fn import_line(here: Cursor, classes: &[u8; 128], s: &[u8]) -> Line
-    requires { ⌜ now classes ≡ classTable ⌝ }
-    ensures { λ r. ⌜ r ≡ orPrefix (now (s .entry)) (here .at) (matchAt (now (s .entry)) (here .at) prefixWord) ⌝ }
+// The keyword, if its word stands here.
+fn or_line(here: Cursor, classes: &[u8; 128], s: &[u8], word: &[u8], keyword: u32, l: Line) -> Line
+    requires { ⌜ (now classes ≡ classTable) × (wordly (now word) ≡ true) ⌝ }
+    ensures { λ r. ⌜ r ≡ orLine keyword (matchAt (now (s .entry)) (here .at) (now (word .entry))) l ⌝ }
 {
-    match text::match_prefix(here, classes, s) {
-        Match::After(c) => Line::Prefix(c),
-        Match::Not => revision_line(here, classes, s),
+    let m = here.match_keyword(classes, s, word);
+    match m {
+        Match::After(after) => Line::Value { keyword, after },
+        Match::Not => l,
     }
-}
-
-// In an include's block.
-fn revision_line(here: Cursor, classes: &[u8; 128], s: &[u8]) -> Line
-    requires { ⌜ now classes ≡ classTable ⌝ }
-    ensures { λ r. ⌜ r ≡ orRevision (matchAt (now (s .entry)) (here .at) revisionDateWord) ⌝ }
-{
-    match match_revision_date(here, classes, s) {
-        Match::After(c) => Line::Revision(c),
-        Match::Not => Line::Other,
-    }
-}
-
-// Past the keyword revision-date.
-fn match_revision_date(here: Cursor, classes: &[u8; 128], s: &[u8]) -> Match
-    requires { ⌜ now classes ≡ classTable ⌝ }
-    ensures { λ r. ⌜ r ≡ matchAt (now (s .entry)) (here .at) revisionDateWord ⌝ }
-{
-    here.match_keyword(classes, s, b"revision-date")
 }

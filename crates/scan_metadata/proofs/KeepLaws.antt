@@ -8,11 +8,12 @@ use native.Mathlib.Omega.{arith}
 use lib.Dec.{eqb}
 use lib.ListN.{getD, set}
 use borrow.Author.Tests.{ne-eqb}
+use Rattle.text.specs.Refusal.{noRefusal}
 use Rattle.text.specs.declared.Refusal.{Refusal}
 use Rattle.scan_rows.specs.Span.{missing}
 use Rattle.scan_rows.specs.declared.Span.{Span}
 use Rattle.scan_newest.specs.Newest.{comesNewer}
-use Rattle.scan_metadata.specs.Metadata.{noValues, goodWith, refusedWith}
+use Rattle.scan_metadata.specs.Metadata.{noValues, refusedWith}
 use Rattle.scan_metadata.specs.Values.{valueOf, firstKept, newestKept, keptIn, endedWith}
 use Rattle.scan_metadata.specs.declared.YangModuleMetadata.{YangModuleMetadata}
 
@@ -28,9 +29,9 @@ refused-is r e = rw e refl
 -- ---- the end
 
 module _ (vs : List Span) (n at : ℕ) where
-  pub ended-good : getD vs 0 missing .present ≡ true → goodWith vs n ≡ endedWith vs n at
+  pub ended-good : getD vs 0 missing .present ≡ true → {r : Refusal} → r ≡ noRefusal → record { values = vs; answer = r; used = n } ≡ endedWith vs n at
   unfolding endedWith
-  ended-good h = rw h refl
+  ended-good h e = rw h (ap (λ r. record { values = vs; answer = r; used = n }) e)
 
   pub ended-nameless : getD vs 0 missing .present ≡ false → {m : YangModuleMetadata} → m ≡ refusedWith (record { number = 9; keyword = 0; at = at }) → m ≡ endedWith vs n at
   unfolding endedWith

@@ -6,6 +6,7 @@ use mathlib.Core.Bool.{Bool, cond}
 use mathlib.Core.List.{List, [], _∷_, _++_}
 use lib.Dec.{eqb}
 use lib.ListN.{length}
+use Rattle.text.specs.Refusal.{noRefusal}
 use Rattle.text.specs.Turns.{Turn, stop, on, turns}
 use Rattle.text.specs.Words.{belongsToKeyword, namespaceKeyword, prefixKeyword, revisionKeyword}
 use Rattle.text.specs.declared.Refusal.{Refusal}
@@ -110,7 +111,7 @@ unfoldable pub refusedWith : Refusal → YangModuleMetadata
 refusedWith r = record { values = noValues; answer = r; used = 0 }
 
 abbrev pub goodWith : List Span → ℕ → YangModuleMetadata
-goodWith vs n = record { values = vs; answer = record { number = 0; keyword = 0; at = 0 }; used = n }
+goodWith vs n = record { values = vs; answer = noRefusal; used = n }
 
 unfoldable pub answerOf : Scan → YangModuleMetadata
 answerOf (good m) = goodWith (valuesOf m) (length (m .bytes))

@@ -5,9 +5,8 @@ use text::Cursor;
 use text::Refusal;
 use text_lent::Lent;
 ghost use mathlib.Core.Path.{_≡_};
-ghost use Prim.Native.Nat.{_+_, _-_, _≤_, _<_};
+ghost use Prim.Native.Nat.{_-_, _≤_, _<_};
 ghost use lib.ListN.{length};
-ghost use lib.Seq.{sets};
 ghost use Rattle.text.specs.Class.{classTable};
 ghost use Rattle.scan_metadata.specs.Metadata.{noValues, refusedWith, scanned};
 ghost use Rattle.scan_metadata.specs.Values.{valueOf, firstKept, newestKept, keptIn, endedWith};
@@ -108,11 +107,7 @@ fn ended(values: [Span; 6], used: usize, end: Cursor) -> YangModuleMetadata
     if name.present {
         return YangModuleMetadata {
             values,
-            answer: Refusal {
-                number: text::NO_REFUSAL,
-                keyword: 0,
-                at: 0,
-            },
+            answer: text::no_refusal(),
             used,
         };
     }

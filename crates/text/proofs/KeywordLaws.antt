@@ -361,6 +361,16 @@ unfolding orMatch
 or-match-far s at (After d) n p q c h = p c h
 or-match-far s at Not n p q c h = q c h
 
+-- o: what a word's own match answered, x: what is given where there is none
+module _ {o n : Match} (x : Match) (e : o ≡ n) where
+  pub or-own : (c : Cursor) → o ≡ After c → o ≡ orMatch n x
+  unfolding orMatch
+  or-own c h = h ∙ sym (ap (λ m. orMatch m x) (sym e ∙ h))
+
+  pub or-given : o ≡ Not → x ≡ orMatch n x
+  unfolding orMatch
+  or-given h = sym (ap (λ m. orMatch m x) (sym e ∙ h))
+
 -- it takes just its own bytes
 pub match-end : (s : List ℕ) (at : ℕ) (word : List ℕ) (c : Cursor) → matchAt s at word ≡ After c → c .at ≡ at + length word
 match-end s at word c h =

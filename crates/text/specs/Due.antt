@@ -6,23 +6,11 @@ use mathlib.Core.Bool.{cond}
 use mathlib.Core.List.{List}
 use lib.Dec.{eqb}
 use Rattle.text.specs.Bytes.{theEnd, look}
+use Rattle.text.specs.Refusal.{otherByte, endOfText, noRefusal}
 use Rattle.text.specs.Scan.{gapEnd}
 use Rattle.text.specs.declared.Due.{Due}
 use Rattle.text.specs.declared.Due.the-variants.{After, Not}
 use Rattle.text.specs.declared.Refusal.{Refusal}
-
--- the numbers of this layer; 4: no value after the keyword
-abbrev pub noRefusal : ℕ
-noRefusal = 0
-
-abbrev pub noValue : ℕ
-noValue = 4
-
-abbrev pub otherByte : ℕ
-otherByte = 5
-
-abbrev pub endOfText : ℕ
-endOfText = 6
 
 -- c stands where b is due: the end, or another byte
 unfoldable pub dueNumber : ℕ → ℕ
@@ -38,7 +26,7 @@ dueHere s at b k =
 unfoldable pub dueAt : List ℕ → ℕ → ℕ → ℕ → Due
 dueAt s at b k = dueHere s (gapEnd s at) b k
 
--- 0, 0, 0 where there is none
+-- the refusal, or none
 unfoldable pub refusalOf : Due → Refusal
-refusalOf (After c) = record { number = noRefusal; keyword = 0; at = 0 }
+refusalOf (After c) = noRefusal
 refusalOf (Not r) = r

@@ -3,6 +3,7 @@ pub mod Class
 pub mod Due
 pub mod High
 pub mod Keyword
+pub mod Refusal
 pub mod Scan
 pub mod Turns
 pub mod Words

@@ -11,8 +11,8 @@ ghost use Rattle.text.specs.Scan.{inIdent, inRun, runEnd, blockEnd, pair
 ghost use Rattle.text.specs.High.{larger, largest};
 ghost use Rattle.text.specs.declared.Run.the-variants.{Low};
 ghost use Rattle.text.specs.Keyword.{startsIdent, endsKeyword, wordly, begins, matchAt, orMatch};
-ghost use Rattle.text.specs.Words.{prefixWord};
 ghost use Rattle.text.specs.Due.{dueAt, refusalOf};
+ghost use Rattle.text.specs.Refusal.{noRefusal};
 
 // What stands at a place: a byte, or the end.
 pub const NEWLINE: u16 = b'\n' as u16;
@@ -228,8 +228,15 @@ pub struct Refusal {
     pub at: usize,
 }
 
-// The numbers of this layer: no refusal, no value after the keyword, another byte than the one required, the end instead of it.
+// No refusal, and document 01's numbers 1 to 6: a text too long, a slice lent too short, a byte of 128 or more, no value after the keyword,
+// another byte than the one required, the end instead of it.
 pub const NO_REFUSAL: u32 = 0;
+
+pub const TEXT_TOO_LONG: u32 = 1;
+
+pub const LENT_TOO_SHORT: u32 = 2;
+
+pub const HIGH_BYTE: u32 = 3;
 
 pub const NO_VALUE: u32 = 4;
 
@@ -264,16 +271,23 @@ pub enum Due {
     Not(Refusal),
 }
 
-// The refusal of a byte that was due; 0, 0, 0 where there is none.
+// Number, keyword and place are 0 where nothing is refused.
+pub fn no_refusal() -> Refusal
+    ensures { λ r. ⌜ r ≡ noRefusal ⌝ }
+{
+    Refusal {
+        number: NO_REFUSAL,
+        keyword: 0,
+        at: 0,
+    }
+}
+
+// The refusal of a byte that was due, or none.
 pub fn refusal_of(d: Due) -> Refusal
     ensures { λ r. ⌜ r ≡ refusalOf d ⌝ }
 {
     match d {
-        Due::After(_) => Refusal {
-            number: NO_REFUSAL,
-            keyword: 0,
-            at: 0,
-        },
+        Due::After(_) => no_refusal(),
         Due::Not(r) => r,
     }
 }
@@ -336,21 +350,15 @@ impl Cursor {
     }
 }
 
-// Past the keyword prefix.
-pub fn match_prefix(here: Cursor, classes: &[u8; 128], s: &[u8]) -> Match
-    requires { ⌜ now classes ≡ classTable ⌝ }
-    ensures { λ r. ⌜ r ≡ matchAt (now (s .entry)) (here .at) prefixWord ⌝ }
+// Past the word where it stands here, else what is given.
+pub fn or_word(here: Cursor, classes: &[u8; 128], s: &[u8], word: &[u8], m: Match) -> Match
+    requires { ⌜ (now classes ≡ classTable) × (wordly (now word) ≡ true) ⌝ }
+    ensures { λ r. ⌜ r ≡ orMatch (matchAt (now (s .entry)) (here .at) (now (word .entry))) m ⌝ }
 {
-    here.match_keyword(classes, s, b"prefix")
-}
-
-// The first of two that matched.
-pub fn or_match(m: Match, n: Match) -> Match
-    ensures { λ r. ⌜ r ≡ orMatch m n ⌝ }
-{
-    match m {
-        Match::After(_) => m,
-        Match::Not => n,
+    let own = here.match_keyword(classes, s, word);
+    match own {
+        Match::After(_) => own,
+        Match::Not => m,
     }
 }
 

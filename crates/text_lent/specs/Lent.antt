@@ -6,19 +6,11 @@ use mathlib.Core.Bool.{Bool, cond}
 use mathlib.Core.List.{List}
 use lib.Dec.{ltb}
 use lib.ListN.{length}
+use Rattle.text.specs.Refusal.{textTooLong, lentTooShort, highByteMet}
 use Rattle.text.specs.Scan.{runEnd}
 use Rattle.text.specs.declared.Run.the-variants.{Low}
 use Rattle.text_lent.specs.declared.Lent.{Lent}
 use Rattle.text_lent.specs.declared.Lent.the-variants.{Fit, Unfit}
-
-abbrev pub textTooLong : ℕ
-textTooLong = 1
-
-abbrev pub lentTooShort : ℕ
-lentTooShort = 2
-
-abbrev pub highByteMet : ℕ
-highByteMet = 3
 
 abbrev pub mostText : ℕ
 mostText = 1048576

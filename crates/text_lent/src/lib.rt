@@ -6,13 +6,6 @@ ghost use Rattle.text.specs.Class.{classTable};
 ghost use Rattle.text_lent.specs.Lent.{lentAt};
 ghost use Rattle.text_lent.specs.Padded.{zeros};
 
-// Refusals of this layer.
-pub const TEXT_TOO_LONG: u32 = 1;
-
-pub const LENT_TOO_SHORT: u32 = 2;
-
-pub const HIGH_BYTE: u32 = 3;
-
 // The longest text.
 pub const MOST_TEXT: usize = 1048576;
 
@@ -67,14 +60,14 @@ pub fn check_lent(classes: &[u8; 128], s: &[u8], short: bool) -> Lent
 {
     if MOST_TEXT < s.len() {
         return Lent::Unfit(Refusal {
-            number: TEXT_TOO_LONG,
+            number: text::TEXT_TOO_LONG,
             keyword: 0,
             at: 0,
         });
     }
     if short {
         return Lent::Unfit(Refusal {
-            number: LENT_TOO_SHORT,
+            number: text::LENT_TOO_SHORT,
             keyword: 0,
             at: 0,
         });
@@ -82,7 +75,7 @@ pub fn check_lent(classes: &[u8; 128], s: &[u8], short: bool) -> Lent
     let at = text::first_high(classes, s);
     if at < s.len() {
         return Lent::Unfit(Refusal {
-            number: HIGH_BYTE,
+            number: text::HIGH_BYTE,
             keyword: 0,
             at,
         });

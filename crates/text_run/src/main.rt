@@ -2,6 +2,7 @@
 use replay::Run;
 use text::Cursor;
 use text::Match;
+use text_skip::Skipped;
 use text_value::Argument;
 use text_value::Value;
 ghost use mathlib.Core.Path.{_≡_};
@@ -57,13 +58,15 @@ fn next_token(from: Cursor, classes: &[u8; 128], s: &[u8]) -> Found
     if s.len() <= at {
         return Found::Nothing;
     }
-    let prefix = text::match_prefix(here, classes, s);
+    let prefix = here.match_keyword(classes, s, b"prefix");
     match prefix {
         Match::After(c) => Found::At(c),
         Match::Not => {
             let token = text_skip::skip_one_token(here, classes, s);
-            let end = text_skip::token_end(token);
-            Found::On(end)
+            let Skipped::Past(next, _) = token else {
+                return Found::Nothing;
+            };
+            Found::On(next)
         }
     }
 }
@@ -101,7 +104,10 @@ fn tokens_from(classes: &[u8; 128], s: &[u8]) -> Cursor
         Match::After(_) => {
             let rest = Cursor { at: 21 };
             let skipped = text_skip::skip_statement(rest, classes, s);
-            text_skip::ended_at(skipped)
+            let Skipped::Past(next, _) = skipped else {
+                return opened;
+            };
+            next
         }
         Match::Not => opened,
     }
@@ -173,8 +179,10 @@ fn statement_ends(s: &[u8], at: usize) -> bool {
     let classes = text::classes();
     let start = Cursor { at: 0 };
     let skipped = text_skip::skip_statement(start, &classes, s);
-    let end = text_skip::ended_at(skipped);
-    end.at == at
+    let Skipped::Past(next, _) = skipped else {
+        return false;
+    };
+    next.at == at
 }
 
 // Whether the value at the text's start is these bytes and ends at a place, read or skipped.
@@ -192,7 +200,10 @@ fn value_is(s: &[u8], kept: &[u8], at: usize) -> bool {
     if next.at != at {
         return false;
     }
-    let passed = text_skip::skip_value(start, &classes, s);
+    let skipped = text_skip::skip_value(start, &classes, s);
+    let Skipped::Past(passed, _) = skipped else {
+        return false;
+    };
     if passed.at != at {
         return false;
     }

@@ -13,15 +13,18 @@ use borrow.Author.Tests.{ne-eqb, eqb-true, le-leb, lt-leb, leb-true, leb-false}
 use Rattle.text.specs.Scan.{gapEnd}
 use Rattle.text.specs.Turns.{stop, on}
 use Rattle.text.specs.declared.Cursor.{Cursor}
+use Rattle.text.specs.declared.Refusal.{Refusal}
 use Rattle.text.proofs.Here.{by-test, inside, rest}
 use Rattle.text.proofs.Laws.{gap-from, gap-within}
 use Rattle.text.proofs.Turns.{turns-stop, turns-on, turns-rule}
 use Rattle.text_value.specs.Value.{isQuote}
-use Rattle.text_skip.specs.Statement.{closes, quotedLen, quotedEnd, atSemicolon, atClose, partOf, partAt, Inside, ofPart, statementTurn, statementFrom, statementAt, endedAt}
-use Rattle.text_skip.specs.declared.Ended.{Ended}
-use Rattle.text_skip.specs.declared.Ended.the-variants.{Semicolon, Block, Before, Text}
+use Rattle.text_skip.specs.Statement.{closes, quotedLen, quotedEnd, atSemicolon, atClose, partOf, partAt, Inside, ofPart, statementTurn, statementFrom, statementAt}
+use Rattle.text_skip.specs.declared.How.{How}
+use Rattle.text_skip.specs.declared.How.the-variants.{Whole, Semicolon, Block, Before, Text}
 use Rattle.text_skip.specs.declared.Part.{Part}
 use Rattle.text_skip.specs.declared.Part.the-variants.{On, Stop}
+use Rattle.text_skip.specs.declared.Skipped.{Skipped}
+use Rattle.text_skip.specs.declared.Skipped.the-variants.{Past, Refused}
 
 -- ---- a string
 
@@ -66,7 +69,7 @@ quoted-within s at q h = omega (arith, quoted-most q q (drop at s), length-drop 
 
 -- ---- a part
 
-pub part-past : (s : List ℕ) (at d : ℕ) → length s ≤ at → partAt s at d ≡ Stop (Text (record { at = at }))
+pub part-past : (s : List ℕ) (at d : ℕ) → length s ≤ at → partAt s at d ≡ Stop (Past (record { at = at }) Text)
 unfolding partAt
 part-past s at d h = rw (le-leb (length s) at h) refl
 
@@ -107,7 +110,7 @@ module _ (s : List ℕ) (at d : ℕ) (h : at < length s) where
         ne-eqb (getD s at 0) 125 k,
       )
 
-stop-not : {e : Ended} {c : Cursor} {d : ℕ} {p : Part} → p ≡ Stop e → p ≡ On c d → ⊥
+stop-not : {e : Skipped} {c : Cursor} {d : ℕ} {p : Part} → p ≡ Stop e → p ≡ On c d → ⊥
 stop-not e f = let z : _≡_ {A = ℕ} 0 1 = cc in omega arith
 
 on-is : {b c : Cursor} {d e : ℕ} {p : Part} → p ≡ On b d → p ≡ On c e → (b .at ≡ c .at) × (d ≡ e)
@@ -153,40 +156,42 @@ part-far s at d e c h =
     (λ t. absurd (stop-not refl (rw t at h)))
     (λ t. let l : at < length s = leb-false (length s) at t in (l, of-far s at d (getD s at 256) e c l (rw t at h)))
 
--- how a part that ends the statement ends it: past its byte, before its brace, or at the text's end
-abbrev pub Stops : List ℕ → ℕ → Ended → Type 0
-Stops s at (Semicolon c) = (at < length s) × (c .at ≡ at + 1)
-Stops s at (Block c) = (at < length s) × (c .at ≡ at + 1)
-Stops s at (Before c) = (at < length s) × (c .at ≡ at) × (getD s at 256 ≡ 125)
-Stops s at (Text c) = (length s ≤ at) × (c .at ≡ at)
+-- how a part that ends the statement ends it: past its byte, before its brace, or at the text's end; no part refuses
+abbrev pub Stops : List ℕ → ℕ → Skipped → Type 0
+Stops s at (Past c Whole) = ⊥
+Stops s at (Past c Semicolon) = (at < length s) × (c .at ≡ at + 1)
+Stops s at (Past c Block) = (at < length s) × (c .at ≡ at + 1)
+Stops s at (Past c Before) = (at < length s) × (c .at ≡ at) × (getD s at 256 ≡ 125)
+Stops s at (Past c Text) = (length s ≤ at) × (c .at ≡ at)
+Stops s at (Refused r) = ⊥
 
-on-not : {e : Ended} {c : Cursor} {d : ℕ} {p : Part} → p ≡ On c d → p ≡ Stop e → ⊥
+on-not : {e : Skipped} {c : Cursor} {d : ℕ} {p : Part} → p ≡ On c d → p ≡ Stop e → ⊥
 on-not e f = stop-not f e
 
-stop-is : {p : Part} {q e : Ended} → p ≡ Stop q → p ≡ Stop e → q ≡ e
+stop-is : {p : Part} {q e : Skipped} → p ≡ Stop q → p ≡ Stop e → q ≡ e
 stop-is h k = cc
 
 -- the answer e is q, of which it is known
-stops-is : (s : List ℕ) (at : ℕ) (q e : Ended) → _≡_ {A = Part} (Stop q) (Stop e) → Stops s at q → Stops s at e
+stops-is : (s : List ℕ) (at : ℕ) (q e : Skipped) → _≡_ {A = Part} (Stop q) (Stop e) → Stops s at q → Stops s at e
 stops-is s at q e k t = subst (Stops s at) (stop-is refl k) t
 
-semicolon-stops : (s : List ℕ) (at d : ℕ) (e : Ended) → at < length s → atSemicolon (at + 1) d ≡ Stop e → Stops s at e
+semicolon-stops : (s : List ℕ) (at d : ℕ) (e : Skipped) → at < length s → atSemicolon (at + 1) d ≡ Stop e → Stops s at e
 unfolding atSemicolon
 semicolon-stops s at d e l h =
     by-test (eqb d 0)
-    (λ t. stops-is s at (Semicolon (record { at = at + 1 })) e (rw t at h) (l, refl))
+    (λ t. stops-is s at (Past (record { at = at + 1 }) Semicolon) e (rw t at h) (l, refl))
     (λ t. absurd (on-not refl (rw t at h)))
 
-close-stops : (s : List ℕ) (at d : ℕ) (e : Ended) → at < length s → getD s at 256 ≡ 125 → atClose at (at + 1) d ≡ Stop e → Stops s at e
+close-stops : (s : List ℕ) (at d : ℕ) (e : Skipped) → at < length s → getD s at 256 ≡ 125 → atClose at (at + 1) d ≡ Stop e → Stops s at e
 unfolding atClose
 close-stops s at d e l b h =
     by-test (eqb d 0)
-    (λ t. stops-is s at (Before (record { at = at })) e (rw t at h) (l, refl, b))
+    (λ t. stops-is s at (Past (record { at = at }) Before) e (rw t at h) (l, refl, b))
     (λ t. by-test (eqb d 1)
-    (λ u. stops-is s at (Block (record { at = at + 1 })) e (rw u at (rw t at h)) (l, refl))
+    (λ u. stops-is s at (Past (record { at = at + 1 }) Block) e (rw u at (rw t at h)) (l, refl))
     (λ u. absurd (on-not refl (rw u at (rw t at h)))))
 
-of-stops : (s : List ℕ) (at d b : ℕ) (e : Ended) → at < length s → getD s at 256 ≡ b → partOf s at d b ≡ Stop e → Stops s at e
+of-stops : (s : List ℕ) (at d b : ℕ) (e : Skipped) → at < length s → getD s at 256 ≡ b → partOf s at d b ≡ Stop e → Stops s at e
 unfolding partOf
 of-stops s at d b e l k h =
     by-test (isQuote b)
@@ -199,16 +204,16 @@ of-stops s at d b e l k h =
     (λ w. close-stops s at d e l (k ∙ eqb-true b 125 w) (rw w at (rw v at (rw u at (rw t at h)))))
     (λ w. absurd (on-not refl (rw w at (rw v at (rw u at (rw t at h)))))))))
 
-pub part-stops : (s : List ℕ) (at d : ℕ) (e : Ended) → partAt s at d ≡ Stop e → Stops s at e
+pub part-stops : (s : List ℕ) (at d : ℕ) (e : Skipped) → partAt s at d ≡ Stop e → Stops s at e
 unfolding partAt
 part-stops s at d e h =
     by-test (leb (length s) at)
-    (λ t. stops-is s at (Text (record { at = at })) e (rw t at h) (leb-true (length s) at t, refl))
+    (λ t. stops-is s at (Past (record { at = at }) Text) e (rw t at h) (leb-true (length s) at t, refl))
     (λ t. of-stops s at d (getD s at 256) e (leb-false (length s) at t) refl (rw t at h))
 
 -- ---- a statement
 
-of-on : (s : List ℕ) (g d : ℕ) (p : Part) (i : Inside) → partAt s g d ≡ p → ofPart p ≡ on i → (g < length s) × (g < i .at)
+of-on : (s : List ℕ) (g d : ℕ) (p : Part) (i : Inside) → partAt s g d ≡ p → ofPart p ≡ on i → (g < length s) × (g < i .at) × (i .at ≤ length s)
 unfolding ofPart
 of-on s g d (On c e) i q h = let k : c .at ≡ i .at = cc in omega (arith, part-far s g d e c q)
 of-on s g d (Stop e) i q h = let z : _≡_ {A = ℕ} 0 1 = cc in omega arith
@@ -229,10 +234,10 @@ module _ (s : List ℕ) (at d : ℕ) {g : ℕ} {p : Part} (ge : g ≡ gapEnd s a
   unfolding statementTurn
   turn-is = ap (λ i. ofPart (partAt s i d)) (sym ge) ∙ ap ofPart (sym pe)
 
-  pub statement-stop : (e : Ended) → p ≡ Stop e → statementFrom s at d ≡ e
+  pub statement-stop : (e : Skipped) → p ≡ Stop e → statementFrom s at d ≡ e
   unfolding statementFrom ofPart
   statement-stop e h =
-      turns-stop (statementTurn s) (Text (record { at = 0 })) (λ i. length s - i .at) (statement-falls s)
+      turns-stop (statementTurn s) (Past (record { at = 0 }) Text) (λ i. length s - i .at) (statement-falls s)
       (suc (length s)) (record { at = at; depth = d }) e (omega arith) (turn-is ∙ ap ofPart h)
 
   module _ (c : Cursor) (e : ℕ) (h : p ≡ On c e) where
@@ -242,7 +247,7 @@ module _ (s : List ℕ) (at d : ℕ) {g : ℕ} {p : Part} (ge : g ≡ gapEnd s a
     pub statement-more : statementFrom s at d ≡ statementFrom s (c .at) e
     unfolding statementFrom ofPart
     statement-more =
-        turns-on (statementTurn s) (Text (record { at = 0 })) (λ i. length s - i .at) (statement-falls s)
+        turns-on (statementTurn s) (Past (record { at = 0 }) Text) (λ i. length s - i .at) (statement-falls s)
         (suc (length s)) (suc (length s)) (record { at = at; depth = d }) (record { at = c .at; depth = e }) (omega arith) (omega arith) (turn-is ∙ ap ofPart h)
 
     pub statement-on : length s - c .at < length s - at
@@ -254,27 +259,34 @@ module _ (s : List ℕ) (at d : ℕ) {g : ℕ} {p : Part} (ge : g ≡ gapEnd s a
 
 -- ---- how far a statement goes
 
--- what the end of a statement says of its place: behind its start by a byte of its own, before a closing brace, or at the text's end
-abbrev pub Tells : List ℕ → ℕ → Ended → Type 0
-Tells s at (Semicolon c) = (at < c .at) × (c .at ≤ length s)
-Tells s at (Block c) = (at < c .at) × (c .at ≤ length s)
-Tells s at (Before c) = (at ≤ c .at) × (c .at < length s) × (getD s (c .at) 256 ≡ 125)
-Tells s at (Text c) = (at ≤ c .at) × (length s ≤ c .at)
+-- what the end of a statement says of its place: behind its start by a byte of its own, before a closing brace, or at the text's end; none is
+-- refused
+abbrev pub Tells : List ℕ → ℕ → Skipped → Type 0
+Tells s at (Past c Whole) = ⊥
+Tells s at (Past c Semicolon) = (at < c .at) × (c .at ≤ length s)
+Tells s at (Past c Block) = (at < c .at) × (c .at ≤ length s)
+Tells s at (Past c Before) = (at ≤ c .at) × (c .at < length s) × (getD s (c .at) 256 ≡ 125)
+Tells s at (Past c Text) = (at ≤ c .at) × (length s ≤ c .at) × (at ≤ length s → c .at ≡ length s)
+Tells s at (Refused r) = ⊥
 
 -- said of a place, it holds of one before
-tells-on : (s : List ℕ) (at b : ℕ) (e : Ended) → at ≤ b → Tells s b e → Tells s at e
-tells-on s at b (Semicolon c) h t = (omega (arith, t .0), t .1)
-tells-on s at b (Block c) h t = (omega (arith, t .0), t .1)
-tells-on s at b (Before c) h t = (omega (arith, t .0), t .1, t .2)
-tells-on s at b (Text c) h t = (omega (arith, t .0), t .1)
+tells-on : (s : List ℕ) (at b : ℕ) (e : Skipped) → at ≤ b → (at ≤ length s → b ≤ length s) → Tells s b e → Tells s at e
+tells-on s at b (Past c Whole) h l t = t
+tells-on s at b (Past c Semicolon) h l t = (omega (arith, t .0), t .1)
+tells-on s at b (Past c Block) h l t = (omega (arith, t .0), t .1)
+tells-on s at b (Past c Before) h l t = (omega (arith, t .0), t .1, t .2)
+tells-on s at b (Past c Text) h l t = (omega (arith, t .0), t .1, λ k. t .2 (l k))
+tells-on s at b (Refused r) h l t = t
 
-stops-tell : (s : List ℕ) (at : ℕ) (e : Ended) → Stops s at e → Tells s at e
-stops-tell s at (Semicolon c) t = (omega (arith, t .1), omega (arith, t .0, t .1))
-stops-tell s at (Block c) t = (omega (arith, t .1), omega (arith, t .0, t .1))
-stops-tell s at (Before c) t = (omega (arith, t .1), omega (arith, t .0, t .1), ap (λ i. getD s i 256) (t .1) ∙ t .2)
-stops-tell s at (Text c) t = (omega (arith, t .1), omega (arith, t .0, t .1))
+stops-tell : (s : List ℕ) (at : ℕ) (e : Skipped) → Stops s at e → Tells s at e
+stops-tell s at (Past c Whole) t = t
+stops-tell s at (Past c Semicolon) t = (omega (arith, t .1), omega (arith, t .0, t .1))
+stops-tell s at (Past c Block) t = (omega (arith, t .1), omega (arith, t .0, t .1))
+stops-tell s at (Past c Before) t = (omega (arith, t .1), omega (arith, t .0, t .1), ap (λ i. getD s i 256) (t .1) ∙ t .2)
+stops-tell s at (Past c Text) t = (omega (arith, t .1), omega (arith, t .0, t .1), λ k. omega (arith, t .0, t .1))
+stops-tell s at (Refused r) t = t
 
-of-stop : (s : List ℕ) (g d : ℕ) (p : Part) (e : Ended) → partAt s g d ≡ p → ofPart p ≡ stop e → Tells s g e
+of-stop : (s : List ℕ) (g d : ℕ) (p : Part) (e : Skipped) → partAt s g d ≡ p → ofPart p ≡ stop e → Tells s g e
 unfolding ofPart
 of-stop s g d (On c f) e q h = let z : _≡_ {A = ℕ} 0 1 = cc in absurd (omega arith)
 of-stop s g d (Stop f) e q h = let k : f ≡ e = cc in stops-tell s g e (part-stops s g d e (q ∙ ap Stop k))
@@ -282,77 +294,57 @@ of-stop s g d (Stop f) e q h = let k : f ≡ e = cc in stops-tell s g e (part-st
 from-tells : (s : List ℕ) (at d : ℕ) → Tells s at (statementFrom s at d)
 unfolding statementFrom statementTurn
 from-tells s at d =
-    turns-rule (statementTurn s) (Text (record { at = 0 })) (λ i. length s - i .at) (statement-falls s) (λ i e. Tells s (i .at) e)
-    (λ i e h. let g = gapEnd s (i .at) in tells-on s (i .at) g e (gap-from s (i .at)) (of-stop s g (i .depth) (partAt s g (i .depth)) e refl h))
+    turns-rule (statementTurn s) (Past (record { at = 0 }) Text) (λ i. length s - i .at) (statement-falls s) (λ i e. Tells s (i .at) e)
+    (λ i e h. let g = gapEnd s (i .at) in
+    tells-on s (i .at) g e (gap-from s (i .at)) (gap-within s (i .at)) (of-stop s g (i .depth) (partAt s g (i .depth)) e refl h))
     (λ i j e h t. let g = gapEnd s (i .at) in
-    tells-on s (i .at) (j .at) e (omega (arith, of-on s g (i .depth) (partAt s g (i .depth)) j refl h, gap-from s (i .at))) t)
+    let far = of-on s g (i .depth) (partAt s g (i .depth)) j refl h in
+    tells-on s (i .at) (j .at) e (omega (arith, far, gap-from s (i .at))) (λ l. far .2) t)
     (suc (length s)) (record { at = at; depth = d }) (omega arith)
 
 pub statement-tells : (s : List ℕ) (at : ℕ) → Tells s at (statementAt s at)
 unfolding statementAt
 statement-tells s at = from-tells s at 0
 
-pub statement-semicolon : (s : List ℕ) (at : ℕ) (c : Cursor) → statementAt s at ≡ Semicolon c → (at < c .at) × (c .at ≤ length s)
-statement-semicolon s at c h = subst (Tells s at) h (statement-tells s at)
+-- behind its start, and within the text where the scan stands within it
+tells-far : (s : List ℕ) (at : ℕ) (c : Cursor) (h : How) → Tells s at (Past c h) → (at ≤ c .at) × (at ≤ length s → c .at ≤ length s)
+tells-far s at c Whole t = absurd t
+tells-far s at c Semicolon t = (omega (arith, t .0), λ l. t .1)
+tells-far s at c Block t = (omega (arith, t .0), λ l. t .1)
+tells-far s at c Before t = (t .0, λ l. omega (arith, t .1))
+tells-far s at c Text t = (t .0, λ l. omega (arith, t .2 l))
 
-pub statement-block : (s : List ℕ) (at : ℕ) (c : Cursor) → statementAt s at ≡ Block c → (at < c .at) × (c .at ≤ length s)
-statement-block s at c h = subst (Tells s at) h (statement-tells s at)
+pub statement-far : (s : List ℕ) (at : ℕ) → at ≤ length s → (c : Cursor) (h : How) → statementAt s at ≡ Past c h → (at ≤ c .at) × (c .at ≤ length s)
+statement-far s at l c h e = let f = tells-far s at c h (subst (Tells s at) e (statement-tells s at)) in (f .0, f .1 l)
 
-pub statement-before : (s : List ℕ) (at : ℕ) (c : Cursor) → statementAt s at ≡ Before c → (at ≤ c .at) × (c .at < length s) × (getD s (c .at) 256 ≡ 125)
-statement-before s at c h = subst (Tells s at) h (statement-tells s at)
-
-pub statement-text : (s : List ℕ) (at : ℕ) (c : Cursor) → statementAt s at ≡ Text c → (at ≤ c .at) × (length s ≤ c .at)
-statement-text s at c h = subst (Tells s at) h (statement-tells s at)
-
-tells-from : (s : List ℕ) (at : ℕ) (e : Ended) → Tells s at e → at ≤ endedAt e
-unfolding endedAt
-tells-from s at (Semicolon c) t = omega (arith, t .0)
-tells-from s at (Block c) t = omega (arith, t .0)
-tells-from s at (Before c) t = t .0
-tells-from s at (Text c) t = t .0
-
-pub statement-from : (s : List ℕ) (at : ℕ) → at ≤ endedAt (statementAt s at)
-statement-from s at = tells-from s at (statementAt s at) (statement-tells s at)
-
--- within the text, where the scan stands within it
-turn-within : (s : List ℕ) (g d : ℕ) (p : Part) (e : Ended) → g ≤ length s → partAt s g d ≡ p → ofPart p ≡ stop e → endedAt e ≤ length s
-unfolding ofPart endedAt
-turn-within s g d (On c f) e l q h = let z : _≡_ {A = ℕ} 0 1 = cc in absurd (omega arith)
-turn-within s g d (Stop f) e l q h = let k : f ≡ e = cc in by-end e (part-stops s g d e (q ∙ ap Stop k))
-  where
-    by-end : (e : Ended) → Stops s g e → endedAt e ≤ length s
-    by-end (Semicolon c) t = omega (arith, t .0, t .1)
-    by-end (Block c) t = omega (arith, t .0, t .1)
-    by-end (Before c) t = omega (arith, t .0, t .1)
-    by-end (Text c) t = omega (arith, t .1)
-
-turn-on-within : (s : List ℕ) (g d : ℕ) (p : Part) (i : Inside) → partAt s g d ≡ p → ofPart p ≡ on i → i .at ≤ length s
-unfolding ofPart
-turn-on-within s g d (On c e) i q h = let k : c .at ≡ i .at = cc in omega (arith, part-far s g d e c q)
-turn-on-within s g d (Stop e) i q h = let z : _≡_ {A = ℕ} 0 1 = cc in absurd (omega arith)
-
-pub statement-within : (s : List ℕ) (at : ℕ) → at ≤ length s → endedAt (statementAt s at) ≤ length s
-unfolding statementAt statementFrom statementTurn
-statement-within s at =
-    turns-rule (statementTurn s) (Text (record { at = 0 })) (λ i. length s - i .at) (statement-falls s) (λ i e. i .at ≤ length s → endedAt e ≤ length s)
-    (λ i e h l. let g = gapEnd s (i .at) in turn-within s g (i .depth) (partAt s g (i .depth)) e (gap-within s (i .at) l) refl h)
-    (λ i j e h t l. let g = gapEnd s (i .at) in t (turn-on-within s g (i .depth) (partAt s g (i .depth)) j refl h))
-    (suc (length s)) (record { at = at; depth = 0 }) (omega arith)
+pub statement-refused : (s : List ℕ) (at : ℕ) (r : Refusal) → statementAt s at ≡ Refused r → ⊥
+statement-refused s at r e = subst (Tells s at) e (statement-tells s at)
 
 -- a statement before which no closing brace stands takes a byte at least
-from-moves : (s : List ℕ) (at : ℕ) (p : Part) → at < length s → (getD s (gapEnd s at) 256 ≡ 125 → ⊥) → partAt s (gapEnd s at) 0 ≡ p → at < endedAt (statementFrom s at 0)
-unfolding endedAt
+abbrev Moves : ℕ → Skipped → Type 0
+Moves at (Past c h) = at < c .at
+Moves at (Refused r) = ⊥
+
+tells-moves : (s : List ℕ) (at b : ℕ) (e : Skipped) → at < b → Tells s b e → Moves at e
+tells-moves s at b (Past c h) l t = omega (arith, tells-far s b c h t .0)
+tells-moves s at b (Refused r) l t = t
+
+from-moves : (s : List ℕ) (at : ℕ) (p : Part) → at < length s → (getD s (gapEnd s at) 256 ≡ 125 → ⊥) → partAt s (gapEnd s at) 0 ≡ p
+    → Moves at (statementFrom s at 0)
 from-moves s at (On c d) l n h =
     rw (statement-more s at 0 refl refl c d h)
-    (omega (arith, tells-from s (c .at) (statementFrom s (c .at) d) (from-tells s (c .at) d), part-far s (gapEnd s at) 0 d c h, gap-from s at))
+    (tells-moves s at (c .at) (statementFrom s (c .at) d) (omega (arith, part-far s (gapEnd s at) 0 d c h, gap-from s at)) (from-tells s (c .at) d))
 from-moves s at (Stop e) l n h = rw (statement-stop s at 0 refl refl e h) (stopped e (part-stops s (gapEnd s at) 0 e h))
   where
-    stopped : (e : Ended) → Stops s (gapEnd s at) e → at < endedAt e
-    stopped (Semicolon c) t = omega (arith, t .1, gap-from s at)
-    stopped (Block c) t = omega (arith, t .1, gap-from s at)
-    stopped (Before c) t = absurd (n (t .2))
-    stopped (Text c) t = omega (arith, t .0, t .1, l)
+    stopped : (e : Skipped) → Stops s (gapEnd s at) e → Moves at e
+    stopped (Past c Whole) t = absurd t
+    stopped (Past c Semicolon) t = omega (arith, t .1, gap-from s at)
+    stopped (Past c Block) t = omega (arith, t .1, gap-from s at)
+    stopped (Past c Before) t = absurd (n (t .2))
+    stopped (Past c Text) t = omega (arith, t .0, t .1, l)
+    stopped (Refused r) t = t
 
-pub statement-moves : (s : List ℕ) (at : ℕ) → at < length s → (getD s (gapEnd s at) 256 ≡ 125 → ⊥) → at < endedAt (statementAt s at)
+pub statement-moves : (s : List ℕ) (at : ℕ) → at < length s → (getD s (gapEnd s at) 256 ≡ 125 → ⊥) → (c : Cursor) (h : How) → statementAt s at ≡ Past c h
+    → at < c .at
 unfolding statementAt
-statement-moves s at l n = from-moves s at (partAt s (gapEnd s at) 0) l n refl
+statement-moves s at l n c h e = subst (Moves at) e (from-moves s at (partAt s (gapEnd s at) 0) l n refl)

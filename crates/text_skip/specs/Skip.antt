@@ -1,47 +1,85 @@
 -- Skipping a token: a whole quoted string, a whole name if it starts with letter or `_`, else one byte.
 -- The string closes by the rules of a value.
 -- `yang-version`, value if there is one: that value is skipped by the rules of a value too, and nothing of it is stored.
+-- Every skip answers where and how what it skipped ended, or a refusal. None of these definitions refuses anything.
 -- Assumes nothing.
 use Prim.Native.Nat.{ℕ, _+_}
-use mathlib.Core.Bool.{false, cond}
+use mathlib.Core.Bool.{Bool, true, false, cond}
 use mathlib.Core.List.{List}
 use lib.ListN.{length, drop}
 use lib.Dec.{leb}
 use Rattle.text.specs.Bytes.{look}
 use Rattle.text.specs.Keyword.{startsIdent}
+use Rattle.text.specs.Refusal.{noRefusal}
 use Rattle.text.specs.Scan.{runEnd}
+use Rattle.text.specs.declared.Refusal.{Refusal}
 use Rattle.text.specs.declared.Run.the-variants.{Name}
 use Rattle.text_value.specs.Str.{strEnd}
-use Rattle.text_value.specs.Value.{isQuote, More, added, ends, broken}
+use Rattle.text_value.specs.Value.{isQuote, More, added, ends, broken, joined, valueAt, placeOf, closedFrom, closedAt}
 use Rattle.text_value.specs.declared.Close.{Close}
 use Rattle.text_value.specs.declared.Close.the-variants.{At, Open}
+use Rattle.text_skip.specs.declared.How.{How}
+use Rattle.text_skip.specs.declared.How.the-variants.{Whole, Semicolon, Block, Before, Text}
+use Rattle.text_skip.specs.declared.Skipped.{Skipped}
+use Rattle.text_skip.specs.declared.Skipped.the-variants.{Past, Refused}
 use Rattle.text_skip.specs.declared.Tail.{Tail}
 use Rattle.text_skip.specs.declared.Tail.the-variants.{More as MoreTail, Last}
-use Rattle.text_skip.specs.declared.Token.{Token}
-use Rattle.text_skip.specs.declared.Token.the-variants.{Past, Cut}
+
+-- ---- the answer of a skip
+
+-- whether the text's end ended what was skipped
+unfoldable pub brokeOff : How → Bool
+brokeOff Whole = false
+brokeOff Semicolon = false
+brokeOff Block = false
+brokeOff Before = false
+brokeOff Text = true
+
+-- its refusal, or none
+unfoldable pub skipRefusal : Skipped → Refusal
+skipRefusal (Past c h) = noRefusal
+skipRefusal (Refused r) = r
+
+-- past a whole token or value; past one that the text's end ended
+abbrev pub pastWhole : ℕ → Skipped
+pastWhole end = Past (record { at = end }) Whole
+
+abbrev pub pastText : ℕ → Skipped
+pastText end = Past (record { at = end }) Text
+
+-- ---- a token
 
 -- a string, closed or not
-unfoldable pub closedToken : List ℕ → Close → Token
-closedToken s (At end) = Past (record { at = end })
-closedToken s Open = Cut (record { at = length s })
+unfoldable pub closedToken : List ℕ → Close → Skipped
+closedToken s (At end) = pastWhole end
+closedToken s Open = pastText (length s)
 
 -- within the text
-unfoldable pub tokenHere : List ℕ → ℕ → Token
+unfoldable pub tokenHere : List ℕ → ℕ → Skipped
 tokenHere s at =
     cond (isQuote (look s at)) (closedToken s (strEnd (look s at) false (drop (at + 1) s) (at + 1)))
-    (cond (startsIdent (look s at)) (Past (record { at = runEnd Name s at })) (Past (record { at = at + 1 })))
+    (cond (startsIdent (look s at)) (pastWhole (runEnd Name s at)) (pastWhole (at + 1)))
 
 -- at the end nothing is skipped
-unfoldable pub tokenAt : List ℕ → ℕ → Token
-tokenAt s at = cond (leb (length s) at) (Past (record { at = at })) (tokenHere s at)
+unfoldable pub tokenAt : List ℕ → ℕ → Skipped
+tokenAt s at = cond (leb (length s) at) (pastWhole at) (tokenHere s at)
 
--- where it ends
-unfoldable pub tokenEnd : Token → ℕ
-tokenEnd (Past c) = c .at
-tokenEnd (Cut c) = c .at
+-- ---- a value
 
--- what follows a string of a value that is skipped: one more that is added, or the value's end
+-- what follows a string of it: one more that is added, or the value's end
 unfoldable pub tailOf : More → Tail
 tailOf (added bs end) = MoreTail (record { at = end })
-tailOf (ends end) = Last (record { at = end })
-tailOf (broken end) = Last (record { at = end })
+tailOf (ends end) = Last (pastWhole end)
+tailOf (broken end) = Last (pastText end)
+
+-- how it ends: with each of its strings closed, or by the text's end
+abbrev pub howClosed : Bool → How
+howClosed closed = cond closed Whole Text
+
+-- all that is added, from a place after a string on
+unfoldable pub addedAt : List ℕ → ℕ → Skipped
+addedAt s at = Past (record { at = joined s at .end }) (howClosed (closedFrom s at))
+
+-- after a gap
+unfoldable pub skippedAt : List ℕ → ℕ → Skipped
+skippedAt s at = Past (record { at = placeOf (valueAt s at) }) (howClosed (closedAt s at))

@@ -10,10 +10,11 @@ use Rattle.text.specs.Bytes.{backslash, semicolon, openBrace, closeBrace, look}
 use Rattle.text.specs.Scan.{gapEnd}
 use Rattle.text.specs.Turns.{Turn, stop, on, turns}
 use Rattle.text_value.specs.Value.{isQuote}
-use Rattle.text_skip.specs.declared.Ended.{Ended}
-use Rattle.text_skip.specs.declared.Ended.the-variants.{Semicolon, Block, Before, Text}
+use Rattle.text_skip.specs.declared.How.the-variants.{Semicolon, Block, Before, Text}
 use Rattle.text_skip.specs.declared.Part.{Part}
 use Rattle.text_skip.specs.declared.Part.the-variants.{On, Stop}
+use Rattle.text_skip.specs.declared.Skipped.{Skipped}
+use Rattle.text_skip.specs.declared.Skipped.the-variants.{Past}
 
 -- ---- a string
 
@@ -34,13 +35,13 @@ quotedEnd s at q = at + quotedLen q q (drop at s)
 
 -- after a semicolon
 unfoldable pub atSemicolon : ℕ → ℕ → Part
-atSemicolon next d = cond (eqb d 0) (Stop (Semicolon (record { at = next }))) (On (record { at = next }) d)
+atSemicolon next d = cond (eqb d 0) (Stop (Past (record { at = next }) Semicolon)) (On (record { at = next }) d)
 
 -- at a closing brace, and after it
 unfoldable pub atClose : ℕ → ℕ → ℕ → Part
 atClose at next d =
-    cond (eqb d 0) (Stop (Before (record { at = at })))
-    (cond (eqb d 1) (Stop (Block (record { at = next }))) (On (record { at = next }) (d - 1)))
+    cond (eqb d 0) (Stop (Past (record { at = at }) Before))
+    (cond (eqb d 1) (Stop (Past (record { at = next }) Block)) (On (record { at = next }) (d - 1)))
 
 -- b: what stands at the place
 unfoldable pub partOf : List ℕ → ℕ → ℕ → ℕ → Part
@@ -51,7 +52,7 @@ partOf s at d b =
     (cond (eqb b closeBrace) (atClose at (at + 1) d) (On (record { at = at + 1 }) d))))
 
 unfoldable pub partAt : List ℕ → ℕ → ℕ → Part
-partAt s at d = cond (leb (length s) at) (Stop (Text (record { at = at }))) (partOf s at d (look s at))
+partAt s at d = cond (leb (length s) at) (Stop (Past (record { at = at }) Text)) (partOf s at d (look s at))
 
 -- ---- a statement
 
@@ -60,22 +61,15 @@ pub record Inside : Type 0 where
   pub at : ℕ
   pub depth : ℕ
 
-unfoldable pub ofPart : Part → Turn Inside Ended
+unfoldable pub ofPart : Part → Turn Inside Skipped
 ofPart (On c d) = on (record { at = c .at; depth = d })
-ofPart (Stop e) = stop e
+ofPart (Stop k) = stop k
 
-unfoldable pub statementTurn : List ℕ → Inside → Turn Inside Ended
+unfoldable pub statementTurn : List ℕ → Inside → Turn Inside Skipped
 statementTurn s i = ofPart (partAt s (gapEnd s (i .at)) (i .depth))
 
-unfoldable pub statementFrom : List ℕ → ℕ → ℕ → Ended
-statementFrom s at d = turns (statementTurn s) (Text (record { at = 0 })) (suc (length s)) (record { at = at; depth = d })
+unfoldable pub statementFrom : List ℕ → ℕ → ℕ → Skipped
+statementFrom s at d = turns (statementTurn s) (Past (record { at = 0 }) Text) (suc (length s)) (record { at = at; depth = d })
 
-unfoldable pub statementAt : List ℕ → ℕ → Ended
+unfoldable pub statementAt : List ℕ → ℕ → Skipped
 statementAt s at = statementFrom s at 0
-
--- where it ended
-unfoldable pub endedAt : Ended → ℕ
-endedAt (Semicolon c) = c .at
-endedAt (Block c) = c .at
-endedAt (Before c) = c .at
-endedAt (Text c) = c .at

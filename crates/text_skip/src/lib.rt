@@ -1,80 +1,109 @@
 // Skipping: a token, a value, and a statement. A token's string closes by the rules of a value; a statement's string has a rule of its own.
 use text::Cursor;
+use text::Refusal;
 use text::Run;
 use text_value::Close;
 ghost use mathlib.Core.Path.{_≡_};
 ghost use Prim.Native.Nat.{_≤_};
 ghost use Rattle.text.specs.Class.{classTable};
-ghost use Rattle.text_value.specs.Value.{moreAt, joined, valueAt, placeOf};
-ghost use Rattle.text_skip.specs.Skip.{tokenAt, tokenEnd, tailOf};
-ghost use Rattle.text_skip.specs.Statement.{closes, quotedEnd, atSemicolon, atClose, partAt, statementAt, endedAt};
+ghost use Rattle.text_value.specs.Value.{moreAt};
+ghost use Rattle.text_skip.specs.Skip.{brokeOff, skipRefusal, tokenAt, tailOf, addedAt, skippedAt};
+ghost use Rattle.text_skip.specs.Statement.{closes, quotedEnd, atSemicolon, atClose, partAt, statementAt};
 
-// A token was passed; or it is a string that never closes, and the text has ended.
-pub enum Token {
-    Past(Cursor),
-    Cut(Cursor),
+// How what was skipped ended. A token or a value: whole. A statement: by its semicolon, by its block, or before a closing brace that is not
+// its own. Or the text's end ended it: a string never closed, or the statement went on.
+pub enum How {
+    Whole,
+    Semicolon,
+    Block,
+    Before,
+    Text,
+}
+
+// Whether the text's end ended it.
+pub fn broke_off(how: How) -> bool
+    ensures { λ r. ⌜ r ≡ brokeOff how ⌝ }
+{
+    match how {
+        How::Whole => false,
+        How::Semicolon => false,
+        How::Block => false,
+        How::Before => false,
+        How::Text => true,
+    }
+}
+
+// What every skip answers: the place after what was skipped and how that ended, or a refusal. No skip refuses anything today.
+pub enum Skipped {
+    Past(Cursor, How),
+    Refused(Refusal),
+}
+
+// The refusal of a skip, or none.
+pub fn skip_refusal(k: Skipped) -> Refusal
+    ensures { λ r. ⌜ r ≡ skipRefusal k ⌝ }
+{
+    match k {
+        Skipped::Past(_, _) => text::no_refusal(),
+        Skipped::Refused(r) => r,
+    }
 }
 
 // Skips a token: a whole string, a whole name that begins with a letter or _, or one byte. At the end nothing is skipped.
-pub fn skip_one_token(here: Cursor, classes: &[u8; 128], s: &[u8]) -> Token
+pub fn skip_one_token(here: Cursor, classes: &[u8; 128], s: &[u8]) -> Skipped
     requires { ⌜ now classes ≡ classTable ⌝ }
     ensures { λ r. ⌜ r ≡ tokenAt (now (s .entry)) (here .at) ⌝ }
 {
     let at = here.at;
     if s.len() <= at {
-        return Token::Past(here);
+        return Skipped::Past(here, How::Whole);
     }
     let b = text::peek_char(s, at);
     let after = at + 1;
     if text_value::is_quote(b) {
         let q = s[at];
         let Close::At(end) = text_value::close_of(s, after, q) else {
-            return Token::Cut(Cursor { at: s.len() });
+            return Skipped::Past(Cursor { at: s.len() }, How::Text);
         };
-        return Token::Past(Cursor { at: end });
+        return Skipped::Past(Cursor { at: end }, How::Whole);
     }
     if text::starts_ident(classes, b) {
         let end = text::run_end(classes, Run::Name, s, at);
-        return Token::Past(Cursor { at: end });
+        return Skipped::Past(Cursor { at: end }, How::Whole);
     }
-    Token::Past(Cursor { at: after })
+    Skipped::Past(Cursor { at: after }, How::Whole)
 }
 
-// Where a token ends.
-pub fn token_end(t: Token) -> Cursor
-    ensures { λ r. ⌜ r .at ≡ tokenEnd t ⌝ }
-{
-    match t {
-        Token::Past(c) => c,
-        Token::Cut(c) => c,
-    }
-}
-
-// Skips the value that stands after a gap, and stores nothing: the cursor after it, or where there is none.
-pub fn skip_value(here: Cursor, classes: &[u8; 128], s: &[u8]) -> Cursor
+// Skips the value that stands after a gap, and stores nothing: the place after it, or where there is none. A string that never closes ends
+// it at the text's end.
+pub fn skip_value(here: Cursor, classes: &[u8; 128], s: &[u8]) -> Skipped
     requires { ⌜ now classes ≡ classTable ⌝ }
-    ensures { λ r. ⌜ r .at ≡ placeOf (valueAt (now (s .entry)) (here .at)) ⌝ }
+    ensures { λ r. ⌜ r ≡ skippedAt (now (s .entry)) (here .at) ⌝ }
 {
     let first = here.skip_whitespace_and_comments(classes, s);
     let at = first.at;
     let b = text::peek_char(s, at);
     if text_value::is_quote(b) {
-        let Token::Past(end) = skip_one_token(first, classes, s) else {
-            return Cursor { at: s.len() };
+        let string = skip_one_token(first, classes, s);
+        let Skipped::Past(next, how) = string else {
+            return string;
         };
-        return skip_added(end, classes, s);
+        if broke_off(how) {
+            return Skipped::Past(next, how);
+        }
+        return skip_added(next, classes, s);
     }
     if text_value::starts_name(classes, b) {
         let name_end = text::run_end(classes, Run::Name, s, at);
-        return Cursor { at: name_end };
+        return Skipped::Past(Cursor { at: name_end }, How::Whole);
     }
-    first
+    Skipped::Past(first, How::Whole)
 }
 
 // Skips all that is added to a string.
-fn skip_added(here: Cursor, classes: &[u8; 128], s: &[u8]) -> Cursor
+fn skip_added(here: Cursor, classes: &[u8; 128], s: &[u8]) -> Skipped
     requires { ⌜ now classes ≡ classTable ⌝ }
-    ensures { λ r. ⌜ r .at ≡ joined (now (s .entry)) (here .at) .end ⌝ }
+    ensures { λ r. ⌜ r ≡ addedAt (now (s .entry)) (here .at) ⌝ }
 {
     let mut at = here.at;
     loop {
@@ -90,10 +119,10 @@ fn skip_added(here: Cursor, classes: &[u8; 128], s: &[u8]) -> Cursor
     }
 }
 
-// A string that is added was passed; or the value ends here.
+// A string that is added was passed; or the value has ended.
 pub enum Tail {
     More(Cursor),
-    Last(Cursor),
+    Last(Skipped),
 }
 
 // What follows a string: a gap, and if `+` follows, a gap and a string.
@@ -104,31 +133,27 @@ fn skip_string(here: Cursor, classes: &[u8; 128], s: &[u8]) -> Tail
     let plus = here.skip_whitespace_and_comments(classes, s);
     let p = plus.at;
     if text::peek_char(s, p) != text::PLUS {
-        return Tail::Last(plus);
+        return Tail::Last(Skipped::Past(plus, How::Whole));
     }
     let next = p + 1;
     let after = Cursor { at: next };
     let quote = after.skip_whitespace_and_comments(classes, s);
     let q = quote.at;
     if text_value::is_quote(text::peek_char(s, q)) {
-        let Token::Past(end) = skip_one_token(quote, classes, s) else {
-            return Tail::Last(Cursor { at: s.len() });
+        let string = skip_one_token(quote, classes, s);
+        let Skipped::Past(next, how) = string else {
+            return Tail::Last(string);
         };
-        return Tail::More(end);
+        if broke_off(how) {
+            return Tail::Last(Skipped::Past(next, how));
+        }
+        return Tail::More(next);
     }
-    Tail::Last(quote)
-}
-
-// How a statement ended: by its semicolon, by its block, before a closing brace that is not its own, or by the text's end.
-pub enum Ended {
-    Semicolon(Cursor),
-    Block(Cursor),
-    Before(Cursor),
-    Text(Cursor),
+    Tail::Last(Skipped::Past(quote, How::Whole))
 }
 
 // Skips a statement.
-pub fn skip_statement(here: Cursor, classes: &[u8; 128], s: &[u8]) -> Ended
+pub fn skip_statement(here: Cursor, classes: &[u8; 128], s: &[u8]) -> Skipped
     requires { ⌜ now classes ≡ classTable ⌝ }
     ensures { λ r. ⌜ r ≡ statementAt (now (s .entry)) (here .at) ⌝ }
 {
@@ -149,22 +174,10 @@ pub fn skip_statement(here: Cursor, classes: &[u8; 128], s: &[u8]) -> Ended
     }
 }
 
-// Where it ended.
-pub fn ended_at(e: Ended) -> Cursor
-    ensures { λ r. ⌜ r .at ≡ endedAt e ⌝ }
-{
-    match e {
-        Ended::Semicolon(c) => c,
-        Ended::Block(c) => c,
-        Ended::Before(c) => c,
-        Ended::Text(c) => c,
-    }
-}
-
 // A part of a statement was passed, and the depth after it; or the statement ended.
 pub enum Part {
     On { next: Cursor, depth: usize },
-    Stop(Ended),
+    Stop(Skipped),
 }
 
 // The part of a statement that stands here, at a depth: each brace that opened took a byte.
@@ -174,7 +187,7 @@ fn skip_part(here: Cursor, s: &[u8], depth: usize) -> Part
 {
     let at = here.at;
     if s.len() <= at {
-        return Part::Stop(Ended::Text(here));
+        return Part::Stop(Skipped::Past(here, How::Text));
     }
     let after = at + 1;
     let next = Cursor { at: after };
@@ -202,7 +215,7 @@ fn at_semicolon(next: Cursor, depth: usize) -> Part
     ensures { λ r. ⌜ r ≡ atSemicolon (next .at) depth ⌝ }
 {
     if depth == 0 {
-        return Part::Stop(Ended::Semicolon(next));
+        return Part::Stop(Skipped::Past(next, How::Semicolon));
     }
     Part::On { next, depth }
 }
@@ -212,10 +225,10 @@ fn at_close(here: Cursor, next: Cursor, depth: usize) -> Part
     ensures { λ r. ⌜ r ≡ atClose (here .at) (next .at) depth ⌝ }
 {
     if depth == 0 {
-        return Part::Stop(Ended::Before(here));
+        return Part::Stop(Skipped::Past(here, How::Before));
     }
     if depth == 1 {
-        return Part::Stop(Ended::Block(next));
+        return Part::Stop(Skipped::Past(next, How::Block));
     }
     let outer = depth - 1;
     Part::On { next, depth: outer }

@@ -6,7 +6,8 @@ use mathlib.Core.List.{List, [], _∷_}
 use Prim.Native.Nat.{ℕ}
 use lib.Dec.{eqb, T}
 use Rattle.text.specs.Class.{classOf}
-use Rattle.text.specs.Due.{noValue, otherByte, endOfText, dueNumber, dueHere, dueAt}
+use Rattle.text.specs.Due.{dueNumber, dueHere, dueAt}
+use Rattle.text.specs.Refusal.{noValue, otherByte, endOfText}
 use Rattle.text.specs.Keyword.{same, part}
 use Rattle.text.specs.Scan.{inIdent, inRun, span, runEnd, pairAt, closing, blockEnd, commentEnd, afterWhite, gapTurn, gapEnd}
 use Rattle.text.specs.Turns.{turns}

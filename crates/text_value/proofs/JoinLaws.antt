@@ -2,7 +2,7 @@
 -- there is room.
 -- Assumes nothing.
 use mathlib.Core.Path.{_≡_, refl, sym, ap, _∙_}
-use mathlib.Core.Bool.{Bool, true, false}
+use mathlib.Core.Bool.{Bool, true, false, cond}
 use mathlib.Core.List.{List, [], _∷_, _++_}
 use Prim.Native.Nat.{ℕ, suc, _+_, _-_, _<_, _≤_}
 use native.Mathlib.Omega.{arith}
@@ -19,14 +19,14 @@ use Rattle.text.proofs.Turns.{turns-stop, turns-on, turns-rule}
 use Rattle.text.proofs.Here.{by-test, here, never}
 use Rattle.text.proofs.Laws.{in-name, gap-from, gap-within, run-more, run-from, run-within}
 use Rattle.text_value.specs.Str.{Str, whole, cut, strEnd, strBytes, strAt, closedBy, escapes, answerOf, bytesOf}
-use Rattle.text_value.specs.Value.{isQuote, More, added, ends, broken, addedBy, moreAt, Bytes, addTo, joinTurn, joinedWith, joined, moreAnswer, moreBytes, joinAnswer, Val, value, none, ofString, nameAt, valueHere, valueAt, startsName, valueAnswer, valueEnd, placeOf}
+use Rattle.text_value.specs.Value.{isQuote, More, added, ends, broken, addedBy, moreAt, Bytes, addTo, joinTurn, joinedWith, joined, moreAnswer, moreBytes, joinAnswer, Val, value, none, ofString, nameAt, valueHere, valueAt, startsName, closedMore, closedTurn, closedFrom, closedString, closedHere, closedAt, valueAnswer, valueEnd, placeOf}
 use Rattle.text.specs.declared.Cursor.{Cursor}
 use Rattle.text.proofs.Writing.{sets-append}
 use Rattle.text_value.specs.declared.Joined.{Joined}
 use Rattle.text_value.specs.declared.Quoted.the-variants.{Closed, Unclosed}
 use Rattle.text_value.specs.declared.Value.the-variants.{Read}
-use Rattle.text_value.specs.declared.Part.{Part}
-use Rattle.text_value.specs.declared.Part.the-variants.{Added, Last, Cut}
+use Rattle.text_value.specs.declared.Addition.{Addition}
+use Rattle.text_value.specs.declared.Addition.the-variants.{Added, Last, Cut}
 use Rattle.text_value.specs.declared.Close.{Close}
 use Rattle.text_value.specs.declared.Close.the-variants.{At, Open}
 use Rattle.text_value.proofs.ValueLaws.{part-length, more-plain, more-bare, more-string}
@@ -166,7 +166,7 @@ module _ {s d : List ℕ} {u from : ℕ} where
   join-long j = ap length (j .kept) ∙ length-sets d u (j .bytes)
 
   -- p: what reading the next part answered
-  module _ {e : List ℕ} {at n : ℕ} (j : Joining s d u from e at n) {p : Part} (pe : p ≡ moreAnswer n (moreAt s at)) where
+  module _ {e : List ℕ} {at n : ℕ} (j : Joining s d u from e at n) {p : Addition} (pe : p ≡ moreAnswer n (moreAt s at)) where
     pub join-nearer : (next : Cursor) (k : ℕ) → p ≡ Added next k → length s - next .at < length s - at
     join-nearer next k h = omega (arith, more-size s at (moreBytes (moreAt s at)) (next .at) (added-answer n (moreAt s at) next k (sym pe ∙ h) .0))
 
@@ -439,6 +439,61 @@ module _ (s : List ℕ) (at : ℕ) where
 
   pub joined-broken : (e : ℕ) → moreAt s at ≡ broken e → joined s at .end ≡ e
   joined-broken e h = sym (joined-any s [] at) ∙ ap (λ b. b .end) (join-broken s [] at e h)
+
+-- ---- whether each string of it closes
+
+closed-added : (m : More) (e : ℕ) → closedMore m ≡ on e → (cs : List ℕ) × (m ≡ added cs e)
+unfolding closedMore
+closed-added (added cs f) e h = (cs, cc)
+closed-added (ends f) e h = ([], cc)
+closed-added (broken f) e h = ([], cc)
+
+closed-falls : (s : List ℕ) (a b : ℕ) → closedTurn s a ≡ on b → length s - b < length s - a
+unfolding closedTurn
+closed-falls s a b h = let m = closed-added (moreAt s a) b h in omega (arith, more-size s a (m .0) b (m .1))
+
+module _ (s : List ℕ) (at e : ℕ) where
+  pub closed-on : (cs : List ℕ) → moreAt s at ≡ added cs e → closedFrom s at ≡ closedFrom s e
+  unfolding closedFrom closedTurn closedMore
+  closed-on cs h =
+      turns-on (closedTurn s) true (λ i. length s - i) (closed-falls s)
+      (suc (length s)) (suc (length s)) at e (omega arith) (omega arith) (ap closedMore h)
+
+  closed-last : (b : Bool) → closedMore (moreAt s at) ≡ stop b → closedFrom s at ≡ b
+  unfolding closedFrom closedTurn
+  closed-last b h = turns-stop (closedTurn s) true (λ i. length s - i) (closed-falls s) (suc (length s)) at b (omega arith) h
+
+  pub closed-stop : moreAt s at ≡ ends e → closedFrom s at ≡ true
+  unfolding closedMore
+  closed-stop h = closed-last true (ap closedMore h)
+
+  pub closed-broken : moreAt s at ≡ broken e → closedFrom s at ≡ false
+  unfolding closedMore
+  closed-broken h = closed-last false (ap closedMore h)
+
+-- g after the gap, b what stands there, t whether that is a quote
+module _ (s : List ℕ) (at : ℕ) {g b : ℕ} {t : Bool} (ge : g ≡ gapEnd s at) (be : b ≡ getD s g 256) (te : t ≡ isQuote b) where
+  closed-here : closedAt s at ≡ cond t (closedString s (strAt s g)) true
+  unfolding closedAt closedHere
+  closed-here = let q : isQuote (getD s g 256) ≡ t = cc in rw (← ge) (rw q refl)
+
+  module _ (y : t ≡ true) where
+    closed-quote : closedAt s at ≡ closedString s (strAt s g)
+    closed-quote = closed-here ∙ ap (λ k. cond k (closedString s (strAt s g)) true) y
+
+    pub closed-string : (bs : List ℕ) (e : ℕ) → strAt s g ≡ whole bs e → closedAt s at ≡ closedFrom s e
+    unfolding closedString
+    closed-string bs e h = closed-quote ∙ ap (closedString s) h
+
+    pub closed-cut : strAt s g ≡ cut → closedAt s at ≡ false
+    unfolding closedString
+    closed-cut h = closed-quote ∙ ap (closedString s) h
+
+  -- a name has no string, and so has no value
+  pub closed-name : t ≡ false → closedAt s at ≡ true
+  closed-name f = closed-here ∙ ap (λ k. cond k (closedString s (strAt s g)) true) f
+
+-- ---- where the scan stands
 
 -- the answer and the value say the same place
 pub place-is : (u : ℕ) (v : Val) → valueEnd (valueAnswer u v) ≡ placeOf v

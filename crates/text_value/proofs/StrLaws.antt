@@ -6,19 +6,14 @@ use mathlib.Core.List.{List, [], _∷_}
 use Prim.Native.Nat.{ℕ, zero, suc, _+_, _<_, _≤_}
 use native.Mathlib.Nat.{lt-of-not-le}
 use native.Mathlib.Decide.{decLe}
-use native.Mathlib.Numerals.{add-one}
 use native.Mathlib.Omega.{arith}
 use lib.ListN.{length, getD, drop, take, drop-of-length-le}
-use lib.Seq.{drop-cons}
 use lib.Dec.{eqb}
 use borrow.Author.Tests.{eqb-false, eq-eqb, ne-eqb}
 use Rattle.text_value.specs.Str.{among, escaped, escapes, strEnd, strBytes, whole, cut, closedBy, strAt}
 use Rattle.text.specs.Bytes.{quote, backslash}
-use Rattle.text.proofs.Here.{inside, neither, or-none}
+use Rattle.text.proofs.Here.{inside, rest-or, neither, or-none}
 use Rattle.text_value.specs.declared.Close.the-variants.{At, Open}
-
-rest : (s : List ℕ) (k : ℕ) → k < length s → drop k s ≡ getD s k 0 ∷ drop (k + 1) s
-rest s k h = rw (add-one, drop-cons s k 0)
 
 -- ---- eight bytes at a time
 
@@ -30,11 +25,11 @@ and-none false = refl
 among-step : (b : ℕ) (s : List ℕ) (n i j : ℕ) → i < length s → j ≡ i + 1
     → among b (take (suc n) (drop i s)) ≡ (eqb (getD s i 0) b || among b (take n (drop j s)))
 unfolding among
-among-step b s n i j h e = rw (e, rest s i h)
+among-step b s n i j h e = rw (e, rest-or s i 0 h)
 
 among-last : (b : ℕ) (s : List ℕ) (i : ℕ) → i < length s → among b (take 1 (drop i s)) ≡ eqb (getD s i 0) b
 unfolding among
-among-last b s i h = rw (rest s i h) (or-none (eqb (getD s i 0) b))
+among-last b s i h = rw (rest-or s i 0 h) (or-none (eqb (getD s i 0) b))
 
 pub among-eight : (b : ℕ) (s : List ℕ) (i : ℕ) → i + 8 ≤ length s
     → (eqb (getD s i 0) b || (eqb (getD s (i + 1) 0) b || (eqb (getD s (i + 2) 0) b || (eqb (getD s (i + 3) 0) b || (eqb (getD s (i + 4) 0) b || (eqb (getD s (i + 5) 0) b || (eqb (getD s (i + 6) 0) b || eqb (getD s (i + 7) 0) b)))))))
@@ -70,36 +65,36 @@ module _ (q : ℕ) (s : List ℕ) (i : ℕ) where
     module _ {esc : Bool} (y : esc ≡ true) where
       pub end-skip : strEnd q esc (drop i s) i ≡ strEnd q false (drop (i + 1) s) (i + 1)
       unfolding strEnd
-      end-skip = rw (y, rest s i h)
+      end-skip = rw (y, rest-or s i 0 h)
 
       pub bytes-skip : {b : ℕ} → b ≡ escaped (getD s i 0) → strBytes q esc (drop i s) ≡ b ∷ strBytes q false (drop (i + 1) s)
       unfolding strBytes
-      bytes-skip e = rw (e, y, rest s i h)
+      bytes-skip e = rw (e, y, rest-or s i 0 h)
 
     module _ {esc : Bool} (n : esc ≡ false) where
       -- the closing quote
       module _ (e : getD s i 0 ≡ q) where
         pub end-quote : strEnd q esc (drop i s) i ≡ At (i + 1)
         unfolding strEnd
-        end-quote = rw (n, rest s i h) (rw (eq-eqb (getD s i 0) q e))
+        end-quote = rw (n, rest-or s i 0 h) (rw (eq-eqb (getD s i 0) q e))
 
         pub bytes-quote : strBytes q esc (drop i s) ≡ []
         unfolding strBytes
-        bytes-quote = rw (n, rest s i h) (rw (eq-eqb (getD s i 0) q e))
+        bytes-quote = rw (n, rest-or s i 0 h) (rw (eq-eqb (getD s i 0) q e))
 
       -- any other byte
       module _ (e : getD s i 0 ≡ q → ⊥) {t : Bool} (te : t ≡ escapes q (getD s i 0)) where
         pub end-more : strEnd q esc (drop i s) i ≡ strEnd q t (drop (i + 1) s) (i + 1)
         unfolding strEnd
-        end-more = rw (te, n, rest s i h) (rw (ne-eqb (getD s i 0) q e))
+        end-more = rw (te, n, rest-or s i 0 h) (rw (ne-eqb (getD s i 0) q e))
 
         pub bytes-escape : t ≡ true → strBytes q esc (drop i s) ≡ strBytes q true (drop (i + 1) s)
         unfolding strBytes
-        bytes-escape b = rw (n, rest s i h) (rw (ne-eqb (getD s i 0) q e) (rw (sym te ∙ b)))
+        bytes-escape b = rw (n, rest-or s i 0 h) (rw (ne-eqb (getD s i 0) q e) (rw (sym te ∙ b)))
 
         pub bytes-more : t ≡ false → strBytes q esc (drop i s) ≡ getD s i 0 ∷ strBytes q esc (drop (i + 1) s)
         unfolding strBytes
-        bytes-more b = rw (n, rest s i h) (rw (ne-eqb (getD s i 0) q e) (rw (sym te ∙ b)))
+        bytes-more b = rw (n, rest-or s i 0 h) (rw (ne-eqb (getD s i 0) q e) (rw (sym te ∙ b)))
 
 end-same : (q : ℕ) (s : List ℕ) (i j : ℕ) → i ≡ j → strEnd q false (drop i s) i ≡ strEnd q false (drop j s) j
 end-same q s i j e = rw e refl

@@ -17,7 +17,7 @@ use Rattle.text_value.specs.Str.{Str, whole, cut, strAt, answerOf, bytes
 use Rattle.text_value.specs.Value.{isQuote, ends, addedBy, afterPlus, afterGap, moreAt, moreAnswer, moreBytes}
 use Rattle.text_value.specs.declared.Quoted.{Quoted}
 use Rattle.text_value.specs.declared.Quoted.the-variants.{Closed, Unclosed}
-use Rattle.text_value.specs.declared.Part.the-variants.{Added, Cut}
+use Rattle.text_value.specs.declared.Addition.the-variants.{Added, Cut}
 
 -- ---- bytes
 

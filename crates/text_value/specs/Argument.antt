@@ -4,7 +4,8 @@
 use Prim.Native.Nat.{ℕ, _+_}
 use mathlib.Core.List.{List}
 use lib.ListN.{length}
-use Rattle.text.specs.Due.{noRefusal, noValue, dueAt}
+use Rattle.text.specs.Due.{dueAt}
+use Rattle.text.specs.Refusal.{noValue, noRefusal}
 use Rattle.text.specs.declared.Due.{Due}
 use Rattle.text.specs.declared.Due.the-variants.{After, Not}
 use Rattle.text.specs.declared.Refusal.{Refusal}
@@ -34,7 +35,7 @@ afterArgument s k b (Refused r) = Refused r
 unfoldable pub lineAt : List ℕ → ℕ → ℕ → ℕ → ℕ → Argument
 lineAt s at u k b = afterArgument s k b (argumentAt s at u k)
 
--- the refusal; 0, 0, 0 where there is none
+-- the refusal, or none
 unfoldable pub argumentRefusal : Argument → Refusal
-argumentRefusal (Read c n) = record { number = noRefusal; keyword = 0; at = 0 }
+argumentRefusal (Read c n) = noRefusal
 argumentRefusal (Refused r) = r

@@ -3,7 +3,7 @@
 -- the value. An added part that never closes adds nothing. A first string that never closes is no value.
 -- Assumes nothing.
 use Prim.Native.Nat.{ℕ, suc, _+_}
-use mathlib.Core.Bool.{Bool, cond, _||_}
+use mathlib.Core.Bool.{Bool, true, false, cond, _||_}
 use mathlib.Core.List.{List, [], _++_}
 use lib.ListN.{length}
 use lib.Dec.{eqb}
@@ -14,8 +14,8 @@ use Rattle.text.specs.Scan.{runEnd, gapEnd}
 use Rattle.text.specs.Turns.{Turn, stop, on, turns}
 use Rattle.text.specs.declared.Run.the-variants.{Name}
 use Rattle.text_value.specs.Str.{Str, whole, cut, strAt}
-use Rattle.text_value.specs.declared.Part.{Part}
-use Rattle.text_value.specs.declared.Part.the-variants.{Added, Last, Cut}
+use Rattle.text_value.specs.declared.Addition.{Addition}
+use Rattle.text_value.specs.declared.Addition.the-variants.{Added, Last, Cut}
 use Rattle.text_value.specs.declared.Joined.{Joined}
 use Rattle.text_value.specs.declared.Value.{Value}
 use Rattle.text_value.specs.declared.Value.the-variants.{Read, Missing}
@@ -95,9 +95,34 @@ valueHere s at = cond (isQuote (look s at)) (ofString s (strAt s at)) (nameAt s 
 unfoldable pub valueAt : List ℕ → ℕ → Val
 valueAt s at = valueHere s (gapEnd s at)
 
+-- ---- whether each string of a value closes
+
+unfoldable pub closedMore : More → Turn ℕ Bool
+closedMore (added bs end) = on end
+closedMore (ends end) = stop true
+closedMore (broken end) = stop false
+
+unfoldable pub closedTurn : List ℕ → ℕ → Turn ℕ Bool
+closedTurn s at = closedMore (moreAt s at)
+
+-- of all that is added from a place on
+unfoldable pub closedFrom : List ℕ → ℕ → Bool
+closedFrom s at = turns (closedTurn s) true (suc (length s)) at
+
+unfoldable pub closedString : List ℕ → Str → Bool
+closedString s (whole bs end) = closedFrom s end
+closedString s cut = false
+
+-- at the place after the gap
+unfoldable pub closedHere : List ℕ → ℕ → Bool
+closedHere s at = cond (isQuote (look s at)) (closedString s (strAt s at)) true
+
+unfoldable pub closedAt : List ℕ → ℕ → Bool
+closedAt s at = closedHere s (gapEnd s at)
+
 -- ---- what the functions answer and store
 
-unfoldable pub moreAnswer : ℕ → More → Part
+unfoldable pub moreAnswer : ℕ → More → Addition
 moreAnswer used (added bs end) = Added (record { at = end }) (used + length bs)
 moreAnswer used (ends end) = Last (record { at = end })
 moreAnswer used (broken end) = Cut (record { at = end })

@@ -37,16 +37,12 @@ pub enum Argument {
     Refused(Refusal),
 }
 
-// The refusal of a keyword's value; 0, 0, 0 where there is none.
+// The refusal of a keyword's value, or none.
 pub fn argument_refusal(a: Argument) -> Refusal
     ensures { λ r. ⌜ r ≡ argumentRefusal a ⌝ }
 {
     match a {
-        Argument::Read { next: _, used: _ } => Refusal {
-            number: text::NO_REFUSAL,
-            keyword: 0,
-            at: 0,
-        },
+        Argument::Read { next: _, used: _ } => text::no_refusal(),
         Argument::Refused(r) => r,
     }
 }
@@ -215,14 +211,14 @@ pub fn read_parts(
     loop {
         let from = Cursor { at };
         match read_part(from, classes, s, store, n) {
-            Part::Added { next, used: m } => {
+            Addition::Added { next, used: m } => {
                 at = next.at;
                 n = m;
             }
-            Part::Last(end) => {
+            Addition::Last(end) => {
                 return Joined { next: end, used: n };
             }
-            Part::Cut(end) => {
+            Addition::Cut(end) => {
                 return Joined { next: end, used: n };
             }
         }
@@ -231,21 +227,27 @@ pub fn read_parts(
 
 // What follows a string: one that is added, with the cursor after it and the store's next place; nothing more, with the cursor there; or a
 // string that never closes, with the cursor at the text's end.
-pub enum Part {
+pub enum Addition {
     Added { next: Cursor, used: usize },
     Last(Cursor),
     Cut(Cursor),
 }
 
 // Reads what follows a string: a gap, and if `+` follows, a gap and a string.
-pub fn read_part(here: Cursor, classes: &[u8; 128], s: &[u8], store: &mut [u8], used: usize) -> Part
+pub fn read_part(
+    here: Cursor,
+    classes: &[u8; 128],
+    s: &[u8],
+    store: &mut [u8],
+    used: usize,
+) -> Addition
     requires { ⌜ (now classes ≡ classTable) × (used + (length (now s) - here .at) ≤ length (now store)) ⌝ }
     ensures { λ r. ⌜ (r ≡ moreAnswer used (moreAt (now (s .entry)) (here .at))) × (now (store .exit) ≡ sets (now (store .entry)) used (moreBytes (moreAt (now (s .entry)) (here .at)))) ⌝ }
 {
     let plus = here.skip_whitespace_and_comments(classes, s);
     let p = plus.at;
     if text::peek_char(s, p) != text::PLUS {
-        return Part::Last(plus);
+        return Addition::Last(plus);
     }
     let next = p + 1;
     let after = Cursor { at: next };
@@ -253,11 +255,11 @@ pub fn read_part(here: Cursor, classes: &[u8; 128], s: &[u8], store: &mut [u8], 
     let q = quote.at;
     if is_quote(text::peek_char(s, q)) {
         let Quoted::Closed { next, used: n } = read_quoted_string(quote, s, store, used) else {
-            return Part::Cut(Cursor { at: s.len() });
+            return Addition::Cut(Cursor { at: s.len() });
         };
-        return Part::Added { next, used: n };
+        return Addition::Added { next, used: n };
     }
-    Part::Last(quote)
+    Addition::Last(quote)
 }
 
 // What reading a string gives: the cursor after it and the store's next place, or that it never closes.

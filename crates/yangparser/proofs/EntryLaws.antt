@@ -13,7 +13,7 @@ use Rattle.text_lent.specs.declared.Lent.{Lent}
 use Rattle.text_lent.specs.declared.Lent.the-variants.{Fit, Unfit}
 use Rattle.text_lent.proofs.Clears.{written-zero, padded-none}
 use Rattle.text_lent.proofs.LentLaws.{fit-said}
-use Rattle.scan_rows.specs.Rows.{importTable, includeTable, table}
+use Rattle.scan_rows.specs.Rows.{importSize, includeSize, mostRows, importTable, includeTable, table}
 use Rattle.yangparser.specs.Dependencies.{Dependencies, none, importWordsOf, includeWordsOf, Scan, good, bad, scanned, tooShort, ifFit, dependencies, parsedOf, readOf, keptOf}
 use Rattle.yangparser.specs.Promises.{Holds, Parses, Leaves, lentScan, Scans, Extracts}
 use Rattle.yangparser.specs.declared.Parsed.{Parsed}
@@ -56,7 +56,7 @@ module _ (s : List ℕ) (else : Bool) (d t u : List ℕ) {short : Bool} (se : sh
   scan-is h = ap (λ b. ifFit (lentAt s b) (scanned s)) (sym se) ∙ ap (λ l. ifFit l (scanned s)) (sym le ∙ h)
 
   pub over-fits : lent ≡ Fit
-      → (length s ≤ length d) × (length s < 4294967296) × (256 * 7 ≤ length t) × (256 * 5 ≤ length u)
+      → (length s ≤ length d) × (length s < 4294967296) × (mostRows * importSize ≤ length t) × (mostRows * includeSize ≤ length u)
   over-fits h =
       let k = fit-said s short (sym le ∙ h) in
       let l = long-enough else (length s) (length d) (length t) (length u) (sym se ∙ k .1) in

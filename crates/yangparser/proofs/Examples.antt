@@ -13,14 +13,14 @@ use Rattle.text.specs.Turns.{turns}
 use Rattle.text_value.specs.Argument.{argumentOf, argumentAt, afterDue, afterArgument, lineAt}
 use Rattle.text_value.specs.Str.{escaped, escapes, strEnd, strBytes, closedBy, strAt}
 use Rattle.text_value.specs.Value.{isQuote, startsName, addedBy, afterPlus, afterGap, moreAt, addTo, joinTurn, joinedWith, joined as joinedValue, ofString, valueHere, valueAt, valueBytes}
-use Rattle.text_skip.specs.Skip.{closedToken, tokenHere, tokenAt, tokenEnd}
-use Rattle.text_skip.specs.Statement.{closes, quotedLen, quotedEnd, atSemicolon, atClose, partOf, partAt, ofPart, statementTurn, statementFrom, statementAt, endedAt}
+use Rattle.text_skip.specs.Skip.{closedToken, tokenHere, tokenAt}
+use Rattle.text_skip.specs.Statement.{closes, quotedLen, quotedEnd, atSemicolon, atClose, partOf, partAt, ofPart, statementTurn, statementFrom, statementAt}
 use Rattle.text_lent.specs.Lent.{lentAt}
 use Rattle.scan_rows.specs.Rows.{importWords, includeWords, table, importTable, includeTable}
-use Rattle.scan_imports.specs.Block.{orRevision, orPrefix, lineKind, withPrefix, withRevision, afterKind, insideHere, insideAt, afterInside, blockTurn, blockFrom, blockAt}
+use Rattle.scan_imports.specs.Block.{orLine, lineKind, kept, withValue, withSkipped, afterKind, insideHere, insideAt, afterInside, blockTurn, blockFrom, blockAt}
 use Rattle.scan_imports.specs.Statement.{ofBody, importOf, withName, afterName, importAt, includeOf, plainOf, blockOf, openOrPlain, afterValue, includeAt}
-use Rattle.yangparser.specs.Dependencies.{importWordsOf, includeWordsOf, joined, importStep, includeStep, unlessFull, importHere, includeHere, movedTo, wordStep, stepHere, stepAt, Scan, good, bad, afterStep, scanTurn, scanFrom, scanned, ifFit, dependencies}
-use Rattle.yangparser.specs.Word.{lastAt, orWord, wordAt}
+use Rattle.yangparser.specs.Dependencies.{importWordsOf, includeWordsOf, joined, importStep, includeStep, unlessFull, importHere, includeHere, movedTo, afterToken, headStep, stepHere, stepAt, Scan, good, bad, afterStep, scanTurn, scanFrom, scanned, ifFit, dependencies}
+use Rattle.yangparser.specs.Head.{lastAt, orHead, headAt}
 
 -- a text, whether too little was lent, and what comes of it
 data Example : Type 0 where
@@ -59,5 +59,5 @@ examples =
     ∷ []
 
 right : T (all examples)
-unfolding examples all holds outcome importWordsOf includeWordsOf joined importStep includeStep unlessFull importHere includeHere movedTo wordStep stepHere stepAt afterStep scanTurn scanFrom scanned lentAt ifFit dependencies orMatch lastAt orWord wordAt importWords includeWords table importTable includeTable orRevision orPrefix lineKind withPrefix withRevision afterKind insideHere insideAt afterInside blockTurn blockFrom blockAt ofBody importOf withName afterName importAt includeOf plainOf blockOf openOrPlain afterValue includeAt argumentOf argumentAt afterDue afterArgument lineAt escaped escapes strEnd strBytes closedBy strAt isQuote startsName addedBy afterPlus afterGap moreAt addTo joinTurn joinedWith joinedValue ofString valueHere valueAt valueBytes closedToken tokenHere tokenAt tokenEnd closes quotedLen quotedEnd atSemicolon atClose partOf partAt ofPart statementTurn statementFrom statementAt endedAt dueNumber dueHere dueAt startsIdent endsKeyword same part keywordAt matchAt gapEnd gapTurn afterWhite commentEnd blockEnd closing pairAt runEnd span inRun inIdent classOf turns
+unfolding examples all holds outcome importWordsOf includeWordsOf joined importStep includeStep unlessFull importHere includeHere movedTo afterToken headStep stepHere stepAt afterStep scanTurn scanFrom scanned lentAt ifFit dependencies orMatch lastAt orHead headAt importWords includeWords table importTable includeTable orLine lineKind withValue kept withSkipped afterKind insideHere insideAt afterInside blockTurn blockFrom blockAt ofBody importOf withName afterName importAt includeOf plainOf blockOf openOrPlain afterValue includeAt argumentOf argumentAt afterDue afterArgument lineAt escaped escapes strEnd strBytes closedBy strAt isQuote startsName addedBy afterPlus afterGap moreAt addTo joinTurn joinedWith joinedValue ofString valueHere valueAt valueBytes closedToken tokenHere tokenAt closes quotedLen quotedEnd atSemicolon atClose partOf partAt ofPart statementTurn statementFrom statementAt dueNumber dueHere dueAt startsIdent endsKeyword same part keywordAt matchAt gapEnd gapTurn afterWhite commentEnd blockEnd closing pairAt runEnd span inRun inIdent classOf turns
 right = tt

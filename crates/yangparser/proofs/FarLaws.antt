@@ -11,25 +11,28 @@ use borrow.Author.Tests.{leb-true, leb-false}
 use Rattle.text.specs.Scan.{gapEnd}
 use Rattle.text.proofs.Here.{by-test}
 use Rattle.text.proofs.Laws.{gap-from}
-use Rattle.text_skip.specs.Skip.{tokenAt, tokenEnd}
-use Rattle.text_skip.proofs.SkipLaws.{token-far, token-within}
+use Rattle.text_skip.specs.Skip.{tokenAt}
+use Rattle.text_skip.specs.declared.Skipped.{Skipped}
+use Rattle.text_skip.specs.declared.Skipped.the-variants.{Past, Refused as RefusedSkip}
+use Rattle.text_skip.proofs.SkipLaws.{token-far, token-refused}
+use Rattle.scan_rows.specs.Rows.{mostRows}
 use Rattle.scan_imports.specs.Statement.{importAt, includeAt}
-use Rattle.scan_imports.specs.declared.Imported.{Imported}
-use Rattle.scan_imports.specs.declared.Imported.the-variants.{Import as ReadImport, NoImport}
-use Rattle.scan_imports.specs.declared.Included.{Included}
-use Rattle.scan_imports.specs.declared.Included.the-variants.{Include as ReadInclude, NoInclude}
+use Rattle.scan_imports.specs.declared.ParsedImport.{ParsedImport}
+use Rattle.scan_imports.specs.declared.ParsedImport.the-variants.{Import as ReadImport, NoImport}
+use Rattle.scan_imports.specs.declared.ParsedInclude.{ParsedInclude}
+use Rattle.scan_imports.specs.declared.ParsedInclude.the-variants.{Include as ReadInclude, NoInclude}
 use Rattle.scan_imports.proofs.ReachLaws.{ImportSaid, import-said, IncludeSaid, include-said}
-use Rattle.yangparser.specs.Dependencies.{Dependencies, none, Step, importStep, includeStep, unlessFull, importHere, includeHere, movedTo, wordStep, stepAt}
-use Rattle.yangparser.specs.Word.{wordAt}
+use Rattle.yangparser.specs.Dependencies.{Dependencies, none, Step, importStep, includeStep, full, unlessFull, importHere, includeHere, movedTo, afterToken, headStep, stepAt}
+use Rattle.yangparser.specs.Head.{headAt}
 use Rattle.yangparser.specs.declared.Next.{Next}
 use Rattle.yangparser.specs.declared.Next.the-variants.{On, Done, Stop}
 use Rattle.yangparser.specs.declared.Sofar.{Sofar}
-use Rattle.yangparser.specs.declared.Word.{Word}
-use Rattle.yangparser.specs.declared.Word.the-variants.{Import, Include, Last, Other}
+use Rattle.yangparser.specs.declared.Head.{Head}
+use Rattle.yangparser.specs.declared.Head.the-variants.{Import, Include, Last, Other}
 use Rattle.yangparser.proofs.AddLaws.{full-is, room-is}
 use Rattle.yangparser.proofs.Placed.{import-more, include-more, Placed, placed-bytes, placed-import, placed-include}
-use Rattle.yangparser.proofs.StepLaws.{step-past, step-word}
-use Rattle.yangparser.proofs.WordLaws.{word-import-far, word-include-far}
+use Rattle.yangparser.proofs.StepLaws.{step-past, step-head}
+use Rattle.yangparser.proofs.HeadLaws.{head-import-far, head-include-far}
 
 -- from far, with a added
 abbrev pub Went : List ℕ → Sofar → Dependencies → Next → Type 0
@@ -43,8 +46,8 @@ pub record Said (s : List ℕ) (far : Sofar) (x : Step) : Type 0 where
   pub went : Went s far (x .adds) (x .answer)
   pub fits : length (x .adds .bytes) ≤ length s - far .at
   pub placed : Placed (far .used) (far .used + length (x .adds .bytes)) (x .adds)
-  pub few-imports : far .imports ≤ 256 → far .imports + length (x .adds .imports) ≤ 256
-  pub few-includes : far .includes ≤ 256 → far .includes + length (x .adds .includes) ≤ 256
+  pub few-imports : far .imports ≤ mostRows → far .imports + length (x .adds .imports) ≤ mostRows
+  pub few-includes : far .includes ≤ mostRows → far .includes + length (x .adds .includes) ≤ mostRows
 
 -- nothing is added
 said-none : (s : List ℕ) (far : Sofar) (r : Next) → Went s far none r → Said s far (record { answer = r; adds = none })
@@ -69,14 +72,14 @@ said-bytes s far r bs w h = record {
 
 -- at: behind the keyword
 module _ (s : List ℕ) (far : Sofar) (at : ℕ) (behind : far .at < at) (in-text : at ≤ length s) where
-  said-unless : (rows k : ℕ) (x : Step) → (rows < 256 → Said s far x) → Said s far (unlessFull rows k at x)
+  said-unless : (rows k : ℕ) (x : Step) → (rows < mostRows → Said s far x) → Said s far (unlessFull rows k at x)
   said-unless rows k x said =
-      by-test (leb 256 rows)
-      (λ t. subst (Said s far) (sym (full-is rows k at x (leb-true 256 rows t)))
-      (said-none s far (Stop (record { number = 10; keyword = k; at = at })) (λ h. in-text)))
-      (λ t. let h = leb-false 256 rows t in subst (Said s far) (sym (room-is rows k at x h)) (said h))
+      by-test (leb mostRows rows)
+      (λ t. subst (Said s far) (sym (full-is rows k at x (leb-true mostRows rows t)))
+      (said-none s far (full k at) (λ h. in-text)))
+      (λ t. let h = leb-false mostRows rows t in subst (Said s far) (sym (room-is rows k at x h)) (said h))
 
-  import-went : (bs : List ℕ) (x : Imported) → ImportSaid s at (far .used) bs x → far .imports < 256 → Said s far (importStep far bs x)
+  import-went : (bs : List ℕ) (x : ParsedImport) → ImportSaid s at (far .used) bs x → far .imports < mostRows → Said s far (importStep far bs x)
   unfolding importStep
   import-went bs (ReadImport c n i) d h = record {
     went = (omega (arith, d .0), d .1, d .2, refl, omega arith);
@@ -89,7 +92,7 @@ module _ (s : List ℕ) (far : Sofar) (at : ℕ) (behind : far .at < at) (in-tex
   }
   import-went bs (NoImport r) d h = said-bytes s far (Stop r) bs (λ k. d .1 in-text) (omega (arith, d .0))
 
-  include-went : (bs : List ℕ) (x : Included) → IncludeSaid s at (far .used) bs x → far .includes < 256 → Said s far (includeStep far bs x)
+  include-went : (bs : List ℕ) (x : ParsedInclude) → IncludeSaid s at (far .used) bs x → far .includes < mostRows → Said s far (includeStep far bs x)
   unfolding includeStep
   include-went bs (ReadInclude c n i) d h = record {
     went = (omega (arith, d .0), d .1, d .2, omega arith, refl);
@@ -115,16 +118,21 @@ module _ (s : List ℕ) (far : Sofar) (at : ℕ) (behind : far .at < at) (in-tex
       said-unless (far .includes) 9 (includeStep far (x .bytes) (x .answer)) (include-went (x .bytes) (x .answer) (include-said s at (far .used)))
 
 -- at the place g after the gap
-word-said : (s : List ℕ) (far : Sofar) (g : ℕ) → far .at ≤ g → g < length s → (w : Word) → wordAt s g ≡ w → Said s far (wordStep s far g w)
-unfolding wordStep movedTo
-word-said s far g from in-text (Import c) h =
-    let f = word-import-far s g c h in import-here s far (c .at) (omega (arith, f .0)) (f .1)
-word-said s far g from in-text (Include c) h =
-    let f = word-include-far s g c h in include-here s far (c .at) (omega (arith, f .0)) (f .1)
-word-said s far g from in-text (Last c) h = said-none s far Done refl
-word-said s far g from in-text Other h =
-    said-none s far (On (movedTo far (tokenEnd (tokenAt s g))))
-    (omega (arith, token-far s g in-text), token-within s g (omega arith), omega arith, omega arith, omega arith)
+token-went : (s : List ℕ) (far : Sofar) (g : ℕ) → far .at ≤ g → g < length s → (x : Skipped) → tokenAt s g ≡ x → Went s far none (afterToken far x)
+unfolding afterToken movedTo
+token-went s far g from in-text (Past c h) e =
+    let f = token-far s g in-text c h e in (omega (arith, f .0), f .1, omega arith, omega arith, omega arith)
+token-went s far g from in-text (RefusedSkip r) e = absurd (token-refused s g r e)
+
+head-said : (s : List ℕ) (far : Sofar) (g : ℕ) → far .at ≤ g → g < length s → (w : Head) → headAt s g ≡ w → Said s far (headStep s far g w)
+unfolding headStep
+head-said s far g from in-text (Import c) h =
+    let f = head-import-far s g c h in import-here s far (c .at) (omega (arith, f .0)) (f .1)
+head-said s far g from in-text (Include c) h =
+    let f = head-include-far s g c h in include-here s far (c .at) (omega (arith, f .0)) (f .1)
+head-said s far g from in-text (Last c) h = said-none s far Done refl
+head-said s far g from in-text Other h =
+    said-none s far (afterToken far (tokenAt s g)) (token-went s far g from in-text (tokenAt s g) refl)
 
 pub step-said : (s : List ℕ) (far : Sofar) → Said s far (stepAt s far)
 step-said s far =
@@ -132,7 +140,7 @@ step-said s far =
     by-test (leb (length s) g)
     (λ t. subst (Said s far) (sym (step-past s far refl (leb-true (length s) g t))) (said-none s far Done refl))
     (λ t. let h = leb-false (length s) g t in
-    subst (Said s far) (sym (step-word s far refl h refl refl)) (word-said s far g (gap-from s (far .at)) h (wordAt s g) refl))
+    subst (Said s far) (sym (step-head s far refl h refl refl)) (head-said s far g (gap-from s (far .at)) h (headAt s g) refl))
 
 -- a scan that ends here read nothing more
 pub step-ends : (s : List ℕ) (far : Sofar) → stepAt s far .answer ≡ Done → stepAt s far .adds ≡ none

@@ -12,7 +12,7 @@ use Rattle.text_lent.specs.Padded.{padded}
 use Rattle.text_lent.specs.declared.Lent.{Lent}
 use Rattle.text_lent.specs.declared.Lent.the-variants.{Fit, Unfit}
 use Rattle.text_lent.proofs.LentLaws.{fit-said, lent-within}
-use Rattle.scan_rows.specs.Rows.{importsIn, includesIn}
+use Rattle.scan_rows.specs.Rows.{importSize, includeSize, mostRows, importsIn, includesIn}
 use Rattle.scan_rows.proofs.Reading.{imports-back, includes-back, imports-written, includes-written}
 use Rattle.yangparser.specs.Dependencies.{Dependencies, importWordsOf, includeWordsOf, Scan, good, bad, scanned, ifFit, dependencies, parsedOf}
 use Rattle.yangparser.specs.Promises.{Holds}
@@ -61,13 +61,13 @@ parsed-refused (bad q d) r h = (d, cc)
 
 module _ {s : List ℕ} (x : Dependencies) (k : Sound s x) where
   module _ {d t u e f g : List ℕ} (h : Holds x d t u e f g) where
-    pub held-imports : 256 * 7 ≤ length t → importsIn f (length (x .imports)) ≡ x .imports
+    pub held-imports : mostRows * importSize ≤ length t → importsIn f (length (x .imports)) ≡ x .imports
     unfolding importWordsOf
     held-imports room =
         ap (λ l. importsIn l (length (x .imports))) (h .imports)
         ∙ imports-written (x .imports) t (sound-imports-plain k) (omega (arith, k .few-imports))
 
-    pub held-includes : 256 * 5 ≤ length u → includesIn g (length (x .includes)) ≡ x .includes
+    pub held-includes : mostRows * includeSize ≤ length u → includesIn g (length (x .includes)) ≡ x .includes
     unfolding includeWordsOf
     held-includes room =
         ap (λ l. includesIn l (length (x .includes))) (h .includes)

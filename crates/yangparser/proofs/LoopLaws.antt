@@ -8,7 +8,7 @@ use lib.ListN.{length, length-append}
 use lib.Seq.{sets, length-sets}
 use Rattle.text.specs.declared.Refusal.{Refusal}
 use Rattle.text_value.proofs.JoinLaws.{sets-twice}
-use Rattle.scan_rows.specs.Rows.{table, importTable, includeTable, importWords, includeWords}
+use Rattle.scan_rows.specs.Rows.{importSize, includeSize, table, importTable, includeTable, importWords, includeWords}
 use Rattle.scan_rows.proofs.Laws.{imports-length, includes-length}
 use Rattle.yangparser.specs.Dependencies.{Dependencies, none, joined, importWordsOf, includeWordsOf, stepAt, Scanning, Scan, good, bad, scanFrom, start, scanned, parsedOf, readOf}
 use Rattle.yangparser.specs.Promises.{Steps, Holds, Parses}
@@ -36,11 +36,11 @@ module _ (x y : Dependencies) where
   unfolding includeWordsOf includeTable joined
   include-words-joined = sym (table-append includeWords (x .includes) (y .includes))
 
-pub import-words-count : (x : Dependencies) → length (importWordsOf x) ≡ length (x .imports) * 7
+pub import-words-count : (x : Dependencies) → length (importWordsOf x) ≡ length (x .imports) * importSize
 unfolding importWordsOf
 import-words-count x = imports-length (x .imports)
 
-pub include-words-count : (x : Dependencies) → length (includeWordsOf x) ≡ length (x .includes) * 5
+pub include-words-count : (x : Dependencies) → length (includeWordsOf x) ≡ length (x .includes) * includeSize
 unfolding includeWordsOf
 include-words-count x = includes-length (x .includes)
 
@@ -82,10 +82,10 @@ module _ {s d t u : List ℕ} where
           record {
             stored = sets-twice d e e′ 0 (far .used) (x .bytes) (y .bytes) (h .stored) (omega (arith, c .used)) (w .stored);
             imports =
-                sets-twice t f f′ 0 (far .imports * 7) (importWordsOf x) (importWordsOf y) (h .imports) (omega (arith, c .imports, import-words-count x)) (w .imports)
+                sets-twice t f f′ 0 (far .imports * importSize) (importWordsOf x) (importWordsOf y) (h .imports) (omega (arith, c .imports, import-words-count x)) (w .imports)
                 ∙ ap (sets t 0) (import-words-joined x y);
             includes =
-                sets-twice u g g′ 0 (far .includes * 5) (includeWordsOf x) (includeWordsOf y) (h .includes) (omega (arith, c .includes, include-words-count x)) (w .includes)
+                sets-twice u g g′ 0 (far .includes * includeSize) (includeWordsOf x) (includeWordsOf y) (h .includes) (omega (arith, c .includes, include-words-count x)) (w .includes)
                 ∙ ap (sets u 0) (include-words-joined x y);
           }
 

@@ -10,7 +10,7 @@ use Rattle.text.specs.Turns.{stop, on}
 use Rattle.text.specs.declared.Refusal.{Refusal}
 use Rattle.text.proofs.Turns.{turns-stop, turns-on, turns-rule}
 use Rattle.scan_rows.proofs.Laws.{each-of}
-use Rattle.scan_rows.specs.Rows.{PlainImport, PlainInclude, Each}
+use Rattle.scan_rows.specs.Rows.{mostRows, PlainImport, PlainInclude, Each}
 use Rattle.yangparser.specs.Dependencies.{Dependencies, none, joined, Step, stepAt, Scanning, Scan, good, bad, afterStep, scanTurn, scanFrom, start, scanned, readOf}
 use Rattle.yangparser.specs.declared.Next.{Next}
 use Rattle.yangparser.specs.declared.Next.the-variants.{On, Done, Stop}
@@ -22,8 +22,8 @@ use Rattle.yangparser.proofs.Placed.{ImportIn, IncludeIn, Placed, place
 
 pub record Sound (s : List ℕ) (x : Dependencies) : Type 0 where
   pub short : length (x .bytes) ≤ length s
-  pub few-imports : length (x .imports) ≤ 256
-  pub few-includes : length (x .includes) ≤ 256
+  pub few-imports : length (x .imports) ≤ mostRows
+  pub few-includes : length (x .includes) ≤ mostRows
   pub placed : Placed 0 (length (x .bytes)) x
 
 pub sound-none : (s : List ℕ) → Sound s none

@@ -6,6 +6,7 @@ use Prim.Native.Nat.{ℕ, _*_, _<_, _≤_}
 use lib.Dec.{ltb}
 use borrow.Author.Tests.{lt-ltb, le-ltb, ltb-false}
 use Rattle.text.proofs.Here.{neither}
+use Rattle.scan_rows.specs.Rows.{importSize, includeSize, mostRows}
 use Rattle.yangparser.specs.Dependencies.{tooShort}
 
 module _ (short : Bool) (text store imports includes : ℕ) where
@@ -19,19 +20,19 @@ module _ (short : Bool) (text store imports includes : ℕ) where
     short-store h = rw long (rw (lt-ltb store text h) refl)
 
     module _ (enough : text ≤ store) where
-      pub short-imports : imports < 256 * 7 → true ≡ tooShort short text store imports includes
+      pub short-imports : imports < mostRows * importSize → true ≡ tooShort short text store imports includes
       unfolding tooShort
-      short-imports h = rw long (rw (le-ltb store text enough) (rw (lt-ltb imports (256 * 7) h) refl))
+      short-imports h = rw long (rw (le-ltb store text enough) (rw (lt-ltb imports (mostRows * importSize) h) refl))
 
-      pub short-includes : 256 * 7 ≤ imports → ltb includes (256 * 5) ≡ tooShort short text store imports includes
+      pub short-includes : mostRows * importSize ≤ imports → ltb includes (mostRows * includeSize) ≡ tooShort short text store imports includes
       unfolding tooShort
-      short-includes h = rw long (rw (le-ltb store text enough) (rw (le-ltb imports (256 * 7) h) refl))
+      short-includes h = rw long (rw (le-ltb store text enough) (rw (le-ltb imports (mostRows * importSize) h) refl))
 
   -- nothing is too short
-  pub long-enough : tooShort short text store imports includes ≡ false → (text ≤ store) × (256 * 7 ≤ imports) × (256 * 5 ≤ includes)
+  pub long-enough : tooShort short text store imports includes ≡ false → (text ≤ store) × (mostRows * importSize ≤ imports) × (mostRows * includeSize ≤ includes)
   unfolding tooShort
   long-enough h =
-      let p = neither (short || ltb store text || ltb imports (256 * 7)) (ltb includes (256 * 5)) h in
-      let q = neither (short || ltb store text) (ltb imports (256 * 7)) (p .0) in
+      let p = neither (short || ltb store text || ltb imports (mostRows * importSize)) (ltb includes (mostRows * includeSize)) h in
+      let q = neither (short || ltb store text) (ltb imports (mostRows * importSize)) (p .0) in
       let o = neither short (ltb store text) (q .0) in
-      (ltb-false store text (o .1), ltb-false imports (256 * 7) (q .1), ltb-false includes (256 * 5) (p .1))
+      (ltb-false store text (o .1), ltb-false imports (mostRows * importSize) (q .1), ltb-false includes (mostRows * includeSize) (p .1))

@@ -10,35 +10,39 @@ use lib.Seq.{sets}
 use borrow.Author.Tests.{le-leb, lt-leb, leb-true, leb-false}
 use Rattle.text.specs.Scan.{gapEnd}
 use Rattle.text.specs.declared.Cursor.{Cursor}
+use Rattle.text.specs.declared.Refusal.{Refusal}
 use Rattle.text.proofs.Here.{by-test}
 use Rattle.text.proofs.Laws.{gap-from}
-use Rattle.text_skip.specs.Skip.{tokenAt, tokenEnd}
-use Rattle.text_skip.specs.declared.Token.{Token}
-use Rattle.scan_rows.specs.Rows.{importTable, includeTable, table}
+use Rattle.text_skip.specs.Skip.{skipRefusal, tokenAt}
+use Rattle.text_skip.specs.declared.How.{How}
+use Rattle.text_skip.specs.declared.Skipped.{Skipped}
+use Rattle.text_skip.specs.declared.Skipped.the-variants.{Past, Refused as RefusedSkip}
+use Rattle.text_skip.proofs.SkipLaws.{skip-refusal-is}
+use Rattle.scan_rows.specs.Rows.{importSize, includeSize, mostRows, importTable, includeTable, table}
 use Rattle.scan_imports.specs.Statement.{importAt, includeAt}
-use Rattle.scan_imports.specs.declared.Imported.{Imported}
-use Rattle.scan_imports.specs.declared.Imported.the-variants.{Import as ReadImport, NoImport}
-use Rattle.scan_imports.specs.declared.Included.{Included}
-use Rattle.scan_imports.specs.declared.Included.the-variants.{Include as ReadInclude, NoInclude}
-use Rattle.yangparser.specs.Dependencies.{Dependencies, none, importWordsOf, includeWordsOf, Step, importStep, includeStep, unlessFull, importHere, includeHere, movedTo, wordStep, stepHere, stepAt}
+use Rattle.scan_imports.specs.declared.ParsedImport.{ParsedImport}
+use Rattle.scan_imports.specs.declared.ParsedImport.the-variants.{Import as ReadImport, NoImport}
+use Rattle.scan_imports.specs.declared.ParsedInclude.{ParsedInclude}
+use Rattle.scan_imports.specs.declared.ParsedInclude.the-variants.{Include as ReadInclude, NoInclude}
+use Rattle.yangparser.specs.Dependencies.{Dependencies, none, importWordsOf, includeWordsOf, Step, importStep, includeStep, unlessFull, importHere, includeHere, movedTo, afterToken, headStep, stepHere, stepAt}
 use Rattle.yangparser.specs.Promises.{AddsImport, AddsInclude, Steps}
-use Rattle.yangparser.specs.Word.{wordAt}
+use Rattle.yangparser.specs.Head.{headAt}
 use Rattle.yangparser.specs.declared.Next.{Next}
-use Rattle.yangparser.specs.declared.Next.the-variants.{On, Done}
+use Rattle.yangparser.specs.declared.Next.the-variants.{On, Done, Stop}
 use Rattle.yangparser.specs.declared.Sofar.{Sofar}
-use Rattle.yangparser.specs.declared.Word.{Word}
-use Rattle.yangparser.specs.declared.Word.the-variants.{Import, Include, Last, Other}
+use Rattle.yangparser.specs.declared.Head.{Head}
+use Rattle.yangparser.specs.declared.Head.the-variants.{Import, Include, Last, Other}
 use Rattle.yangparser.proofs.AddLaws.{full-is, room-is}
-use Rattle.yangparser.proofs.WordLaws.{word-import-far, word-include-far}
+use Rattle.yangparser.proofs.HeadLaws.{head-import-far, head-include-far}
 
 -- ---- rows of one kind only
 
 -- what holds of nothing added and of a step holds of the step unless the rows are full
 pub unless-full : (P : Dependencies → Type 0) (rows k at : ℕ) (x : Step) → P none → P (x .adds) → P (unlessFull rows k at x .adds)
 unless-full P rows k at x p q =
-    by-test (leb 256 rows)
-    (λ t. subst (λ z. P (z .adds)) (sym (full-is rows k at x (leb-true 256 rows t))) p)
-    (λ t. subst (λ z. P (z .adds)) (sym (room-is rows k at x (leb-false 256 rows t))) q)
+    by-test (leb mostRows rows)
+    (λ t. subst (λ z. P (z .adds)) (sym (full-is rows k at x (leb-true mostRows rows t))) p)
+    (λ t. subst (λ z. P (z .adds)) (sym (room-is rows k at x (leb-false mostRows rows t))) q)
 
 import-only : (s : List ℕ) (far : Sofar) (at : ℕ) → importHere s far at .adds .includes ≡ []
 unfolding importHere importStep
@@ -46,7 +50,7 @@ import-only s far at =
     unless-full (λ d. d .includes ≡ []) (far .imports) 8 at (importStep far (importAt s at (far .used) .bytes) (importAt s at (far .used) .answer)) refl
     (only (importAt s at (far .used) .bytes) (importAt s at (far .used) .answer))
   where
-    only : (bs : List ℕ) (x : Imported) → importStep far bs x .adds .includes ≡ []
+    only : (bs : List ℕ) (x : ParsedImport) → importStep far bs x .adds .includes ≡ []
     only bs (ReadImport c n i) = refl
     only bs (NoImport r) = refl
 
@@ -56,9 +60,21 @@ include-only s far at =
     unless-full (λ d. d .imports ≡ []) (far .includes) 9 at (includeStep far (includeAt s at (far .used) .bytes) (includeAt s at (far .used) .answer)) refl
     (only (includeAt s at (far .used) .bytes) (includeAt s at (far .used) .answer))
   where
-    only : (bs : List ℕ) (x : Included) → includeStep far bs x .adds .imports ≡ []
+    only : (bs : List ℕ) (x : ParsedInclude) → includeStep far bs x .adds .imports ≡ []
     only bs (ReadInclude c n i) = refl
     only bs (NoInclude r) = refl
+
+-- ---- a token; k: what skipping it answered
+
+module _ (far : Sofar) {k x : Skipped} (e : k ≡ x) where
+  pub token-refused : (r : Refusal) → k ≡ RefusedSkip r → {q : Refusal} → q ≡ skipRefusal k → Stop q ≡ afterToken far x
+  unfolding afterToken
+  token-refused r h p = ap Stop (skip-refusal-is h p) ∙ sym (ap (afterToken far) (sym e ∙ h))
+
+  pub token-past : (c : Cursor) (h : How) → k ≡ Past c h
+      → On (record { at = c .at; used = far .used; imports = far .imports; includes = far .includes }) ≡ afterToken far x
+  unfolding afterToken movedTo
+  token-past c h m = sym (ap (afterToken far) (sym e ∙ m))
 
 -- ---- what a step is; g after the gap, w the keyword there
 
@@ -67,9 +83,9 @@ module _ (s : List ℕ) (far : Sofar) {g : ℕ} (ge : g ≡ gapEnd s (far .at)) 
   unfolding stepAt stepHere
   step-past h = rw (← ge) (rw (le-leb (length s) g h) refl)
 
-  pub step-word : g < length s → {w y : Word} → w ≡ wordAt s g → w ≡ y → stepAt s far ≡ wordStep s far g y
+  pub step-head : g < length s → {w y : Head} → w ≡ headAt s g → w ≡ y → stepAt s far ≡ headStep s far g y
   unfolding stepAt stepHere
-  step-word h we q = rw (← ge) (rw (lt-leb (length s) g h) (ap (wordStep s far g) (sym we ∙ q)))
+  step-head h we q = rw (← ge) (rw (lt-leb (length s) g h) (ap (headStep s far g) (sym we ∙ q)))
 
 -- ---- its contract
 
@@ -82,35 +98,31 @@ module _ (s : List ℕ) (far : Sofar) {d t u : List ℕ} where
     unfolding importWordsOf includeWordsOf importTable includeTable table
     steps-past h = steps-is (step-past s far ge h) (record { answer = refl; stored = refl; imports = refl; includes = refl })
 
-    module _ (in-text : g < length s) {w : Word} (we : w ≡ wordAt s g) where
+    module _ (in-text : g < length s) {w : Head} (we : w ≡ headAt s g) where
       pub steps-import : (c : Cursor) → w ≡ Import c → {r : Next} {e f : List ℕ} → AddsImport s far (c .at) d t r e f → Steps (stepAt s far) far d t u r e f u
-      unfolding wordStep includeWordsOf includeTable table
+      unfolding headStep includeWordsOf includeTable table
       steps-import c q a =
-          steps-is (step-word s far ge in-text we q)
-          (record { answer = a .answer; stored = a .stored; imports = a .written; includes = ap (λ l. sets u (far .includes * 5) (includeTable l)) (sym (import-only s far (c .at))) })
+          steps-is (step-head s far ge in-text we q)
+          (record { answer = a .answer; stored = a .stored; imports = a .written; includes = ap (λ l. sets u (far .includes * includeSize) (includeTable l)) (sym (import-only s far (c .at))) })
 
       pub steps-include : (c : Cursor) → w ≡ Include c → {r : Next} {e f : List ℕ} → AddsInclude s far (c .at) d u r e f → Steps (stepAt s far) far d t u r e t f
-      unfolding wordStep importWordsOf importTable table
+      unfolding headStep importWordsOf importTable table
       steps-include c q a =
-          steps-is (step-word s far ge in-text we q)
-          (record { answer = a .answer; stored = a .stored; imports = ap (λ l. sets t (far .imports * 7) (importTable l)) (sym (include-only s far (c .at))); includes = a .written })
+          steps-is (step-head s far ge in-text we q)
+          (record { answer = a .answer; stored = a .stored; imports = ap (λ l. sets t (far .imports * importSize) (importTable l)) (sym (include-only s far (c .at))); includes = a .written })
 
       pub steps-last : (c : Cursor) → w ≡ Last c → Steps (stepAt s far) far d t u Done d t u
-      unfolding wordStep importWordsOf includeWordsOf importTable includeTable table
-      steps-last c q = steps-is (step-word s far ge in-text we q) (record { answer = refl; stored = refl; imports = refl; includes = refl })
+      unfolding headStep importWordsOf includeWordsOf importTable includeTable table
+      steps-last c q = steps-is (step-head s far ge in-text we q) (record { answer = refl; stored = refl; imports = refl; includes = refl })
 
-      -- k: the token skipped, e its end
-      pub steps-token : w ≡ Other → {k : Token} → k ≡ tokenAt s g → {e : ℕ} → e ≡ tokenEnd k
-          → Steps (stepAt s far) far d t u (On (record { at = e; used = far .used; imports = far .imports; includes = far .includes })) d t u
-      unfolding wordStep movedTo importWordsOf includeWordsOf importTable includeTable table
-      steps-token q ke ee =
-          steps-is (step-word s far ge in-text we q)
-          (record { answer = ap (λ e. On (movedTo far e)) (ee ∙ ap tokenEnd ke); stored = refl; imports = refl; includes = refl })
+      pub steps-token : w ≡ Other → {r : Next} → r ≡ afterToken far (tokenAt s g) → Steps (stepAt s far) far d t u r d t u
+      unfolding headStep importWordsOf includeWordsOf importTable includeTable table
+      steps-token q e = steps-is (step-head s far ge in-text we q) (record { answer = e; stored = refl; imports = refl; includes = refl })
 
 -- room in the store behind the keyword
-module _ (s : List ℕ) (at used : ℕ) {g : ℕ} (ge : g ≡ gapEnd s at) {w : Word} (we : w ≡ wordAt s g) (c : Cursor) (room : used + (length s - at) ≤ length s) where
+module _ (s : List ℕ) (at used : ℕ) {g : ℕ} (ge : g ≡ gapEnd s at) {w : Head} (we : w ≡ headAt s g) (c : Cursor) (room : used + (length s - at) ≤ length s) where
   pub import-step-room : w ≡ Import c → used + (length s - c .at) ≤ length s
-  import-step-room q = omega (arith, gap-from s at, word-import-far s g c (sym we ∙ q))
+  import-step-room q = omega (arith, gap-from s at, head-import-far s g c (sym we ∙ q))
 
   pub include-step-room : w ≡ Include c → used + (length s - c .at) ≤ length s
-  include-step-room q = omega (arith, gap-from s at, word-include-far s g c (sym we ∙ q))
+  include-step-room q = omega (arith, gap-from s at, head-include-far s g c (sym we ∙ q))

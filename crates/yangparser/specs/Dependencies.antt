@@ -9,7 +9,9 @@ use Rattle.text.specs.Scan.{gapEnd}
 use Rattle.text.specs.Turns.{Turn, stop, on, turns}
 use Rattle.text.specs.Words.{importKeyword, includeKeyword}
 use Rattle.text.specs.declared.Refusal.{Refusal}
-use Rattle.text_skip.specs.Skip.{tokenAt, tokenEnd}
+use Rattle.text_skip.specs.Skip.{tokenAt}
+use Rattle.text_skip.specs.declared.Skipped.{Skipped}
+use Rattle.text_skip.specs.declared.Skipped.the-variants.{Past, Refused as RefusedSkip}
 use Rattle.text_lent.specs.Lent.{lentAt}
 use Rattle.text_lent.specs.declared.Lent.{Lent}
 use Rattle.text_lent.specs.declared.Lent.the-variants.{Fit, Unfit}
@@ -17,18 +19,18 @@ use Rattle.scan_rows.specs.Rows.{importSize, includeSize, mostRows, importTable
 use Rattle.scan_rows.specs.declared.YangImport.{YangImport}
 use Rattle.scan_rows.specs.declared.YangInclude.{YangInclude}
 use Rattle.scan_imports.specs.Statement.{importAt, includeAt}
-use Rattle.scan_imports.specs.declared.Imported.{Imported}
-use Rattle.scan_imports.specs.declared.Imported.the-variants.{Import as ReadImport, NoImport}
-use Rattle.scan_imports.specs.declared.Included.{Included}
-use Rattle.scan_imports.specs.declared.Included.the-variants.{Include as ReadInclude, NoInclude}
-use Rattle.yangparser.specs.Word.{wordAt}
+use Rattle.scan_imports.specs.declared.ParsedImport.{ParsedImport}
+use Rattle.scan_imports.specs.declared.ParsedImport.the-variants.{Import as ReadImport, NoImport}
+use Rattle.scan_imports.specs.declared.ParsedInclude.{ParsedInclude}
+use Rattle.scan_imports.specs.declared.ParsedInclude.the-variants.{Include as ReadInclude, NoInclude}
+use Rattle.yangparser.specs.Head.{headAt}
 use Rattle.yangparser.specs.declared.Next.{Next}
 use Rattle.yangparser.specs.declared.Next.the-variants.{On, Done, Stop}
 use Rattle.yangparser.specs.declared.Parsed.{Parsed}
 use Rattle.yangparser.specs.declared.Parsed.the-variants.{Good, Refused}
 use Rattle.yangparser.specs.declared.Sofar.{Sofar}
-use Rattle.yangparser.specs.declared.Word.{Word}
-use Rattle.yangparser.specs.declared.Word.the-variants.{Import, Include, Last, Other}
+use Rattle.yangparser.specs.declared.Head.{Head}
+use Rattle.yangparser.specs.declared.Head.the-variants.{Import, Include, Last, Other}
 
 -- the number of this layer
 abbrev pub tooMany : ℕ
@@ -68,21 +70,25 @@ pub record Step : Type 0 where
 abbrev pub adding : Next → Dependencies → Step
 adding r d = record { answer = r; adds = d }
 
-unfoldable pub importStep : Sofar → List ℕ → Imported → Step
+unfoldable pub importStep : Sofar → List ℕ → ParsedImport → Step
 importStep far bs (ReadImport c n i) =
     adding (On (record { at = c .at; used = n; imports = far .imports + 1; includes = far .includes }))
     (record { imports = i ∷ []; includes = []; bytes = bs })
 importStep far bs (NoImport r) = adding (Stop r) (record { imports = []; includes = []; bytes = bs })
 
-unfoldable pub includeStep : Sofar → List ℕ → Included → Step
+unfoldable pub includeStep : Sofar → List ℕ → ParsedInclude → Step
 includeStep far bs (ReadInclude c n i) =
     adding (On (record { at = c .at; used = n; imports = far .imports; includes = far .includes + 1 }))
     (record { imports = []; includes = i ∷ []; bytes = bs })
 includeStep far bs (NoInclude r) = adding (Stop r) (record { imports = []; includes = []; bytes = bs })
 
--- 10 where the rows are full, behind the keyword k; else what stands there
+-- the answer to a row too many, behind its keyword k
+abbrev pub full : ℕ → ℕ → Next
+full k at = Stop (record { number = tooMany; keyword = k; at = at })
+
+-- 10 where the rows are full; else what stands there
 unfoldable pub unlessFull : ℕ → ℕ → ℕ → Step → Step
-unlessFull rows k at step = cond (leb mostRows rows) (adding (Stop (record { number = tooMany; keyword = k; at = at })) none) step
+unlessFull rows k at step = cond (leb mostRows rows) (adding (full k at) none) step
 
 unfoldable pub importHere : List ℕ → Sofar → ℕ → Step
 importHere s far at =
@@ -95,15 +101,20 @@ includeHere s far at =
 unfoldable pub movedTo : Sofar → ℕ → Sofar
 movedTo far at = record { at = at; used = far .used; imports = far .imports; includes = far .includes }
 
-unfoldable pub wordStep : List ℕ → Sofar → ℕ → Word → Step
-wordStep s far at (Import c) = importHere s far (c .at)
-wordStep s far at (Include c) = includeHere s far (c .at)
-wordStep s far at (Last c) = adding Done none
-wordStep s far at Other = adding (On (movedTo far (tokenEnd (tokenAt s at)))) none
+-- past a token, however it ended
+unfoldable pub afterToken : Sofar → Skipped → Next
+afterToken far (Past c h) = On (movedTo far (c .at))
+afterToken far (RefusedSkip r) = Stop r
+
+unfoldable pub headStep : List ℕ → Sofar → ℕ → Head → Step
+headStep s far at (Import c) = importHere s far (c .at)
+headStep s far at (Include c) = includeHere s far (c .at)
+headStep s far at (Last c) = adding Done none
+headStep s far at Other = adding (afterToken far (tokenAt s at)) none
 
 -- at the place after the gap
 unfoldable pub stepHere : List ℕ → Sofar → ℕ → Step
-stepHere s far at = cond (leb (length s) at) (adding Done none) (wordStep s far at (wordAt s at))
+stepHere s far at = cond (leb (length s) at) (adding Done none) (headStep s far at (headAt s at))
 
 unfoldable pub stepAt : List ℕ → Sofar → Step
 stepAt s far = stepHere s far (gapEnd s (far .at))

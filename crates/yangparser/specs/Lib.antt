@@ -1,3 +1,3 @@
 pub mod Dependencies
+pub mod Head
 pub mod Promises
-pub mod Word

@@ -1,20 +1,20 @@
 // The dependency scan: import and include statements, their values in the store that the caller lends, their rows in its tables.
-use scan_imports::Imported;
-use scan_imports::Included;
+use scan_imports::ParsedImport;
+use scan_imports::ParsedInclude;
 use text::Cursor;
 use text::Match;
 use text::Refusal;
 use text_lent::Lent;
+use text_skip::Skipped;
 ghost use mathlib.Core.Path.{_≡_};
 ghost use mathlib.Core.Bool.{false};
 ghost use Prim.Native.Nat.{_+_, _-_, _*_, _≤_, _<_};
 ghost use lib.ListN.{length};
 ghost use Rattle.text.specs.Class.{classTable};
-ghost use Rattle.text.specs.Keyword.{matchAt};
-ghost use Rattle.text.specs.Words.{importWord, includeWord, organizationWord, contactWord, descriptionWord, referenceWord};
+ghost use Rattle.text_skip.specs.Skip.{tokenAt};
 ghost use Rattle.scan_rows.specs.Rows.{importSize, includeSize, mostRows};
-ghost use Rattle.yangparser.specs.Word.{lastAt, wordAt};
-ghost use Rattle.yangparser.specs.Dependencies.{tooShort, stepAt, scanned};
+ghost use Rattle.yangparser.specs.Head.{lastAt, headAt};
+ghost use Rattle.yangparser.specs.Dependencies.{tooShort, full, afterToken, stepAt, scanned};
 ghost use Rattle.yangparser.specs.Promises.{AddsImport, AddsInclude, Steps, Parses, Scans, Extracts};
 
 // The refusal of this layer.
@@ -175,26 +175,34 @@ fn parse_next(
     if s.len() <= at {
         return Next::Done;
     }
-    let word = read_word(here, classes, s);
-    match word {
-        Word::Import(c) => add_import(far, c, classes, s, store, imports),
-        Word::Include(c) => add_include(far, c, classes, s, store, includes),
-        Word::Last(_) => Next::Done,
-        Word::Other => {
-            let token = text_skip::skip_one_token(here, classes, s);
-            let end = text_skip::token_end(token);
-            Next::On(Sofar {
-                at: end.at,
-                used: far.used,
-                imports: far.imports,
-                includes: far.includes,
-            })
-        }
+    let head = read_head(here, classes, s);
+    match head {
+        Head::Import(c) => add_import(far, c, classes, s, store, imports),
+        Head::Include(c) => add_include(far, c, classes, s, store, includes),
+        Head::Last(_) => Next::Done,
+        Head::Other => skip_token(far, here, classes, s),
     }
 }
 
+// Skips the token that stands here.
+fn skip_token(far: Sofar, here: Cursor, classes: &[u8; 128], s: &[u8]) -> Next
+    requires { ⌜ now classes ≡ classTable ⌝ }
+    ensures { λ r. ⌜ r ≡ afterToken far (tokenAt (now (s .entry)) (here .at)) ⌝ }
+{
+    let token = text_skip::skip_one_token(here, classes, s);
+    let Skipped::Past(next, _) = token else {
+        return Next::Stop(text_skip::skip_refusal(token));
+    };
+    Next::On(Sofar {
+        at: next.at,
+        used: far.used,
+        imports: far.imports,
+        includes: far.includes,
+    })
+}
+
 // The keyword that stands at a place: import, include, one of the four after which nothing is imported or included, or none of these.
-pub enum Word {
+pub enum Head {
     Import(Cursor),
     Include(Cursor),
     Last(Cursor),
@@ -202,35 +210,35 @@ pub enum Word {
 }
 
 // No keyword is tried where no identifier begins.
-fn read_word(here: Cursor, classes: &[u8; 128], s: &[u8]) -> Word
+fn read_head(here: Cursor, classes: &[u8; 128], s: &[u8]) -> Head
     requires { ⌜ now classes ≡ classTable ⌝ }
-    ensures { λ r. ⌜ r ≡ wordAt (now (s .entry)) (here .at) ⌝ }
+    ensures { λ r. ⌜ r ≡ headAt (now (s .entry)) (here .at) ⌝ }
 {
     let at = here.at;
     let b = text::peek_char(s, at);
     if text::starts_ident(classes, b) {
-        return try_words(here, classes, s);
+        return try_heads(here, classes, s);
     }
-    Word::Other
+    Head::Other
 }
 
-fn try_words(here: Cursor, classes: &[u8; 128], s: &[u8]) -> Word
+fn try_heads(here: Cursor, classes: &[u8; 128], s: &[u8]) -> Head
     requires { ⌜ now classes ≡ classTable ⌝ }
-    ensures { λ r. ⌜ r ≡ wordAt (now (s .entry)) (here .at) ⌝ }
+    ensures { λ r. ⌜ r ≡ headAt (now (s .entry)) (here .at) ⌝ }
 {
-    let import = match_import(here, classes, s);
+    let import = here.match_keyword(classes, s, b"import");
     if let Match::After(c) = import {
-        return Word::Import(c);
+        return Head::Import(c);
     }
-    let include = match_include(here, classes, s);
+    let include = here.match_keyword(classes, s, b"include");
     if let Match::After(c) = include {
-        return Word::Include(c);
+        return Head::Include(c);
     }
     let last = match_last(here, classes, s);
     if let Match::After(c) = last {
-        return Word::Last(c);
+        return Head::Last(c);
     }
-    Word::Other
+    Head::Other
 }
 
 // Past one of the four keywords that end the scan.
@@ -238,17 +246,24 @@ fn match_last(here: Cursor, classes: &[u8; 128], s: &[u8]) -> Match
     requires { ⌜ now classes ≡ classTable ⌝ }
     ensures { λ r. ⌜ r ≡ lastAt (now (s .entry)) (here .at) ⌝ }
 {
-    let organization = match_organization(here, classes, s);
-    let contact = match_contact(here, classes, s);
-    let description = match_description(here, classes, s);
-    let reference = match_reference(here, classes, s);
-    text::or_match(
-        organization,
-        text::or_match(contact, text::or_match(description, reference)),
-    )
+    let reference = here.match_keyword(classes, s, b"reference");
+    let description = text::or_word(here, classes, s, b"description", reference);
+    let contact = text::or_word(here, classes, s, b"contact", description);
+    text::or_word(here, classes, s, b"organization", contact)
 }
 
-// Reads an import and writes its row; the 257th is refused behind its keyword.
+// The answer to a row too many: a refusal behind its keyword.
+fn full(keyword: u32, here: Cursor) -> Next
+    ensures { λ r. ⌜ r ≡ full keyword (here .at) ⌝ }
+{
+    Next::Stop(Refusal {
+        number: TOO_MANY,
+        keyword,
+        at: here.at,
+    })
+}
+
+// Reads an import and writes its row; the 257th is refused.
 fn add_import(
     far: Sofar,
     here: Cursor,
@@ -262,15 +277,11 @@ fn add_import(
 {
     let rows = far.imports;
     if scan_rows::MOST_ROWS <= rows {
-        return Next::Stop(Refusal {
-            number: TOO_MANY,
-            keyword: text::IMPORT,
-            at: here.at,
-        });
+        return full(text::IMPORT, here);
     }
     let read = scan_imports::parse_import(here, classes, s, store, far.used);
     match read {
-        Imported::Import { next, used, import } => {
+        ParsedImport::Import { next, used, import } => {
             scan_rows::put_import(imports, rows, import);
             let more = rows + 1;
             Next::On(Sofar {
@@ -280,11 +291,11 @@ fn add_import(
                 includes: far.includes,
             })
         }
-        Imported::NoImport(r) => Next::Stop(r),
+        ParsedImport::NoImport(r) => Next::Stop(r),
     }
 }
 
-// Reads an include and writes its row; the 257th is refused behind its keyword.
+// Reads an include and writes its row; the 257th is refused.
 fn add_include(
     far: Sofar,
     here: Cursor,
@@ -298,15 +309,11 @@ fn add_include(
 {
     let rows = far.includes;
     if scan_rows::MOST_ROWS <= rows {
-        return Next::Stop(Refusal {
-            number: TOO_MANY,
-            keyword: text::INCLUDE,
-            at: here.at,
-        });
+        return full(text::INCLUDE, here);
     }
     let read = scan_imports::parse_include(here, classes, s, store, far.used);
     match read {
-        Included::Include {
+        ParsedInclude::Include {
             next,
             used,
             include,
@@ -320,48 +327,6 @@ fn add_include(
                 includes: more,
             })
         }
-        Included::NoInclude(r) => Next::Stop(r),
+        ParsedInclude::NoInclude(r) => Next::Stop(r),
     }
-}
-
-fn match_import(here: Cursor, classes: &[u8; 128], s: &[u8]) -> Match
-    requires { ⌜ now classes ≡ classTable ⌝ }
-    ensures { λ r. ⌜ r ≡ matchAt (now (s .entry)) (here .at) importWord ⌝ }
-{
-    here.match_keyword(classes, s, b"import")
-}
-
-fn match_include(here: Cursor, classes: &[u8; 128], s: &[u8]) -> Match
-    requires { ⌜ now classes ≡ classTable ⌝ }
-    ensures { λ r. ⌜ r ≡ matchAt (now (s .entry)) (here .at) includeWord ⌝ }
-{
-    here.match_keyword(classes, s, b"include")
-}
-
-fn match_organization(here: Cursor, classes: &[u8; 128], s: &[u8]) -> Match
-    requires { ⌜ now classes ≡ classTable ⌝ }
-    ensures { λ r. ⌜ r ≡ matchAt (now (s .entry)) (here .at) organizationWord ⌝ }
-{
-    here.match_keyword(classes, s, b"organization")
-}
-
-fn match_contact(here: Cursor, classes: &[u8; 128], s: &[u8]) -> Match
-    requires { ⌜ now classes ≡ classTable ⌝ }
-    ensures { λ r. ⌜ r ≡ matchAt (now (s .entry)) (here .at) contactWord ⌝ }
-{
-    here.match_keyword(classes, s, b"contact")
-}
-
-fn match_description(here: Cursor, classes: &[u8; 128], s: &[u8]) -> Match
-    requires { ⌜ now classes ≡ classTable ⌝ }
-    ensures { λ r. ⌜ r ≡ matchAt (now (s .entry)) (here .at) descriptionWord ⌝ }
-{
-    here.match_keyword(classes, s, b"description")
-}
-
-fn match_reference(here: Cursor, classes: &[u8; 128], s: &[u8]) -> Match
-    requires { ⌜ now classes ≡ classTable ⌝ }
-    ensures { λ r. ⌜ r ≡ matchAt (now (s .entry)) (here .at) referenceWord ⌝ }
-{
-    here.match_keyword(classes, s, b"reference")
 }

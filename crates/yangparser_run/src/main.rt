@@ -123,8 +123,8 @@ fn read_agrees(
 // A record: text, answer and, where the answer's number is 0, the values and the page.
 fn record_agrees(data: &[u8], at: usize) -> bool {
     let mut store = [0u8; 65536];
-    let mut imports = [0u32; 1792];
-    let mut includes = [0u32; 1280];
+    let mut imports = [0u32; scan_rows::MOST_ROWS * scan_rows::IMPORT_SIZE];
+    let mut includes = [0u32; scan_rows::MOST_ROWS * scan_rows::INCLUDE_SIZE];
     let mut page = [0u8; 72480];
     let s = replay::field(data, at);
     let answer_at = replay::after(data, at);

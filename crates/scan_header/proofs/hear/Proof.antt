@@ -43,11 +43,11 @@ returns-3 c =
 
 returns-4 : tie.Need-returns-4
 returns-4 c =
-    let told = c .before .before in
+    let told = c .before .before .before in
     let read = told .before .before in
     let gap = read .before .before in
     let a = gap .before .before .before .args in
-    said-other (a .s .now) (a .from .at) (a .used) (a .prefixed) (a .store .now) (gap .skip-whitespace-and-comments .ensures) (read .before .if1 .left) (read .read-tag .ensures) (told .enum-told .given .1) (c .before .skip-one-token .ensures) (c .token-end .ensures)
+    said-other (a .s .now) (a .from .at) (a .used) (a .prefixed) (a .store .now) (gap .skip-whitespace-and-comments .ensures) (read .before .if1 .left) (read .read-tag .ensures) (told .enum-told .given .1) (c .before .before .skip-one-token .ensures) (c .before .past .ensures) (c .passed .ensures)
 
 pub hear-spec : {M : Type 1} → statement M
 hear-spec =
@@ -60,6 +60,7 @@ hear-spec =
     read-statement-requires
     (λ c. search needs)
     (λ c. search needs)
+    (λ c κs. search needs)
     (λ c κs. search needs)
     (λ c κs. search needs)
     (λ c. search needs)

@@ -7,16 +7,16 @@ use Rattle.scan_header.proofs.read_statement.Tie as tie
 
 returns : tie.Need-returns
 returns c =
-    let test = c .before .before .before in
+    let test = c .before in
     let a = test .before .before .before .args in
-    version-said (a .s .now) (a .here .at) (a .keyword) (a .used) (a .prefixed) (a .store .now) (test .if1 .taken) (c .before .before .skip-value .ensures) (c .before .after-value .ensures) (c .passed .ensures)
+    version-said (a .s .now) (a .here .at) (a .keyword) (a .used) (a .prefixed) (a .store .now) (test .if1 .taken) (c .skip-field .ensures)
 
 returns-2 : tie.Need-returns-2
 returns-2 c =
     let later = c .before .before .before in
     let test = later .before in
     let a = test .before .before .before .args in
-    prefix-said (a .s .now) (a .here .at) (a .keyword) (a .used) (a .prefixed) (a .store .now) (test .if1 .left) (later .later-prefix .ensures) (c .before .before .if2 .taken) (c .before .past-statement .ensures) (c .passed2 .ensures)
+    prefix-said (a .s .now) (a .here .at) (a .keyword) (a .used) (a .prefixed) (a .store .now) (test .if1 .left) (later .later-prefix .ensures) (c .before .before .if2 .taken) (c .before .past-statement .ensures) (c .passed .ensures)
 
 returns-3 : tie.Need-returns-3
 returns-3 c =
@@ -29,8 +29,6 @@ pub read-statement-spec : {M : Type 1} → statement M
 read-statement-spec =
     tie.close
     (tie.spec
-    (λ c κs. search needs)
-    (λ c κs. search needs)
     (λ c κs. search needs)
     returns
     (λ c κs. search needs)

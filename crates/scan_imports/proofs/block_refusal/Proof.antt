@@ -1,6 +1,6 @@
 -- `scan_imports::block_refusal`. Each arm of the `match` is its clause of the definition.
 -- Assumes nothing.
-use mathlib.Core.Path.{sym, ap}
+use mathlib.Core.Path.{sym, ap, _∙_}
 use Rattle.scan_imports.specs.Block.{blockRefusal}
 use borrow.Author.Needs.{needs}
 use Rattle.scan_imports.proofs.block_refusal.Statement.{statement}
@@ -8,11 +8,11 @@ use Rattle.scan_imports.proofs.block_refusal.Tie as tie
 
 returns : tie.Need-returns
 unfolding blockRefusal
-returns c = sym (ap blockRefusal (c .enum-told .given .1))
+returns c = c .no-refusal .ensures ∙ sym (ap blockRefusal (c .before .enum-told .given .1))
 
 returns-2 : tie.Need-returns-2
 unfolding blockRefusal
 returns-2 c = sym (ap blockRefusal (c .before .b .given .1))
 
 pub block-refusal-spec : {M : Type 1} → statement M
-block-refusal-spec = tie.close (tie.spec (λ c. search needs) (λ c. search needs) returns returns-2)
+block-refusal-spec = tie.close (tie.spec (λ c. search needs) (λ c κs. search needs) (λ c. search needs) returns returns-2)

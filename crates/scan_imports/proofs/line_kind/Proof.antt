@@ -6,19 +6,13 @@ use Rattle.scan_imports.proofs.line_kind.Statement.{statement}
 use Rattle.scan_imports.proofs.line_kind.Tie as tie
 
 returns : tie.Need-returns
-returns c =
-    let a = c .before .before .before .before .before .before .args in
-    kind-import (a .s .now) (a .here .at) (a .keyword) (c .before .if2 .taken) (c .import-line .ensures)
+returns c = search kind-import
 
 returns-2 : tie.Need-returns-2
-returns-2 c =
-    let a = c .before .before .before .before .before .before .args in
-    kind-include (a .s .now) (a .here .at) (a .keyword) (c .before .if2 .left) (c .revision-line .ensures)
+returns-2 c = search kind-include
 
 returns-3 : tie.Need-returns-3
-returns-3 c =
-    let a = c .before .before .before .before .args in
-    kind-none (a .s .now) (a .here .at) (a .keyword) (c .before .before .peek-char .ensures) (c .before .starts-ident .ensures) (c .if1 .left)
+returns-3 c = search kind-none
 
 pub line-kind-spec : {M : Type 1} → statement M
 line-kind-spec =
@@ -26,8 +20,10 @@ line-kind-spec =
     (tie.spec
     (λ c κs. search needs)
     (λ c κs. search needs)
+    (λ c. search needs)
+    (λ c κs. search needs)
+    (λ c. search needs)
     (λ c κs. search needs)
     returns
-    (λ c κs. search needs)
     returns-2
     returns-3)

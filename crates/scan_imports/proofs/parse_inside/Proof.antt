@@ -4,10 +4,9 @@ use mathlib.Core.Path.{refl, sym, ap, _∙_}
 use native.Mathlib.Omega.{arith}
 use Rattle.text.proofs.Here.{here}
 use Rattle.text.proofs.Laws.{gap-from}
-use Rattle.text_skip.specs.Statement.{endedAt}
-use Rattle.scan_imports.specs.declared.Inside.the-variants.{On, Closed}
-use Rattle.scan_imports.proofs.FarLaws.{kind-prefix-far, kind-revision-far}
-use Rattle.scan_imports.proofs.InsideLaws.{leaves, inside-end, inside-close, inside-prefix, inside-revision, inside-other}
+use Rattle.scan_imports.specs.declared.Inside.the-variants.{Closed}
+use Rattle.scan_imports.proofs.FarLaws.{kind-value-far}
+use Rattle.scan_imports.proofs.InsideLaws.{leaves, inside-end, inside-close, inside-value, inside-other}
 use borrow.Author.Needs.{needs}
 use Rattle.scan_imports.proofs.parse_inside.Statement.{statement}
 use Rattle.scan_imports.proofs.parse_inside.Tie as tie
@@ -32,58 +31,44 @@ returns-2 c =
     let a = at-gap .before .before .before .args in
     leaves (inside-close (a .s .now) (a .keyword) (a .body) (at-gap .skip-whitespace-and-comments .ensures) (at-peek .peek-char .ensures) (c .before .before .if1 .left) (c .before .if2 .taken)) (a .store .now) (a .body .used) (ap Closed (c .moved .ensures), refl)
 
-read-prefix-requires : tie.Need-read-prefix-requires
-read-prefix-requires c κs =
-    let at-c = c .before .before in
-    let at-kind = at-c .before .before in
+read-inside-requires : tie.Need-read-inside-requires
+read-inside-requires c κs =
+    let at-line = c .before .before in
+    let at-kind = at-line .before .before in
     let at-peek = at-kind .before .before .before in
     let at-gap = at-peek .before in
-    let a = at-gap .before .before .before .args in
-    let k = at-c .c .given in
+    let start = at-gap .before .before .before in
+    let a = start .args in
+    let k = at-line .own .given in
     let g = at-gap .skip-whitespace-and-comments .result .at in
-    let far = kind-prefix-far (a .s .now) g (a .keyword) (k .0 .0) (sym (at-kind .line-kind .ensures) ∙ k .1) in
-    (at-gap .before .before .before .pre .0, omega (arith, far, gap-from (a .s .now) (a .body .at)))
-
-read-revision-requires : tie.Need-read-revision-requires
-read-revision-requires c κs =
-    let at-c = c .before .before in
-    let at-kind = at-c .before .before in
-    let at-peek = at-kind .before .before .before in
-    let at-gap = at-peek .before in
-    let a = at-gap .before .before .before .args in
-    let k = at-c .c2 .given in
-    let g = at-gap .skip-whitespace-and-comments .result .at in
-    let far = kind-revision-far (a .s .now) g (a .keyword) (k .0 .0) (sym (at-kind .line-kind .ensures) ∙ k .1) in
-    (at-gap .before .before .before .pre .0, omega (arith, far, gap-from (a .s .now) (a .body .at)))
+    let far = kind-value-far (a .s .now) g (a .keyword) (k .0 .0) (k .0 .1 .0) (sym (at-kind .line-kind .ensures) ∙ k .1) in
+    (start .pre .0, omega (arith, far, gap-from (a .s .now) (a .body .at)))
 
 returns-3 : tie.Need-returns-3
 returns-3 c =
-    let at-c = c .before .before .before .before .before in
-    let at-kind = at-c .before .before in
+    let at-read = c .before .before in
+    let at-line = at-read .before .before .before in
+    let at-kind = at-line .before .before in
     let at-peek = at-kind .before .before .before in
     let at-gap = at-peek .before in
     let a = at-gap .before .before .before .args in
-    let k = at-c .c .given in
-    leaves (inside-prefix (a .s .now) (a .keyword) (a .body) (at-gap .skip-whitespace-and-comments .ensures) (at-peek .peek-char .ensures) (at-kind .before .before .if1 .left) (at-kind .before .if2 .left) (at-kind .line-kind .ensures) (k .0 .0) (k .1)) (a .store .now) (a .body .used) (c .before .before .read-prefix .ensures)
+    let k = at-line .own .given in
+    leaves
+    (inside-value (a .s .now) (a .keyword) (a .body) (at-gap .skip-whitespace-and-comments .ensures) (at-peek .peek-char .ensures)
+    (at-kind .before .before .if1 .left) (at-kind .before .if2 .left) (at-kind .line-kind .ensures) (k .0 .0) (k .0 .1 .0) (k .1))
+    (a .store .now) (a .body .used) (at-read .read-inside .ensures)
 
 returns-4 : tie.Need-returns-4
 returns-4 c =
-    let at-c = c .before .before .before .before .before in
-    let at-kind = at-c .before .before in
+    let at-kind = c .before .before .before in
     let at-peek = at-kind .before .before .before in
     let at-gap = at-peek .before in
     let a = at-gap .before .before .before .args in
-    let k = at-c .c2 .given in
-    leaves (inside-revision (a .s .now) (a .keyword) (a .body) (at-gap .skip-whitespace-and-comments .ensures) (at-peek .peek-char .ensures) (at-kind .before .before .if1 .left) (at-kind .before .if2 .left) (at-kind .line-kind .ensures) (k .0 .0) (k .1)) (a .store .now) (a .body .used) (c .before .before .read-revision .ensures)
-
-returns-5 : tie.Need-returns-5
-returns-5 c =
-    let at-kind = c .before .before .before .before .before in
-    let at-peek = at-kind .before .before .before in
-    let at-gap = at-peek .before in
-    let a = at-gap .before .before .before .args in
-    let skipped = c .before .ended-at .ensures ∙ ap endedAt (c .before .before .skip-statement .ensures) in
-    leaves (inside-other (a .s .now) (a .keyword) (a .body) (at-gap .skip-whitespace-and-comments .ensures) (at-peek .peek-char .ensures) (at-kind .before .before .if1 .left) (at-kind .before .if2 .left) (at-kind .line-kind .ensures) (c .before .before .before .enum-told .given .1) skipped) (a .store .now) (a .body .used) (ap On (c .moved2 .ensures), refl)
+    leaves
+    (inside-other (a .s .now) (a .keyword) (a .body) (at-gap .skip-whitespace-and-comments .ensures) (at-peek .peek-char .ensures)
+    (at-kind .before .before .if1 .left) (at-kind .before .if2 .left) (at-kind .line-kind .ensures) (c .before .enum-told .given .1)
+    (c .skip-other .ensures))
+    (a .store .now) (a .body .used) (refl, refl)
 
 pub parse-inside-spec : {M : Type 1} → statement M
 parse-inside-spec =
@@ -97,15 +82,9 @@ parse-inside-spec =
     returns-2
     (λ c κs. search needs)
     (λ c. search needs)
-    read-prefix-requires
+    read-inside-requires
     (λ c. search needs)
-    read-revision-requires
-    (λ c. search needs)
-    (λ c κs. search needs)
-    (λ c κs. search needs)
     (λ c κs. search needs)
     (λ c. search needs)
     returns-3
-    (λ c. search needs)
-    returns-4
-    returns-5)
+    returns-4)

@@ -6,7 +6,7 @@ use Prim.Native.Nat.{_*_}
 use native.Mathlib.Omega.{arith}
 use lib.ListN.{length-set}
 use lib.Seq.{sets}
-use Rattle.scan_rows.specs.Rows.{importWords}
+use Rattle.scan_rows.specs.Rows.{importSize, importWords}
 use Rattle.scan_rows.proofs.Laws.{seven}
 use borrow.Author.Needs.{needs}
 use Rattle.scan_rows.proofs.put_import.Statement.{statement}
@@ -38,7 +38,7 @@ unfolding importWords
 returns c =
     let start = c .before .before .before .before .before .before .before .before .before .before .before .args in
     let t = start .table .now in
-    let at = start .row * 7 in
+    let at = start .row * importSize in
     let name = start .i .«module_name» in
     let prefix = start .i .prefix in
     let revision = start .i .«revision_date» in

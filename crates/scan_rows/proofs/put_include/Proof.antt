@@ -6,7 +6,7 @@ use Prim.Native.Nat.{_*_}
 use native.Mathlib.Omega.{arith}
 use lib.ListN.{length-set}
 use lib.Seq.{sets}
-use Rattle.scan_rows.specs.Rows.{includeWords}
+use Rattle.scan_rows.specs.Rows.{includeSize, includeWords}
 use Rattle.scan_rows.proofs.Laws.{five}
 use borrow.Author.Needs.{needs}
 use Rattle.scan_rows.proofs.put_include.Statement.{statement}
@@ -29,7 +29,7 @@ unfolding includeWords
 returns c =
     let start = c .before .before .before .before .before .before .before .before .args in
     let t = start .table .now in
-    let at = start .row * 5 in
+    let at = start .row * includeSize in
     let name = start .i .«submodule_name» in
     let revision = start .i .«revision_date» in
     let mark = c .before .before .mark in

@@ -22,6 +22,7 @@ pub add-include-spec : {M : Type 1} → statement M
 add-include-spec =
     tie.close
     (tie.spec
+    (λ c κs. search needs)
     returns
     (λ c κs. search needs)
     (λ c. search needs)

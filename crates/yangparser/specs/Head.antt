@@ -7,17 +7,17 @@ use Rattle.text.specs.Words.{importWord, includeWord, organizationWord, contact
 use Rattle.text.specs.declared.Cursor.{Cursor}
 use Rattle.text.specs.declared.Match.{Match}
 use Rattle.text.specs.declared.Match.the-variants.{After, Not}
-use Rattle.yangparser.specs.declared.Word.{Word}
-use Rattle.yangparser.specs.declared.Word.the-variants.{Import, Include, Last, Other}
+use Rattle.yangparser.specs.declared.Head.{Head}
+use Rattle.yangparser.specs.declared.Head.the-variants.{Import, Include, Last, Other}
 
 -- one of the four that end the scan
 unfoldable pub lastAt : List ℕ → ℕ → Match
 lastAt s at =
     orMatch (matchAt s at organizationWord) (orMatch (matchAt s at contactWord) (orMatch (matchAt s at descriptionWord) (matchAt s at referenceWord)))
 
-unfoldable pub orWord : (Cursor → Word) → Match → Word → Word
-orWord f (After c) w = f c
-orWord f Not w = w
+unfoldable pub orHead : (Cursor → Head) → Match → Head → Head
+orHead f (After c) w = f c
+orHead f Not w = w
 
-unfoldable pub wordAt : List ℕ → ℕ → Word
-wordAt s at = orWord Import (matchAt s at importWord) (orWord Include (matchAt s at includeWord) (orWord Last (lastAt s at) Other))
+unfoldable pub headAt : List ℕ → ℕ → Head
+headAt s at = orHead Import (matchAt s at importWord) (orHead Include (matchAt s at includeWord) (orHead Last (lastAt s at) Other))

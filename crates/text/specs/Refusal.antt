@@ -1,0 +1,32 @@
+-- The refusals of one text by their numbers, and the refusal that is none. 7 to 10 stand where they are told.
+-- Assumes nothing.
+use Prim.Native.Nat.{ℕ}
+use Rattle.text.specs.declared.Refusal.{Refusal}
+
+-- text over 1,048,576 bytes
+abbrev pub textTooLong : ℕ
+textTooLong = 1
+
+-- store, table or page too short
+abbrev pub lentTooShort : ℕ
+lentTooShort = 2
+
+-- a byte is 128 or more
+abbrev pub highByteMet : ℕ
+highByteMet = 3
+
+-- no value after the keyword
+abbrev pub noValue : ℕ
+noValue = 4
+
+-- another byte than the one required
+abbrev pub otherByte : ℕ
+otherByte = 5
+
+-- the end instead of that byte
+abbrev pub endOfText : ℕ
+endOfText = 6
+
+-- number, keyword and place are 0 where nothing is refused
+abbrev pub noRefusal : Refusal
+noRefusal = record { number = 0; keyword = 0; at = 0 }
