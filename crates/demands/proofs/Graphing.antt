@@ -16,7 +16,8 @@ use Rattle.library_bundle.specs.Bundle.{Text as BundleText, bundleBroken, bundl
 use Rattle.library_bundle.specs.Reading.{longestText}
 use Rattle.library_items.specs.Table.{Reads}
 use Rattle.graph.specs.Nodes.{passOver}
-use Rattle.graph.specs.Graph.{nought, Edge, edge, Graph, graph, fault, graphOf}
+use Rattle.text.specs.Refusal.{noRefusal}
+use Rattle.graph.specs.Graph.{Edge, edge, Graph, graph, fault, graphOf}
 use Rattle.graph.specs.Numbers.{row, rowOf}
 use Rattle.graph.specs.Meaning.{Revised, IsEdge}
 use Rattle.graph.specs.Demand3.{Right, Agree, both-refused as graphs-refused, both-built as graphs-built}
@@ -26,7 +27,7 @@ use Rattle.graph.proofs.Spread.{perm-length}
 use Rattle.graph.proofs.Demand.{demand3}
 use Rattle.graph_edges.specs.Edges.{rowsIn}
 use Rattle.graph.specs.Limits.{mostEdges, mostNodes}
-use Rattle.graph_nodes.specs.Adding.{plainAt, wordsAt, namesAt}
+use Rattle.graph_nodes.specs.Adding.{plainAt, wordsAt}
 use Rattle.graph_texts.specs.Texts.{textOf}
 use Rattle.yanglib.specs.ToGraph.{lentTooShort, Lengths, tooShort, Result, refusal, resultOf, onRead, graphed, lengthsOf, Graphs}
 use Rattle.yanglib.specs.declared.Graphed.the-variants.{Built}
@@ -39,27 +40,27 @@ abbrev pub graphHere : (image bundle : List ℕ) → Graph
 graphHere s b = graphOf passOver mostNodes mostEdges (textOf b) (plainAt s)
 
 abbrev pub resultHere : (image bundle : List ℕ) → Result
-resultHere s b = resultOf (wordsAt s) (graphHere s b)
+resultHere s b = resultOf (wordsAt passOver s) (graphHere s b)
 
 -- ---- the ways to an answer
 
 -- what comes before the graph, by the readings of bundle and image and whether too little is lent
 abbrev unlessShort : Ans (List BundleText) → Bool → Result → Result
-unlessShort y short r = onRead y (refusal bundleBroken 0 nought) (cond short (refusal lentTooShort 0 nought 0) r)
+unlessShort y short r = onRead y (refusal bundleBroken 0 noRefusal) (cond short (refusal lentTooShort 0 noRefusal 0) r)
 
 abbrev pub before : Ans Library → Ans (List BundleText) → Bool → Result → Result
-before x y short r = onRead x (refusal imageBroken 0 nought) (unlessShort y short r)
+before x y short r = onRead x (refusal imageBroken 0 noRefusal) (unlessShort y short r)
 
 module _ (s b : List ℕ) (k : Lengths) where
-  well-formed : Reads (imageAt s) → graphed s b k ≡ unlessShort (bundleAt b) (tooShort (longestText b) k) (resultHere s b)
+  well-formed : Reads (imageAt s) → graphed passOver s b k ≡ unlessShort (bundleAt b) (tooShort (longestText b) k) (resultHere s b)
   unfolding graphed
   well-formed reads = ap (λ x. before x (bundleAt b) (tooShort (longestText b) k) (resultHere s b)) (reads .read)
 
-  pub graph-reached : Reads (imageAt s) → Reads (bundleAt b) → tooShort (longestText b) k ≡ false → graphed s b k ≡ resultHere s b
+  pub graph-reached : Reads (imageAt s) → Reads (bundleAt b) → tooShort (longestText b) k ≡ false → graphed passOver s b k ≡ resultHere s b
   graph-reached reads o t =
       well-formed reads
       ∙ ap (λ y. unlessShort y (tooShort (longestText b) k) (resultHere s b)) (o .read)
-      ∙ ap (λ f. cond f (refusal lentTooShort 0 nought 0) (resultHere s b)) t
+      ∙ ap (λ f. cond f (refusal lentTooShort 0 noRefusal 0) (resultHere s b)) t
 
   -- a graph is built only where all is read and enough is lent, and then it is the graph of the image's library
   pub record Drawn : Type 0 where
@@ -70,12 +71,12 @@ module _ (s b : List ℕ) (k : Lengths) where
     pub es : List Edge
     pub graphIs : graphHere s b ≡ graph ns es
 
-  pub drawn : (n m : ℕ) → graphed s b k .answer ≡ Built n m → Drawn
+  pub drawn : (n m : ℕ) → graphed passOver s b k .answer ≡ Built n m → Drawn
   unfolding graphed
   drawn n m h = go (imageAt s) (bundleAt b) (tooShort (longestText b) k) (graphHere s b) refl refl refl refl h
     where
       go : (x : Ans Library) (y : Ans (List BundleText)) (short : Bool) (g : Graph) → imageAt s ≡ x → bundleAt b ≡ y → tooShort (longestText b) k ≡ short
-          → graphHere s b ≡ g → before x y short (resultOf (wordsAt s) g) .answer ≡ Built n m → Drawn
+          → graphHere s b ≡ g → before x y short (resultOf (wordsAt passOver s) g) .answer ≡ Built n m → Drawn
       go (bad p) y short g e f t q h = let z : _≡_ {A = ℕ} 0 1 = cc in absurd (omega arith)
       go (good l i) (bad p) short g e f t q h = let z : _≡_ {A = ℕ} 0 1 = cc in absurd (omega arith)
       go (good l i) (good o j) true g e f t q h = let z : _≡_ {A = ℕ} 0 1 = cc in absurd (omega arith)
@@ -99,10 +100,9 @@ module _ (s b : List ℕ) (bytes : AllBytes s) (reads : Reads (imageAt s)) {ns :
   revised = revised-here s reads bytes
 
   abbrev result : Result
-  result = resultOf (wordsAt s) (graph ns es)
+  result = resultOf (wordsAt passOver s) (graph ns es)
 
   names-are : names s result ≡ ns
-  unfolding namesAt
   names-are = names-read s bytes reads ∙ sym (right .nodes)
 
   edge-back : (d : Edge) → List·Memᴰ d es → between ns (rowOf ns d) ≡ d
@@ -137,12 +137,12 @@ module _ (s b : List ℕ) (bytes : AllBytes s) (reads : Reads (imageAt s)) {ns :
 
 -- ---- first part
 
-right-graph : (s b : List ℕ) (k : Lengths) (n m : ℕ) → AllBytes s → graphed s b k .answer ≡ Built n m
-    → RightGraph (textOf b) (plainAt s) n m (names s (graphed s b k)) (graphed s b k .rows)
+right-graph : (s b : List ℕ) (k : Lengths) (n m : ℕ) → AllBytes s → graphed passOver s b k .answer ≡ Built n m
+    → RightGraph (textOf b) (plainAt s) n m (names s (graphed passOver s b k)) (graphed passOver s b k .rows)
 right-graph s b k n m bytes h =
     let d = drawn s b k n m h in
-    let q : graphed s b k ≡ resultOf (wordsAt s) (graph (d .ns) (d .es))
-    = graph-reached s b k (d .reads) (d .bundle) (d .long) ∙ ap (resultOf (wordsAt s)) (d .graphIs) in
+    let q : graphed passOver s b k ≡ resultOf (wordsAt passOver s) (graph (d .ns) (d .es))
+    = graph-reached s b k (d .reads) (d .bundle) (d .long) ∙ ap (resultOf (wordsAt passOver s)) (d .graphIs) in
     let a : Built (length (d .ns)) (length (d .es)) ≡ Built n m = sym (ap (λ (x : Result). x .answer) q) ∙ h in
     let i : length (d .ns) ≡ n = cc in
     let j : length (d .es) ≡ m = cc in
@@ -155,7 +155,7 @@ right-graph s b k n m bytes h =
 right-tables : (s b n e d f g l : List ℕ) (i j : ℕ) {n₁ e₁ d₁ f₁ g₁ l₁ : List ℕ} → AllBytes s → Graphs s b n e d f g l (Built i j) n₁ e₁ d₁ f₁ g₁ l₁
     → RightGraph (textOf b) (plainAt s) i j (tableNames s i n₁) (rowsIn j e₁)
 right-tables s b n e d f g l i j {n₁} {e₁} bytes h =
-    let x = graphed s b (lengthsOf n e d f g l) in
+    let x = graphed passOver s b (lengthsOf n e d f g l) in
     let r = right-graph s b (lengthsOf n e d f g l) i j bytes (sym (h .answer)) in
     let p : i ≡ length (x .nodes) = r .node-count ∙ length-map (x .nodes) (nameOf s) in
     let u : tableNames s i n₁ ≡ names s x = ap₂ (tableNames s) p (h .nodes) ∙ nodes-read s (length n) (x .nodes) in
@@ -165,7 +165,7 @@ right-tables s b n e d f g l i j {n₁} {e₁} bytes h =
 -- ---- second part
 
 module _ (s s₁ b : List ℕ) (k : Lengths) (f : WellFormed s) (f₁ : WellFormed s₁) where
-  graphs-alike : (g g₁ : Graph) → graphHere s b ≡ g → graphHere s₁ b ≡ g₁ → Agree g g₁ → Alike s s₁ (resultOf (wordsAt s) g) (resultOf (wordsAt s₁) g₁)
+  graphs-alike : (g g₁ : Graph) → graphHere s b ≡ g → graphHere s₁ b ≡ g₁ → Agree g g₁ → Alike s s₁ (resultOf (wordsAt passOver s) g) (resultOf (wordsAt passOver s₁) g₁)
   graphs-alike (graph ns es) (graph ns₁ es₁) e e₁ (graphs-built p q) =
       both-built refl (ap₂ Built (sym (perm-length p)) (sym (perm-length q)))
       (subst₂ Perm (sym (names-are s b (f .bytes) (f .reads) e)) (sym (names-are s₁ b (f₁ .bytes) (f₁ .reads) e₁)) p)
@@ -178,7 +178,7 @@ module _ (s s₁ b : List ℕ) (k : Lengths) (f : WellFormed s) (f₁ : WellForm
   alike-behind (good es n) false h = h
   alike-behind (bad p) short h = both-refused refl refl
 
-  alike : Agree (graphHere s b) (graphHere s₁ b) → Alike s s₁ (graphed s b k) (graphed s₁ b k)
+  alike : Agree (graphHere s b) (graphHere s₁ b) → Alike s s₁ (graphed passOver s b k) (graphed passOver s₁ b k)
   alike h =
       subst₂ (Alike s s₁) (sym (well-formed s b k (f .reads))) (sym (well-formed s₁ b k (f₁ .reads)))
       (alike-behind (bundleAt b) (tooShort (longestText b) k) (graphs-alike (graphHere s b) (graphHere s₁ b) refl refl h))

@@ -41,8 +41,9 @@ use Rattle.library_bundle.specs.Bundle.{bodyAt, filedAt, textsAt, bundleAt, loo
 use Rattle.library_bundle.specs.Reading.{longestOf, longestText}
 use Rattle.scan_rows.specs.Span.{valueIn}
 use Rattle.graph_texts.specs.Texts.{importNames, includeNames, scanText, textOf}
-use Rattle.graph.specs.Nodes.{addGroups, nodesBy}
-use Rattle.graph.specs.Graph.{nought, textSteps, memE, addBy, run, walkFrom, graphOf}
+use Rattle.graph.specs.Nodes.{passOver, addGroups, nodesBy}
+use Rattle.text.specs.Refusal.{noRefusal}
+use Rattle.graph.specs.Graph.{textSteps, memE, addBy, run, walkFrom, graphOf}
 use Rattle.graph.specs.Numbers.{numberOf}
 use Rattle.graph_nodes.specs.Adding.{plainAt, wordsAt}
 use Rattle.demands.specs.Demand3.{names, WellFormed, Alike, both-refused, both-built}
@@ -89,11 +90,11 @@ with-t : List Name
 with-t = (98 ∷ []) ∷ (116 ∷ []) ∷ []
 
 record Computed : Type 0 where
-  empty : graphed emptyFirst includes lent .answer ≡ Refused 28 1 nought 0
-  full : graphed fullFirst includes lent .answer ≡ Built 2 1
-  s-first : graphed sFirst alone lent .answer ≡ Built 2 0
-  s-names : names sFirst (graphed sFirst alone lent) ≡ with-s
-  t-names : names tFirst (graphed tFirst alone lent) ≡ with-t
+  empty : graphed passOver emptyFirst includes lent .answer ≡ Refused 28 1 noRefusal 0
+  full : graphed passOver fullFirst includes lent .answer ≡ Built 2 1
+  s-first : graphed passOver sFirst alone lent .answer ≡ Built 2 0
+  s-names : names sFirst (graphed passOver sFirst alone lent) ≡ with-s
+  t-names : names tFirst (graphed passOver tFirst alone lent) ≡ with-t
 
 computed : Computed
 unfolding with-s with-t graphed tooShort wordsAt numberOf graphOf walkFrom run addBy memE textSteps nodesBy addGroups addAll among textOf scanText importNames includeNames valueIn longestText longestOf lookUp bundleAt textsAt filedAt bodyAt libraryOf imageAt libraryAt setAt importOnlyAt moduleAt counted countAt newName nameAt nameBody printableAt many numberAt groups modulesOf importOnlyOf submodulesOf flatMap joined importStep includeStep unlessFull importHere includeHere movedTo headStep stepHere stepAt afterStep scanTurn scanFrom scanned lentAt ifFit dependencies orMatch lastAt orHead headAt orRevision orPrefix plainOf blockOf openOrPlain afterValue includeAt argumentOf argumentAt afterDue isQuote startsName addedBy afterPlus joinedWith joinedValue ofString valueHere valueAt valueBytes closedToken tokenHere statementAt endedAt dueNumber dueHere dueAt startsIdent endsKeyword same part keywordAt matchAt gapEnd gapTurn afterWhite commentEnd blockEnd closing pairAt runEnd span inRun inIdent classOf turns
@@ -102,7 +103,7 @@ computed = record { empty = refl; full = refl; s-first = refl; s-names = refl; t
 both-ways : {r : Graphed} {n m number entry place : ℕ} {a : Refusal} → r ≡ Built n m → r ≡ Refused number entry a place → ⊥
 both-ways h k = let e = sym h ∙ k in let z : _≡_ {A = ℕ} 0 1 = cc in omega arith
 
-once-unlike : ¬ Alike emptyFirst fullFirst (graphed emptyFirst includes lent) (graphed fullFirst includes lent)
+once-unlike : ¬ Alike emptyFirst fullFirst (graphed passOver emptyFirst includes lent) (graphed passOver fullFirst includes lent)
 once-unlike (both-refused h k) = both-ways (computed .full) k
 once-unlike (both-built h k p q) = both-ways h (computed .empty)
 
@@ -111,7 +112,7 @@ unfolding with-s with-t among same
 not-among p =
     ∥∥₁-elim (Perm·mem-iff p .0 ∣ List·Memᴰ·tail (List·Memᴰ·head refl) ∣₁) ⊥-prop (λ (m : List·Memᴰ (115 ∷ []) with-t). both-bools (mem-memb m) refl)
 
-single-unlike : ¬ Alike sFirst tFirst (graphed sFirst alone lent) (graphed tFirst alone lent)
+single-unlike : ¬ Alike sFirst tFirst (graphed passOver sFirst alone lent) (graphed passOver tFirst alone lent)
 single-unlike (both-refused h k) = both-ways (computed .s-first) h
 single-unlike (both-built h k p q) = not-among (subst₂ Perm (computed .s-names) (computed .t-names) p)
 

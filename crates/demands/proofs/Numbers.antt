@@ -24,7 +24,8 @@ use Rattle.library_bundle.specs.Reading.{longestText}
 use Rattle.library_bundle.specs.declared.TextPlace.{TextPlace}
 use Rattle.library_bundle.specs.declared.TextPlace.the-variants.{At as PlaceAt, Nothing as NoPlace}
 use Rattle.graph.specs.Nodes.{passOver}
-use Rattle.graph.specs.Graph.{ScanAnswer, nought, refusing, Entry, Graph, graph as drawing, fault}
+use Rattle.text.specs.Refusal.{noRefusal}
+use Rattle.graph.specs.Graph.{ScanAnswer, refusing, Entry, Graph, graph as drawing, fault}
 use Rattle.graph.specs.Meaning.{Fault, entry-missing, include-missing, scan-refused, import-unknown, listed-unknown, include-unknown, include-no-node, too-deep, Cause, names, by-fault, edges}
 use Rattle.graph.proofs.Demand.{demand3}
 use Rattle.graph_nodes.specs.Adding.{plainAt, wordsAt}
@@ -78,10 +79,10 @@ abbrev early : List ℕ
 early = 20 ∷ 21 ∷ 22 ∷ 30 ∷ []
 
 -- before the walk, and at an entry of it
-before-walk : (n place : ℕ) → isOne n every ≡ true → isOne n early ≡ true → (place ≡ 0) ⊎ List·Memᴰ n (20 ∷ 21 ∷ []) → GraphNumbers n 0 nought place
+before-walk : (n place : ℕ) → isOne n every ≡ true → isOne n early ≡ true → (place ≡ 0) ⊎ List·Memᴰ n (20 ∷ 21 ∷ []) → GraphNumbers n 0 noRefusal place
 before-walk n place h i j = record { number-in = one-of n every h; entry-none = (λ e. one-of n early i, λ m. refl); scan-none = inl refl; place-none = j }
 
-at-entry : (n e : ℕ) (a : ScanAnswer) (k : ℕ) → e ≡ k + 1 → isOne n every ≡ true → isOne n early ≡ false → (a ≡ nought) ⊎ (n ≡ 25) → GraphNumbers n e a 0
+at-entry : (n e : ℕ) (a : ScanAnswer) (k : ℕ) → e ≡ k + 1 → isOne n every ≡ true → isOne n early ≡ false → (a ≡ noRefusal) ⊎ (n ≡ 25) → GraphNumbers n e a 0
 at-entry n e a k q h i j = record {
   number-in = one-of n every h;
   entry-none = (λ z. absurd (omega (arith, q, z)), λ m. absurd (never i (is-one m)));
@@ -92,20 +93,20 @@ at-entry n e a k q h i j = record {
 module _ (s b : List ℕ) where
   fault-numbers : (x : Entry) (e k : ℕ) → e ≡ k + 1 → {n : ℕ} {a : ScanAnswer} → Fault passOver (textOf b) (plainAt s) x n a → GraphNumbers n e a 0
   unfolding isOne
-  fault-numbers x e k q (entry-missing h) = at-entry 23 e nought k q refl refl (inl refl)
-  fault-numbers x e k q (include-missing r f h) = at-entry 24 e nought k q refl refl (inl refl)
+  fault-numbers x e k q (entry-missing h) = at-entry 23 e noRefusal k q refl refl (inl refl)
+  fault-numbers x e k q (include-missing r f h) = at-entry 24 e noRefusal k q refl refl (inl refl)
   fault-numbers x e k q (scan-refused {a = a} r h) = at-entry 25 e a k q refl refl (inr refl)
-  fault-numbers x e k q (import-unknown r i u) = at-entry 26 e nought k q refl refl (inl refl)
-  fault-numbers x e k q (listed-unknown m u) = at-entry 26 e nought k q refl refl (inl refl)
-  fault-numbers x e k q (include-unknown r i u) = at-entry 27 e nought k q refl refl (inl refl)
-  fault-numbers x e k q (include-no-node r i m u) = at-entry 28 e nought k q refl refl (inl refl)
-  fault-numbers x e k q (too-deep r f) = at-entry 29 e nought k q refl refl (inl refl)
+  fault-numbers x e k q (import-unknown r i u) = at-entry 26 e noRefusal k q refl refl (inl refl)
+  fault-numbers x e k q (listed-unknown m u) = at-entry 26 e noRefusal k q refl refl (inl refl)
+  fault-numbers x e k q (include-unknown r i u) = at-entry 27 e noRefusal k q refl refl (inl refl)
+  fault-numbers x e k q (include-no-node r i m u) = at-entry 28 e noRefusal k q refl refl (inl refl)
+  fault-numbers x e k q (too-deep r f) = at-entry 29 e noRefusal k q refl refl (inl refl)
 
   cause-numbers : {n e : ℕ} {a : ScanAnswer} → Cause passOver (textOf b) (plainAt s) 1024 8192 n e a → GraphNumbers n e a 0
   unfolding isOne
   cause-numbers (names h) = before-walk 30 0 refl refl (inl refl)
   cause-numbers (by-fault {k = e} x f g) = fault-numbers x e (length (f .before)) (f .number) g
-  cause-numbers (edges {k = e} x f es d m h) = at-entry 31 e nought (length (f .before)) (f .number) refl refl (inl refl)
+  cause-numbers (edges {k = e} x f es d m h) = at-entry 31 e noRefusal (length (f .before)) (f .number) refl refl (inl refl)
 
   numbers : (k : Lengths) {n e place : ℕ} {a : Refusal} → GraphCause s b k n e a place → GraphNumbers n e a place
   unfolding isOne
@@ -168,12 +169,12 @@ moved {s} {b} {k} {n} {e} {p} {n₁} {e₁} {p₁} {a} {a₁} c h =
     subst (λ x. GraphCause s b k n₁ e₁ a₁ x) m (subst₃ (λ x y z. GraphCause s b k x y z p) i j l c)
 
 module _ (s b : List ℕ) (k : Lengths) where
-  caused : (number entry place : ℕ) (a : Refusal) → graphed s b k .answer ≡ Refused number entry a place → GraphCause s b k number entry a place
+  caused : (number entry place : ℕ) (a : Refusal) → graphed passOver s b k .answer ≡ Refused number entry a place → GraphCause s b k number entry a place
   unfolding graphed
   caused number entry place a h = go (imageAt s) (bundleAt b) (tooShort (longestText b) k) (graphHere s b) refl refl refl refl h
     where
       go : (x : Ans Library) (y : Ans (List Text)) (short : Bool) (g : Graph) → imageAt s ≡ x → bundleAt b ≡ y → tooShort (longestText b) k ≡ short
-          → graphHere s b ≡ g → before x y short (resultOf (wordsAt s) g) .answer ≡ Refused number entry a place → GraphCause s b k number entry a place
+          → graphHere s b ≡ g → before x y short (resultOf (wordsAt passOver s) g) .answer ≡ Refused number entry a place → GraphCause s b k number entry a place
       go (bad p) y short g e f t q h = moved (image e) h
       go (good l i) (bad p) short g e f t q h = moved (bundle (record { value = l; end = i; read = e }) f) h
       go (good l i) (good o j) true g e f t q h = moved (lent (record { value = l; end = i; read = e }) (record { value = o; end = j; read = f }) t) h
@@ -182,16 +183,16 @@ module _ (s b : List ℕ) (k : Lengths) where
           let d = demand3 passOver 1024 8192 (textOf b) .refused (plainAt s) n m c q in
           moved (graph (record { value = l; end = i; read = e }) (record { value = o; end = j; read = f }) t d) h
 
-  buildable : (n m : ℕ) → graphed s b k .answer ≡ Built n m → Buildable s b k
+  buildable : (n m : ℕ) → graphed passOver s b k .answer ≡ Built n m → Buildable s b k
   buildable n m h =
       let d = drawn s b k n m h in
       let o = demand3 passOver 1024 8192 (textOf b) .built (plainAt s) .0 (d .ns, d .es, d .graphIs) in
       record { image = d .reads; bundle = d .bundle; lent = d .long; sound = o }
 
-  built : Buildable s b k → (n : ℕ) × (m : ℕ) × (graphed s b k .answer ≡ Built n m)
+  built : Buildable s b k → (n : ℕ) × (m : ℕ) × (graphed passOver s b k .answer ≡ Built n m)
   built c =
       let g = demand3 passOver 1024 8192 (textOf b) .built (plainAt s) .1 (c .sound) in
-      let e = graph-reached s b k (c .image) (c .bundle) (c .lent) ∙ ap (resultOf (wordsAt s)) (g .2) in
+      let e = graph-reached s b k (c .image) (c .bundle) (c .lent) ∙ ap (resultOf (wordsAt passOver s)) (g .2) in
       (length (g .0), length (g .1), ap (λ (x : Result). x .answer) e)
 
 pub demand1 : Demand1

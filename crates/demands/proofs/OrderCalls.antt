@@ -18,6 +18,7 @@ use Rattle.graph.specs.Numbers.{Row}
 use Rattle.graph.proofs.Numbers.{mem-row}
 use Rattle.graph_edges.specs.Edges.{rowsIn}
 use Rattle.library_bundle.specs.Reading.{longestText}
+use Rattle.graph.specs.Nodes.{passOver}
 use Rattle.yanglib.specs.ToGraph.{lengthsOf, tooShort, graphed, nodeWords, rowWords, AnswerFits, Graphs}
 use Rattle.yanglib.specs.declared.Graphed.the-variants.{Built}
 use Rattle.yanglib.proofs.Bounds.{answer-fits}
@@ -190,7 +191,7 @@ module _ (s b n e d f g l : List ℕ) (i j : ℕ) {n₁ e₁ d₁ f₁ g₁ l₁
     (h : Graphs s b n e d f g l (Built i j) n₁ e₁ d₁ f₁ g₁ l₁) where
   few : (i ≤ 1024) × (j ≤ 8192)
   unfolding AnswerFits
-  few = subst AnswerFits (sym (h .answer)) (answer-fits s b bytes (lengthsOf n e d f g l))
+  few = subst AnswerFits (sym (h .answer)) (answer-fits passOver s b bytes (lengthsOf n e d f g l))
 
   lent : tooShort (longestText b) (lengthsOf n e d f g l) ≡ false
   lent = demand1 .graph-built s b (lengthsOf n e d f g l) .0 (i, j, sym (h .answer)) .lent
@@ -201,7 +202,7 @@ module _ (s b n e d f g l : List ℕ) (i j : ℕ) {n₁ e₁ d₁ f₁ g₁ l₁
   tables-fit : fits (length n₁) i e₁ j ≡ true
   tables-fit =
       let r = bytes-demand3 .called s b n e d f g l i j bytes h in
-      let x = graphed s b (lengthsOf n e d f g l) in
+      let x = graphed passOver s b (lengthsOf n e d f g l) in
       let a : 2048 ≤ length n₁ = rw (h .nodes) (omega (arith, enough .nodes, padded-least (length n) (nodeWords (x .nodes)))) in
       let c : 16384 ≤ length e₁ = rw (h .edges) (omega (arith, enough .edges, padded-least (length e) (rowWords (x .rows)))) in
       rw (

@@ -20,6 +20,7 @@ use Rattle.nuvaleta.specs.Graphs.{Drawn}
 use Rattle.nuvaleta.specs.Orders.{orderWords}
 use Rattle.order.specs.declared.Ordered.{Ordered}
 use Rattle.order.specs.Order.{orderOf}
+use Rattle.graph.specs.Nodes.{passOver}
 use Rattle.yanglib.specs.ToGraph.{Lengths, lengthsOf, Result, graphed, nodeWords, rowWords, Leaves as GraphLeft}
 use Rattle.yanglib.specs.declared.Graphed.{Graphed}
 use Rattle.library_read.specs.Reading.{readSeen}
@@ -163,8 +164,8 @@ one-outcome = record {
   host-submodule = λ s t a b. told-one a b;
   host-import = λ s t a b. told-one a b;
   host-text = λ s t a b. told-one a b;
-  graph = λ s b n e d f g l n′ e′ d′ f′ g′ l′ ks h k. graph-one (ap (graphed s b) ks) ks h k;
-  host-graph = λ s b n e d f g l n′ e′ d′ f′ g′ l′ ks h k. drawn-one (ap (graphed s b) ks) ks h k;
+  graph = λ s b n e d f g l n′ e′ d′ f′ g′ l′ ks h k. graph-one (ap (graphed passOver s b) ks) ks h k;
+  host-graph = λ s b n e d f g l n′ e′ d′ f′ g′ l′ ks h k. drawn-one (ap (graphed passOver s b) ks) ks h k;
   order = λ x i w j t t′ ts {r} {r′} h k.
       let xe = ap (orderOf (length x) i w j) ts in (
         ordered-as r r′ (equals (λ o. o .number) xe (h .number) (k .number)) (equals (λ o. length (o .nodes)) xe (h .count) (k .count)),

@@ -16,8 +16,9 @@ use Rattle.library_image.proofs.Steps.{on-good, carry}
 use Rattle.library_items.specs.Items.{ItemOf, itemsOf, libraryOf}
 use Rattle.library_items.specs.Table.{Items, andThen, each, eachCounted, nameRead, listRead, listsRead, revisionsRead, entryRead, entriesRead, setRead, setsRead, Reads}
 use Rattle.library_items.proofs.Told.{library-told}
-use Rattle.graph_nodes.specs.Adding.{Adding, so, isEntry, isSub, addName, addItem, addItems, wordsAt, namesAt}
+use Rattle.graph_nodes.specs.Adding.{Adding, so, isEntry, isSub, addName, addItem, addItems, wordsAt}
 use Rattle.graph_nodes.proofs.Gathering.{added}
+use Rattle.graph.specs.Nodes.{passOver, nodesOf}
 use Rattle.yanglib.proofs.Outcome.{nodes-named, image-here, revised-here}
 use Rattle.demands.specs.Demand3.{nameOf}
 
@@ -115,7 +116,7 @@ module _ (s : List ℕ) where
   items-added (x ∷ xs) a f h = items-added xs (addItem a x) (item-added a x f (h x (List·Memᴰ·head refl))) (λ y m. h y (List·Memᴰ·tail m))
 
   module _ (bytes : AllBytes s) (reads : Reads (imageAt s)) where
-    words-stand : AllStand (wordsAt s)
+    words-stand : AllStand (wordsAt passOver s)
     unfolding wordsAt
     words-stand =
         let e : setsRead s 0 ≡ good (itemsOf (reads .value)) (reads .end) = library-told s 0 (accepted s (reads .read) .read) in
@@ -124,8 +125,8 @@ module _ (s : List ℕ) where
         subst AllStand (added (libraryOf s) (revised-here s reads bytes)) (items-added (itemsOf (libraryOf s)) (so [] false) none-stand h)
 
     -- read from the bytes at place and length, the names are the nodes of the library
-    pub names-read : map (nameOf s) (wordsAt s) ≡ namesAt s
-    names-read = go (wordsAt s) words-stand ∙ nodes-named s
+    pub names-read : map (nameOf s) (wordsAt passOver s) ≡ nodesOf passOver (plainAt s)
+    names-read = go (wordsAt passOver s) words-stand ∙ nodes-named passOver s
       where
         go : (ws : List Word) → AllStand ws → map (nameOf s) ws ≡ map plainName ws
         go [] f = refl

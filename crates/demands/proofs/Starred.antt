@@ -35,7 +35,7 @@ use Rattle.library_bundle.specs.Bundle.{bodyAt, filedAt, textsAt, bundleAt, loo
 use Rattle.library_bundle.specs.Reading.{longestOf, longestText}
 use Rattle.scan_rows.specs.Span.{valueIn}
 use Rattle.graph_texts.specs.Texts.{importNames, includeNames, scanText, textOf}
-use Rattle.graph.specs.Nodes.{addGroups, nodesBy}
+use Rattle.graph.specs.Nodes.{passOver, addGroups, nodesBy}
 use Rattle.graph.specs.Graph.{textSteps, memE, addBy, run, walkFrom, graphOf}
 use Rattle.graph.specs.Numbers.{numberOf}
 use Rattle.graph_nodes.specs.Adding.{wordsAt}
@@ -69,7 +69,7 @@ drawn x = graphWords (x .answer) ++ (nodeWords (x .nodes) ++ rowWords (x .rows))
 holds : Example → Bool
 holds (D s xs) = same (outcome (dependencies s false)) xs
 holds (M s xs) = same (described (metadata s false)) xs
-holds (G s b xs) = same (drawn (graphed s b (enough b))) xs
+holds (G s b xs) = same (drawn (graphed passOver s b (enough b))) xs
 
 all : List Example → Bool
 all [] = true

@@ -22,7 +22,7 @@ use Rattle.yangparser.specs.Dependencies as Dependencies
 use Rattle.scan_metadata.specs.Metadata as Metadata
 use Rattle.library_items.specs.Table.{Reads}
 use Rattle.graph.specs.Nodes.{passOver}
-use Rattle.graph.specs.Graph.{nought}
+use Rattle.text.specs.Refusal.{noRefusal}
 use Rattle.graph.specs.Meaning.{Sound, Cause}
 use Rattle.graph_nodes.specs.Adding.{plainAt}
 use Rattle.graph_texts.specs.Texts.{textOf}
@@ -69,9 +69,9 @@ pub data MetadataRefusal (r : Refusal) : Type 0 where
 
 -- why: the first of image, bundle, what is lent, and then what crate graph says of the library and the texts
 pub data GraphCause (s b : List ℕ) (k : Lengths) : (number entry : ℕ) → Refusal → (place : ℕ) → Type 0 where
-  image : {p : ℕ} → imageAt s ≡ bad p → GraphCause s b k 20 0 nought p
-  bundle : {p : ℕ} → Reads (imageAt s) → bundleAt b ≡ bad p → GraphCause s b k 21 0 nought p
-  lent : Reads (imageAt s) → Reads (bundleAt b) → tooShort (longestText b) k ≡ true → GraphCause s b k 22 0 nought 0
+  image : {p : ℕ} → imageAt s ≡ bad p → GraphCause s b k 20 0 noRefusal p
+  bundle : {p : ℕ} → Reads (imageAt s) → bundleAt b ≡ bad p → GraphCause s b k 21 0 noRefusal p
+  lent : Reads (imageAt s) → Reads (bundleAt b) → tooShort (longestText b) k ≡ true → GraphCause s b k 22 0 noRefusal 0
   graph : {n e : ℕ} {a : Refusal} → Reads (imageAt s) → Reads (bundleAt b) → tooShort (longestText b) k ≡ false
       → Cause passOver (textOf b) (plainAt s) 1024 8192 n e a → GraphCause s b k n e a 0
 
@@ -79,7 +79,7 @@ pub record GraphNumbers (number entry : ℕ) (a : Refusal) (place : ℕ) : Type 
   pub number-in : List·Memᴰ number (20 ∷ 21 ∷ 22 ∷ 23 ∷ 24 ∷ 25 ∷ 26 ∷ 27 ∷ 28 ∷ 29 ∷ 30 ∷ 31 ∷ [])
   -- entry 0 exactly before the walk, a scan answer only at 25, a place only at 20 and 21
   pub entry-none : (entry ≡ 0) ↔ List·Memᴰ number (20 ∷ 21 ∷ 22 ∷ 30 ∷ [])
-  pub scan-none : (a ≡ nought) ⊎ (number ≡ 25)
+  pub scan-none : (a ≡ noRefusal) ⊎ (number ≡ 25)
   pub place-none : (place ≡ 0) ⊎ List·Memᴰ number (20 ∷ 21 ∷ [])
 
 -- what it takes to be built
@@ -103,9 +103,9 @@ pub record Demand1 : Type 0 where
   pub import-found : (s t : List ℕ) (p : ℕ) → (findImportModule s t ≡ Broken p) ↔ (imageAt s ≡ bad p)
   pub text-found : (s t : List ℕ) (p : ℕ) → (lookUp s t ≡ Broken p) ↔ (bundleAt s ≡ bad p)
   -- to_graph
-  pub graph-refused : (s b : List ℕ) (k : Lengths) (number entry place : ℕ) (a : Refusal) → graphed s b k .answer ≡ Refused number entry a place
+  pub graph-refused : (s b : List ℕ) (k : Lengths) (number entry place : ℕ) (a : Refusal) → graphed passOver s b k .answer ≡ Refused number entry a place
       → GraphCause s b k number entry a place × GraphNumbers number entry a place
   -- 25 carries the answer of the scan of a text in the bundle
-  pub scan-carried : (s b : List ℕ) (k : Lengths) (entry place : ℕ) (a : Refusal) → graphed s b k .answer ≡ Refused 25 entry a place
+  pub scan-carried : (s b : List ℕ) (k : Lengths) (entry place : ℕ) (a : Refusal) → graphed passOver s b k .answer ≡ Refused 25 entry a place
       → (v : Name) × (d : Dependencies.Dependencies) × (Dependencies.dependencies (textUnder b v) false ≡ Dependencies.bad a d)
-  pub graph-built : (s b : List ℕ) (k : Lengths) → ((n : ℕ) × (m : ℕ) × (graphed s b k .answer ≡ Built n m)) ↔ Buildable s b k
+  pub graph-built : (s b : List ℕ) (k : Lengths) → ((n : ℕ) × (m : ℕ) × (graphed passOver s b k .answer ≡ Built n m)) ↔ Buildable s b k

@@ -1,4 +1,4 @@
--- Demand 3, from bytes to names. `graphed s b k` (crate yanglib) is what to_graph promises for an image s, a bundle b and the lengths k of what is lent:
+-- Demand 3, from bytes to names. `graphed passOver s b k` (crate yanglib) is what to_graph promises for an image s, a bundle b and the lengths k of what is lent:
 -- its answer, the rows of the node table and those of the edge table. What is an edge (`IsEdge`), and when two libraries are the same but for their order
 -- (`Permuted`, `SameEntries`) and each name stands once (`Once`), is in crate graph: Meaning and Demand3.
 -- Assumes nothing.
@@ -83,14 +83,14 @@ pub data Alike (s s₁ : List ℕ) (x x₁ : Result) : Type 0 where
 -- ---- the demand; whatever a slice of bytes lends fulfils AllBytes
 
 pub record BytesDemand3 : Type 0 where
-  pub right : (s b : List ℕ) (k : Lengths) (n m : ℕ) → AllBytes s → graphed s b k .answer ≡ Built n m
-      → RightGraph (textOf b) (plainAt s) n m (names s (graphed s b k)) (graphed s b k .rows)
+  pub right : (s b : List ℕ) (k : Lengths) (n m : ℕ) → AllBytes s → graphed passOver s b k .answer ≡ Built n m
+      → RightGraph (textOf b) (plainAt s) n m (names s (graphed passOver s b k)) (graphed passOver s b k .rows)
   -- the same of the tables that a call leaves: n₁ with the nodes, e₁ with the edges
   pub called : (s b n e d f g l : List ℕ) (i j : ℕ) {n₁ e₁ d₁ f₁ g₁ l₁ : List ℕ} → AllBytes s
       → Graphs s b n e d f g l (Built i j) n₁ e₁ d₁ f₁ g₁ l₁ → RightGraph (textOf b) (plainAt s) i j (tableNames s i n₁) (rowsIn j e₁)
   -- the same modules and import-only modules in other sets and another order
   pub permuted : (s s₁ b : List ℕ) (k : Lengths) → WellFormed s → WellFormed s₁ → Permuted (plainAt s) (plainAt s₁) → Once (plainAt s)
-      → Alike s s₁ (graphed s b k) (graphed s₁ b k)
+      → Alike s s₁ (graphed passOver s b k) (graphed passOver s₁ b k)
   -- the stronger one: the names in their lists may stand in another order too
   pub spread : (s s₁ b : List ℕ) (k : Lengths) → WellFormed s → WellFormed s₁ → SameEntries (plainAt s) (plainAt s₁) → Once (plainAt s)
-      → Once (plainAt s₁) → Alike s s₁ (graphed s b k) (graphed s₁ b k)
+      → Once (plainAt s₁) → Alike s s₁ (graphed passOver s b k) (graphed passOver s₁ b k)

@@ -8,6 +8,7 @@ use mathlib.Core.List.{List, [], _∷_}
 use Rattle.library_image.specs.Library.{importOnlyOf}
 use Rattle.graph.specs.Demand3.{SameEntries, Permuted}
 use Rattle.graph_nodes.specs.Adding.{plainAt}
+use Rattle.graph.specs.Nodes.{passOver}
 use Rattle.yanglib.specs.ToGraph.{Lengths, graphed}
 use Rattle.demands.specs.Demand3.{WellFormed, Alike}
 
@@ -18,7 +19,7 @@ lent = record { nodes = 2048; edges = 16384; store = 16; imports = 1792; include
 pub record Unlike (s s₁ b : List ℕ) : Type 0 where
   pub first : WellFormed s
   pub second : WellFormed s₁
-  pub unlike : ¬ Alike s s₁ (graphed s b lent) (graphed s₁ b lent)
+  pub unlike : ¬ Alike s s₁ (graphed passOver s b lent) (graphed passOver s₁ b lent)
 
 -- a name that is a module twice: m without submodules in set 1 and with s in set 2, or the other way round; m is `include s;`, s is empty
 abbrev pub emptyFirst : List ℕ

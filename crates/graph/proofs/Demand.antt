@@ -13,7 +13,8 @@ use lib.Dec.{ltb}
 use borrow.Author.Tests.{ltb-true, ltb-false, le-ltb}
 use Rattle.library_image.specs.Library.{Name, PlainLibrary}
 use Rattle.graph.specs.Nodes.{Mode, nodesOf}
-use Rattle.graph.specs.Graph.{ScanAnswer, nought, Text, tooManyNodes, Edge, edge, Step, arc, stop, Entry, entries, entrySteps, world, graph, fault, walkOf, graphOf}
+use Rattle.text.specs.Refusal.{noRefusal}
+use Rattle.graph.specs.Graph.{ScanAnswer, Text, tooManyNodes, Edge, edge, Step, arc, stop, Entry, entries, entrySteps, world, graph, fault, walkOf, graphOf}
 use Rattle.graph.specs.Numbers.{rowOf}
 use Rattle.graph.specs.Meaning.{Revised, IsEdge, Sound, FirstAt, Cause, names, edges, by-fault}
 use Rattle.graph.specs.Demand3.{allNames, Right, Demand3}
@@ -60,7 +61,7 @@ module _ (mode : Mode) (nodeLimit edgeLimit : ℕ) (text : Name → Text) (l : P
   unfolding graphOf
   opened {ns} {es} h = go (ltb nodeLimit (length (nodesOf mode l))) refl h
     where
-      go : (b : Bool) → ltb nodeLimit (length (nodesOf mode l)) ≡ b → cond b (fault tooManyNodes 0 nought) (walkOf mode edgeLimit text l) ≡ graph ns es
+      go : (b : Bool) → ltb nodeLimit (length (nodesOf mode l)) ≡ b → cond b (fault tooManyNodes 0 noRefusal) (walkOf mode edgeLimit text l) ≡ graph ns es
           → Built ns es
       go true q h = let z : _≡_ {A = ℕ} 0 1 = cc in absurd (omega arith)
       go false q h =
@@ -165,12 +166,12 @@ module _ (mode : Mode) (nodeLimit edgeLimit : ℕ) (text : Name → Text) (l : P
   unfolding graphOf
   refused-for n k a h = go (ltb nodeLimit (length (nodesOf mode l))) refl h
     where
-      go : (b : Bool) → ltb nodeLimit (length (nodesOf mode l)) ≡ b → cond b (fault tooManyNodes 0 nought) (walkOf mode edgeLimit text l) ≡ fault n k a
+      go : (b : Bool) → ltb nodeLimit (length (nodesOf mode l)) ≡ b → cond b (fault tooManyNodes 0 noRefusal) (walkOf mode edgeLimit text l) ≡ fault n k a
           → Cause mode text l nodeLimit edgeLimit n k a
       go true q h =
           let p : tooManyNodes ≡ n = cc in
           let r : 0 ≡ k = cc in
-          let s : nought ≡ a = cc in
+          let s : noRefusal ≡ a = cc in
           subst₃ (λ m j b. Cause mode text l nodeLimit edgeLimit m j b) p r s (names (ltb-true nodeLimit (length (nodesOf mode l)) q))
       go false q h = caused (walk-refused ofEntry edgeLimit (nodesOf mode l) (entries l) 1 [] h)
 

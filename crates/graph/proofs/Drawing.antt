@@ -10,7 +10,8 @@ use lib.ListN.{length}
 use lib.Dec.{leb}
 use Rattle.library_image.specs.Library.{Name, PlainLibrary}
 use Rattle.graph.specs.Nodes.{Mode, nodesOf}
-use Rattle.graph.specs.Graph.{nought, Text, missing, refusing, deps, noEntryText, noIncludedText, unknownModule, unknownSubmodule, noNode, tooDeep, tooManyEdges, deepest, Edge, edge, memE, World, Entry, entries, entrySteps, world, Out, built, refused, thenO, addBy, run, fault, onOut, walkFrom, walkOf}
+use Rattle.text.specs.Refusal.{noRefusal}
+use Rattle.graph.specs.Graph.{Text, missing, refusing, deps, noEntryText, noIncludedText, unknownModule, unknownSubmodule, noNode, tooDeep, tooManyEdges, deepest, Edge, edge, memE, World, Entry, entries, entrySteps, world, Out, built, refused, thenO, addBy, run, fault, onOut, walkFrom, walkOf}
 use Rattle.graph.specs.Numbers.{numberOf, Row, rowOf, addRow, moduleCode, submoduleCode, codesOf, eachO, importCode, givenCode, includeCode, visitCodes, walkCodes, walkEntryCodes, Drawing, drawn, faulty, drawFrom, codesAt, entryCode, drawingIn, drawingOf, numbered}
 use Rattle.graph.specs.Meaning.{Revised}
 use Rattle.graph.proofs.Tests.{memb-mem}
@@ -61,8 +62,8 @@ module _ (ns : List Name) where
   unfolding addBy
   add-same limit e k es j = rw (present ns es j e k, length-map (rowOf ns) es) (go (memE e es) (leb limit (length es)))
     where
-      go : (b c : Bool) → Same (cond b (built (rows es)) (cond c (refused tooManyEdges nought) (built (rows es ++ (rowOf ns e ∷ [])))))
-          (cond b (built es) (cond c (refused tooManyEdges nought) (built (es ++ (e ∷ [])))))
+      go : (b c : Bool) → Same (cond b (built (rows es)) (cond c (refused tooManyEdges noRefusal) (built (rows es ++ (rowOf ns e ∷ [])))))
+          (cond b (built es) (cond c (refused tooManyEdges noRefusal) (built (es ++ (e ∷ [])))))
       go true c = record { same = refl; fine = j }
       go false true = record { same = refl; fine = tt }
       go false false = record { same = ap built (sym (map-append (rowOf ns) es (e ∷ []))); fine = snoc-joined es e j k }
@@ -79,7 +80,7 @@ module _ (ns : List Name) where
     import-same v m u es j = go (W .known u) refl
       where
         go : (b : Bool) → W .known u ≡ b
-            → Same (importCode limit (numberOf ns v) (cond b (suc (numberOf ns u)) 0) (rows es)) (cond b (addBy memE limit es (edge u v)) (refused unknownModule nought))
+            → Same (importCode limit (numberOf ns v) (cond b (suc (numberOf ns u)) 0) (rows es)) (cond b (addBy memE limit es (edge u v)) (refused unknownModule noRefusal))
         go true q = add-same limit (edge u v) (known u q, m) es j
         go false q = record { same = refl; fine = tt }
 
@@ -88,7 +89,7 @@ module _ (ns : List Name) where
     given-same v m u es j = go (W .known u) refl
       where
         go : (b : Bool) → W .known u ≡ b
-            → Same (givenCode limit (numberOf ns v) (cond b (suc (numberOf ns u)) 0) (rows es)) (cond b (addBy memE limit es (edge v u)) (refused unknownModule nought))
+            → Same (givenCode limit (numberOf ns v) (cond b (suc (numberOf ns u)) 0) (rows es)) (cond b (addBy memE limit es (edge v u)) (refused unknownModule noRefusal))
         go true q = add-same limit (edge v u) (m, known u q) es j
         go false q = record { same = refl; fine = tt }
 
@@ -102,7 +103,7 @@ module _ (ns : List Name) where
     include-same f g h v m u es j = go (W .listed u) (W .node u) refl
       where
         go : (b c : Bool) → W .node u ≡ c → Same (includeCode limit f (numberOf ns v) (cond b (cond c (suc (suc (numberOf ns u))) 1) 0) (rows es))
-            (cond b (cond c (thenO (addBy memE limit es (edge u v)) (g u)) (refused noNode nought)) (refused unknownSubmodule nought))
+            (cond b (cond c (thenO (addBy memE limit es (edge u v)) (g u)) (refused noNode noRefusal)) (refused unknownSubmodule noRefusal))
         go true true q = then-same (addBy memE limit es (edge u v)) (f (numberOf ns u)) (g u) (add-same limit (edge u v) (node u q, m) es j) (h u (node u q))
         go true false q = record { same = refl; fine = tt }
         go false c q = record { same = refl; fine = tt }
@@ -125,7 +126,7 @@ module _ (ns : List Name) where
     walk-same : (left absent : ℕ) → Below (walkCodes (codesAt W ns) limit left absent) (walk W limit left absent)
     unfolding walkCodes walk
     walk-same zero absent v m es j =
-        rw (under-name v m) (visit-same (λ u rs. refused tooDeep nought) (λ u es₁. refused tooDeep nought) (λ u k es₁ i. record { same = refl; fine = tt }) absent v m (W .text v) es j)
+        rw (under-name v m) (visit-same (λ u rs. refused tooDeep noRefusal) (λ u es₁. refused tooDeep noRefusal) (λ u k es₁ i. record { same = refl; fine = tt }) absent v m (W .text v) es j)
     walk-same (suc left) absent v m es j =
         rw (under-name v m) (visit-same (walkCodes (codesAt W ns) limit left noIncludedText) (walk W limit left noIncludedText) (walk-same left noIncludedText) absent v m (W .text v) es j)
 

@@ -8,7 +8,8 @@ use Prim.Native.Nat.{ℕ, zero, suc}
 use native.Mathlib.Omega.{arith}
 use Rattle.library_image.specs.Library.{Name, PlainLibrary}
 use Rattle.graph.specs.Nodes.{Mode, nodesOf, memb}
-use Rattle.graph.specs.Graph.{ScanAnswer, nought, Text, missing, refusing, deps, noEntryText, noIncludedText, unknownModule, unknownSubmodule, noNode, tooDeep, deepest, Edge, edge, Step, arc, stop, halt, World, imported, given, included, reading, textSteps, Entry, entrySteps, entryNames, submoduleNames, world}
+use Rattle.text.specs.Refusal.{noRefusal}
+use Rattle.graph.specs.Graph.{ScanAnswer, Text, missing, refusing, deps, noEntryText, noIncludedText, unknownModule, unknownSubmodule, noNode, tooDeep, deepest, Edge, edge, Step, arc, stop, halt, World, imported, given, included, reading, textSteps, Entry, entrySteps, entryNames, submoduleNames, world}
 use Rattle.graph.specs.Meaning.{Follows, ReadAt, entry, included as included-by, Fault, entry-missing, include-missing, scan-refused, import-unknown, listed-unknown, include-unknown, include-no-node, too-deep}
 use Rattle.graph.proofs.Tests.{both-bools, memb-mem, mem-memb, each-in, each-out}
 use Rattle.graph.proofs.Meaning.{belowOf, In, Held, text-in, import-in, include-in}
@@ -39,7 +40,7 @@ module _ (mode : Mode) (text : Name → Text) (l : PlainLibrary) (x : Entry) whe
 
   module _ (n : ℕ) (a : ScanAnswer) where
     read-fault : (below : Name → List Step) (left absent : ℕ) (v : Name) → ReadAt mode text l x left v
-        → (text v ≡ missing → Fault mode text l x absent nought)
+        → (text v ≡ missing → Fault mode text l x absent noRefusal)
         → ((u : Name) → Follows mode text l v u → List·Memᴰ (stop n a) (below u) → Fault mode text l x n a)
         → (y : Text) → text v ≡ y → List·Memᴰ (stop n a) (reading W below absent v y) → Fault mode text l x n a
     read-fault below left absent v r f ih missing q m = fault m (f q)
@@ -63,7 +64,7 @@ module _ (mode : Mode) (text : Name → Text) (l : PlainLibrary) (x : Entry) whe
             fault m (include-no-node r (record { imports = xs; includes = ys; scan = q; one = k }) (memb-mem u (submoduleNames l) e) (out d))
         include u k false c e d m = fault m (include-unknown r (record { imports = xs; includes = ys; scan = q; one = k }) (out e))
 
-    text-fault : (left absent : ℕ) (v : Name) → ReadAt mode text l x left v → (text v ≡ missing → Fault mode text l x absent nought)
+    text-fault : (left absent : ℕ) (v : Name) → ReadAt mode text l x left v → (text v ≡ missing → Fault mode text l x absent noRefusal)
         → List·Memᴰ (stop n a) (textSteps W left absent v) → Fault mode text l x n a
     unfolding textSteps
     text-fault zero absent v r f m = read-fault (λ u. halt tooDeep) zero absent v r f (λ u i m. fault m (too-deep r i)) (text v) refl m

@@ -9,7 +9,8 @@ use Prim.Native.Nat.{ℕ, zero, suc}
 use native.Mathlib.Omega.{arith}
 use Rattle.library_image.specs.Library.{Name, PlainModule, PlainLibrary, modulesOf}
 use Rattle.graph.specs.Nodes.{Mode, nodesOf}
-use Rattle.graph.specs.Graph.{ScanAnswer, nought, Text, missing, refusing, deps, noEntryText, noIncludedText, unknownModule, unknownSubmodule, noNode, tooDeep, deepest, Edge, edge, Step, arc, stop, halt, World, imported, given, included, reading, textSteps, Entry, entries, entrySteps, entryNames, world}
+use Rattle.text.specs.Refusal.{noRefusal}
+use Rattle.graph.specs.Graph.{ScanAnswer, Text, missing, refusing, deps, noEntryText, noIncludedText, unknownModule, unknownSubmodule, noNode, tooDeep, deepest, Edge, edge, Step, arc, stop, halt, World, imported, given, included, reading, textSteps, Entry, entries, entrySteps, entryNames, world}
 use Rattle.graph.specs.Meaning.{Imports, Includes, Reads, entry, included as included-by, IsEdge, imports, includes, augments, deviates}
 use Rattle.graph.proofs.Tests.{memb-mem, each-in, each-out}
 use Rattle.graph.proofs.Runs.{Clean}
@@ -123,7 +124,7 @@ module _ (mode : Mode) (text : Name → Text) (l : PlainLibrary) where
 
   module _ (clean : Clean trace) where
     refuted : {n : ℕ} {A : Type 0} → In trace (halt n) → A
-    refuted {n} f = absurd (clean n nought (f (stop n nought) (List·Memᴰ·head refl)))
+    refuted {n} f = absurd (clean n noRefusal (f (stop n noRefusal) (List·Memᴰ·head refl)))
 
     one-in : (u : Name) (a : Edge) (b : Bool) → In trace (cond b (arc a ∷ []) (halt unknownModule)) → List·Memᴰ (arc a) trace
     one-in u a true f = f (arc a) (List·Memᴰ·head refl)

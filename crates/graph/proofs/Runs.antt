@@ -13,7 +13,8 @@ use lib.ListN.{length, length-append}
 use lib.Dec.{leb}
 use borrow.Author.Tests.{leb-true, leb-false}
 use Rattle.library_image.specs.Library.{Name}
-use Rattle.graph.specs.Graph.{ScanAnswer, nought, Edge, memE, Step, arc, stop, tooManyEdges, Out, built, refused, thenO, addBy, step, run, graph, fault, onOut, walkFrom}
+use Rattle.text.specs.Refusal.{noRefusal}
+use Rattle.graph.specs.Graph.{ScanAnswer, Edge, memE, Step, arc, stop, tooManyEdges, Out, built, refused, thenO, addBy, step, run, graph, fault, onOut, walkFrom}
 use Rattle.graph.proofs.Tests.{both-bools, memE-mem, mem-memE}
 
 -- no step refuses
@@ -123,7 +124,7 @@ run-ran limit (arc e ∷ t) es es₁ h =
     more c n a m = ⊎-elim (λ p. let z : _≡_ {A = ℕ} 0 1 = cc in absurd (omega arith)) (c n a) (List·Memᴰ·cases-cons m)
 
     go : (b c : Bool) → leb limit (length es) ≡ c → ((es₂ : List Edge) → run limit es₂ t ≡ built es₁ → Ran limit es₂ t es₁)
-        → thenO (cond b (built es) (cond c (refused tooManyEdges nought) (built (es ++ (e ∷ []))))) (λ es₂. run limit es₂ t) ≡ built es₁
+        → thenO (cond b (built es) (cond c (refused tooManyEdges noRefusal) (built (es ++ (e ∷ []))))) (λ es₂. run limit es₂ t) ≡ built es₁
         → Clean (arc e ∷ t) × (es₁ ≡ adds (cond b es (es ++ (e ∷ []))) t) × (length es ≤ limit → length es₁ ≤ limit)
     go true c q ih h = let r = ih es h in (more (r .clean), r .all, r .fits)
     go false true q ih h = let z : _≡_ {A = ℕ} 0 1 = cc in absurd (omega arith)
@@ -139,7 +140,7 @@ ran-run limit (arc e ∷ t) es c k = go (memE e es) (leb limit (length es)) refl
   where
     go : (b d : Bool) → leb limit (length es) ≡ d → ((es₂ : List Edge) → length (adds es₂ t) ≤ limit → run limit es₂ t ≡ built (adds es₂ t))
         → length (adds (cond b es (es ++ (e ∷ []))) t) ≤ limit
-        → thenO (cond b (built es) (cond d (refused tooManyEdges nought) (built (es ++ (e ∷ []))))) (λ es₂. run limit es₂ t) ≡ built (adds (cond b es (es ++ (e ∷ []))) t)
+        → thenO (cond b (built es) (cond d (refused tooManyEdges noRefusal) (built (es ++ (e ∷ []))))) (λ es₂. run limit es₂ t) ≡ built (adds (cond b es (es ++ (e ∷ []))) t)
     go true d q ih k = ih es k
     go false true q ih k = absurd (omega (arith, leb-true limit (length es) q, length-append es (e ∷ []), adds-grow t (es ++ (e ∷ []))))
     go false false q ih k = ih (es ++ (e ∷ [])) k
@@ -148,7 +149,7 @@ ran-run limit (arc e ∷ t) es c k = go (memE e es) (leb limit (length es)) refl
 
 pub record Over (limit : ℕ) (es : List Edge) (t : List Step) (n : ℕ) (a : ScanAnswer) : Type 0 where
   pub number : tooManyEdges ≡ n
-  pub answer : nought ≡ a
+  pub answer : noRefusal ≡ a
   pub edges : List Edge
   pub differ : List·Nodup edges
   pub many : limit < length edges
@@ -176,7 +177,7 @@ run-refused limit (arc e ∷ t) es n a d h = go (memE e es) (leb limit (length e
 
     go : (b c : Bool) → memE e es ≡ b → leb limit (length es) ≡ c
         → ((es₁ : List Edge) → List·Nodup es₁ → run limit es₁ t ≡ refused n a → List·Memᴰ (stop n a) t ⊎ Over limit es₁ t n a)
-        → thenO (cond b (built es) (cond c (refused tooManyEdges nought) (built (es ++ (e ∷ []))))) (λ es₁. run limit es₁ t) ≡ refused n a
+        → thenO (cond b (built es) (cond c (refused tooManyEdges noRefusal) (built (es ++ (e ∷ []))))) (λ es₁. run limit es₁ t) ≡ refused n a
         → List·Memᴰ (stop n a) (arc e ∷ t) ⊎ Over limit es (arc e ∷ t) n a
     go true c p q ih h = later es (λ x m. inl m) (ih es d h)
     go false true p q ih h =

@@ -6,7 +6,8 @@ use mathlib.Core.List.{List, [], _∷_, flatMap}
 use mathlib.Core.Bool.{Bool, true, false, cond}
 use Prim.Native.Nat.{ℕ, zero, suc}
 use Rattle.library_image.specs.Library.{Name}
-use Rattle.graph.specs.Graph.{nought, Text, missing, refusing, deps, noEntryText, noIncludedText, scanRefused, unknownModule, unknownSubmodule, noNode, tooDeep, deepest, Edge, edge, memE, Step, arc, halt, World, imported, given, included, reading, textSteps, Entry, entrySteps, Out, built, refused, thenO, addBy, run}
+use Rattle.text.specs.Refusal.{noRefusal}
+use Rattle.graph.specs.Graph.{Text, missing, refusing, deps, noEntryText, noIncludedText, scanRefused, unknownModule, unknownSubmodule, noNode, tooDeep, deepest, Edge, edge, memE, Step, arc, halt, World, imported, given, included, reading, textSteps, Entry, entrySteps, Out, built, refused, thenO, addBy, run}
 use Rattle.graph.proofs.Runs.{run-append}
 
 -- ---- the shape
@@ -16,22 +17,22 @@ eachO f [] es = built es
 eachO f (x ∷ xs) es = thenO (f x es) (eachO f xs)
 
 abbrev pub importO : World → (limit : ℕ) → (v u : Name) → List Edge → Out Edge
-importO W limit v u es = cond (W .known u) (addBy memE limit es (edge u v)) (refused unknownModule nought)
+importO W limit v u es = cond (W .known u) (addBy memE limit es (edge u v)) (refused unknownModule noRefusal)
 
 abbrev pub givenO : World → (limit : ℕ) → (v u : Name) → List Edge → Out Edge
-givenO W limit v u es = cond (W .known u) (addBy memE limit es (edge v u)) (refused unknownModule nought)
+givenO W limit v u es = cond (W .known u) (addBy memE limit es (edge v u)) (refused unknownModule noRefusal)
 
 abbrev pub includeO : World → (limit : ℕ) → (Name → List Edge → Out Edge) → (v u : Name) → List Edge → Out Edge
 includeO W limit below v u es =
-    cond (W .listed u) (cond (W .node u) (thenO (addBy memE limit es (edge u v)) (below u)) (refused noNode nought)) (refused unknownSubmodule nought)
+    cond (W .listed u) (cond (W .node u) (thenO (addBy memE limit es (edge u v)) (below u)) (refused noNode noRefusal)) (refused unknownSubmodule noRefusal)
 
 abbrev pub visit : World → (limit : ℕ) → (Name → List Edge → Out Edge) → (absent : ℕ) → (v : Name) → Text → List Edge → Out Edge
-visit W limit below absent v missing es = refused absent nought
+visit W limit below absent v missing es = refused absent noRefusal
 visit W limit below absent v (refusing a) es = refused scanRefused a
 visit W limit below absent v (deps imports includes) es = thenO (eachO (importO W limit v) imports es) (eachO (includeO W limit below v) includes)
 
 unfoldable pub walk : World → (limit left absent : ℕ) → (v : Name) → List Edge → Out Edge
-walk W limit zero absent v es = visit W limit (λ u es₁. refused tooDeep nought) absent v (W .text v) es
+walk W limit zero absent v es = visit W limit (λ u es₁. refused tooDeep noRefusal) absent v (W .text v) es
 walk W limit (suc left) absent v es = visit W limit (walk W limit left noIncludedText) absent v (W .text v) es
 
 abbrev pub walkEntry : World → (limit : ℕ) → Entry → List Edge → Out Edge
@@ -59,14 +60,14 @@ unfolding run
 one-run limit es e = sym (thenO-built (addBy memE limit es e))
 
 arc-run : (limit : ℕ) (es : List Edge) (e : Edge) (b : Bool)
-    → cond b (addBy memE limit es e) (refused unknownModule nought) ≡ run limit es (cond b (arc e ∷ []) (halt unknownModule))
+    → cond b (addBy memE limit es e) (refused unknownModule noRefusal) ≡ run limit es (cond b (arc e ∷ []) (halt unknownModule))
 unfolding run
 arc-run limit es e true = one-run limit es e
 arc-run limit es e false = refl
 
 include-run : (limit : ℕ) (below : List Edge → Out Edge) (t : List Step) → ((es : List Edge) → below es ≡ run limit es t)
     → (es : List Edge) (e : Edge) (b c : Bool)
-    → cond b (cond c (thenO (addBy memE limit es e) below) (refused noNode nought)) (refused unknownSubmodule nought) ≡ run limit es (cond b (cond c (arc e ∷ t) (halt noNode)) (halt unknownSubmodule))
+    → cond b (cond c (thenO (addBy memE limit es e) below) (refused noNode noRefusal)) (refused unknownSubmodule noRefusal) ≡ run limit es (cond b (cond c (arc e ∷ t) (halt noNode)) (halt unknownSubmodule))
 unfolding run
 include-run limit below t h es e true true = go (addBy memE limit es e)
   where
@@ -95,7 +96,7 @@ visit-run W limit below t h absent v (deps xs ys) es =
 
 pub walk-shape : (W : World) (limit left absent : ℕ) (v : Name) (es : List Edge) → walk W limit left absent v es ≡ run limit es (textSteps W left absent v)
 unfolding walk textSteps run
-walk-shape W limit zero absent v es = visit-run W limit (λ u es₁. refused tooDeep nought) (λ u. halt tooDeep) (λ u es₁. refl) absent v (W .text v) es
+walk-shape W limit zero absent v es = visit-run W limit (λ u es₁. refused tooDeep noRefusal) (λ u. halt tooDeep) (λ u es₁. refl) absent v (W .text v) es
 walk-shape W limit (suc left) absent v es =
     visit-run W limit (walk W limit left noIncludedText) (textSteps W left noIncludedText) (walk-shape W limit left noIncludedText) absent v (W .text v) es
 

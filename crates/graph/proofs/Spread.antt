@@ -13,7 +13,8 @@ use lib.ListN.{length}
 use lib.Dec.{ltb}
 use Rattle.library_image.specs.Library.{Name, PlainModule, PlainImportOnly, PlainLibrary, modulesOf, importOnlyOf}
 use Rattle.graph.specs.Nodes.{Mode, Group, groups, nodesOf, memb}
-use Rattle.graph.specs.Graph.{nought, Text, noEntryText, tooManyNodes, deepest, Edge, Step, arc, stop, World, given, textSteps, Entry, moduleEntry, importEntry, entries, entrySteps, entryNames, submoduleNames, world, Graph, graph, fault, walkOf, graphOf}
+use Rattle.text.specs.Refusal.{noRefusal}
+use Rattle.graph.specs.Graph.{Text, noEntryText, tooManyNodes, deepest, Edge, Step, arc, stop, World, given, textSteps, Entry, moduleEntry, importEntry, entries, entrySteps, entryNames, submoduleNames, world, Graph, graph, fault, walkOf, graphOf}
 use Rattle.graph.specs.Demand3.{groupNames, allNames, Once, AlikeModule, AlikeImport, Within, SameEntries, Agree, both-refused, both-built}
 use Rattle.graph.proofs.Tests.{both-bools, memᴰ, memb-same, each-in, each-out}
 use Rattle.graph.proofs.Sets.{submodule-in, submodule-out}
@@ -199,7 +200,7 @@ module _ (mode : Mode) where
       sp = record { alike = alike; once = once; once₁ = once₁ }
 
       go : (b c : Bool) → b ≡ c
-          → Agree (cond b (fault tooManyNodes 0 nought) (walkOf mode el text l)) (cond c (fault tooManyNodes 0 nought) (walkOf mode el text l₁))
+          → Agree (cond b (fault tooManyNodes 0 noRefusal) (walkOf mode el text l)) (cond c (fault tooManyNodes 0 noRefusal) (walkOf mode el text l₁))
       go true true q = both-refused
       go false false q = walks-agree el text sp
       go true false q = both-bools refl q

@@ -10,6 +10,7 @@ use mathlib.Core.List.{List, [], _∷_, _++_, map, flatMap}
 use lib.ListN.{length}
 use lib.Dec.{ltb, leb}
 use Rattle.text.specs.Keyword.{same}
+use Rattle.text.specs.Refusal.{noRefusal}
 use Rattle.text.specs.declared.Refusal.{Refusal}
 use Rattle.library_image.specs.Library.{ModuleOf, ImportOnlyOf, SetOf, Name, PlainModule, PlainImportOnly, PlainLibrary, modulesOf, importOnlyOf, submodulesOf}
 use Rattle.graph.specs.Nodes.{Mode, nodesOf, memb}
@@ -19,9 +20,6 @@ use Rattle.graph.specs.Nodes.{Mode, nodesOf, memb}
 -- what a scan answered
 abbrev pub ScanAnswer : Type 0
 ScanAnswer = Refusal
-
-abbrev pub nought : ScanAnswer
-nought = record { number = 0; keyword = 0; at = 0 }
 
 pub data Text : Type 0 where
   missing : Text
@@ -71,7 +69,7 @@ pub data Step : Type 0 where
   stop : (number : ℕ) → ScanAnswer → Step
 
 abbrev pub halt : ℕ → List Step
-halt n = stop n nought ∷ []
+halt n = stop n noRefusal ∷ []
 
 -- all that a walk asks of the library and the bundle
 pub record World : Type 0 where
@@ -150,7 +148,7 @@ module _ {E : Type 0} where
 
   -- an edge more, unless it is present; `mem`: whether it is among them
   unfoldable pub addBy : (mem : E → List E → Bool) → (limit : ℕ) → List E → E → Out E
-  addBy mem limit es e = cond (mem e es) (built es) (cond (leb limit (length es)) (refused tooManyEdges nought) (built (es ++ (e ∷ []))))
+  addBy mem limit es e = cond (mem e es) (built es) (cond (leb limit (length es)) (refused tooManyEdges noRefusal) (built (es ++ (e ∷ []))))
 
 abbrev pub step : (limit : ℕ) → List Edge → Step → Out Edge
 step limit es (arc e) = addBy memE limit es e
@@ -198,4 +196,4 @@ walkOf mode edgeLimit text l = walkFrom edgeLimit (nodesOf mode l) 1 [] (map (en
 
 unfoldable pub graphOf : Mode → (nodeLimit edgeLimit : ℕ) → (Name → Text) → PlainLibrary → Graph
 graphOf mode nodeLimit edgeLimit text l =
-    cond (ltb nodeLimit (length (nodesOf mode l))) (fault tooManyNodes 0 nought) (walkOf mode edgeLimit text l)
+    cond (ltb nodeLimit (length (nodesOf mode l))) (fault tooManyNodes 0 noRefusal) (walkOf mode edgeLimit text l)

@@ -6,7 +6,8 @@ use mathlib.Core.List.{List, _∷_, _++_, List·Memᴰ, List·Nodup}
 use lib.ListN.{length}
 use Rattle.library_image.specs.Library.{Name, PlainModule, PlainImportOnly, PlainLibrary, modulesOf, importOnlyOf}
 use Rattle.graph.specs.Nodes.{Mode, nodesOf}
-use Rattle.graph.specs.Graph.{ScanAnswer, nought, Text, missing, refusing, deps, noEntryText, noIncludedText, scanRefused, unknownModule, unknownSubmodule, noNode, tooDeep, tooManyNodes, tooManyEdges, Edge, Entry, entries, entryNames, submoduleNames}
+use Rattle.text.specs.Refusal.{noRefusal}
+use Rattle.graph.specs.Graph.{ScanAnswer, Text, missing, refusing, deps, noEntryText, noIncludedText, scanRefused, unknownModule, unknownSubmodule, noNode, tooDeep, tooManyNodes, tooManyEdges, Edge, Entry, entries, entryNames, submoduleNames}
 
 -- as in every image: no import-only module is without a revision
 abbrev pub Revised : PlainLibrary → Type 0
@@ -58,16 +59,16 @@ module _ (mode : Mode) (text : Name → Text) (l : PlainLibrary) where
 
   -- what the walk of the entry x may be refused for
   pub data Fault (x : Entry) : ℕ → ScanAnswer → Type 0 where
-    entry-missing : text (x .name) ≡ missing → Fault x noEntryText nought
-    include-missing : {left : ℕ} {v u : Name} → ReadAt x (suc left) v → Follows v u → text u ≡ missing → Fault x noIncludedText nought
+    entry-missing : text (x .name) ≡ missing → Fault x noEntryText noRefusal
+    include-missing : {left : ℕ} {v u : Name} → ReadAt x (suc left) v → Follows v u → text u ≡ missing → Fault x noIncludedText noRefusal
     scan-refused : {left : ℕ} {v : Name} {a : ScanAnswer} → ReadAt x left v → text v ≡ refusing a → Fault x scanRefused a
-    import-unknown : {left : ℕ} {v u : Name} → ReadAt x left v → Imports text v u → ¬ List·Memᴰ u (entryNames l) → Fault x unknownModule nought
-    listed-unknown : {u : Name} → List·Memᴰ u (x .lists) → ¬ List·Memᴰ u (entryNames l) → Fault x unknownModule nought
+    import-unknown : {left : ℕ} {v u : Name} → ReadAt x left v → Imports text v u → ¬ List·Memᴰ u (entryNames l) → Fault x unknownModule noRefusal
+    listed-unknown : {u : Name} → List·Memᴰ u (x .lists) → ¬ List·Memᴰ u (entryNames l) → Fault x unknownModule noRefusal
     include-unknown : {left : ℕ} {v u : Name} → ReadAt x left v → Includes text v u → ¬ List·Memᴰ u (submoduleNames l)
-        → Fault x unknownSubmodule nought
+        → Fault x unknownSubmodule noRefusal
     include-no-node : {left : ℕ} {v u : Name} → ReadAt x left v → Includes text v u → List·Memᴰ u (submoduleNames l)
-        → ¬ List·Memᴰ u (nodesOf mode l) → Fault x noNode nought
-    too-deep : {v u : Name} → ReadAt x zero v → Follows v u → Fault x tooDeep nought
+        → ¬ List·Memᴰ u (nodesOf mode l) → Fault x noNode noRefusal
+    too-deep : {v u : Name} → ReadAt x zero v → Follows v u → Fault x tooDeep noRefusal
 
   abbrev pub Faultless : Entry → Type 0
   Faultless x = (n : ℕ) (a : ScanAnswer) → ¬ Fault x n a
@@ -88,7 +89,7 @@ module _ (mode : Mode) (text : Name → Text) (l : PlainLibrary) where
 
   -- why it is refused, by number, entry and the scan's answer
   pub data Cause (nodeLimit edgeLimit : ℕ) : ℕ → ℕ → ScanAnswer → Type 0 where
-    names : nodeLimit < length (nodesOf mode l) → Cause nodeLimit edgeLimit tooManyNodes 0 nought
+    names : nodeLimit < length (nodesOf mode l) → Cause nodeLimit edgeLimit tooManyNodes 0 noRefusal
     by-fault : {n k : ℕ} {a : ScanAnswer} (x : Entry) → FirstAt k x → Fault x n a → Cause nodeLimit edgeLimit n k a
     edges : {k : ℕ} (x : Entry) → FirstAt k x → (es : List Edge) → List·Nodup es → AllEdges text l es → edgeLimit < length es
-        → Cause nodeLimit edgeLimit tooManyEdges k nought
+        → Cause nodeLimit edgeLimit tooManyEdges k noRefusal

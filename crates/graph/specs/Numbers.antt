@@ -8,7 +8,8 @@ use lib.ListN.{getD}
 use Rattle.text.specs.Keyword.{same}
 use Rattle.library_image.specs.Library.{Name, PlainLibrary}
 use Rattle.graph.specs.Nodes.{Mode, nodesOf}
-use Rattle.graph.specs.Graph.{ScanAnswer, nought, Text, missing, refusing, deps, noIncludedText, scanRefused, unknownModule, unknownSubmodule, noNode, tooDeep, noEntryText, deepest, Edge, World, Entry, Out, built, refused, thenO, addBy, onOut, entries, world, Graph, graph, fault}
+use Rattle.text.specs.Refusal.{noRefusal}
+use Rattle.graph.specs.Graph.{ScanAnswer, Text, missing, refusing, deps, noIncludedText, scanRefused, unknownModule, unknownSubmodule, noNode, tooDeep, noEntryText, deepest, Edge, World, Entry, Out, built, refused, thenO, addBy, onOut, entries, world, Graph, graph, fault}
 
 -- a node's number is its place in the list of nodes
 unfoldable pub numberOf : List Name → Name → ℕ
@@ -64,27 +65,27 @@ module _ {A : Type 0} where
 
 -- an import of v by its code, and a module that v lists
 abbrev pub importCode : (limit v : ℕ) → ℕ → List Row → Out Row
-importCode limit v zero rs = refused unknownModule nought
+importCode limit v zero rs = refused unknownModule noRefusal
 importCode limit v (suc u) rs = addRow limit rs (row u v)
 
 abbrev pub givenCode : (limit v : ℕ) → ℕ → List Row → Out Row
-givenCode limit v zero rs = refused unknownModule nought
+givenCode limit v zero rs = refused unknownModule noRefusal
 givenCode limit v (suc u) rs = addRow limit rs (row v u)
 
 abbrev pub includeCode : (limit : ℕ) → (ℕ → List Row → Out Row) → (v : ℕ) → ℕ → List Row → Out Row
-includeCode limit below v zero rs = refused unknownSubmodule nought
-includeCode limit below v (suc zero) rs = refused noNode nought
+includeCode limit below v zero rs = refused unknownSubmodule noRefusal
+includeCode limit below v (suc zero) rs = refused noNode noRefusal
 includeCode limit below v (suc (suc u)) rs = thenO (addRow limit rs (row u v)) (below u)
 
 abbrev pub visitCodes : (limit : ℕ) → (ℕ → List Row → Out Row) → (absent v : ℕ) → Codes → List Row → Out Row
-visitCodes limit below absent v noText rs = refused absent nought
+visitCodes limit below absent v noText rs = refused absent noRefusal
 visitCodes limit below absent v (refusedScan a) rs = refused scanRefused a
 visitCodes limit below absent v (codes imports includes) rs =
     thenO (eachO (importCode limit v) imports rs) (eachO (includeCode limit below v) includes)
 
 -- `at`: what there is under the name of a node
 unfoldable pub walkCodes : (at : ℕ → Codes) → (limit left absent v : ℕ) → List Row → Out Row
-walkCodes at limit zero absent v rs = visitCodes limit (λ u rs₁. refused tooDeep nought) absent v (at v) rs
+walkCodes at limit zero absent v rs = visitCodes limit (λ u rs₁. refused tooDeep noRefusal) absent v (at v) rs
 walkCodes at limit (suc left) absent v rs = visitCodes limit (walkCodes at limit left noIncludedText) absent v (at v) rs
 
 -- an entry by its number and the codes of what it lists

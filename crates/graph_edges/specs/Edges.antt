@@ -9,7 +9,8 @@ use mathlib.Core.List.{List, [], _∷_, _++_}
 use lib.ListN.{length, getD}
 use lib.Dec.{eqb}
 use Rattle.graph.specs.Limits.{mostNodes, mostEdges}
-use Rattle.graph.specs.Graph.{nought, tooManyEdges, Out, built, refused}
+use Rattle.text.specs.Refusal.{noRefusal}
+use Rattle.graph.specs.Graph.{tooManyEdges, Out, built, refused}
 use Rattle.graph.specs.Numbers.{Row, row, addRow}
 use Rattle.graph_edges.specs.declared.Link.{Link}
 use Rattle.graph_edges.specs.declared.Link.the-variants.{Count, Full}
@@ -78,7 +79,7 @@ pub record Chain (edges chains : List ℕ) (r : Row) (h e : ℕ) : Type 0 where
 
 abbrev pub linkSeen : Link → List ℕ → Out Row
 linkSeen (Count n) w = built (rowsIn n w)
-linkSeen Full w = refused tooManyEdges nought
+linkSeen Full w = refused tooManyEdges noRefusal
 
 abbrev pub LinkFiled : Link → List ℕ → List ℕ → Type 0
 LinkFiled (Count n) edges chains = Filed edges chains n

@@ -10,7 +10,8 @@ use mir.Syntax.{w32}
 use mir.Val.{Fits}
 use Rattle.text.specs.declared.Refusal.{Refusal}
 use Rattle.library_image.specs.Library.{Name}
-use Rattle.graph.specs.Graph.{nought, Out, built, refused, thenO}
+use Rattle.text.specs.Refusal.{noRefusal}
+use Rattle.graph.specs.Graph.{Out, built, refused, thenO}
 use Rattle.graph.specs.Numbers.{Row, row, addRow, includeCode}
 use Rattle.graph_edges.specs.Edges.{linkSeen, Linked, rowsIn}
 use Rattle.graph_edges.specs.declared.Link.{Link}
@@ -47,7 +48,7 @@ module _ (r : Included) (v : NodeIndex) (row : ℕ) (e : r ≡ Below v) (z : row
 pub counted : (l : Link) (n : ℕ) → l ≡ Count n → Built n ≡ linkWalked l
 counted l n e = sym (ap linkWalked e)
 
-pub filled : (l : Link) (a : Refusal) → a ≡ nought → l ≡ Full → Refused 31 a ≡ linkWalked l
+pub filled : (l : Link) (a : Refusal) → a ≡ noRefusal → l ≡ Full → Refused 31 a ≡ linkWalked l
 filled l a z e = ap (Refused 31) z ∙ sym (ap linkWalked e)
 
 drew : (x : Link) (rs : List Row) (r : Row) (edges chains edges₁ chains₁ : List ℕ) (w : Walked) → Linked rs r edges chains x edges₁ chains₁ → w ≡ linkWalked x
@@ -63,14 +64,14 @@ module _ (s tab : List ℕ) (n : ℕ) (marks : List ℕ) (d : Desk s tab n marks
   node-low v h = omega (arith, d .holding .few)
 
 module _ (s : List ℕ) (ns : List Name) (u : Name) (r : Resolved) (k : resolvedCode r ≡ knownAt s ns u) (given : Bool) (v : ℕ) (rs : List Row) (edges chains : List ℕ) where
-  pub unknown : (a : Refusal) → r ≡ Unknown → a ≡ nought
+  pub unknown : (a : Refusal) → r ≡ Unknown → a ≡ noRefusal
       → Drew (eitherCode given v (knownAt s ns u) rs) edges chains (Refused 26 a) edges chains
   unknown a e z = record { seen = rw (q, z) (go given); filed = tt; kept-edges = refl; kept-chains = refl }
     where
       q : knownAt s ns u ≡ 0
       q = sym k ∙ ap resolvedCode e
 
-      go : (b : Bool) → _≡_ {A = Out Row} (refused 26 nought) (cond b (refused 26 nought) (refused 26 nought))
+      go : (b : Bool) → _≡_ {A = Out Row} (refused 26 noRefusal) (cond b (refused 26 noRefusal) (refused 26 noRefusal))
       go true = refl
       go false = refl
 
@@ -109,7 +110,7 @@ module _ (word left v : ℕ) (rs : List Row) (edges chains edges₁ chains₁ : 
 
   pub no-room : x ≡ Full → Stepped word left v rs edges chains (Halted 31) edges₁ chains₁
   no-room e =
-      let q : addRow mostEdges rs (row (word - 2) v) ≡ refused 31 nought = sym (l .seen) ∙ ap (λ x. linkSeen x edges₁) e in
+      let q : addRow mostEdges rs (row (word - 2) v) ≡ refused 31 noRefusal = sym (l .seen) ∙ ap (λ x. linkSeen x edges₁) e in
       record { seen = λ at. sym (by-node word v rs (belowOf at left) h k ∙ rw q); ready = tt; kept-edges = l .kept-edges; kept-chains = l .kept-chains }
 
   module _ (m : ℕ) (e : x ≡ Count m) where

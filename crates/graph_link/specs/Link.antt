@@ -8,7 +8,8 @@ use mathlib.Core.List.{List, [], _∷_, map}
 use lib.ListN.{length, getD, drop}
 use Rattle.scan_rows.specs.Rows.{importSize, includeSize, mostRows, importsIn, includesIn}
 use Rattle.library_image.specs.Library.{Name}
-use Rattle.graph.specs.Graph.{nought, noIncludedText, tooDeep, tooManyEdges, Out, built, refused}
+use Rattle.text.specs.Refusal.{noRefusal}
+use Rattle.graph.specs.Graph.{noIncludedText, tooDeep, tooManyEdges, Out, built, refused}
 use Rattle.graph.specs.Limits.{mostEdges}
 use Rattle.graph.specs.Numbers.{Row, Codes, importCode, givenCode, includeCode, walkCodes}
 use Rattle.graph_edges.specs.Edges.{rowsIn, Filed}
@@ -38,7 +39,7 @@ includeCodes s ns store includes k = map (includedAt s ns) (includeNames store (
 
 -- what an included text comes to with so much depth left: no text is read below 0
 unfoldable pub belowOf : (at : ℕ → Codes) → (left : ℕ) → ℕ → List Row → Out Row
-belowOf at zero u rs = refused tooDeep nought
+belowOf at zero u rs = refused tooDeep noRefusal
 belowOf at (suc left) u rs = walkCodes at mostEdges left noIncludedText u rs
 
 -- ---- the words of a level
@@ -76,7 +77,7 @@ WalkFiled (Refused number a) edges chains = Unit {0}
 -- what an edge more comes to
 abbrev pub linkWalked : Link → Walked
 linkWalked (Count n) = Built n
-linkWalked Full = Refused tooManyEdges nought
+linkWalked Full = Refused tooManyEdges noRefusal
 
 -- edges that were added, as `expected` says; the tables are as long as before
 pub record Drew (expected : Out Row) (edges chains : List ℕ) (r : Walked) (edges₁ chains₁ : List ℕ) : Type 0 where
@@ -95,7 +96,7 @@ pub record Saved (n : ℕ) (codes : List ℕ) (base count : ℕ) (levels after :
 -- one include, up to the walk of its text
 abbrev pub stepSeen : (below : ℕ → List Row → Out Row) → Stepping → List ℕ → Out Row
 stepSeen below (Down u n) edges = below (u .0) (rowsIn n edges)
-stepSeen below (Stopped number) edges = refused number nought
+stepSeen below (Stopped number) edges = refused number noRefusal
 
 pub record Descends (word left u count : ℕ) (edges chains : List ℕ) : Type 0 where
   pub node : u + 2 ≡ word

@@ -7,7 +7,6 @@ use text::Refusal;
 ghost use mathlib.Core.Path.{_≡_};
 ghost use mathlib.Core.Bool.{cond};
 ghost use Prim.Native.Nat.{_+_, _<_};
-ghost use Rattle.graph.specs.Graph.{nought};
 ghost use Rattle.graph.specs.Limits.{mostEdges, mostNodes};
 ghost use Rattle.graph.specs.Numbers.{eachO, importCode};
 ghost use Rattle.graph_edges.specs.Edges.{rowsIn, Filed};
@@ -38,24 +37,13 @@ pub enum Stepping {
     Stopped(u32),
 }
 
-// No scan was refused.
-pub fn nought() -> Refusal
-    ensures { λ r. ⌜ r ≡ nought ⌝ }
-{
-    Refusal {
-        number: 0,
-        keyword: 0,
-        at: 0,
-    }
-}
-
 // What an edge more comes to.
 fn linked(link: Link) -> Walked
     ensures { λ r. ⌜ r ≡ linkWalked link ⌝ }
 {
     match link {
         Link::Count(n) => Walked::Built(n),
-        Link::Full => Walked::Refused(TOO_MANY_EDGES, nought()),
+        Link::Full => Walked::Refused(TOO_MANY_EDGES, text::no_refusal()),
     }
 }
 
@@ -78,7 +66,7 @@ pub fn link_known(
         (now (edges .entry)) (now (chains .entry)) r (now (edges .exit)) (now (chains .exit)) ⌝ }
 {
     let Resolved::Node(u) = graph_nodes::find_known(image, ntab, n, marks, name) else {
-        return Walked::Refused(UNKNOWN_MODULE, nought());
+        return Walked::Refused(UNKNOWN_MODULE, text::no_refusal());
     };
     if given {
         return linked(graph_edges::add_edge(edges, chains, count, v, u));

@@ -8,7 +8,8 @@ use lib.ListN.{length, getD}
 use Rattle.text.specs.declared.Refusal.{Refusal}
 use Rattle.scan_rows.specs.Rows.{mostRows}
 use Rattle.library_image.specs.Library.{Name}
-use Rattle.graph.specs.Graph.{nought, Text, built, refused}
+use Rattle.text.specs.Refusal.{noRefusal}
+use Rattle.graph.specs.Graph.{Text, built, refused}
 use Rattle.graph.specs.Numbers.{noText, refusedScan, codes, codesOf, codesAt, eachO, importCode}
 use Rattle.graph.specs.Limits.{mostEdges}
 use Rattle.graph_edges.specs.Edges.{rowsIn}
@@ -39,7 +40,7 @@ module _ (s b : List ℕ) (ns : List Name) (v : ℕ) (name : List ℕ) (p : name
     read m k z = under ∙ ap (codesOf (worldOf s b ns) ns) (sym (l .seen) ∙ ap (λ r. textSeen r e f g) z)
 
     module _ (n base absent count : ℕ) (edges chains : List ℕ) where
-      pub text-missing : (a : Refusal) (levels : List ℕ) → r ≡ Missing → a ≡ nought
+      pub text-missing : (a : Refusal) (levels : List ℕ) → r ≡ Missing → a ≡ noRefusal
           → Called (codesHere s b ns) n base absent v (rowsIn count edges) edges chains (Stopped absent a) levels edges chains
       text-missing a levels z t = record { seen = λ below. rw (no-text z, t); ready = tt; kept-edges = refl; kept-chains = refl }
 

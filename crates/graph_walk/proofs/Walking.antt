@@ -9,7 +9,8 @@ use native.Mathlib.Numerals.{sub-one}
 use lib.ListN.{length, getD, drop}
 use lib.Seq.{drop-drop, getD-drop}
 use Rattle.text.specs.declared.Refusal.{Refusal}
-use Rattle.graph.specs.Graph.{nought, Out, built, refused, thenO}
+use Rattle.text.specs.Refusal.{noRefusal}
+use Rattle.graph.specs.Graph.{Out, built, refused, thenO}
 use Rattle.graph.specs.Numbers.{Row, Codes, eachO, includeCode, visitCodes, walkCodes}
 use Rattle.graph_edges.specs.Edges.{rowsIn, Filed}
 use Rattle.graph.specs.declared.NodeIndex.{NodeIndex}
@@ -158,9 +159,9 @@ module _ {at : ℕ → Codes} {n left v base k : ℕ} {levels₀ edges₀ chains
         }
 
     module _ {x : Stepping} {edges₁ chains₁ : List ℕ} (s : Stepped (getD levels (base + i) 0) left v (rowsIn total edges) edges chains x edges₁ chains₁) (h : i < k) where
-      pub halted : {number : ℕ} {a : Refusal} → x ≡ Halted number → a ≡ nought → Drew (walkCodes at mostEdges left absent v rs) edgesE chainsE (Refused number a) edges₁ chains₁
+      pub halted : {number : ℕ} {a : Refusal} → x ≡ Halted number → a ≡ noRefusal → Drew (walkCodes at mostEdges left absent v rs) edgesE chainsE (Refused number a) edges₁ chains₁
       halted {number} {a} e y =
-          let q : includeCode mostEdges (belowOf at left) v (getD levels (base + i) 0) (rowsIn total edges) ≡ refused number nought = sym (s .seen at) ∙ ap (λ x. stepSeen (belowOf at left) x edges₁) e in
+          let q : includeCode mostEdges (belowOf at left) v (getD levels (base + i) 0) (rowsIn total edges) ≡ refused number noRefusal = sym (s .seen at) ∙ ap (λ x. stepSeen (belowOf at left) x edges₁) e in
           record {
             seen = ap (λ a. refused number a) y ∙ sym (all-ahead left d k linked z ∙ turn h ∙ ap (λ o. thenO o (ahead at left v (wordsFrom levels₀ (base + (i + 1)) (k - (i + 1))))) q);
             filed = tt;

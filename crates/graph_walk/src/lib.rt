@@ -73,7 +73,7 @@ fn visit(
     let base = spot.left * LEVEL;
     let name = graph_nodes::name_of(image, ntab, n, v);
     match graph_texts::read_text(bundle, btab, sizes.texts, name, store, imports, includes) {
-        Seen::Missing => Visited::Stopped(spot.absent, graph_link::nought()),
+        Seen::Missing => Visited::Stopped(spot.absent, text::no_refusal()),
         Seen::Refused(r) => Visited::Stopped(SCAN_REFUSED, r),
         Seen::Rows(m, k) => {
             let count = spot.count;
@@ -161,7 +161,7 @@ pub fn walk(
             while i < k {
                 match graph_link::step(levels[base + i], left, edges, chains, v, total) {
                     Stepping::Stopped(number) => {
-                        return Walked::Refused(number, graph_link::nought());
+                        return Walked::Refused(number, text::no_refusal());
                     }
                     Stepping::Down(u, m) => {
                         let rest = left - 1;

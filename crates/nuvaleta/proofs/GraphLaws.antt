@@ -7,6 +7,7 @@ use native.Mathlib.Omega.{arith}
 use lib.ListN.{getD}
 use mir.Syntax.{w8}
 use mir.Val.{Fits}
+use Rattle.graph.specs.Nodes.{passOver}
 use Rattle.yanglib.specs.ToGraph.{Leaves, lengthsOf, graphed, AnswerFits}
 use Rattle.yanglib.specs.declared.Graphed.{Graphed}
 use Rattle.yanglib.specs.declared.Graphed.the-variants.{Built, Refused}
@@ -23,17 +24,17 @@ answer-words (Refused number entry a place) h = (omega (arith, h), omega (arith,
 
 -- ---- the call
 
-module _ (s b n e d f g l : List ℕ) {r : Graphed} {n₁ e₁ d₁ f₁ g₁ l₁ : List ℕ} (h : Leaves (graphed s b (lengthsOf n e d f g l)) n e d f g l r n₁ e₁ d₁ f₁ g₁ l₁) where
+module _ (s b n e d f g l : List ℕ) {r : Graphed} {n₁ e₁ d₁ f₁ g₁ l₁ : List ℕ} (h : Leaves (graphed passOver s b (lengthsOf n e d f g l)) n e d f g l r n₁ e₁ d₁ f₁ g₁ l₁) where
   pub graph-fits : ((k : ℕ) → Fits w8 (getD s k 0)) → GraphFits r
   graph-fits bytes =
       subst GraphFits (sym (h .answer))
-      (answer-words (graphed s b (lengthsOf n e d f g l) .answer) (answer-fits s b (λ k. omega (arith, bytes k .fits)) (lengthsOf n e d f g l)))
+      (answer-words (graphed passOver s b (lengthsOf n e d f g l) .answer) (answer-fits passOver s b (λ k. omega (arith, bytes k .fits)) (lengthsOf n e d f g l)))
 
   -- the words are answered, and the first is returned
-  pub graph-told : {w : List ℕ} → w ≡ graphWords r → Drawn (graphed s b (lengthsOf n e d f g l)) n e d f g l (getD w 0 0) n₁ e₁ d₁ f₁ g₁ l₁ w
+  pub graph-told : {w : List ℕ} → w ≡ graphWords r → Drawn (graphed passOver s b (lengthsOf n e d f g l)) n e d f g l (getD w 0 0) n₁ e₁ d₁ f₁ g₁ l₁ w
   graph-told {w} v =
       let k = v ∙ ap graphWords (h .answer) in
       record {
-        graph = subst (λ a. Leaves (graphed s b (lengthsOf n e d f g l)) n e d f g l a n₁ e₁ d₁ f₁ g₁ l₁) (h .answer) h;
+        graph = subst (λ a. Leaves (graphed passOver s b (lengthsOf n e d f g l)) n e d f g l a n₁ e₁ d₁ f₁ g₁ l₁) (h .answer) h;
         told = record { number = ap (λ u. getD u 0 0) k; answered = k };
       }

@@ -4,6 +4,7 @@
 use Prim.Native.Nat.{ℕ}
 use mathlib.Core.List.{List}
 use Rattle.nuvaleta.specs.Finds.{Told}
+use Rattle.graph.specs.Nodes.{passOver}
 use Rattle.yanglib.specs.ToGraph.{Result, Leaves, lengthsOf, graphed}
 use Rattle.nuvaleta.specs.Words.{graphWords}
 
@@ -13,4 +14,4 @@ pub record Drawn (x : Result) (n e d f g l : List ℕ) (r : ℕ) (n₁ e₁ d₁
   pub told : Told (graphWords (x .answer)) r a
 
 abbrev pub GraphAnswered : (image bundle n e d f g l : List ℕ) → ℕ → (n₁ e₁ d₁ f₁ g₁ l₁ a : List ℕ) → Type 0
-GraphAnswered s b n e d f g l r n₁ e₁ d₁ f₁ g₁ l₁ a = Drawn (graphed s b (lengthsOf n e d f g l)) n e d f g l r n₁ e₁ d₁ f₁ g₁ l₁ a
+GraphAnswered s b n e d f g l r n₁ e₁ d₁ f₁ g₁ l₁ a = Drawn (graphed passOver s b (lengthsOf n e d f g l)) n e d f g l r n₁ e₁ d₁ f₁ g₁ l₁ a

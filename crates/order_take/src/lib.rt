@@ -127,11 +127,7 @@ fn release_all(
     let mut e = graph_edges::of_link(heads[v]);
     while 0 < e {
         let i = e - 1;
-        release(
-            waits,
-            lows,
-            graph::node_row(NodeIndex(edges[i * 2 + 1])),
-        );
+        release(waits, lows, graph::node_row(NodeIndex(edges[i * 2 + 1])));
         e = graph_edges::of_link(links[i]);
     }
 }

@@ -26,7 +26,8 @@ use Rattle.library_bundle.specs.Bundle.{Text, bundleBroken, bundleAt, lookIn, l
 use Rattle.library_bundle.specs.Reading.{longestText}
 use Rattle.library_bundle.proofs.LookBounds.{broken-in, stands-in}
 use Rattle.graph.specs.Nodes.{Mode, nodesOf}
-use Rattle.graph.specs.Graph.{ScanAnswer, nought, Text as Words, refusing, Entry, moduleEntry, importEntry, setEntries, entries, Graph, graph, fault, graphOf}
+use Rattle.text.specs.Refusal.{noRefusal}
+use Rattle.graph.specs.Graph.{ScanAnswer, Text as Words, refusing, Entry, moduleEntry, importEntry, setEntries, entries, Graph, graph, fault, graphOf}
 use Rattle.graph.specs.Meaning.{FirstAt, Fault, entry-missing, include-missing, scan-refused, import-unknown, listed-unknown, include-unknown, include-no-node, too-deep, Cause, names, by-fault, edges}
 use Rattle.graph.proofs.Demand.{demand3}
 use Rattle.library_items.specs.Table.{Reads}
@@ -138,16 +139,16 @@ answer-fits mode s b bytes k = image (imageAt s) refl
     tail : Result
     tail = resultOf (wordsAt mode s) (graphOf mode mostNodes mostEdges (textOf b) (plainAt s))
 
-    lent : Reads (imageAt s) → (t : Bool) → AnswerFits (cond t (refusal lentTooShort 0 nought 0) tail .answer)
+    lent : Reads (imageAt s) → (t : Bool) → AnswerFits (cond t (refusal lentTooShort 0 noRefusal 0) tail .answer)
     lent h true = (omega arith, omega arith, omega arith)
     lent h false = graph-fits mode s b bytes h (graphOf mode mostNodes mostEdges (textOf b) (plainAt s)) refl
 
     bundle : Reads (imageAt s) → (y : Ans (List Text)) → bundleAt b ≡ y
-        → AnswerFits (onRead y (refusal bundleBroken 0 nought) (cond (tooShort (longestText b) k) (refusal lentTooShort 0 nought 0) tail) .answer)
+        → AnswerFits (onRead y (refusal bundleBroken 0 noRefusal) (cond (tooShort (longestText b) k) (refusal lentTooShort 0 noRefusal 0) tail) .answer)
     bundle h (good es n) e = lent h (tooShort (longestText b) k)
     bundle h (bad p) e = (omega arith, omega arith, bundle-low b p e)
 
     image : (x : Ans Library) → imageAt s ≡ x
-        → AnswerFits (onRead x (refusal imageBroken 0 nought) (onRead (bundleAt b) (refusal bundleBroken 0 nought) (cond (tooShort (longestText b) k) (refusal lentTooShort 0 nought 0) tail)) .answer)
+        → AnswerFits (onRead x (refusal imageBroken 0 noRefusal) (onRead (bundleAt b) (refusal bundleBroken 0 noRefusal) (cond (tooShort (longestText b) k) (refusal lentTooShort 0 noRefusal 0) tail)) .answer)
     image (good l n) e = bundle (record { value = l; end = n; read = e }) (bundleAt b) refl
     image (bad p) e = (omega arith, omega arith, omega (arith, image-low s p e))

@@ -14,7 +14,8 @@ use Rattle.library_read.specs.Reading.{onAns}
 use Rattle.library_items.specs.Items.{libraryOf, itemsAt}
 use Rattle.library_items.specs.Table.{Reads}
 use Rattle.graph.specs.Nodes.{Mode, nodesOf}
-use Rattle.graph.specs.Graph.{nought, tooManyNodes, Edge, entries, entrySteps, world, Graph, graph, fault, walkOf, graphOf}
+use Rattle.text.specs.Refusal.{noRefusal}
+use Rattle.graph.specs.Graph.{tooManyNodes, Edge, entries, entrySteps, world, Graph, graph, fault, walkOf, graphOf}
 use Rattle.graph.specs.Numbers.{rowOf, Drawing, drawn, faulty, drawingOf, numbered}
 use Rattle.graph.specs.Meaning.{Revised}
 use Rattle.graph.proofs.WordNodes.{node-names}
@@ -36,7 +37,7 @@ drawingResult ws (drawn rs) = record { answer = Built (length ws) (length rs); n
 drawingResult ws (faulty number entry a) = refusal number entry a 0
 
 module _ (mode : Mode) (s : List ℕ) where
-  nodes-named : map plainName (wordsAt mode s) ≡ nodesOf mode (plainAt s)
+  pub nodes-named : map plainName (wordsAt mode s) ≡ nodesOf mode (plainAt s)
   unfolding wordsAt
   nodes-named = node-names mode (libraryOf s)
 
@@ -77,12 +78,12 @@ module _ (mode : Mode) (s b : List ℕ) (reads : Reads (imageAt s)) (bytes : All
   walk-result (fault n k a) h = refl
 
   pub graph-result : resultOf (wordsAt mode s) (graphOf mode mostNodes mostEdges (textOf b) (plainAt s))
-      ≡ cond (ltb mostNodes (length (wordsAt mode s))) (refusal tooManyNodes 0 nought 0) (drawingResult (wordsAt mode s) items)
+      ≡ cond (ltb mostNodes (length (wordsAt mode s))) (refusal tooManyNodes 0 noRefusal 0) (drawingResult (wordsAt mode s) items)
   unfolding graphOf
   graph-result =
       go (ltb mostNodes (length (nodesOf mode (plainAt s))))
-      ∙ ap (λ n. cond (ltb mostNodes n) (refusal tooManyNodes 0 nought 0) (drawingResult (wordsAt mode s) items)) (nodes-long mode s)
+      ∙ ap (λ n. cond (ltb mostNodes n) (refusal tooManyNodes 0 noRefusal 0) (drawingResult (wordsAt mode s) items)) (nodes-long mode s)
     where
-      go : (t : Bool) → resultOf (wordsAt mode s) (cond t (fault tooManyNodes 0 nought) walked) ≡ cond t (refusal tooManyNodes 0 nought 0) (drawingResult (wordsAt mode s) items)
+      go : (t : Bool) → resultOf (wordsAt mode s) (cond t (fault tooManyNodes 0 noRefusal) walked) ≡ cond t (refusal tooManyNodes 0 noRefusal 0) (drawingResult (wordsAt mode s) items)
       go true = refl
       go false = walk-result walked refl ∙ ap (drawingResult (wordsAt mode s)) walk-drawn

@@ -28,7 +28,8 @@ use Rattle.library_read.proofs.Counting.{done-bad}
 use Rattle.library_items.specs.Items.{itemsAt}
 use Rattle.library_items.specs.Table.{Reads}
 use Rattle.graph.specs.Nodes.{Mode, nodesOf}
-use Rattle.graph.specs.Graph.{nought, tooManyNodes, graphOf}
+use Rattle.text.specs.Refusal.{noRefusal}
+use Rattle.graph.specs.Graph.{tooManyNodes, graphOf}
 use Rattle.graph.specs.Numbers.{Drawing}
 use Rattle.graph_edges.specs.Edges.{rowsIn}
 use Rattle.graph_edges.proofs.Rows.{rows-length}
@@ -67,9 +68,9 @@ bundle-bad b tab r {p} e o =
 module _ (mode : Mode) (s b : List ℕ) (k : Lengths) where
   abbrev behind : Ans Library → Ans (List Text) → Bool → Result
   behind x y short =
-      onRead x (refusal imageBroken 0 nought)
-      (onRead y (refusal bundleBroken 0 nought)
-      (cond short (refusal lentTooShort 0 nought 0) (resultOf (wordsAt mode s) (graphOf mode mostNodes mostEdges (textOf b) (plainAt s)))))
+      onRead x (refusal imageBroken 0 noRefusal)
+      (onRead y (refusal bundleBroken 0 noRefusal)
+      (cond short (refusal lentTooShort 0 noRefusal 0) (resultOf (wordsAt mode s) (graphOf mode mostNodes mostEdges (textOf b) (plainAt s)))))
 
   by-readings : {x : Ans Library} {y : Ans (List Text)} {short : Bool} → imageAt s ≡ x → bundleAt b ≡ y → tooShort (longestText b) k ≡ short
       → graphed mode s b k ≡ behind x y short
@@ -78,16 +79,16 @@ module _ (mode : Mode) (s b : List ℕ) (k : Lengths) where
       ap (λ a. behind a (bundleAt b) (tooShort (longestText b) k)) e
       ∙ (ap (λ a. behind x a (tooShort (longestText b) k)) f ∙ ap (λ t. behind x y t) g)
 
-  pub image-wrong : (r : Read) {p : ℕ} → r ≡ Wrong p → readSeen r ≡ done (imageAt s) → graphed mode s b k ≡ refusal imageBroken 0 nought p
+  pub image-wrong : (r : Read) {p : ℕ} → r ≡ Wrong p → readSeen r ≡ done (imageAt s) → graphed mode s b k ≡ refusal imageBroken 0 noRefusal p
   image-wrong r e f = by-readings (done-bad (imageAt s) (sym (ap readSeen e) ∙ f)) refl refl
 
   module _ (reads : Reads (imageAt s)) where
-    pub bundle-wrong : (r : Opened) (tab : List ℕ) {p : ℕ} → r ≡ WrongBundle p → OpenedAs b r tab → graphed mode s b k ≡ refusal bundleBroken 0 nought p
+    pub bundle-wrong : (r : Opened) (tab : List ℕ) {p : ℕ} → r ≡ WrongBundle p → OpenedAs b r tab → graphed mode s b k ≡ refusal bundleBroken 0 noRefusal p
     bundle-wrong r tab e o = by-readings (reads .read) (bundle-bad b tab r e o) refl
 
     module _ (tab : List ℕ) (texts : ℕ) (held : Held b tab texts) where
       pub too-little : {longest : ℕ} {short : Bool} → longest ≡ longestText b → short ≡ tooShort longest k → short ≡ true
-          → graphed mode s b k ≡ refusal lentTooShort 0 nought 0
+          → graphed mode s b k ≡ refusal lentTooShort 0 noRefusal 0
       too-little e f h = by-readings (reads .read) (held .read) (sym (f ∙ ap (λ (n : ℕ). tooShort n k) e) ∙ h)
 
       pub enough : {longest : ℕ} {short : Bool} → longest ≡ longestText b → short ≡ tooShort longest k → short ≡ false
@@ -107,13 +108,13 @@ module _ {mode : Mode} (s b : List ℕ) (x : Result) (g : Ready mode s b x) wher
   items ns = drawItems s b ns 0 0 [] (itemsAt s)
 
   by-nodes : {t : Bool} → ltb mostNodes (length (wordsAt mode s)) ≡ t
-      → x ≡ cond t (refusal tooManyNodes 0 nought 0) (drawingResult (wordsAt mode s) (items (nodesOf mode (plainAt s))))
+      → x ≡ cond t (refusal tooManyNodes 0 noRefusal 0) (drawingResult (wordsAt mode s) (items (nodesOf mode (plainAt s))))
   by-nodes e =
       g .result
       ∙ (graph-result mode s b (g .reads) (g .bytes)
-      ∙ ap (λ t. cond t (refusal tooManyNodes 0 nought 0) (drawingResult (wordsAt mode s) (items (nodesOf mode (plainAt s))))) e)
+      ∙ ap (λ t. cond t (refusal tooManyNodes 0 noRefusal 0) (drawingResult (wordsAt mode s) (items (nodesOf mode (plainAt s))))) e)
 
-  pub too-many : mostNodes < length (wordsAt mode s) → x ≡ refusal tooManyNodes 0 nought 0
+  pub too-many : mostNodes < length (wordsAt mode s) → x ≡ refusal tooManyNodes 0 noRefusal 0
   too-many h = by-nodes (lt-ltb mostNodes (length (wordsAt mode s)) h)
 
   module _ (tab : List ℕ) (n : ℕ) (h : Holding s tab n (wordsAt mode s)) where

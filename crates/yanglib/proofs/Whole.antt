@@ -24,7 +24,7 @@ use Rattle.library_read.specs.declared.Read.the-variants.{End, Wrong}
 use Rattle.library_items.specs.Items.{itemsAt}
 use Rattle.library_items.specs.Table.{Itemized}
 use Rattle.graph.specs.Nodes.{Mode}
-use Rattle.graph.specs.Graph.{nought}
+use Rattle.text.specs.Refusal.{noRefusal}
 use Rattle.graph_edges.specs.Edges.{rowsIn, Filed}
 use Rattle.graph_edges.proofs.Chains.{empty-filed}
 use Rattle.graph.specs.Limits.{mostNodes}
@@ -117,7 +117,7 @@ module _ {mode : Mode} {s b btab : List ℕ} {texts : ℕ} (p : BothRead s b bta
     ready = record { reads = p .reads; bytes = all-bytes s bytes; result = refl }
 
     module _ {store imports includes levels edges nodes : List ℕ} (f : Lent b store imports includes levels edges) (h : LentNodes nodes) where
-      pub nodes-many : r ≡ TooMany → {a : Refusal} → a ≡ nought
+      pub nodes-many : r ≡ TooMany → {a : Refusal} → a ≡ noRefusal
           → Holds (drawResult mode s b) nodes edges store imports includes levels (Refused 30 0 a 0) nodes edges store imports includes levels
       nodes-many e {a} z =
           let many : mostNodes < length (wordsAt mode s) = rw e at (c .answer) in
@@ -182,7 +182,7 @@ module _ (mode : Mode) (s b nodes edges store imports includes levels : List ℕ
   abbrev k : Lengths
   k = lengthsOf nodes edges store imports includes levels
 
-  refusing : {number place : ℕ} {a : Refusal} → a ≡ nought → graphed mode s b k ≡ refusal number 0 nought place
+  refusing : {number place : ℕ} {a : Refusal} → a ≡ noRefusal → graphed mode s b k ≡ refusal number 0 noRefusal place
       → Holds (graphed mode s b k) nodes edges store imports includes levels (Refused number 0 a place) nodes edges store imports includes levels
   refusing {number} {place} z x = record {
     answer = ap (λ (a : Refusal). Refused number 0 a place) z ∙ sym (ap (λ (y : Result). y .answer) x);
@@ -191,15 +191,15 @@ module _ (mode : Mode) (s b nodes edges store imports includes levels : List ℕ
     kept = kept-same store imports includes levels;
   }
 
-  pub no-image : {r : Read} {p : ℕ} {a : Refusal} → r ≡ Wrong p → readSeen r ≡ done (imageAt s) → a ≡ nought
+  pub no-image : {r : Read} {p : ℕ} {a : Refusal} → r ≡ Wrong p → readSeen r ≡ done (imageAt s) → a ≡ noRefusal
       → Holds (graphed mode s b k) nodes edges store imports includes levels (Refused 20 0 a p) nodes edges store imports includes levels
   no-image {r} e q z = refusing z (image-wrong mode s b k r e q)
 
-  pub no-bundle : {r : Read} {j : ℕ} {o : Opened} {tab : List ℕ} {p : ℕ} {a : Refusal} → r ≡ End j → readSeen r ≡ done (imageAt s) → OpenedAs b o tab → o ≡ WrongBundle p → a ≡ nought
+  pub no-bundle : {r : Read} {j : ℕ} {o : Opened} {tab : List ℕ} {p : ℕ} {a : Refusal} → r ≡ End j → readSeen r ≡ done (imageAt s) → OpenedAs b o tab → o ≡ WrongBundle p → a ≡ noRefusal
       → Holds (graphed mode s b k) nodes edges store imports includes levels (Refused 21 0 a p) nodes edges store imports includes levels
   no-bundle {r} {o = o} {tab = tab} e q h f z = refusing z (bundle-wrong mode s b k (image-reads s r e q) o tab f h)
 
-  pub not-enough : {tab : List ℕ} {texts : ℕ} {longest : ℕ} {short : Bool} {a : Refusal} → BothRead s b tab texts → longest ≡ longestText b → short ≡ tooShort longest k → short ≡ true → a ≡ nought
+  pub not-enough : {tab : List ℕ} {texts : ℕ} {longest : ℕ} {short : Bool} {a : Refusal} → BothRead s b tab texts → longest ≡ longestText b → short ≡ tooShort longest k → short ≡ true → a ≡ noRefusal
       → Holds (graphed mode s b k) nodes edges store imports includes levels (Refused 22 0 a 0) nodes edges store imports includes levels
   not-enough {tab} {texts} o l t u z = refusing z (too-little mode s b k (o .reads) tab texts (o .held) l t u)
 

@@ -15,7 +15,8 @@ use Rattle.library_image.specs.Image.{imageBroken, imageAt}
 use Rattle.library_bundle.specs.Bundle.{bundleBroken, bundleAt}
 use Rattle.library_bundle.specs.Reading.{longestText}
 use Rattle.graph.specs.Nodes.{Mode, passOver}
-use Rattle.graph.specs.Graph.{nought, Graph, graph, fault, graphOf}
+use Rattle.text.specs.Refusal.{noRefusal}
+use Rattle.graph.specs.Graph.{Graph, graph, fault, graphOf}
 use Rattle.graph.specs.Numbers.{Row, rowOf}
 use Rattle.graph.specs.Limits.{mostEdges, mostNodes}
 use Rattle.graph_nodes.specs.Adding.{plainAt, wordsAt}
@@ -68,9 +69,9 @@ onRead (bad p) f b = f p
 -- for an image s, a bundle b and the lengths lent; the mode says what becomes of a module whose name is already a node
 unfoldable pub graphed : Mode → (image bundle : List ℕ) → Lengths → Result
 graphed mode s b k =
-    onRead (imageAt s) (refusal imageBroken 0 nought)
-    (onRead (bundleAt b) (refusal bundleBroken 0 nought)
-    (cond (tooShort (longestText b) k) (refusal lentTooShort 0 nought 0)
+    onRead (imageAt s) (refusal imageBroken 0 noRefusal)
+    (onRead (bundleAt b) (refusal bundleBroken 0 noRefusal)
+    (cond (tooShort (longestText b) k) (refusal lentTooShort 0 noRefusal 0)
     (resultOf (wordsAt mode s) (graphOf mode mostNodes mostEdges (textOf b) (plainAt s)))))
 
 -- how large an answer is at the most

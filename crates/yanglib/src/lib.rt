@@ -144,7 +144,7 @@ fn draw(
     let count = library_items::list_items(image, &mut table);
     let mut ntab: [u32; graph_nodes::NODE_TABLE] = [0; graph_nodes::NODE_TABLE];
     let Nodes::Count(n) = graph_nodes::construct_nodes(image, &table, count, &mut ntab) else {
-        return Graphed::Refused(TOO_MANY_NODES, 0, graph_link::nought(), 0);
+        return Graphed::Refused(TOO_MANY_NODES, 0, text::no_refusal(), 0);
     };
     let sizes = Sizes { texts, nodes: n };
     match draw_edges(
@@ -188,14 +188,14 @@ fn read_and_draw(
 {
     let read = library_read::read_image(image);
     if let Read::Wrong(p) = read {
-        return Graphed::Refused(library_read::IMAGE_BROKEN, 0, graph_link::nought(), p);
+        return Graphed::Refused(library_read::IMAGE_BROKEN, 0, text::no_refusal(), p);
     }
     let mut btab: [u32; library_bundle::TABLE] = [0; library_bundle::TABLE];
     match library_bundle::open(bundle, &mut btab) {
         Opened::Wrong(p) => Graphed::Refused(
             library_bundle::BUNDLE_BROKEN,
             0,
-            graph_link::nought(),
+            text::no_refusal(),
             p,
         ),
         Opened::Texts(texts) => {
@@ -209,7 +209,7 @@ fn read_and_draw(
                 includes.len(),
                 levels.len(),
             ) {
-                return Graphed::Refused(LENT_TOO_SHORT, 0, graph_link::nought(), 0);
+                return Graphed::Refused(LENT_TOO_SHORT, 0, text::no_refusal(), 0);
             }
             draw(
                 image,

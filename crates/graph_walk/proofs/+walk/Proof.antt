@@ -8,7 +8,7 @@ use borrow.Fn.Kinds.{In}
 use borrow.Fn.PlainCycle.{Measures, is, falls, and}
 use Rattle.graph_nodes.specs.Adding.{namesHeld}
 use Rattle.graph_link.proofs.Single.{node-low}
-use Rattle.graph_link.proofs.nought.Reads as nought-reads
+use Rattle.text.proofs.no_refusal.Reads as no-refusal-reads
 use Rattle.graph_link.proofs.step.Reads as step-reads
 use Rattle.graph_walk.specs.Walk.{codesHere}
 use Rattle.graph_walk.proofs.Walking.{Walking, Long, as-long, visit-room, kept-up, not-visited, begun, in-level, word-node, kept-out, ended, halted, some-left, child-low, child-room, sent-up, went-on, kept-sent, longer}
@@ -39,7 +39,7 @@ walk-μ-loop image bundle btab ntab marks sizes store₀ imports₀ includes₀ 
     k - i
 
 abbrev callees : ℕ → walk-lts.Claims
-callees t = (visit-reads.Asked, visit-reads.Learnt, step-reads.Asked, step-reads.Learnt, nought-reads.Asked, nought-reads.Learnt, walk-below t, walk.Post)
+callees t = (visit-reads.Asked, visit-reads.Learnt, step-reads.Asked, step-reads.Learnt, no-refusal-reads.Asked, no-refusal-reads.Learnt, walk-below t, walk.Post)
 
 visit-requires : (t : ℕ) → walk-lts.Need-visit-requires (callees t) (walk-at t) walk.Post walk-Inv-loop walk-μ-loop
 visit-requires t c κs =
@@ -78,14 +78,14 @@ step-requires t c κs =
 
 returns : (t : ℕ) → walk-lts.Need-returns (callees t) (walk-at t) walk.Post walk-Inv-loop walk-μ-loop
 returns t c =
-    let nought1 = c in
-    let number1 = nought1 .before .before in
+    let no-refusal1 = c in
+    let number1 = no-refusal1 .before .before in
     let step1 = number1 .before .before .before .before .before .before in
     let loop-test1 = step1 .before .before .before .before in
     let loop1 = loop-test1 .before in
     let visited2-at = loop1 .before .before in
     let visit1 = visited2-at .before .before .before .before .before .before .before .before .before .before .before .before .before .before in
-    (halted (loop1 .loop .inv .0) (visit1 .visit .ensures .0) (visited2-at .visited2 .given .1) (step1 .step .ensures) (loop-test1 .loop-test .taken) (number1 .number .given .1) (nought1 .nought .ensures), kept-out (loop1 .loop .inv .0) (visit1 .visit .ensures .1) (loop1 .loop .inv .1))
+    (halted (loop1 .loop .inv .0) (visit1 .visit .ensures .0) (visited2-at .visited2 .given .1) (step1 .step .ensures) (loop-test1 .loop-test .taken) (number1 .number .given .1) (no-refusal1 .no-refusal .ensures), kept-out (loop1 .loop .inv .0) (visit1 .visit .ensures .1) (loop1 .loop .inv .1))
 
 sub-rest : (t : ℕ) → walk-lts.Need-sub-rest (callees t) (walk-at t) walk.Post walk-Inv-loop walk-μ-loop
 sub-rest t c =

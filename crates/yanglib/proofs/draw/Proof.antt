@@ -18,12 +18,12 @@ construct-nodes-requires c κs =
 
 returns : tie.Need-returns
 returns c =
-    let nought1 = c in
-    let enum-told1 = nought1 .before in
+    let no-refusal1 = c in
+    let enum-told1 = no-refusal1 .before in
     let construct-nodes1 = enum-told1 .before .before .before in
     let shared-slice-known1 = construct-nodes1 .before .before .before .before .before .before .before .before .before .before .before .before .before .before in
     let start = shared-slice-known1 .before in
-    nodes-many (start .pre .0) (construct-nodes1 .construct-nodes .ensures) (shared-slice-known1 .shared-slice-known .given) (start .pre .1) (start .pre .2) (enum-told1 .enum-told .given .1) (nought1 .nought .ensures)
+    nodes-many (start .pre .0) (construct-nodes1 .construct-nodes .ensures) (shared-slice-known1 .shared-slice-known .given) (start .pre .1) (start .pre .2) (enum-told1 .enum-told .given .1) (no-refusal1 .no-refusal .ensures)
 
 draw-edges-requires : tie.Need-draw-edges-requires
 draw-edges-requires c κs =

@@ -9,11 +9,11 @@ use Rattle.yanglib.proofs.read_and_draw.Tie as tie
 
 returns : tie.Need-returns
 returns c =
-    let nought1 = c in
-    let read1 = nought1 .before .before in
+    let no-refusal1 = c in
+    let read1 = no-refusal1 .before .before in
     let read-image1 = read1 .before .before in
     let start = read-image1 .before .before .before .before .before .before .before .before .before in
-    no-image passOver _ _ _ _ _ _ _ _ (start .pre .0) (start .pre .1) (read1 .read .given .1) (read-image1 .read-image .ensures) (nought1 .nought .ensures)
+    no-image passOver _ _ _ _ _ _ _ _ (start .pre .0) (start .pre .1) (read1 .read .given .1) (read-image1 .read-image .ensures) (no-refusal1 .no-refusal .ensures)
 
 longest-requires : tie.Need-longest-requires
 longest-requires c κs =
@@ -23,8 +23,8 @@ longest-requires c κs =
 
 returns-2 : tie.Need-returns-2
 returns-2 c =
-    let nought3-at = c in
-    let if1-at = nought3-at .before in
+    let no-refusal3-at = c in
+    let if1-at = no-refusal3-at .before in
     let too-short1 = if1-at .before in
     let longest1 = too-short1 .before in
     let texts1 = longest1 .before .before .before in
@@ -32,7 +32,7 @@ returns-2 c =
     let enum-told1 = open1 .before .before in
     let read-image1 = enum-told1 .before .before in
     let start = read-image1 .before .before .before .before .before .before .before .before .before in
-    not-enough passOver _ _ _ _ _ _ _ _ (start .pre .0) (start .pre .1) (both-read _ _ _ _ (enum-told1 .enum-told .given .1) (read-image1 .read-image .ensures) (open1 .«open» .ensures) (texts1 .texts .given .1)) (longest1 .longest .ensures) (too-short1 .too-short .ensures) (if1-at .if1 .taken) (nought3-at .nought3 .ensures)
+    not-enough passOver _ _ _ _ _ _ _ _ (start .pre .0) (start .pre .1) (both-read _ _ _ _ (enum-told1 .enum-told .given .1) (read-image1 .read-image .ensures) (open1 .«open» .ensures) (texts1 .texts .given .1)) (longest1 .longest .ensures) (too-short1 .too-short .ensures) (if1-at .if1 .taken) (no-refusal3-at .no-refusal3 .ensures)
 
 draw-requires : tie.Need-draw-requires
 draw-requires c κs =
@@ -48,13 +48,13 @@ draw-requires c κs =
 
 returns-3 : tie.Need-returns-3
 returns-3 c =
-    let nought2-at = c in
-    let p1 = nought2-at .before .before in
+    let no-refusal2-at = c in
+    let p1 = no-refusal2-at .before .before in
     let open1 = p1 .before .before .before in
     let enum-told1 = open1 .before .before in
     let read-image1 = enum-told1 .before .before in
     let start = read-image1 .before .before .before .before .before .before .before .before .before in
-    no-bundle passOver _ _ _ _ _ _ _ _ (start .pre .0) (start .pre .1) (enum-told1 .enum-told .given .1) (read-image1 .read-image .ensures) (open1 .«open» .ensures) (p1 .p .given .1) (nought2-at .nought2 .ensures)
+    no-bundle passOver _ _ _ _ _ _ _ _ (start .pre .0) (start .pre .1) (enum-told1 .enum-told .given .1) (read-image1 .read-image .ensures) (open1 .«open» .ensures) (p1 .p .given .1) (no-refusal2-at .no-refusal2 .ensures)
 
 returns-4 : tie.Need-returns-4
 returns-4 c =
