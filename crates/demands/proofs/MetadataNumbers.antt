@@ -20,13 +20,19 @@ use Rattle.text.specs.declared.Refusal.{Refusal}
 use Rattle.text.specs.declared.Cursor.{Cursor}
 use Rattle.text.proofs.Here.{by-test, never}
 use Rattle.text_value.specs.Argument.{argumentAt}
-use Rattle.text_value.specs.Value.{valueAt, placeOf}
 use Rattle.text_value.specs.declared.Argument.{Argument}
 use Rattle.text_value.specs.declared.Argument.the-variants.{Read, Refused as NoArgument}
+use Rattle.text_skip.specs.Skip.{tokenAt, skippedAt}
+use Rattle.text_skip.specs.Statement.{statementAt}
+use Rattle.text_skip.specs.declared.Skipped.{Skipped}
+use Rattle.text_skip.specs.declared.Skipped.the-variants.{Past, Refused as NoSkip}
+use Rattle.text_skip.proofs.PassLaws.{skipped-refused}
+use Rattle.text_skip.proofs.SkipLaws.{token-refused}
+use Rattle.text_skip.proofs.StatementLaws.{statement-refused}
 use Rattle.text_lent.specs.Lent.{lentAt}
 use Rattle.text_lent.specs.declared.Lent.{Lent}
 use Rattle.text_lent.specs.declared.Lent.the-variants.{Fit, Unfit}
-use Rattle.scan_header.specs.Header.{dueFor, pastStatement, afterRevision, afterValue, passed, kept, withRest, fieldAt, laterPrefix, statementSaid, tagSaid, saidHere, saidAt}
+use Rattle.scan_header.specs.Header.{pastOf, pastStatement, dueFor, afterRevision, afterValue, passed, kept, withRest, fieldAt, afterSkipped, laterPrefix, statementSaid, tagSaid, saidHere, saidAt}
 use Rattle.scan_header.specs.Tag.{lastTag, orTag, dataAt, tagAt}
 use Rattle.scan_header.specs.declared.Heard.{Heard}
 use Rattle.scan_header.specs.declared.Heard.the-variants.{Value, Passed, Done, Refused}
@@ -48,14 +54,24 @@ byte-is k h =
     = λ n i at. no-byte (of (5 ∷ 6 ∷ []) (1 ∷ 2 ∷ 4 ∷ 5 ∷ 6 ∷ 7 ∷ []) n k at i h) in
     due-is M k (of-number 5 refl) (of-number 6 refl)
 
+-- nothing that is skipped is refused
+past-is : (x : Skipped) → ((r : Refusal) → x ≡ NoSkip r → ⊥) → DueIs M (pastOf x)
+unfolding pastOf
+past-is (Past c h) n = tt
+past-is (NoSkip r) n = absurd (n r refl)
+
+past-statement-is : (s : List ℕ) (at : ℕ) → DueIs M (pastStatement s at)
+unfolding pastStatement
+past-statement-is s at = past-is (statementAt s at) (statement-refused s at)
+
 revision-is : (s : List ℕ) (at : ℕ) → DueIs M (afterRevision s at)
-unfolding afterRevision pastStatement isOne
-revision-is s at = by-test (eqb (look s at) 123) (λ t. rw t tt) (λ t. rw t (byte-is 7 refl s at 59))
+unfolding afterRevision isOne
+revision-is s at = by-test (eqb (look s at) 123) (λ t. rw t (past-statement-is s at)) (λ t. rw t (byte-is 7 refl s at 59))
 
 rest-is : (s : List ℕ) (at k : ℕ) → (eqb k 3 ≡ false → isOne k (1 ∷ 2 ∷ 4 ∷ 5 ∷ 6 ∷ 7 ∷ []) ≡ true) → DueIs M (afterValue s at k)
-unfolding afterValue pastStatement
+unfolding afterValue
 rest-is s at k h =
-    by-test (eqb k 3) (λ t. rw t tt)
+    by-test (eqb k 3) (λ t. rw t (past-statement-is s at))
     (λ t. rw t (by-test (eqb k 7) (λ v. rw v (revision-is s (gapEnd s at))) (λ v. rw v (byte-is k (h t) s at (dueFor k)))))
 
 -- ---- a statement
@@ -82,11 +98,16 @@ module _ (s : List ℕ) (k : ℕ) (after : eqb k 3 ≡ false → isOne k (1 ∷ 
   with-is u (Read c n) h = kept-is k u n (afterValue s (c .at) k) (rest-is s (c .at) k after)
   with-is u (NoArgument r) h = h
 
+  skipped-is : (x : Skipped) → ((r : Refusal) → x ≡ NoSkip r → ⊥) → HeardIs (afterSkipped s k x)
+  unfolding afterSkipped
+  skipped-is (Past c h) n = passed-is (afterValue s (c .at) k) (rest-is s (c .at) k after)
+  skipped-is (NoSkip r) n = absurd (n r refl)
+
   statement-is : (eqb k 6 ≡ false → isOne k (1 ∷ 2 ∷ 3 ∷ 4 ∷ 5 ∷ 7 ∷ []) ≡ true) → (at u : ℕ) (p : Bool) → HeardIs (statementSaid s at k u p .answer)
-  unfolding statementSaid fieldAt pastStatement passed isOne
+  unfolding statementSaid fieldAt isOne
   statement-is own at u p =
-      by-test (eqb k 6) (λ t. rw t (passed-is (afterValue s (placeOf (valueAt s at)) k) (rest-is s (placeOf (valueAt s at)) k after)))
-      (λ t. rw t (by-test (laterPrefix k p) (λ v. rw v tt)
+      by-test (eqb k 6) (λ t. rw t (skipped-is (skippedAt s at) (skipped-refused s at)))
+      (λ t. rw t (by-test (laterPrefix k p) (λ v. rw v (passed-is (pastStatement s at) (past-statement-is s at)))
       (λ v. rw v (with-is u (argumentAt s at u k) (value-is M k (λ e. no-value (of (4 ∷ []) (1 ∷ 2 ∷ 3 ∷ 4 ∷ 5 ∷ 7 ∷ []) 4 k e refl (own t))) s at u)))))
 
 -- ---- which statement it is
@@ -103,7 +124,7 @@ module _ (s : List ℕ) (at u : ℕ) (p : Bool) where
   last-is : (m : Match) → TagIs (lastTag m)
   unfolding lastTag tagSaid
   last-is (Matched c) = tt
-  last-is Unmatched = tt
+  last-is Unmatched = passed-is (pastOf (tokenAt s at)) (past-is (tokenAt s at) (token-refused s at))
 
   tag-is : TagIs (tagAt s at)
   unfolding tagAt tagSaid isOne

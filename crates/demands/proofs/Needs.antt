@@ -26,11 +26,11 @@ use Rattle.text.specs.Turns.{turns}
 use Rattle.text_value.specs.Argument.{argumentOf, argumentAt, afterDue}
 use Rattle.text_value.specs.Value.{isQuote, startsName, addedBy, afterPlus, joinedWith, joined as joinedValue, ofString, valueHere, valueAt, valueBytes}
 use Rattle.text_skip.specs.Skip.{closedToken, tokenHere}
-use Rattle.text_skip.specs.Statement.{statementAt, endedAt}
+use Rattle.text_skip.specs.Statement.{statementAt}
 use Rattle.text_lent.specs.Lent.{lentAt}
-use Rattle.scan_imports.specs.Block.{orRevision, orPrefix}
+use Rattle.scan_imports.specs.Block.{orLine}
 use Rattle.scan_imports.specs.Statement.{plainOf, blockOf, openOrPlain, afterValue, includeAt}
-use Rattle.yangparser.specs.Dependencies.{joined, importStep, includeStep, unlessFull, importHere, includeHere, movedTo, headStep, stepHere, stepAt, afterStep, scanTurn, scanFrom, scanned, ifFit, dependencies}
+use Rattle.yangparser.specs.Dependencies.{joined, importStep, includeStep, unlessFull, importHere, includeHere, movedTo, afterToken, headStep, stepHere, stepAt, afterStep, scanTurn, scanFrom, scanned, ifFit, dependencies}
 use Rattle.yangparser.specs.Head.{lastAt, orHead, headAt}
 use Rattle.library_form.specs.Form.{Ans, good, bad, groups, numberAt, many, printableAt, nameBody, nameAt}
 use Rattle.library_index.specs.Names.{among, addAll, newName}
@@ -97,7 +97,7 @@ record Computed : Type 0 where
   t-names : names tFirst (graphed passOver tFirst alone lent) ≡ with-t
 
 computed : Computed
-unfolding with-s with-t graphed tooShort wordsAt numberOf graphOf walkFrom run addBy memE textSteps nodesBy addGroups addAll among textOf scanText importNames includeNames valueIn longestText longestOf lookUp bundleAt textsAt filedAt bodyAt libraryOf imageAt libraryAt setAt importOnlyAt moduleAt counted countAt newName nameAt nameBody printableAt many numberAt groups modulesOf importOnlyOf submodulesOf flatMap joined importStep includeStep unlessFull importHere includeHere movedTo headStep stepHere stepAt afterStep scanTurn scanFrom scanned lentAt ifFit dependencies orMatch lastAt orHead headAt orRevision orPrefix plainOf blockOf openOrPlain afterValue includeAt argumentOf argumentAt afterDue isQuote startsName addedBy afterPlus joinedWith joinedValue ofString valueHere valueAt valueBytes closedToken tokenHere statementAt endedAt dueNumber dueHere dueAt startsIdent endsKeyword same part keywordAt matchAt gapEnd gapTurn afterWhite commentEnd blockEnd closing pairAt runEnd span inRun inIdent classOf turns
+unfolding with-s with-t graphed tooShort wordsAt numberOf graphOf walkFrom run addBy memE textSteps nodesBy addGroups addAll among textOf scanText importNames includeNames valueIn longestText longestOf lookUp bundleAt textsAt filedAt bodyAt libraryOf imageAt libraryAt setAt importOnlyAt moduleAt counted countAt newName nameAt nameBody printableAt many numberAt groups modulesOf importOnlyOf submodulesOf flatMap joined importStep includeStep unlessFull importHere includeHere movedTo afterToken headStep stepHere stepAt afterStep scanTurn scanFrom scanned lentAt ifFit dependencies orMatch lastAt orHead headAt orLine plainOf blockOf openOrPlain afterValue includeAt argumentOf argumentAt afterDue isQuote startsName addedBy afterPlus joinedWith joinedValue ofString valueHere valueAt valueBytes closedToken tokenHere statementAt dueNumber dueHere dueAt startsIdent endsKeyword same part keywordAt matchAt gapEnd gapTurn afterWhite commentEnd blockEnd closing pairAt runEnd span inRun inIdent classOf turns
 computed = record { empty = refl; full = refl; s-first = refl; s-names = refl; t-names = refl }
 
 both-ways : {r : Graphed} {n m number entry place : ℕ} {a : Refusal} → r ≡ Built n m → r ≡ Refused number entry a place → ⊥

@@ -11,10 +11,14 @@ use lib.ListN.{length}
 use borrow.Author.Tests.{eqb-true, eq-eqb, ltb-true, ltb-false}
 use Rattle.text.specs.Bytes.{look}
 use Rattle.text.specs.Due.{dueNumber, dueHere, dueAt}
+use Rattle.text.specs.Keyword.{matchAt}
 use Rattle.text.specs.Scan.{gapEnd, runEnd}
 use Rattle.text.specs.Turns.{Turn, stop, on, after, turns}
+use Rattle.text.specs.Words.{prefixWord, revisionDateWord}
 use Rattle.text.specs.declared.Due.{Due}
 use Rattle.text.specs.declared.Due.the-variants.{After, Not}
+use Rattle.text.specs.declared.Match.{Match}
+use Rattle.text.specs.declared.Match.the-variants.{After as Matched, Not as Unmatched}
 use Rattle.text.specs.declared.Refusal.{Refusal}
 use Rattle.text.specs.declared.Run.the-variants.{Low}
 use Rattle.text.proofs.Here.{by-test}
@@ -23,13 +27,19 @@ use Rattle.text_value.specs.Argument.{argumentOf, argumentAt, afterDue, afterAr
 use Rattle.text_value.specs.Value.{Val, value, none, valueAt}
 use Rattle.text_value.specs.declared.Argument.{Argument}
 use Rattle.text_value.specs.declared.Argument.the-variants.{Read, Refused as NoArgument}
+use Rattle.text_skip.specs.Skip.{tokenAt}
+use Rattle.text_skip.specs.Statement.{statementAt}
+use Rattle.text_skip.specs.declared.Skipped.{Skipped}
+use Rattle.text_skip.specs.declared.Skipped.the-variants.{Past, Refused as NoSkip}
+use Rattle.text_skip.proofs.SkipLaws.{token-refused}
+use Rattle.text_skip.proofs.StatementLaws.{statement-refused}
 use Rattle.text_lent.specs.Lent.{lentAt}
 use Rattle.text_lent.proofs.LentLaws.{lent-long, lent-short, lent-high, lent-fit}
 use Rattle.text_lent.specs.declared.Lent.{Lent}
 use Rattle.text_lent.specs.declared.Lent.the-variants.{Fit, Unfit}
 use Rattle.scan_rows.specs.declared.Span.{Span}
 use Rattle.scan_imports.specs.Left.{Left, nothing}
-use Rattle.scan_imports.specs.Block.{lineKind, withPrefix, withRevision, afterKind, insideHere, insideAt, afterInside, blockTurn, blockFrom, begun, blockAt}
+use Rattle.scan_imports.specs.Block.{orLine, revisionLine, lineKind, withValue, withSkipped, afterKind, insideHere, insideAt, afterInside, blockTurn, blockFrom, begun, blockAt}
 use Rattle.scan_imports.specs.Statement.{ofBody, importOf, withName, afterName, importAt, includeOf, plainOf, blockOf, openOrPlain, afterValue, includeAt}
 use Rattle.scan_imports.specs.declared.Block.{Block}
 use Rattle.scan_imports.specs.declared.Block.the-variants.{Whole, Broken}
@@ -37,14 +47,14 @@ use Rattle.scan_imports.specs.declared.Body.{Body}
 use Rattle.scan_imports.specs.declared.Inside.{Inside}
 use Rattle.scan_imports.specs.declared.Inside.the-variants.{On as OnInside, Closed, Refused as RefusedInside}
 use Rattle.scan_imports.specs.declared.Line.{Line}
-use Rattle.scan_imports.specs.declared.Line.the-variants.{Prefix, Revision, Other as OtherLine}
+use Rattle.scan_imports.specs.declared.Line.the-variants.{Value as ValueLine, Other as OtherLine}
 use Rattle.scan_imports.specs.declared.ParsedImport.{ParsedImport}
 use Rattle.scan_imports.specs.declared.ParsedImport.the-variants.{Import as ReadImport, NoImport}
 use Rattle.scan_imports.specs.declared.ParsedInclude.{ParsedInclude}
 use Rattle.scan_imports.specs.declared.ParsedInclude.the-variants.{Include as ReadInclude, NoInclude}
 use Rattle.scan_imports.proofs.BlockLaws.{block-falls}
 use Rattle.yangparser.specs.Dependencies as Deps
-use Rattle.yangparser.specs.Dependencies.{Step, importStep, includeStep, unlessFull, importHere, includeHere, headStep, stepHere, stepAt, afterStep, scanTurn}
+use Rattle.yangparser.specs.Dependencies.{Step, importStep, includeStep, unlessFull, importHere, includeHere, afterToken, headStep, stepHere, stepAt, afterStep, scanTurn}
 use Rattle.yangparser.specs.Head.{headAt}
 use Rattle.yangparser.specs.declared.Next.{Next}
 use Rattle.yangparser.specs.declared.Next.the-variants.{On, Done, Stop}
@@ -148,28 +158,43 @@ BlockIs (Whole b) = Unit {0}
 BlockIs (Broken r) = D r
 
 module _ (s : List ℕ) (k : ℕ) (own : isOne k (8 ∷ 9 ∷ []) ≡ true) where
-  prefix-is : (b : Body) (a : Argument) → ArgumentIs D a → InsideIs (withPrefix b a)
-  unfolding withPrefix
-  prefix-is b (Read c n) h = tt
-  prefix-is b (NoArgument r) h = h
+  with-value-is : (b : Body) (j : ℕ) (a : Argument) → ArgumentIs D a → InsideIs (withValue b j a)
+  unfolding withValue
+  with-value-is b j (Read c n) h = tt
+  with-value-is b j (NoArgument r) h = h
 
-  revision-is : (b : Body) (a : Argument) → ArgumentIs D a → InsideIs (withRevision b a)
-  unfolding withRevision
-  revision-is b (Read c n) h = tt
-  revision-is b (NoArgument r) h = h
+  -- no statement that is skipped is refused
+  with-skipped-is : (b : Body) (x : Skipped) → ((r : Refusal) → x ≡ NoSkip r → ⊥) → InsideIs (withSkipped b x)
+  unfolding withSkipped
+  with-skipped-is b (Past c h) n = tt
+  with-skipped-is b (NoSkip r) n = absurd (n r refl)
 
-  kind-is : (at : ℕ) (b : Body) (x : Line) → InsideIs (afterKind s at b x .answer)
-  unfolding afterKind isOne
-  kind-is at b (Prefix c) = prefix-is b (lineAt s (c .at) (b .used) 5 59) (D-line 5 refl s (c .at) (b .used) 59)
-  kind-is at b (Revision c) = revision-is b (lineAt s (c .at) (b .used) 10 59) (D-line 10 refl s (c .at) (b .used) 59)
-  kind-is at b OtherLine = tt
+  abbrev LineIs : Line → Type 0
+  LineIs (ValueLine j c) = isOne j (5 ∷ 8 ∷ 9 ∷ 10 ∷ []) ≡ true
+  LineIs OtherLine = Unit {0}
+
+  or-line-is : (j : ℕ) → isOne j (5 ∷ 8 ∷ 9 ∷ 10 ∷ []) ≡ true → (m : Match) (l : Line) → LineIs l → LineIs (orLine j m l)
+  unfolding orLine
+  or-line-is j h (Matched c) l i = h
+  or-line-is j h Unmatched l i = i
+
+  line-kind-is : (at : ℕ) → LineIs (lineKind s at k)
+  unfolding lineKind isOne
+  line-kind-is at =
+      let revision = or-line-is 10 refl (matchAt s at revisionDateWord) OtherLine tt in
+      by-test (eqb k 8) (λ t. rw t (or-line-is 5 refl (matchAt s at prefixWord) (revisionLine s at) revision)) (λ t. rw t revision)
+
+  kind-is : (at : ℕ) (b : Body) (x : Line) → LineIs x → InsideIs (afterKind s at b x .answer)
+  unfolding afterKind
+  kind-is at b (ValueLine j c) h = with-value-is b j (lineAt s (c .at) (b .used) j 59) (D-line j h s (c .at) (b .used) 59)
+  kind-is at b OtherLine h = with-skipped-is b (statementAt s at) (statement-refused s at)
 
   inside-is : (b : Body) → InsideIs (insideAt s k b .answer)
   unfolding insideAt insideHere isOne
   inside-is b =
       let g = gapEnd s (b .at) in
       by-test (eqb (look s g) 256) (λ t. rw t (block-or-rows (of (8 ∷ 10 ∷ []) (8 ∷ 9 ∷ []) 8 k g refl own)))
-      (λ t. rw t (by-test (eqb (look s g) 125) (λ v. rw v tt) (λ v. rw v (kind-is g b (lineKind s g k)))))
+      (λ t. rw t (by-test (eqb (look s g) 125) (λ v. rw v tt) (λ v. rw v (kind-is g b (lineKind s g k) (line-kind-is g)))))
 
   stop-is : (bs : List ℕ) (i : Inside) (r : Left Block) → InsideIs i → afterInside bs i ≡ stop r → BlockIs (r .answer)
   unfolding afterInside
@@ -258,6 +283,11 @@ unfolding includeStep
 include-step-is far bs (ReadInclude c n i) h = tt
 include-step-is far bs (NoInclude r) h = h
 
+token-is : (far : Sofar) (x : Skipped) → ((r : Refusal) → x ≡ NoSkip r → ⊥) → NextIs (afterToken far x)
+unfolding afterToken
+token-is far (Past c h) n = tt
+token-is far (NoSkip r) n = absurd (n r refl)
+
 head-is : (s : List ℕ) (far : Sofar) (at : ℕ) (w : Head) → NextIs (headStep s far at w .answer)
 unfolding headStep importHere includeHere isOne
 head-is s far at (Import c) =
@@ -265,7 +295,7 @@ head-is s far at (Import c) =
 head-is s far at (Include c) =
     full-is (far .includes) 9 (c .at) _ refl (include-step-is far _ (includeAt s (c .at) (far .used) .answer) (include-is s (c .at) (far .used)))
 head-is s far at (Last c) = tt
-head-is s far at Other = tt
+head-is s far at Other = token-is far (tokenAt s at) (token-refused s at)
 
 step-is : (s : List ℕ) (far : Sofar) → NextIs (stepAt s far .answer)
 unfolding stepAt stepHere

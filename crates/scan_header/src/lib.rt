@@ -40,7 +40,8 @@ pub fn hear(
     prefixed: bool,
 ) -> Heard
     requires { ⌜ (now classes ≡ classTable) × (used + (length (now s) - from .at) ≤ length (now store)) ⌝ }
-    ensures { λ r. ⌜ (r ≡ saidAt (now (s .entry)) (from .at) used prefixed .answer) × (now (store .exit) ≡ sets (now (store .entry)) used (saidAt (now (s .entry)) (from .at) used prefixed .bytes)) ⌝ }
+    ensures { λ r. ⌜ (r ≡ saidAt (now (s .entry)) (from .at) used prefixed .answer)
+        × (now (store .exit) ≡ sets (now (store .entry)) used (saidAt (now (s .entry)) (from .at) used prefixed .bytes)) ⌝ }
 {
     let here = from.skip_whitespace_and_comments(classes, s);
     let at = here.at;
@@ -77,7 +78,8 @@ fn read_statement(
     prefixed: bool,
 ) -> Heard
     requires { ⌜ (now classes ≡ classTable) × (used + (length (now s) - here .at) ≤ length (now store)) ⌝ }
-    ensures { λ r. ⌜ (r ≡ statementSaid (now (s .entry)) (here .at) keyword used prefixed .answer) × (now (store .exit) ≡ sets (now (store .entry)) used (statementSaid (now (s .entry)) (here .at) keyword used prefixed .bytes)) ⌝ }
+    ensures { λ r. ⌜ (r ≡ statementSaid (now (s .entry)) (here .at) keyword used prefixed .answer)
+        × (now (store .exit) ≡ sets (now (store .entry)) used (statementSaid (now (s .entry)) (here .at) keyword used prefixed .bytes)) ⌝ }
 {
     if keyword == text::YANG_VERSION {
         return skip_field(here, classes, s, keyword);
@@ -120,7 +122,8 @@ fn read_field(
     keyword: u32,
 ) -> Heard
     requires { ⌜ (now classes ≡ classTable) × (used + (length (now s) - here .at) ≤ length (now store)) ⌝ }
-    ensures { λ r. ⌜ (r ≡ fieldAt (now (s .entry)) (here .at) keyword used .answer) × (now (store .exit) ≡ sets (now (store .entry)) used (fieldAt (now (s .entry)) (here .at) keyword used .bytes)) ⌝ }
+    ensures { λ r. ⌜ (r ≡ fieldAt (now (s .entry)) (here .at) keyword used .answer)
+        × (now (store .exit) ≡ sets (now (store .entry)) used (fieldAt (now (s .entry)) (here .at) keyword used .bytes)) ⌝ }
 {
     let got = text_value::read_value(here, classes, s, store, used, keyword);
     let Argument::Read { next, used: n } = got else {

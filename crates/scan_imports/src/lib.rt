@@ -47,7 +47,8 @@ pub fn parse_import(
     used: usize,
 ) -> ParsedImport
     requires { ⌜ (now classes ≡ classTable) × (used + (length (now s) - here .at) ≤ length (now store)) ⌝ }
-    ensures { λ r. ⌜ (r ≡ importAt (now (s .entry)) (here .at) used .answer) × (now (store .exit) ≡ sets (now (store .entry)) used (importAt (now (s .entry)) (here .at) used .bytes)) ⌝ }
+    ensures { λ r. ⌜ (r ≡ importAt (now (s .entry)) (here .at) used .answer)
+        × (now (store .exit) ≡ sets (now (store .entry)) used (importAt (now (s .entry)) (here .at) used .bytes)) ⌝ }
 {
     let name = text_value::read_argument(
         here,
@@ -113,7 +114,8 @@ pub fn parse_include(
     used: usize,
 ) -> ParsedInclude
     requires { ⌜ (now classes ≡ classTable) × (used + (length (now s) - here .at) ≤ length (now store)) ⌝ }
-    ensures { λ r. ⌜ (r ≡ includeAt (now (s .entry)) (here .at) used .answer) × (now (store .exit) ≡ sets (now (store .entry)) used (includeAt (now (s .entry)) (here .at) used .bytes)) ⌝ }
+    ensures { λ r. ⌜ (r ≡ includeAt (now (s .entry)) (here .at) used .answer)
+        × (now (store .exit) ≡ sets (now (store .entry)) used (includeAt (now (s .entry)) (here .at) used .bytes)) ⌝ }
 {
     let name = text_value::read_value(here, classes, s, store, used, text::INCLUDE);
     let Argument::Read { next, used: n } = name else {
@@ -151,7 +153,8 @@ fn include_block(
     used: usize,
 ) -> ParsedInclude
     requires { ⌜ (now classes ≡ classTable) × (used + (length (now s) - here .at) ≤ length (now store)) ⌝ }
-    ensures { λ r. ⌜ (r ≡ includeOf name (blockAt (now (s .entry)) (here .at) used includeKeyword .answer)) × (now (store .exit) ≡ sets (now (store .entry)) used (blockAt (now (s .entry)) (here .at) used includeKeyword .bytes)) ⌝ }
+    ensures { λ r. ⌜ (r ≡ includeOf name (blockAt (now (s .entry)) (here .at) used includeKeyword .answer))
+        × (now (store .exit) ≡ sets (now (store .entry)) used (blockAt (now (s .entry)) (here .at) used includeKeyword .bytes)) ⌝ }
 {
     let block = parse_block(here, classes, s, store, used, text::INCLUDE);
     let Block::Whole(body) = block else {
@@ -220,7 +223,8 @@ fn parse_block(
     keyword: u32,
 ) -> Block
     requires { ⌜ (now classes ≡ classTable) × (used + (length (now s) - here .at) ≤ length (now store)) ⌝ }
-    ensures { λ r. ⌜ (r ≡ blockAt (now (s .entry)) (here .at) used keyword .answer) × (now (store .exit) ≡ sets (now (store .entry)) used (blockAt (now (s .entry)) (here .at) used keyword .bytes)) ⌝ }
+    ensures { λ r. ⌜ (r ≡ blockAt (now (s .entry)) (here .at) used keyword .answer)
+        × (now (store .exit) ≡ sets (now (store .entry)) used (blockAt (now (s .entry)) (here .at) used keyword .bytes)) ⌝ }
 {
     let mut body = begun(here, used);
     loop {
@@ -258,7 +262,8 @@ pub enum Inside {
 // Reads or skips the statement of a block that stands after a gap, or its closing brace.
 fn parse_inside(body: Body, classes: &[u8; 128], s: &[u8], store: &mut [u8], keyword: u32) -> Inside
     requires { ⌜ (now classes ≡ classTable) × (body .used + (length (now s) - body .at) ≤ length (now store)) ⌝ }
-    ensures { λ r. ⌜ (r ≡ insideAt (now (s .entry)) keyword body .answer) × (now (store .exit) ≡ sets (now (store .entry)) (body .used) (insideAt (now (s .entry)) keyword body .bytes)) ⌝ }
+    ensures { λ r. ⌜ (r ≡ insideAt (now (s .entry)) keyword body .answer)
+        × (now (store .exit) ≡ sets (now (store .entry)) (body .used) (insideAt (now (s .entry)) keyword body .bytes)) ⌝ }
 {
     let from = Cursor { at: body.at };
     let here = from.skip_whitespace_and_comments(classes, s);

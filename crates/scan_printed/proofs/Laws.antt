@@ -5,9 +5,8 @@ use mathlib.Core.Bool.{true, false}
 use mathlib.Core.List.{List, [], _∷_, _++_, flatten}
 use Prim.Native.Nat.{ℕ, _+_, _-_, _/_, _%_, _<_, _≤_, suc}
 use native.Mathlib.Omega.{arith}
-use native.Mathlib.Numerals.{add-one}
-use lib.ListN.{length, getD, set, drop, drop-of-length-le}
-use lib.Seq.{sets, drop-cons}
+use lib.ListN.{length, set, drop, drop-of-length-le}
+use lib.Seq.{sets}
 use borrow.Author.Tests.{lt-ltb, le-ltb}
 use Rattle.scan_rows.specs.Span.{valueIn}
 use Rattle.scan_rows.specs.Rows.{importSize, includeSize, importAt, includeAt, importsIn, includesIn}
@@ -23,9 +22,6 @@ use Rattle.scan_printed.proofs.Going.{Going, begin, begin-two, linesFro
 -- the bytes of a list from a place on
 pub bytes-past : (s : List ℕ) (i : ℕ) → length s ≤ i → drop i s ≡ []
 bytes-past s i h = drop-of-length-le s h
-
-pub bytes-more : (s : List ℕ) (i : ℕ) → i < length s → drop i s ≡ getD s i 0 ∷ drop (i + 1) s
-bytes-more s i h = rw (add-one, drop-cons s i 0 h)
 
 -- ---- a count
 

@@ -57,7 +57,8 @@ pub fn read_value(
     keyword: u32,
 ) -> Argument
     requires { ⌜ (now classes ≡ classTable) × (used + (length (now s) - here .at) ≤ length (now store)) ⌝ }
-    ensures { λ r. ⌜ (r ≡ argumentAt (now (s .entry)) (here .at) used keyword) × (now (store .exit) ≡ sets (now (store .entry)) used (valueBytes (valueAt (now (s .entry)) (here .at)))) ⌝ }
+    ensures { λ r. ⌜ (r ≡ argumentAt (now (s .entry)) (here .at) used keyword)
+        × (now (store .exit) ≡ sets (now (store .entry)) used (valueBytes (valueAt (now (s .entry)) (here .at)))) ⌝ }
 {
     let got = read_string_or_identifier(here, classes, s, store, used);
     let Value::Read { next, used: n } = got else {
@@ -83,7 +84,8 @@ pub fn read_argument(
     b: u16,
 ) -> Argument
     requires { ⌜ (now classes ≡ classTable) × (used + (length (now s) - here .at) ≤ length (now store)) × (b < theEnd) ⌝ }
-    ensures { λ r. ⌜ (r ≡ lineAt (now (s .entry)) (here .at) used keyword b) × (now (store .exit) ≡ sets (now (store .entry)) used (valueBytes (valueAt (now (s .entry)) (here .at)))) ⌝ }
+    ensures { λ r. ⌜ (r ≡ lineAt (now (s .entry)) (here .at) used keyword b)
+        × (now (store .exit) ≡ sets (now (store .entry)) used (valueBytes (valueAt (now (s .entry)) (here .at)))) ⌝ }
 {
     let got = read_value(here, classes, s, store, used, keyword);
     let Argument::Read { next, used: n } = got else {
@@ -105,7 +107,8 @@ fn read_identifier(
     used: usize,
 ) -> Value
     requires { ⌜ (now classes ≡ classTable) × (used + (length (now s) - here .at) ≤ length (now store)) ⌝ }
-    ensures { λ r. ⌜ (r ≡ valueAnswer used (nameAt (now (s .entry)) (here .at))) × (now (store .exit) ≡ sets (now (store .entry)) used (valueBytes (nameAt (now (s .entry)) (here .at)))) ⌝ }
+    ensures { λ r. ⌜ (r ≡ valueAnswer used (nameAt (now (s .entry)) (here .at)))
+        × (now (store .exit) ≡ sets (now (store .entry)) used (valueBytes (nameAt (now (s .entry)) (here .at)))) ⌝ }
 {
     let at = here.at;
     if starts_name(classes, text::peek_char(s, at)) {
@@ -140,7 +143,8 @@ pub fn starts_name(classes: &[u8; 128], b: u16) -> bool
 // Stores the bytes from a place up to another, from the store's place `used` on, and answers the place after them.
 fn copy_part(s: &[u8], at: usize, end: usize, store: &mut [u8], used: usize) -> usize
     requires { ⌜ (at ≤ end) × (end ≤ length (now s)) × (used + (end - at) ≤ length (now store)) ⌝ }
-    ensures { λ r. ⌜ (r ≡ used + length (part (now (s .entry)) at end)) × (now (store .exit) ≡ sets (now (store .entry)) used (part (now (s .entry)) at end)) ⌝ }
+    ensures { λ r. ⌜ (r ≡ used + length (part (now (s .entry)) at end))
+        × (now (store .exit) ≡ sets (now (store .entry)) used (part (now (s .entry)) at end)) ⌝ }
 {
     let mut i = at;
     let mut n = used;
@@ -161,7 +165,8 @@ pub fn read_string_or_identifier(
     used: usize,
 ) -> Value
     requires { ⌜ (now classes ≡ classTable) × (used + (length (now s) - here .at) ≤ length (now store)) ⌝ }
-    ensures { λ r. ⌜ (r ≡ valueAnswer used (valueAt (now (s .entry)) (here .at))) × (now (store .exit) ≡ sets (now (store .entry)) used (valueBytes (valueAt (now (s .entry)) (here .at)))) ⌝ }
+    ensures { λ r. ⌜ (r ≡ valueAnswer used (valueAt (now (s .entry)) (here .at)))
+        × (now (store .exit) ≡ sets (now (store .entry)) used (valueBytes (valueAt (now (s .entry)) (here .at)))) ⌝ }
 {
     let first = here.skip_whitespace_and_comments(classes, s);
     let at = first.at;
@@ -204,7 +209,8 @@ pub fn read_parts(
     used: usize,
 ) -> Joined
     requires { ⌜ (now classes ≡ classTable) × (used + (length (now s) - here .at) ≤ length (now store)) ⌝ }
-    ensures { λ r. ⌜ (r ≡ joinAnswer used (joined (now (s .entry)) (here .at))) × (now (store .exit) ≡ sets (now (store .entry)) used (joined (now (s .entry)) (here .at) .bytes)) ⌝ }
+    ensures { λ r. ⌜ (r ≡ joinAnswer used (joined (now (s .entry)) (here .at)))
+        × (now (store .exit) ≡ sets (now (store .entry)) used (joined (now (s .entry)) (here .at) .bytes)) ⌝ }
 {
     let mut at = here.at;
     let mut n = used;
@@ -242,7 +248,8 @@ pub fn read_part(
     used: usize,
 ) -> Addition
     requires { ⌜ (now classes ≡ classTable) × (used + (length (now s) - here .at) ≤ length (now store)) ⌝ }
-    ensures { λ r. ⌜ (r ≡ moreAnswer used (moreAt (now (s .entry)) (here .at))) × (now (store .exit) ≡ sets (now (store .entry)) used (moreBytes (moreAt (now (s .entry)) (here .at)))) ⌝ }
+    ensures { λ r. ⌜ (r ≡ moreAnswer used (moreAt (now (s .entry)) (here .at)))
+        × (now (store .exit) ≡ sets (now (store .entry)) used (moreBytes (moreAt (now (s .entry)) (here .at)))) ⌝ }
 {
     let plus = here.skip_whitespace_and_comments(classes, s);
     let p = plus.at;
@@ -272,7 +279,8 @@ pub enum Quoted {
 // its read_single_quoted_string: one loop over the kind of quote.
 pub fn read_quoted_string(here: Cursor, s: &[u8], store: &mut [u8], used: usize) -> Quoted
     requires { ⌜ used + (length (now s) - here .at) ≤ length (now store) ⌝ }
-    ensures { λ r. ⌜ (r ≡ answerOf used (strAt (now (s .entry)) (here .at))) × (now (store .exit) ≡ sets (now (store .entry)) used (bytesOf (strAt (now (s .entry)) (here .at)))) ⌝ }
+    ensures { λ r. ⌜ (r ≡ answerOf used (strAt (now (s .entry)) (here .at)))
+        × (now (store .exit) ≡ sets (now (store .entry)) used (bytesOf (strAt (now (s .entry)) (here .at)))) ⌝ }
 {
     let at = here.at;
     if at < s.len() {
@@ -356,7 +364,8 @@ pub fn close_of(s: &[u8], at: usize, q: u8) -> Close
 // them.
 fn copy_string(s: &[u8], at: usize, q: u8, store: &mut [u8], used: usize) -> usize
     requires { ⌜ used + (length (now s) - at) ≤ length (now store) ⌝ }
-    ensures { λ r. ⌜ (r ≡ used + length (strBytes q false (drop at (now (s .entry))))) × (now (store .exit) ≡ sets (now (store .entry)) used (strBytes q false (drop at (now (s .entry))))) ⌝ }
+    ensures { λ r. ⌜ (r ≡ used + length (strBytes q false (drop at (now (s .entry)))))
+        × (now (store .exit) ≡ sets (now (store .entry)) used (strBytes q false (drop at (now (s .entry))))) ⌝ }
 {
     let mut i = at;
     let mut esc = false;

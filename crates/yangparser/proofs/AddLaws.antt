@@ -64,14 +64,15 @@ module _ (s : List ℕ) (far : Sofar) (at : ℕ) (d t : List ℕ) where
   -- x: what reading it answered, e: the store then
   module _ (h : far .imports < mostRows) {x : ParsedImport} {e : List ℕ} (xe : x ≡ importAt s at (far .used) .answer)
       (ee : e ≡ sets d (far .used) (importAt s at (far .used) .bytes)) where
-    import-room-for : {y : ParsedImport} → x ≡ y → {r : Next} {f : List ℕ} → Adds importWordsOf (import-read y) (far .used) (far .imports * importSize) d t r e f
-        → AddsImport s far at d t r e f
+    import-room-for : {y : ParsedImport} → x ≡ y → {r : Next} {f : List ℕ}
+        → Adds importWordsOf (import-read y) (far .used) (far .imports * importSize) d t r e f → AddsImport s far at d t r e f
     unfolding importHere
     import-room-for q a =
         adds-room importWordsOf (far .imports) 8 at (import-read (importAt s at (far .used) .answer)) (far .used) (far .imports * importSize) h
         (ap import-read (sym xe ∙ q)) a
 
-    pub import-added : (c : Cursor) (n : ℕ) (i : YangImport) → x ≡ ReadImport c n i → {f : List ℕ} → f ≡ sets t (far .imports * importSize) (importWords i)
+    pub import-added : (c : Cursor) (n : ℕ) (i : YangImport) → x ≡ ReadImport c n i
+        → {f : List ℕ} → f ≡ sets t (far .imports * importSize) (importWords i)
         → AddsImport s far at d t (On (record { at = c .at; used = n; imports = far .imports + 1; includes = far .includes })) e f
     unfolding importStep importWordsOf importTable table importWords
     import-added c n i q fe = import-room-for q (record { answer = refl; stored = ee; written = fe })
@@ -100,7 +101,8 @@ module _ (s : List ℕ) (far : Sofar) (at : ℕ) (d t : List ℕ) where
         adds-room includeWordsOf (far .includes) 9 at (include-read (includeAt s at (far .used) .answer)) (far .used) (far .includes * includeSize) h
         (ap include-read (sym xe ∙ q)) a
 
-    pub include-added : (c : Cursor) (n : ℕ) (i : YangInclude) → x ≡ ReadInclude c n i → {f : List ℕ} → f ≡ sets t (far .includes * includeSize) (includeWords i)
+    pub include-added : (c : Cursor) (n : ℕ) (i : YangInclude) → x ≡ ReadInclude c n i
+        → {f : List ℕ} → f ≡ sets t (far .includes * includeSize) (includeWords i)
         → AddsInclude s far at d t (On (record { at = c .at; used = n; imports = far .imports; includes = far .includes + 1 })) e f
     unfolding includeStep includeWordsOf includeTable table includeWords
     include-added c n i q fe = include-room-for q (record { answer = refl; stored = ee; written = fe })

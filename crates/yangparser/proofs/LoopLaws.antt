@@ -82,10 +82,12 @@ module _ {s d t u : List ℕ} where
           record {
             stored = sets-twice d e e′ 0 (far .used) (x .bytes) (y .bytes) (h .stored) (omega (arith, c .used)) (w .stored);
             imports =
-                sets-twice t f f′ 0 (far .imports * importSize) (importWordsOf x) (importWordsOf y) (h .imports) (omega (arith, c .imports, import-words-count x)) (w .imports)
+                sets-twice t f f′ 0 (far .imports * importSize) (importWordsOf x) (importWordsOf y) (h .imports)
+                (omega (arith, c .imports, import-words-count x)) (w .imports)
                 ∙ ap (sets t 0) (import-words-joined x y);
             includes =
-                sets-twice u g g′ 0 (far .includes * includeSize) (includeWordsOf x) (includeWordsOf y) (h .includes) (omega (arith, c .includes, include-words-count x)) (w .includes)
+                sets-twice u g g′ 0 (far .includes * includeSize) (includeWordsOf x) (includeWordsOf y) (h .includes)
+                (omega (arith, c .includes, include-words-count x)) (w .includes)
                 ∙ ap (sets u 0) (include-words-joined x y);
           }
 

@@ -29,7 +29,8 @@ module _ (short : Bool) (text store imports includes : ℕ) where
       short-includes h = rw long (rw (le-ltb store text enough) (rw (le-ltb imports (mostRows * importSize) h) refl))
 
   -- nothing is too short
-  pub long-enough : tooShort short text store imports includes ≡ false → (text ≤ store) × (mostRows * importSize ≤ imports) × (mostRows * includeSize ≤ includes)
+  pub long-enough : tooShort short text store imports includes ≡ false
+      → (text ≤ store) × (mostRows * importSize ≤ imports) × (mostRows * includeSize ≤ includes)
   unfolding tooShort
   long-enough h =
       let p = neither (short || ltb store text || ltb imports (mostRows * importSize)) (ltb includes (mostRows * includeSize)) h in

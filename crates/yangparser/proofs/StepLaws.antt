@@ -103,13 +103,23 @@ module _ (s : List ℕ) (far : Sofar) {d t u : List ℕ} where
       unfolding headStep includeWordsOf includeTable table
       steps-import c q a =
           steps-is (step-head s far ge in-text we q)
-          (record { answer = a .answer; stored = a .stored; imports = a .written; includes = ap (λ l. sets u (far .includes * includeSize) (includeTable l)) (sym (import-only s far (c .at))) })
+          (record {
+            answer = a .answer;
+            stored = a .stored;
+            imports = a .written;
+            includes = ap (λ l. sets u (far .includes * includeSize) (includeTable l)) (sym (import-only s far (c .at)));
+          })
 
       pub steps-include : (c : Cursor) → w ≡ Include c → {r : Next} {e f : List ℕ} → AddsInclude s far (c .at) d u r e f → Steps (stepAt s far) far d t u r e t f
       unfolding headStep importWordsOf importTable table
       steps-include c q a =
           steps-is (step-head s far ge in-text we q)
-          (record { answer = a .answer; stored = a .stored; imports = ap (λ l. sets t (far .imports * importSize) (importTable l)) (sym (include-only s far (c .at))); includes = a .written })
+          (record {
+            answer = a .answer;
+            stored = a .stored;
+            includes = a .written;
+            imports = ap (λ l. sets t (far .imports * importSize) (importTable l)) (sym (include-only s far (c .at)));
+          })
 
       pub steps-last : (c : Cursor) → w ≡ Last c → Steps (stepAt s far) far d t u Done d t u
       unfolding headStep importWordsOf includeWordsOf importTable includeTable table
@@ -120,7 +130,8 @@ module _ (s : List ℕ) (far : Sofar) {d t u : List ℕ} where
       steps-token q e = steps-is (step-head s far ge in-text we q) (record { answer = e; stored = refl; imports = refl; includes = refl })
 
 -- room in the store behind the keyword
-module _ (s : List ℕ) (at used : ℕ) {g : ℕ} (ge : g ≡ gapEnd s at) {w : Head} (we : w ≡ headAt s g) (c : Cursor) (room : used + (length s - at) ≤ length s) where
+module _ (s : List ℕ) (at used : ℕ) {g : ℕ} (ge : g ≡ gapEnd s at) {w : Head} (we : w ≡ headAt s g) (c : Cursor)
+    (room : used + (length s - at) ≤ length s) where
   pub import-step-room : w ≡ Import c → used + (length s - c .at) ≤ length s
   import-step-room q = omega (arith, gap-from s at, head-import-far s g c (sym we ∙ q))
 

@@ -37,7 +37,8 @@ pub fn extract_yang_dependencies(
     imports: &mut [u32],
     includes: &mut [u32],
 ) -> Parsed
-    ensures { λ r. ⌜ Extracts (now (s .entry)) false (now (store .entry)) (now (imports .entry)) (now (includes .entry)) r (now (store .exit)) (now (imports .exit)) (now (includes .exit)) ⌝ }
+    ensures { λ r. ⌜ Extracts (now (s .entry)) false (now (store .entry)) (now (imports .entry)) (now (includes .entry)) r
+        (now (store .exit)) (now (imports .exit)) (now (includes .exit)) ⌝ }
 {
     scan_lent(s, false, store, imports, includes)
 }
@@ -50,7 +51,8 @@ pub fn scan_lent(
     imports: &mut [u32],
     includes: &mut [u32],
 ) -> Parsed
-    ensures { λ r. ⌜ Extracts (now (s .entry)) short (now (store .entry)) (now (imports .entry)) (now (includes .entry)) r (now (store .exit)) (now (imports .exit)) (now (includes .exit)) ⌝ }
+    ensures { λ r. ⌜ Extracts (now (s .entry)) short (now (store .entry)) (now (imports .entry)) (now (includes .entry)) r
+        (now (store .exit)) (now (imports .exit)) (now (includes .exit)) ⌝ }
 {
     text_lent::clear_bytes(store);
     text_lent::clear_words(imports);
@@ -79,7 +81,8 @@ pub fn scan_over(
     imports: &mut [u32],
     includes: &mut [u32],
 ) -> Parsed
-    ensures { λ r. ⌜ Scans (now (s .entry)) short (now (store .entry)) (now (imports .entry)) (now (includes .entry)) r (now (store .exit)) (now (imports .exit)) (now (includes .exit)) ⌝ }
+    ensures { λ r. ⌜ Scans (now (s .entry)) short (now (store .entry)) (now (imports .entry)) (now (includes .entry)) r
+        (now (store .exit)) (now (imports .exit)) (now (includes .exit)) ⌝ }
 {
     let classes = text::classes();
     let unfit = too_short(short, s.len(), store.len(), imports.len(), includes.len());
@@ -129,8 +132,10 @@ fn parse(
     imports: &mut [u32],
     includes: &mut [u32],
 ) -> Parsed
-    requires { ⌜ (now classes ≡ classTable) × (length (now s) ≤ length (now store)) × (length (now s) < 4294967296) × (mostRows * importSize ≤ length (now imports)) × (mostRows * includeSize ≤ length (now includes)) ⌝ }
-    ensures { λ r. ⌜ Parses (scanned (now (s .entry))) (now (store .entry)) (now (imports .entry)) (now (includes .entry)) r (now (store .exit)) (now (imports .exit)) (now (includes .exit)) ⌝ }
+    requires { ⌜ (now classes ≡ classTable) × (length (now s) ≤ length (now store)) × (length (now s) < 4294967296)
+        × (mostRows * importSize ≤ length (now imports)) × (mostRows * includeSize ≤ length (now includes)) ⌝ }
+    ensures { λ r. ⌜ Parses (scanned (now (s .entry))) (now (store .entry)) (now (imports .entry)) (now (includes .entry)) r
+        (now (store .exit)) (now (imports .exit)) (now (includes .exit)) ⌝ }
 {
     let mut far = Sofar {
         at: 0,
@@ -166,8 +171,11 @@ fn parse_next(
     imports: &mut [u32],
     includes: &mut [u32],
 ) -> Next
-    requires { ⌜ (now classes ≡ classTable) × (far .used + (length (now s) - far .at) ≤ length (now s)) × (length (now s) ≤ length (now store)) × (length (now s) < 4294967296) × (mostRows * importSize ≤ length (now imports)) × (mostRows * includeSize ≤ length (now includes)) ⌝ }
-    ensures { λ r. ⌜ Steps (stepAt (now (s .entry)) far) far (now (store .entry)) (now (imports .entry)) (now (includes .entry)) r (now (store .exit)) (now (imports .exit)) (now (includes .exit)) ⌝ }
+    requires { ⌜ (now classes ≡ classTable) × (far .used + (length (now s) - far .at) ≤ length (now s))
+        × (length (now s) ≤ length (now store)) × (length (now s) < 4294967296) × (mostRows * importSize ≤ length (now imports))
+        × (mostRows * includeSize ≤ length (now includes)) ⌝ }
+    ensures { λ r. ⌜ Steps (stepAt (now (s .entry)) far) far (now (store .entry)) (now (imports .entry)) (now (includes .entry)) r
+        (now (store .exit)) (now (imports .exit)) (now (includes .exit)) ⌝ }
 {
     let from = Cursor { at: far.at };
     let here = from.skip_whitespace_and_comments(classes, s);
@@ -272,8 +280,10 @@ fn add_import(
     store: &mut [u8],
     imports: &mut [u32],
 ) -> Next
-    requires { ⌜ (now classes ≡ classTable) × (far .used + (length (now s) - here .at) ≤ length (now s)) × (length (now s) ≤ length (now store)) × (length (now s) < 4294967296) × (mostRows * importSize ≤ length (now imports)) ⌝ }
-    ensures { λ r. ⌜ AddsImport (now (s .entry)) far (here .at) (now (store .entry)) (now (imports .entry)) r (now (store .exit)) (now (imports .exit)) ⌝ }
+    requires { ⌜ (now classes ≡ classTable) × (far .used + (length (now s) - here .at) ≤ length (now s))
+        × (length (now s) ≤ length (now store)) × (length (now s) < 4294967296) × (mostRows * importSize ≤ length (now imports)) ⌝ }
+    ensures { λ r. ⌜ AddsImport (now (s .entry)) far (here .at) (now (store .entry)) (now (imports .entry)) r
+        (now (store .exit)) (now (imports .exit)) ⌝ }
 {
     let rows = far.imports;
     if scan_rows::MOST_ROWS <= rows {
@@ -304,8 +314,10 @@ fn add_include(
     store: &mut [u8],
     includes: &mut [u32],
 ) -> Next
-    requires { ⌜ (now classes ≡ classTable) × (far .used + (length (now s) - here .at) ≤ length (now s)) × (length (now s) ≤ length (now store)) × (length (now s) < 4294967296) × (mostRows * includeSize ≤ length (now includes)) ⌝ }
-    ensures { λ r. ⌜ AddsInclude (now (s .entry)) far (here .at) (now (store .entry)) (now (includes .entry)) r (now (store .exit)) (now (includes .exit)) ⌝ }
+    requires { ⌜ (now classes ≡ classTable) × (far .used + (length (now s) - here .at) ≤ length (now s))
+        × (length (now s) ≤ length (now store)) × (length (now s) < 4294967296) × (mostRows * includeSize ≤ length (now includes)) ⌝ }
+    ensures { λ r. ⌜ AddsInclude (now (s .entry)) far (here .at) (now (store .entry)) (now (includes .entry)) r
+        (now (store .exit)) (now (includes .exit)) ⌝ }
 {
     let rows = far.includes;
     if scan_rows::MOST_ROWS <= rows {

@@ -20,7 +20,8 @@ read-statement-requires c κs =
     let a = start .args in
     let k = tag .tag .given in (
       start .pre .0,
-      statement-room (a .s .now) (a .from .at) (a .used) _ (gap .skip-whitespace-and-comments .ensures) (read .read-tag .ensures) (k .0 .0) (k .0 .1 .0) (k .1) (start .pre .1),
+      statement-room (a .s .now) (a .from .at) (a .used) _ (gap .skip-whitespace-and-comments .ensures) (read .read-tag .ensures) (k .0 .0)
+          (k .0 .1 .0) (k .1) (start .pre .1),
     )
 
 returns-2 : tie.Need-returns-2
@@ -30,7 +31,8 @@ returns-2 c =
     let gap = read .before .before in
     let a = gap .before .before .before .args in
     let k = tag .tag .given in
-    said-statement (a .s .now) (a .from .at) (a .used) (a .prefixed) (a .store .now) (gap .skip-whitespace-and-comments .ensures) (read .before .if1 .left) (read .read-tag .ensures) (k .0 .0) (k .0 .1 .0) (k .1) (c .before .before .read-statement .ensures)
+    said-statement (a .s .now) (a .from .at) (a .used) (a .prefixed) (a .store .now) (gap .skip-whitespace-and-comments .ensures)
+    (read .before .if1 .left) (read .read-tag .ensures) (k .0 .0) (k .0 .1 .0) (k .1) (c .before .before .read-statement .ensures)
 
 returns-3 : tie.Need-returns-3
 returns-3 c =
@@ -39,7 +41,8 @@ returns-3 c =
     let gap = read .before .before in
     let a = gap .before .before .before .args in
     let k = tag .tag2 .given in
-    said-last (a .s .now) (a .from .at) (a .used) (a .prefixed) (a .store .now) (gap .skip-whitespace-and-comments .ensures) (read .before .if1 .left) (read .read-tag .ensures) (k .0 .0) (k .1)
+    said-last (a .s .now) (a .from .at) (a .used) (a .prefixed) (a .store .now) (gap .skip-whitespace-and-comments .ensures)
+    (read .before .if1 .left) (read .read-tag .ensures) (k .0 .0) (k .1)
 
 returns-4 : tie.Need-returns-4
 returns-4 c =
@@ -47,7 +50,9 @@ returns-4 c =
     let read = told .before .before in
     let gap = read .before .before in
     let a = gap .before .before .before .args in
-    said-other (a .s .now) (a .from .at) (a .used) (a .prefixed) (a .store .now) (gap .skip-whitespace-and-comments .ensures) (read .before .if1 .left) (read .read-tag .ensures) (told .enum-told .given .1) (c .before .before .skip-one-token .ensures) (c .before .past .ensures) (c .passed .ensures)
+    said-other (a .s .now) (a .from .at) (a .used) (a .prefixed) (a .store .now) (gap .skip-whitespace-and-comments .ensures)
+    (read .before .if1 .left) (read .read-tag .ensures) (told .enum-told .given .1) (c .before .before .skip-one-token .ensures)
+    (c .before .past .ensures) (c .passed .ensures)
 
 pub hear-spec : {M : Type 1} → statement M
 hear-spec =

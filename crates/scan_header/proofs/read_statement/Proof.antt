@@ -16,14 +16,16 @@ returns-2 c =
     let later = c .before .before .before in
     let test = later .before in
     let a = test .before .before .before .args in
-    prefix-said (a .s .now) (a .here .at) (a .keyword) (a .used) (a .prefixed) (a .store .now) (test .if1 .left) (later .later-prefix .ensures) (c .before .before .if2 .taken) (c .before .past-statement .ensures) (c .passed .ensures)
+    prefix-said (a .s .now) (a .here .at) (a .keyword) (a .used) (a .prefixed) (a .store .now) (test .if1 .left)
+    (later .later-prefix .ensures) (c .before .before .if2 .taken) (c .before .past-statement .ensures) (c .passed .ensures)
 
 returns-3 : tie.Need-returns-3
 returns-3 c =
     let later = c .before .before .before .before .before in
     let test = later .before in
     let a = test .before .before .before .args in
-    field-said (a .s .now) (a .here .at) (a .keyword) (a .used) (a .prefixed) (a .store .now) (test .if1 .left) (later .later-prefix .ensures) (c .before .before .before .before .if2 .left) (c .before .before .read-field .ensures)
+    field-said (a .s .now) (a .here .at) (a .keyword) (a .used) (a .prefixed) (a .store .now) (test .if1 .left)
+    (later .later-prefix .ensures) (c .before .before .before .before .if2 .left) (c .before .before .read-field .ensures)
 
 pub read-statement-spec : {M : Type 1} → statement M
 read-statement-spec =

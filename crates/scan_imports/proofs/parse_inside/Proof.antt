@@ -16,7 +16,9 @@ returns c =
     let at-peek = c .before in
     let at-gap = at-peek .before in
     let a = at-gap .before .before .before .args in
-    leaves (inside-end (a .s .now) (a .keyword) (a .body) (at-gap .skip-whitespace-and-comments .ensures) (at-peek .peek-char .ensures) (c .if1 .taken)) (a .store .now) (a .body .used) (refl, refl)
+    leaves
+    (inside-end (a .s .now) (a .keyword) (a .body) (at-gap .skip-whitespace-and-comments .ensures) (at-peek .peek-char .ensures) (c .if1 .taken))
+    (a .store .now) (a .body .used) (refl, refl)
 
 add-end : tie.Need-add-end
 add-end c =
@@ -29,7 +31,9 @@ returns-2 c =
     let at-peek = c .before .before .before in
     let at-gap = at-peek .before in
     let a = at-gap .before .before .before .args in
-    leaves (inside-close (a .s .now) (a .keyword) (a .body) (at-gap .skip-whitespace-and-comments .ensures) (at-peek .peek-char .ensures) (c .before .before .if1 .left) (c .before .if2 .taken)) (a .store .now) (a .body .used) (ap Closed (c .moved .ensures), refl)
+    leaves
+    (inside-close (a .s .now) (a .keyword) (a .body) (at-gap .skip-whitespace-and-comments .ensures) (at-peek .peek-char .ensures) (c .before .before .if1 .left) (c .before .if2 .taken))
+    (a .store .now) (a .body .used) (ap Closed (c .moved .ensures), refl)
 
 read-inside-requires : tie.Need-read-inside-requires
 read-inside-requires c κs =

@@ -4,7 +4,8 @@ use Prim.Native.Nat.{_+_, _-_, _≤_}
 use native.Mathlib.Omega.{arith}
 use lib.ListN.{length, drop, length-set}
 use Rattle.text.proofs.Writing.{Writing, begun, put, written, counted}
-use Rattle.scan_printed.proofs.Laws.{bytes-more, bytes-past}
+use Rattle.text.proofs.Here.{rest-or}
+use Rattle.scan_printed.proofs.Laws.{bytes-past}
 use Rattle.scan_printed.proofs.put.Statement.{statement}
 use Rattle.scan_printed.proofs.put.Tie as tie
 
@@ -36,7 +37,7 @@ loop-again : tie.Need-loop-again Inv-loop μ-loop
 loop-again c =
     let at-loop = c .before .before in
     let a = at-loop .before .args in
-    (simp length-set (omega arith), put (bytes-more (a .bytes .now) (at-loop .loop .i) (c .before .loop-test .taken)) (at-loop .loop .inv .1))
+    (simp length-set (omega arith), put (rest-or (a .bytes .now) (at-loop .loop .i) 0 (c .before .loop-test .taken)) (at-loop .loop .inv .1))
 
 same-length : tie.Need-same-length Inv-loop μ-loop
 same-length c = c .before .loop .inv .1 .long

@@ -29,7 +29,9 @@ loop-less c =
     let part = known .before .before in
     let gap = part .before in
     let at-loop = gap .before in
-    statement-on (at-loop .before .before .args .s .now) (at-loop .loop .at) (at-loop .loop .depth) (gap .skip-whitespace-and-comments .ensures) (part .skip-part .ensures) (known .next .given .0 .0) (known .next .given .0 .1 .0) (known .next .given .1)
+    statement-on (at-loop .before .before .args .s .now) (at-loop .loop .at) (at-loop .loop .depth)
+    (gap .skip-whitespace-and-comments .ensures) (part .skip-part .ensures) (known .next .given .0 .0) (known .next .given .0 .1 .0)
+    (known .next .given .1)
 
 loop-again : tie.Need-loop-again Inv-loop μ-loop
 loop-again c =
@@ -39,7 +41,8 @@ loop-again c =
     let at-loop = gap .before in
     let s = at-loop .before .before .args .s .now in
     let got = known .next .given in (
-      statement-room s (at-loop .loop .at) (at-loop .loop .depth) (gap .skip-whitespace-and-comments .ensures) (part .skip-part .ensures) (got .0 .0) (got .0 .1 .0) (got .1) (at-loop .loop .inv .0),
+      statement-room s (at-loop .loop .at) (at-loop .loop .depth) (gap .skip-whitespace-and-comments .ensures) (part .skip-part .ensures)
+          (got .0 .0) (got .0 .1 .0) (got .1) (at-loop .loop .inv .0),
       sym (statement-more s (at-loop .loop .at) (at-loop .loop .depth) (gap .skip-whitespace-and-comments .ensures) (part .skip-part .ensures) (got .0 .0) (got .0 .1 .0) (got .1)) ∙ at-loop .loop .inv .1,
     )
 
