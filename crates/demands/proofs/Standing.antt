@@ -16,7 +16,7 @@ use Rattle.library_image.proofs.Steps.{on-good, carry}
 use Rattle.library_items.specs.Items.{ItemOf, itemsOf, libraryOf}
 use Rattle.library_items.specs.Table.{Items, andThen, each, eachCounted, nameRead, listRead, listsRead, revisionsRead, entryRead, entriesRead, setRead, setsRead, Reads}
 use Rattle.library_items.proofs.Told.{library-told}
-use Rattle.graph_nodes.specs.Adding.{Adding, so, isEntry, isSub, addName, addItem, addItems, wordsAt}
+use Rattle.graph_nodes.specs.Adding.{Adding, so, isEntry, isSub, addName, addItem, addItems, plainAt, wordsAt}
 use Rattle.graph_nodes.proofs.Gathering.{added}
 use Rattle.graph.specs.Nodes.{passOver, nodesOf}
 use Rattle.yanglib.proofs.Outcome.{nodes-named, image-here, revised-here}
