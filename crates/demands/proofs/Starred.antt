@@ -18,11 +18,11 @@ use Rattle.text_skip.specs.Skip.{closedToken, tokenHere, tokenAt}
 use Rattle.text_skip.specs.Statement.{closes, quotedLen, quotedEnd, atSemicolon, atClose, partOf, partAt, ofPart, statementTurn, statementFrom, statementAt}
 use Rattle.text_lent.specs.Lent.{lentAt}
 use Rattle.scan_newest.specs.Newest.{newer, newestFrom, newest, less}
-use Rattle.scan_header.specs.Header.{pastStatement, dueFor, afterRevision, afterValue as afterHeaderValue, passed, kept, withRest, fieldAt, laterPrefix, statementSaid, tagSaid, saidHere, saidAt}
+use Rattle.scan_header.specs.Header.{pastOf, pastStatement, dueFor, afterRevision, afterValue as afterHeaderValue, passed, kept, withRest, fieldAt, laterPrefix, statementSaid, tagSaid, saidHere, saidAt}
 use Rattle.scan_header.specs.Tag.{dataAt, lastTag, orTag, tagAt}
 use Rattle.scan_metadata.specs.Metadata as Metadata
 use Rattle.scan_metadata.specs.Metadata.{told, firstOf, valuesOf, ended, afterHeard, metadataTurn, metadata}
-use Rattle.scan_imports.specs.Block.{orLine, lineKind, kept, withValue, withSkipped, afterKind, insideHere, insideAt, afterInside, blockTurn, blockFrom, blockAt}
+use Rattle.scan_imports.specs.Block.{orLine, lineKind, kept as keptLine, withValue, withSkipped, afterKind, insideHere, insideAt, afterInside, blockTurn, blockFrom, blockAt}
 use Rattle.scan_imports.specs.Statement.{ofBody, importOf, withName, afterName, importAt, includeOf, plainOf, blockOf, openOrPlain, afterValue, includeAt}
 use Rattle.yangparser.specs.Dependencies.{joined, importStep, includeStep, unlessFull, importHere, includeHere, movedTo, afterToken, headStep, stepHere, stepAt, Scan, good, bad, afterStep, scanTurn, scanFrom, scanned, ifFit, dependencies}
 use Rattle.yangparser.specs.Head.{lastAt, orHead, headAt}
@@ -96,5 +96,5 @@ starred =
     ∷ []
 
 right : T (all starred)
-unfolding starred all holds enough drawn graphed tooShort nodeWords rowWords graphWords wordsAt numberOf graphOf walkFrom run addBy memE textSteps nodesBy addGroups addAll among textOf scanText importNames includeNames valueIn longestText longestOf lookUp bundleAt textsAt filedAt bodyAt libraryOf imageAt libraryAt setAt importOnlyAt moduleAt counted countAt newName nameAt nameBody printableAt many numberAt groups modulesOf importOnlyOf submodulesOf flatMap outcome described recordWords metadata Metadata.ifFit Metadata.scanned Metadata.scanFrom metadataTurn afterHeard ended told firstOf valuesOf newer newestFrom newest less pastStatement dueFor afterRevision afterHeaderValue passed kept withRest fieldAt laterPrefix statementSaid tagSaid saidHere saidAt dataAt lastTag orTag tagAt joined importStep includeStep unlessFull importHere includeHere movedTo afterToken headStep stepHere stepAt afterStep scanTurn scanFrom scanned lentAt ifFit dependencies orMatch lastAt orHead headAt orLine lineKind withValue kept withSkipped afterKind insideHere insideAt afterInside blockTurn blockFrom blockAt ofBody importOf withName afterName importAt includeOf plainOf blockOf openOrPlain afterValue includeAt argumentOf argumentAt afterDue afterArgument lineAt escaped escapes strEnd strBytes closedBy strAt isQuote startsName addedBy afterPlus afterGap moreAt addTo joinTurn joinedWith joinedValue ofString valueHere valueAt valueBytes closedToken tokenHere tokenAt closes quotedLen quotedEnd atSemicolon atClose partOf partAt ofPart statementTurn statementFrom statementAt dueNumber dueHere dueAt startsIdent endsKeyword same part keywordAt matchAt gapEnd gapTurn afterWhite commentEnd blockEnd closing pairAt runEnd span inRun inIdent classOf turns
+unfolding starred all holds enough drawn graphed tooShort nodeWords rowWords graphWords wordsAt numberOf graphOf walkFrom run addBy memE textSteps nodesBy addGroups addAll among textOf scanText importNames includeNames valueIn longestText longestOf lookUp bundleAt textsAt filedAt bodyAt libraryOf imageAt libraryAt setAt importOnlyAt moduleAt counted countAt newName nameAt nameBody printableAt many numberAt groups modulesOf importOnlyOf submodulesOf flatMap outcome described recordWords metadata Metadata.ifFit Metadata.scanned Metadata.scanFrom metadataTurn afterHeard ended told firstOf valuesOf newer newestFrom newest less pastOf pastStatement dueFor afterRevision afterHeaderValue passed kept withRest fieldAt laterPrefix statementSaid tagSaid saidHere saidAt dataAt lastTag orTag tagAt joined importStep includeStep unlessFull importHere includeHere movedTo afterToken headStep stepHere stepAt afterStep scanTurn scanFrom scanned lentAt ifFit dependencies orMatch lastAt orHead headAt orLine lineKind withValue keptLine withSkipped afterKind insideHere insideAt afterInside blockTurn blockFrom blockAt ofBody importOf withName afterName importAt includeOf plainOf blockOf openOrPlain afterValue includeAt argumentOf argumentAt afterDue afterArgument lineAt escaped escapes strEnd strBytes closedBy strAt isQuote startsName addedBy afterPlus afterGap moreAt addTo joinTurn joinedWith joinedValue ofString valueHere valueAt valueBytes closedToken tokenHere tokenAt closes quotedLen quotedEnd atSemicolon atClose partOf partAt ofPart statementTurn statementFrom statementAt dueNumber dueHere dueAt startsIdent endsKeyword same part keywordAt matchAt gapEnd gapTurn afterWhite commentEnd blockEnd closing pairAt runEnd span inRun inIdent classOf turns
 right = tt
