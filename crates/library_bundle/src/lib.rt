@@ -176,7 +176,7 @@ pub fn text_under<'a>(bundle: &'a [u8], name: &[u8]) -> &'a [u8]
     text(bundle, &tab, count, name)
 }
 
-// Which it is: a bundle that is wrong, one without such a text, or where the text stands.
+// The place of the text under `name` in one call: or that the bundle is wrong, or has none.
 pub fn find_text(bundle: &[u8], name: &[u8]) -> LookUp
     ensures { λ r. ⌜ r ≡ lookUp (now (bundle .entry)) (now (name .entry)) ⌝ }
 {

@@ -69,7 +69,7 @@ pub fn length_of(tab: &[u32], i: usize) -> usize
     text_lent::of_word(tab[BUCKETS + i * ROW + 1])
 }
 
-// Follows the bucket `h`, which is the bucket of `name`.
+// Looks along the chain of the bucket `h`, which is the bucket of `name`.
 fn seek(s: &[u8], tab: &[u32], count: usize, h: usize, name: &[u8]) -> Found
     requires { ⌜ Sought (now s) (now tab) count h (now name) ⌝ }
     ensures { λ r. ⌜ r ≡ firstOf (now (name .entry)) (namesIn (now (s .entry)) (now (tab .entry)) count) ⌝ }

@@ -27,7 +27,7 @@ pub struct Checked {
     pub place: u32,
 }
 
-// Tables that fit, and an order table that is long enough and zero.
+// The order or a ring, where the tables fit and the order table is long enough and zero.
 fn sort(n: usize, edges: &[u32], m: usize, table: &mut [u32]) -> Ordered
     requires { ⌜ Fit n (now edges) m × (n ≤ length (now table)) × (now table ≡ zeros (length (now table))) ⌝ }
     ensures { λ r. ⌜ Sorts n (rowsIn m (now (edges .entry))) (length (now (table .entry))) r (now (table .exit)) ⌝ }

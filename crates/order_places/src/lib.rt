@@ -8,10 +8,11 @@ ghost use Rattle.order_tables.specs.Tables.{Fit};
 ghost use Rattle.order_places.specs.Noted.{placeIn, Blank, AllNoted, bars, Known, KnownAt, NodeAt, NextBreak, Unbroken};
 ghost use Rattle.order_places.specs.Places.{placeOf};
 
-// The place of a node that is not there. It is behind all others, so no edge is asked whether its nodes are there; and a table of it has all bytes alike.
+// The place of a node that the list does not hold. It is behind all others, so an edge need not ask whether its nodes are in the list; and a table of it
+// is filled by one memset, since all its bytes are alike.
 const NOWHERE: u32 = 4294967295;
 
-// The list holds each node once and breaks no edge, or is wrong at a place first.
+// What the check of a list finds: it holds each node once and breaks no edge, or the first place where it is wrong.
 pub enum Verdict {
     Right,
     WrongAt(u32),
@@ -58,7 +59,7 @@ fn breaks(edges: &[u32], i: usize, places: &[u32], good: u32) -> bool
     to <= place_at(edges, i * 2, places)
 }
 
-// The first edge at `first` or behind it that does, or m. What is good stays the same meanwhile, so no edge's test waits for the one before.
+// The first edge from `first` on that breaks one of the first `good` places, or m. `good` does not change meanwhile, so no test waits for the one before it.
 fn next_break(edges: &[u32], first: usize, m: usize, places: &[u32], good: u32) -> usize
     requires { ⌜ Known (now edges) m (now places) × (first ≤ m) ⌝ }
     ensures { λ r. ⌜ NextBreak (now (places .entry)) (now (edges .entry)) first m good r ⌝ }

@@ -12,10 +12,10 @@ ghost use Rattle.order_tables.specs.Free.{mem, Stuck};
 ghost use Rattle.order_ring.specs.Ring.{ringOf};
 ghost use Rattle.order_ring.specs.Trail.{Flags, Marks, noted, Notes, Noted, Goes, Went, Trailed, Behind, LowestAt};
 
-// Stands for no node: more than every number of one.
+// No node: greater than every node's number.
 const NOWHERE: u32 = 1024;
 
-// Where the way back ended: at a node that came before. What was gone through stands in the trail from `at` on, the latest first.
+// The way back came to `node` a second time. The nodes that it went through stand in the trail from `at` on, the latest first.
 pub struct Met {
     pub at: usize,
     pub node: usize,
@@ -34,7 +34,7 @@ fn mark(list: &[u32], count: usize, gone: &mut [u32])
     }
 }
 
-// The edge at `i`, from a node left over, may come from the lowest such node yet.
+// Notes the first node of the edge at `i` for its second one, if it is left over and lower than the one noted there.
 fn note_edge(edges: &[u32], i: usize, gone: &[u32], before: &mut [u32])
     requires { ⌜ (i * 2 + 1 < length (now edges)) × (rowAt (now edges) i .from < length (now gone)) × (rowAt (now edges) i .to < length (now before)) ⌝ }
     ensures { λ _. ⌜ now (before .exit) ≡ noted (now (gone .entry)) (now (before .entry)) (rowAt (now (edges .entry)) i) ⌝ }

@@ -14,10 +14,10 @@ const GROUP: usize = 32;
 
 const GROUPS: usize = 32;
 
-// A bound for each group, below which no node of it is free, and behind them the number of a group below which none has a free node.
+// A word for each group: no node of it below this number is free. And one more: no group below this number has a free node.
 const LOWS: usize = 33;
 
-// What stands for a node that was taken: more than there are edges.
+// The count of a node that was taken: more than there are edges, so that it does not come down to 0.
 const TAKEN: u32 = 8193;
 
 // Lays the edge at `i` in front of the chain of the edges from its first node, and counts it at its second.
