@@ -81,20 +81,32 @@ fn broken_at(found: LookUp, place: usize) -> bool {
     }
 }
 
-fn main() {
-    let mut space = [0u8; 131072];
-    let n = replay::read_file(b"finds.vec", &mut space);
-    replay_all(&space[..n]).say(b" finds");
+fn import_only_submodule() {
     replay::trap(
         b"a submodule of an import-only module is not found",
         found_nothing(library_find::find_submodule(b"\x01\x00\x01\x01i\x01\x01\x01s", b"s")),
     );
+}
+
+fn count_without_sets() {
     replay::trap(
         b"a count of sets without its sets is wrong at the end",
         broken_at(library_find::find_module(b"\x01", b"m"), 1),
     );
+}
+
+fn empty_name() {
     replay::trap(
         b"an empty name is not found",
         found_nothing(library_find::find_module(b"\x01\x01\x01m\x00\x00\x00\x00", b"")),
     );
+}
+
+fn main() {
+    let mut space = [0u8; 131072];
+    let n = replay::read_file(b"finds.vec", &mut space);
+    replay_all(&space[..n]).say(b" finds");
+    import_only_submodule();
+    count_without_sets();
+    empty_name();
 }

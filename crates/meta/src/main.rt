@@ -27,6 +27,18 @@ fn say_refused(r: Refusal) {
     io::write_all(STDOUT_FILENO, b"\n");
 }
 
+fn say_names(store: &[u8], name: Span, parent: Span, namespace: Span, prefix: Span) {
+    say_value(b"name: ", store, name);
+    say_value(b"belongs to: ", store, parent);
+    say_value(b"namespace: ", store, namespace);
+    say_value(b"prefix: ", store, prefix);
+}
+
+fn say_revisions(store: &[u8], first: Span, newest: Span) {
+    say_value(b"first revision: ", store, first);
+    say_value(b"newest revision: ", store, newest);
+}
+
 fn say(s: &[u8]) {
     let mut store = [0u8; 131072];
     let read = scan_metadata::extract_yang_metadata(s, &mut store);
@@ -36,22 +48,16 @@ fn say(s: &[u8]) {
         return;
     }
     let values = read.values;
-    say_value(b"name: ", &store, values[scan_metadata::NAME_VALUE]);
-    say_value(b"belongs to: ", &store, values[scan_metadata::PARENT_VALUE]);
-    say_value(
-        b"namespace: ",
+    say_names(
         &store,
+        values[scan_metadata::NAME_VALUE],
+        values[scan_metadata::PARENT_VALUE],
         values[scan_metadata::NAMESPACE_VALUE],
+        values[scan_metadata::PREFIX_VALUE],
     );
-    say_value(b"prefix: ", &store, values[scan_metadata::PREFIX_VALUE]);
-    say_value(
-        b"first revision: ",
+    say_revisions(
         &store,
         values[scan_metadata::FIRST_VALUE],
-    );
-    say_value(
-        b"newest revision: ",
-        &store,
         values[scan_metadata::NEWEST_VALUE],
     );
 }

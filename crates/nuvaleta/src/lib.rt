@@ -14,7 +14,7 @@ ghost use Rattle.nuvaleta.specs.Orders.{OrderAnswered, CheckAnswered};
 ghost use Rattle.nuvaleta.specs.Record.{MetadataAnswered};
 
 // The six words of a scan's answer.
-fn answer_of(parsed: Parsed) -> [u32; 6]
+fn scan_words(parsed: Parsed) -> [u32; 6]
     requires { ⌜ WordsFit parsed ⌝ }
     ensures { λ r. ⌜ r ≡ answerWords parsed ⌝ }
 {
@@ -55,7 +55,7 @@ pub extern "C" fn nuvaleta_dependencies(
         (now (store .exit)) (now (imports .exit)) (now (includes .exit)) (now (answer .exit)) ⌝ }
 {
     let parsed = yangparser::extract_yang_dependencies(text, store, imports, includes);
-    let words = answer_of(parsed);
+    let words = scan_words(parsed);
     *answer = words;
     words[0]
 }
@@ -76,7 +76,7 @@ pub extern "C" fn nuvaleta_printed(
 {
     let printed = scan_page::print_yang_dependencies(text, store, imports, includes, page);
     let parsed = printed.parsed;
-    let words = answer_of(parsed);
+    let words = scan_words(parsed);
     *answer = host_words::page_words(words, printed.length);
     words[0]
 }

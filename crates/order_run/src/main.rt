@@ -121,6 +121,14 @@ fn is_checked(checked: Checked, number: u32, place: u32) -> bool {
     checked.place == place
 }
 
+// The table is 1, 0, 2 and a zero.
+fn say_lowest(first: u32, second: u32, third: u32, fourth: u32) {
+    replay::trap(b"1, 0, 2: first", first == 1);
+    replay::trap(b"1, 0, 2: second", second == 0);
+    replay::trap(b"1, 0, 2: third", third == 2);
+    replay::trap(b"zero behind", fourth == 0);
+}
+
 // 1 before 0, and 2 alone: not 1, 2, 0, since 0 is free before 2 and lower.
 fn lowest_free_first() {
     let nodes = [0u32; 6];
@@ -128,10 +136,15 @@ fn lowest_free_first() {
     let mut table = [7u32; 4];
     let ordered = order::order(&nodes, 3, &edges, 1, &mut table);
     replay::trap(b"three nodes are ordered", is_ordered(ordered, 0, 3));
-    replay::trap(b"1, 0, 2: first", table[0] == 1);
-    replay::trap(b"1, 0, 2: second", table[1] == 0);
-    replay::trap(b"1, 0, 2: third", table[2] == 2);
-    replay::trap(b"zero behind", table[3] == 0);
+    say_lowest(table[0], table[1], table[2], table[3]);
+}
+
+// The table is 1, 3, 2 and a zero.
+fn say_ring(first: u32, second: u32, third: u32, fourth: u32) {
+    replay::trap(b"1, 3, 2: first", first == 1);
+    replay::trap(b"1, 3, 2: second", second == 3);
+    replay::trap(b"1, 3, 2: third", third == 2);
+    replay::trap(b"zero behind the ring", fourth == 0);
 }
 
 // 0 waits for the ring 1 to 3 to 2 to 1.
@@ -141,10 +154,35 @@ fn ring_along_the_edges() {
     let mut table = [7u32; 4];
     let ordered = order::order(&nodes, 4, &edges, 4, &mut table);
     replay::trap(b"a ring of three", is_ordered(ordered, 40, 3));
-    replay::trap(b"1, 3, 2: first", table[0] == 1);
-    replay::trap(b"1, 3, 2: second", table[1] == 3);
-    replay::trap(b"1, 3, 2: third", table[2] == 2);
-    replay::trap(b"zero behind the ring", table[3] == 0);
+    say_ring(table[0], table[1], table[2], table[3]);
+}
+
+// The check of a list, of a graph with one node and at most the edge from it to itself.
+fn one_node_checked(m: usize, list: &[u32], number: u32, place: u32) -> bool {
+    let nodes: [u32; 2] = [0, 0];
+    let edges: [u32; 2] = [0, 0];
+    is_checked(
+        order::order_check(&nodes, 1, &edges, m, list),
+        number,
+        place,
+    )
+}
+
+fn lists_checked() {
+    let once: [u32; 1] = [0];
+    let twice: [u32; 2] = [0, 0];
+    replay::trap(
+        b"a node alone is in order",
+        one_node_checked(0, &once, 0, 0),
+    );
+    replay::trap(
+        b"a node before itself is wrong at its place",
+        one_node_checked(1, &once, 42, 0),
+    );
+    replay::trap(
+        b"a node twice is wrong at the second place",
+        one_node_checked(0, &twice, 42, 1),
+    );
 }
 
 fn main() {
@@ -153,19 +191,5 @@ fn main() {
     replay_all(&space[..n]).say(b" orders");
     lowest_free_first();
     ring_along_the_edges();
-    let none: [u32; 0] = [];
-    let one: [u32; 1] = [0];
-    let own: [u32; 2] = [0, 0];
-    replay::trap(
-        b"a node alone is in order",
-        is_checked(order::order_check(&own, 1, &none, 0, &one), 0, 0),
-    );
-    replay::trap(
-        b"a node before itself is wrong at its place",
-        is_checked(order::order_check(&own, 1, &own, 1, &one), 42, 0),
-    );
-    replay::trap(
-        b"a node twice is wrong at the second place",
-        is_checked(order::order_check(&own, 1, &none, 0, &own), 42, 1),
-    );
+    lists_checked();
 }

@@ -5,8 +5,8 @@ use Rattle.nuvaleta.proofs.HostLaws.{words-fit, answered}
 use Rattle.nuvaleta.proofs.nuvaleta_dependencies.Statement.{statement}
 use Rattle.nuvaleta.proofs.nuvaleta_dependencies.Tie as tie
 
-answer-of-requires : tie.Need-answer-of-requires
-answer-of-requires c κs = search words-fit
+scan-words-requires : tie.Need-scan-words-requires
+scan-words-requires c κs = search words-fit
 
 returns : tie.Need-returns
 returns c = search answered
@@ -16,7 +16,7 @@ nuvaleta-dependencies-spec =
     tie.close
     (tie.spec
     (λ c κs. search needs)
-    answer-of-requires
+    scan-words-requires
     (λ c. search needs)
     (λ c. search needs)
     (λ c. search needs)

@@ -5,8 +5,8 @@ use Rattle.nuvaleta.proofs.HostLaws.{page-words-fit, page-size-fits, pa
 use Rattle.nuvaleta.proofs.nuvaleta_printed.Statement.{statement}
 use Rattle.nuvaleta.proofs.nuvaleta_printed.Tie as tie
 
-answer-of-requires : tie.Need-answer-of-requires
-answer-of-requires c κs = search page-words-fit
+scan-words-requires : tie.Need-scan-words-requires
+scan-words-requires c κs = search page-words-fit
 
 page-words-requires : tie.Need-page-words-requires
 page-words-requires c κs = search page-size-fits
@@ -19,7 +19,7 @@ nuvaleta-printed-spec =
     tie.close
     (tie.spec
     (λ c κs. search needs)
-    answer-of-requires
+    scan-words-requires
     page-words-requires
     (λ c. search needs)
     (λ c. search needs)
