@@ -15,16 +15,16 @@ use Rattle.graph.specs.Numbers.{Row, row, addRow}
 use Rattle.graph_edges.specs.declared.Link.{Link}
 use Rattle.graph_edges.specs.declared.Link.the-variants.{Count, Full}
 
--- how many words the two tables have at the least
-abbrev pub edgeTable : ℕ
-edgeTable = 16384
-
-abbrev pub chainTable : ℕ
-chainTable = 16384
-
 -- how many chains there are
 abbrev pub buckets : ℕ
 buckets = 8192
+
+-- how many words the two tables have at the least: two an edge; a head for each chain and a link for each edge
+abbrev pub edgeTable : ℕ
+edgeTable = mostEdges * 2
+
+abbrev pub chainTable : ℕ
+chainTable = buckets + mostEdges
 
 -- the chain of an edge: edges to one node, or from one, are in different chains
 abbrev pub bucketOf : Row → ℕ

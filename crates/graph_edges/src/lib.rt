@@ -88,7 +88,8 @@ pub fn add_edge(
     to: NodeIndex,
 ) -> Link
     requires { ⌜ Filed (now edges) (now chains) count × (from .0 < mostNodes) × (to .0 < mostNodes) ⌝ }
-    ensures { λ r. ⌜ Linked (rowsIn count (now (edges .entry))) (row (from .0) (to .0)) (now (edges .entry)) (now (chains .entry)) r (now (edges .exit)) (now (chains .exit)) ⌝ }
+    ensures { λ r. ⌜ Linked (rowsIn count (now (edges .entry))) (row (from .0) (to .0)) (now (edges .entry)) (now (chains .entry)) r
+        (now (edges .exit)) (now (chains .exit)) ⌝ }
 {
     let h = chain_of(from, to);
     let f = from.0;

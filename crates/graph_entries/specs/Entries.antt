@@ -1,7 +1,7 @@
 -- The walk of the entries, going through the items of an image: a module or an import-only module is an entry, whose text is walked; then what a module
 -- lists is linked. Entries are numbered from 1.
 -- Assumes nothing.
-use Prim.Native.Nat.{ℕ, _+_, _<_}
+use Prim.Native.Nat.{ℕ, _+_, _*_, _<_}
 use mathlib.Core.Path.{_≡_}
 use mathlib.Core.Bool.{Bool, true, false, cond, _||_}
 use mathlib.Core.List.{List, [], _∷_}
@@ -20,6 +20,7 @@ use Rattle.graph.specs.Limits.{mostEdges}
 use Rattle.graph_edges.specs.Edges.{rowsIn, Filed}
 use Rattle.graph_nodes.specs.Adding.{isEntry, namesHeld, Holding}
 use Rattle.graph_nodes.specs.Marks.{knownAt}
+use Rattle.graph_link.specs.Link.{levelWords}
 use Rattle.graph_walk.specs.Walk.{codesHere, Kept}
 use Rattle.graph_entries.specs.declared.Drawn.{Drawn}
 use Rattle.graph_entries.specs.declared.Drawn.the-variants.{Built, Refused}
@@ -61,7 +62,7 @@ DrawnFiled (Refused number entry a) edges chains = Unit {0}
 
 -- the words of all levels
 abbrev pub allLevels : ℕ
-allLevels = 2304
+allLevels = (deepest + 1) * levelWords
 
 -- an item and the node before it: an entry's name is a node, and what is no entry stands behind one
 pub record Next (s tab : List ℕ) (n : ℕ) (x : Item) (v : ℕ) : Type 0 where

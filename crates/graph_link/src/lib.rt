@@ -156,7 +156,8 @@ pub fn step(
     count: usize,
 ) -> Stepping
     requires { ⌜ Filed (now edges) (now chains) count × (word < mostNodes + 2) × (v .0 < mostNodes) ⌝ }
-    ensures { λ r. ⌜ Stepped word left (v .0) (rowsIn count (now (edges .entry))) (now (edges .entry)) (now (chains .entry)) r (now (edges .exit)) (now (chains .exit)) ⌝ }
+    ensures { λ r. ⌜ Stepped word left (v .0) (rowsIn count (now (edges .entry))) (now (edges .entry)) (now (chains .entry)) r (now (edges .exit))
+        (now (chains .exit)) ⌝ }
 {
     if word == 0 {
         return Stepping::Stopped(UNKNOWN_SUBMODULE);

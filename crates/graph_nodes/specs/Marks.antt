@@ -25,7 +25,7 @@ use Rattle.graph_nodes.specs.declared.Included.{Included}
 use Rattle.graph_nodes.specs.declared.Included.the-variants.{NotFound, NotNode, Node as Below}
 
 abbrev pub markTable : ℕ
-markTable = 2048
+markTable = mostNodes * 2
 
 abbrev pub isSubmodule : ℕ → Bool
 isSubmodule k = eqb k submoduleKind

@@ -58,7 +58,9 @@ fn is_sub(kind: usize) -> bool
 // A name more, unless it is a node. `there`: whether submodules are added even then.
 fn add_name(s: &[u8], tab: &mut [u32], n: usize, there: bool, place: usize, size: usize) -> Grown
     requires { ⌜ Adds (now s) (now tab) n place size ⌝ }
-    ensures { λ r. ⌜ Grew (now (s .entry)) (now (tab .entry)) (addName (so (namesIn (now (s .entry)) (now (tab .entry)) n) false) there (wordAt (now (s .entry)) place size)) r (now (tab .exit)) ⌝ }
+    ensures { λ r. ⌜ Grew (now (s .entry)) (now (tab .entry))
+        (addName (so (namesIn (now (s .entry)) (now (tab .entry)) n) false) there (wordAt (now (s .entry)) place size)) r
+        (now (tab .exit)) ⌝ }
 {
     let Found::Nothing = library_index::add(s, tab, n, place, size) else {
         return Grown::On(n, there);
@@ -72,7 +74,9 @@ fn add_name(s: &[u8], tab: &mut [u32], n: usize, there: bool, place: usize, size
 // What the i-th item adds to the nodes.
 fn add_item(s: &[u8], table: &[u32], i: usize, tab: &mut [u32], n: usize, adding: bool) -> Grown
     requires { ⌜ AddsItem (now s) (now table) i (now tab) n ⌝ }
-    ensures { λ r. ⌜ Grew (now (s .entry)) (now (tab .entry)) (addItem (so (namesIn (now (s .entry)) (now (tab .entry)) n) adding) (itemWord (now (s .entry)) (itemIn (now (table .entry)) i))) r (now (tab .exit)) ⌝ }
+    ensures { λ r. ⌜ Grew (now (s .entry)) (now (tab .entry))
+        (addItem (so (namesIn (now (s .entry)) (now (tab .entry)) n) adding) (itemWord (now (s .entry)) (itemIn (now (table .entry)) i)))
+        r (now (tab .exit)) ⌝ }
 {
     let x = library_items::get_item(table, i);
     if is_entry(x.kind) {
@@ -122,7 +126,8 @@ fn mark_row(v: NodeIndex) -> usize
 // The mark that the i-th item gives a node, if its name is one.
 fn mark_item(s: &[u8], table: &[u32], i: usize, tab: &[u32], n: usize, marks: &mut [u32])
     requires { ⌜ Marking (now s) (now table) i (now tab) n (now marks) ⌝ }
-    ensures { λ r. ⌜ Marked (now (s .entry)) (now (tab .entry)) n (itemsIn (now (s .entry)) (now (table .entry)) (i + 1)) (now (marks .exit)) × (length (now (marks .exit)) ≡ length (now (marks .entry))) ⌝ }
+    ensures { λ r. ⌜ Marked (now (s .entry)) (now (tab .entry)) n (itemsIn (now (s .entry)) (now (table .entry)) (i + 1)) (now (marks .exit))
+        × (length (now (marks .exit)) ≡ length (now (marks .entry))) ⌝ }
 {
     let x = library_items::get_item(table, i);
     let place = x.place;
@@ -143,8 +148,12 @@ fn mark_item(s: &[u8], table: &[u32], i: usize, tab: &[u32], n: usize, marks: &m
 
 // What each node may be, into a table that is zero.
 pub fn mark_nodes(s: &[u8], table: &[u32], count: usize, tab: &[u32], n: usize, marks: &mut [u32])
-    requires { ⌜ Itemized (now s) count (now table) × Holding (now s) (now tab) n (namesIn (now s) (now tab) n) × (markTable ≤ length (now marks)) × (now marks ≡ replicate (length (now marks)) 0) ⌝ }
-    ensures { λ r. ⌜ Marked (now (s .entry)) (now (tab .entry)) n (itemsAt (now (s .entry))) (now (marks .exit)) × (length (now (marks .exit)) ≡ length (now (marks .entry))) ⌝ }
+    requires { ⌜ Itemized (now s) count (now table)
+        × Holding (now s) (now tab) n (namesIn (now s) (now tab) n)
+        × (markTable ≤ length (now marks))
+        × (now marks ≡ replicate (length (now marks)) 0) ⌝ }
+    ensures { λ r. ⌜ Marked (now (s .entry)) (now (tab .entry)) n (itemsAt (now (s .entry))) (now (marks .exit))
+        × (length (now (marks .exit)) ≡ length (now (marks .entry))) ⌝ }
 {
     let mut i = 0;
     while i < count {

@@ -16,7 +16,8 @@ pub enum Seen {
 // Scans a text. It writes only what it uses, and clears nothing.
 fn scan_text(s: &[u8], store: &mut [u8], imports: &mut [u32], includes: &mut [u32]) -> Seen
     requires { ⌜ ScanRoom (length (now s)) (now store) (now imports) (now includes) ⌝ }
-    ensures { λ r. ⌜ SeenAs (scanText (now (s .entry))) (now (store .entry)) (now (imports .entry)) (now (includes .entry)) r (now (store .exit)) (now (imports .exit)) (now (includes .exit)) ⌝ }
+    ensures { λ r. ⌜ SeenAs (scanText (now (s .entry))) (now (store .entry)) (now (imports .entry)) (now (includes .entry)) r (now (store .exit))
+        (now (imports .exit)) (now (includes .exit)) ⌝ }
 {
     let parsed = yangparser::scan_over(s, false, store, imports, includes);
     match parsed {
@@ -40,7 +41,8 @@ pub fn read_text(
     includes: &mut [u32],
 ) -> Seen
     requires { ⌜ Held (now bundle) (now tab) count × ScanRoom (longestText (now bundle)) (now store) (now imports) (now includes) ⌝ }
-    ensures { λ r. ⌜ SeenAs (textOf (now (bundle .entry)) (now (name .entry))) (now (store .entry)) (now (imports .entry)) (now (includes .entry)) r (now (store .exit)) (now (imports .exit)) (now (includes .exit)) ⌝ }
+    ensures { λ r. ⌜ SeenAs (textOf (now (bundle .entry)) (now (name .entry))) (now (store .entry)) (now (imports .entry)) (now (includes .entry))
+        r (now (store .exit)) (now (imports .exit)) (now (includes .exit)) ⌝ }
 {
     let TextPlace::At(from, size) = library_bundle::find(bundle, tab, count, name) else {
         return Seen::Missing;

@@ -21,7 +21,8 @@ pub fn print_yang_dependencies(
     includes: &mut [u32],
     page: &mut [u8],
 ) -> Page
-    ensures { λ r. ⌜ Prints (now (s .entry)) (now (store .entry)) (now (imports .entry)) (now (includes .entry)) (now (page .entry)) r (now (store .exit)) (now (imports .exit)) (now (includes .exit)) (now (page .exit)) ⌝ }
+    ensures { λ r. ⌜ Prints (now (s .entry)) (now (store .entry)) (now (imports .entry)) (now (includes .entry)) (now (page .entry)) r
+        (now (store .exit)) (now (imports .exit)) (now (includes .exit)) (now (page .exit)) ⌝ }
 {
     text_lent::clear_bytes(page);
     let short = page_short(s.len(), page.len());

@@ -109,7 +109,9 @@ fn put_heading(page: &mut [u8], at: usize, word: &[u8], n: usize) -> usize
 
 // A line for each row of imports.
 fn put_import_lines(page: &mut [u8], at: usize, store: &[u8], table: &[u32], count: usize) -> usize
-    requires { ⌜ (count ≤ mostRows) × (mostRows * importSize ≤ length (now table)) × (at + length (importLines (now store) (importsIn (now table) count)) ≤ length (now page)) ⌝ }
+    requires { ⌜ (count ≤ mostRows)
+        × (mostRows * importSize ≤ length (now table))
+        × (at + length (importLines (now store) (importsIn (now table) count)) ≤ length (now page)) ⌝ }
     ensures { λ r. ⌜ Wrote (now (page .entry)) at (importLines (now (store .entry)) (importsIn (now (table .entry)) count)) (now (page .exit)) r ⌝ }
 {
     let mut row = 0;
@@ -124,7 +126,9 @@ fn put_import_lines(page: &mut [u8], at: usize, store: &[u8], table: &[u32], cou
 
 // A line for each row of includes.
 fn put_include_lines(page: &mut [u8], at: usize, store: &[u8], table: &[u32], count: usize) -> usize
-    requires { ⌜ (count ≤ mostRows) × (mostRows * includeSize ≤ length (now table)) × (at + length (includeLines (now store) (includesIn (now table) count)) ≤ length (now page)) ⌝ }
+    requires { ⌜ (count ≤ mostRows)
+        × (mostRows * includeSize ≤ length (now table))
+        × (at + length (includeLines (now store) (includesIn (now table) count)) ≤ length (now page)) ⌝ }
     ensures { λ r. ⌜ Wrote (now (page .entry)) at (includeLines (now (store .entry)) (includesIn (now (table .entry)) count)) (now (page .exit)) r ⌝ }
 {
     let mut row = 0;
@@ -146,8 +150,14 @@ pub fn print(
     n: usize,
     page: &mut [u8],
 ) -> usize
-    requires { ⌜ (m ≤ mostRows) × (mostRows * importSize ≤ length (now imports)) × (n ≤ mostRows) × (mostRows * includeSize ≤ length (now includes)) × (length (printedRows (now store) (now imports) m (now includes) n) ≤ length (now page)) ⌝ }
-    ensures { λ r. ⌜ (r ≡ length (printedRows (now (store .entry)) (now (imports .entry)) m (now (includes .entry)) n)) × (now (page .exit) ≡ sets (now (page .entry)) 0 (printedRows (now (store .entry)) (now (imports .entry)) m (now (includes .entry)) n)) ⌝ }
+    requires { ⌜ (m ≤ mostRows)
+        × (mostRows * importSize ≤ length (now imports))
+        × (n ≤ mostRows)
+        × (mostRows * includeSize ≤ length (now includes))
+        × (length (printedRows (now store) (now imports) m (now includes) n) ≤ length (now page)) ⌝ }
+    ensures { λ r. ⌜ (r ≡ length (printedRows (now (store .entry)) (now (imports .entry)) m (now (includes .entry)) n))
+        ×
+        (now (page .exit) ≡ sets (now (page .entry)) 0 (printedRows (now (store .entry)) (now (imports .entry)) m (now (includes .entry)) n)) ⌝ }
 {
     let first = put_heading(page, 0, b"Imports (", m);
     let blank = put_import_lines(page, first, store, imports, m);

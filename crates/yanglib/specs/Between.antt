@@ -22,7 +22,7 @@ use Rattle.graph_texts.specs.Texts.{textOf, ScanRoom}
 use Rattle.graph_walk.specs.Walk.{Kept}
 use Rattle.graph_walk.specs.declared.Sizes.{Sizes}
 use Rattle.graph_entries.specs.Entries.{drawItems, drawnSeen, allLevels}
-use Rattle.yanglib.specs.ToGraph.{Result, resultOf, nodeWords, rowWords}
+use Rattle.yanglib.specs.ToGraph.{nodeTable, Result, resultOf, nodeWords, rowWords}
 use Rattle.graph_entries.specs.declared.Drawn.{Drawn}
 use Rattle.graph_entries.specs.declared.Drawn.the-variants.{Built, Refused}
 use Rattle.yanglib.specs.declared.Graphed.{Graphed}
@@ -48,7 +48,7 @@ pub record Lent (b store imports includes levels edges : List ℕ) : Type 0 wher
 
 -- and for the nodes
 pub record LentNodes (nodes : List ℕ) : Type 0 where
-  pub room : 2048 ≤ length nodes
+  pub room : nodeTable ≤ length nodes
   pub zero : nodes ≡ zeros (length nodes)
 
 -- the edges that there are; a refusal leaves none

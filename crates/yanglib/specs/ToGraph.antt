@@ -2,7 +2,7 @@
 -- name's first byte, length), edge table, 16,384 words (from, to), in order of adding; rest zero. A refusal leaves all tables and counts zero. Scratch:
 -- a value store as long as the longest text, one pair of scan tables, 2,304 words; zero after every call.
 -- Assumes nothing.
-use Prim.Native.Nat.{ℕ, _≤_}
+use Prim.Native.Nat.{ℕ, _*_, _≤_}
 use mathlib.Core.Path.{_≡_}
 use mathlib.Core.Bool.{Bool, cond, _||_}
 use mathlib.Core.List.{List, [], _∷_, map}
@@ -20,7 +20,10 @@ use Rattle.graph.specs.Graph.{Graph, graph, fault, graphOf}
 use Rattle.graph.specs.Numbers.{Row, rowOf}
 use Rattle.graph.specs.Limits.{mostEdges, mostNodes}
 use Rattle.graph_nodes.specs.Adding.{plainAt, wordsAt}
+use Rattle.scan_rows.specs.Rows.{mostRows, importSize, includeSize}
+use Rattle.graph_edges.specs.Edges.{edgeTable}
 use Rattle.graph_texts.specs.Texts.{textOf}
+use Rattle.graph_entries.specs.Entries.{allLevels}
 use Rattle.yanglib.specs.declared.Graphed.{Graphed}
 use Rattle.yanglib.specs.declared.Graphed.the-variants.{Built, Refused}
 
@@ -41,9 +44,14 @@ abbrev pub lengthsOf : List ℕ → List ℕ → List ℕ → List ℕ → List 
 lengthsOf n e d f g l =
     record { nodes = length n; edges = length e; store = length d; imports = length f; includes = length g; levels = length l }
 
+-- two words a node, place and length of its name
+abbrev pub nodeTable : ℕ
+nodeTable = mostNodes * 2
+
 unfoldable pub tooShort : (longest : ℕ) → Lengths → Bool
 tooShort longest k =
-    ltb (k .nodes) 2048 || ltb (k .edges) 16384 || ltb (k .store) longest || ltb (k .imports) 1792 || ltb (k .includes) 1280 || ltb (k .levels) 2304
+    ltb (k .nodes) nodeTable || ltb (k .edges) edgeTable || ltb (k .store) longest
+    || ltb (k .imports) (mostRows * importSize) || ltb (k .includes) (mostRows * includeSize) || ltb (k .levels) allLevels
 
 -- ---- the answer, the nodes and the edges
 

@@ -23,10 +23,18 @@ code-of-requires : tie.Need-code-of-requires Inv-loop μ-loop
 code-of-requires c κs = search included-low
 
 add-levels : tie.Need-add-levels Inv-loop μ-loop
-add-levels c = record { fits = omega (arith, level-in _ _ _ _ _ _ _ _ _ _ (c .before .before .before .before .before .loop .inv) (c .before .before .before .before .loop-test .taken), c .before .before .before .before .before .before .before .before .before .before .before .before .good .1 .1 .1 .1 .1 .1 .1 .0 .0) }
+add-levels c =
+    let loop-test1 = c .before .before .before .before in
+    let loop1 = loop-test1 .before in
+    let start = loop1 .before .before .before .before .before .before .before in
+    record { fits = omega (arith, level-in _ _ _ _ _ _ _ _ _ _ (loop1 .loop .inv) (loop-test1 .loop-test .taken), start .good .1 .1 .1 .1 .1 .1 .1 .0 .0) }
 
 mul-levels : tie.Need-mul-levels Inv-loop μ-loop
-mul-levels c = record { fits = omega (arith, level-in _ _ _ _ _ _ _ _ _ _ (c .before .before .before .before .before .loop .inv) (c .before .before .before .before .loop-test .taken), c .before .before .before .before .before .loop .inv .long, c .before .before .before .before .before .before .before .before .before .before .before .before .good .1 .1 .1 .1 .1 .1 .1 .0 .1) }
+mul-levels c =
+    let loop-test1 = c .before .before .before .before in
+    let loop1 = loop-test1 .before in
+    let start = loop1 .before .before .before .before .before .before .before in
+    record { fits = omega (arith, level-in _ _ _ _ _ _ _ _ _ _ (loop1 .loop .inv) (loop-test1 .loop-test .taken), loop1 .loop .inv .long, start .good .1 .1 .1 .1 .1 .1 .1 .0 .1) }
 
 slice-write-levels : tie.Need-slice-write-levels Inv-loop μ-loop
 slice-write-levels c = search level-in

@@ -19,13 +19,17 @@ add-item-requires : tie.Need-add-item-requires Inv-loop μ-loop
 add-item-requires c κs = search build-asks
 
 returns : tie.Need-returns Inv-loop μ-loop
-returns c = search (build-full, c .before .before .before .before .before .before .before .before .before .before .before .before .before .before .shared-slice-known .given)
+returns c =
+    let shared-slice-known1 = c .before .before .before .before .before .before .before .before .before .before .before .before .before .before in
+    search (build-full, shared-slice-known1 .shared-slice-known .given)
 
 loop-again : tie.Need-loop-again Inv-loop μ-loop
 loop-again c = search build-on
 
 returns-2 : tie.Need-returns-2 Inv-loop μ-loop
-returns-2 c = search (build-done, c .before .before .before .before .before .before .before .before .shared-slice-known .given)
+returns-2 c =
+    let shared-slice-known1 = c .before .before .before .before .before .before .before .before in
+    search (build-done, shared-slice-known1 .shared-slice-known .given)
 
 pub construct-nodes-spec : {M : Type 1} → statement M
 construct-nodes-spec =

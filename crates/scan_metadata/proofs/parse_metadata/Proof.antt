@@ -21,7 +21,10 @@ loop-holds : tie.Need-loop-holds Inv-loop μ-loop
 loop-holds c = loop-begin (c .no-values .ensures) (c .before .before .before .pre .1)
 
 hear-requires : tie.Need-hear-requires Inv-loop μ-loop
-hear-requires c κs = (c .before .before .before .before .before .before .pre .0, loop-room (c .before .before .loop .inv))
+hear-requires c κs =
+    let loop1 = c .before .before in
+    let start = loop1 .before .before .before .before in
+    (start .pre .0, loop-room (loop1 .loop .inv))
 
 kept-requires : tie.Need-kept-requires Inv-loop μ-loop
 kept-requires c κs = tt
@@ -66,7 +69,10 @@ ended-requires : tie.Need-ended-requires Inv-loop μ-loop
 ended-requires c κs = tt
 
 same-length : tie.Need-same-length Inv-loop μ-loop
-same-length c = c .before .before .before .before .before .before .hear .kept .1 .1 .1 .0 ∙ loop-long (c .before .before .before .before .before .before .before .before .before .loop .inv)
+same-length c =
+    let hear1 = c .before .before .before .before .before .before in
+    let loop1 = hear1 .before .before .before in
+    hear1 .hear .kept .1 .1 .1 .0 ∙ loop-long (loop1 .loop .inv)
 
 returns : tie.Need-returns Inv-loop μ-loop
 returns c =
@@ -81,7 +87,10 @@ refused-requires : tie.Need-refused-requires Inv-loop μ-loop
 refused-requires c κs = tt
 
 same-length-2 : tie.Need-same-length-2 Inv-loop μ-loop
-same-length-2 c = c .before .before .before .before .before .before .hear .kept .1 .1 .1 .0 ∙ loop-long (c .before .before .before .before .before .before .before .before .before .loop .inv)
+same-length-2 c =
+    let hear1 = c .before .before .before .before .before .before in
+    let loop1 = hear1 .before .before .before in
+    hear1 .hear .kept .1 .1 .1 .0 ∙ loop-long (loop1 .loop .inv)
 
 returns-2 : tie.Need-returns-2 Inv-loop μ-loop
 returns-2 c =
