@@ -1,6 +1,6 @@
 -- Which refusals each call but an order can give, by number, keyword, entry, scan answer and place, and when a graph is built, over the definitions that
--- the calls promise; those of an order are in OrderCalls. 1 to 3 and 20 to 22 are given exactly when they are due. Of 4 to 10 it is shown that no other number or keyword comes: when they come is in
--- the definitions of the scans alone. Of 23 to 31 each has its cause in crate graph (Meaning).
+-- the calls promise; those of an order are in OrderCalls. 1 to 3 and 20 to 22 are given exactly when they are due. Of 4 to 10 it is shown that no other
+-- number or keyword comes: when they come is in the definitions of the scans alone. Of 23 to 31 each has its cause in crate graph (Meaning).
 -- Assumes nothing.
 use Prim.Native.Nat.{ℕ, _≤_, _<_}
 use mathlib.Core.Path.{_≡_}
@@ -36,7 +36,8 @@ pub record OneOf (numbers keywords : List ℕ) (r : Refusal) : Type 0 where
   pub number : List·Memᴰ (r .number) numbers
   pub keyword : List·Memᴰ (r .keyword) keywords
 
--- what is checked first; short: whether something lent is too short, which the promises find from the lengths; `runEnd Low s 0`: the place of the first byte of 128 or more, or the end
+-- what is checked first; short: whether something lent is too short, which the promises find from the lengths; `runEnd Low s 0`: the place of the first
+-- byte of 128 or more, or the end
 pub data FirstRefusal (s : List ℕ) (short : Bool) (r : Refusal) : Type 0 where
   too-long : 1048576 < length s → r ≡ record { number = 1; keyword = 0; at = 0 } → FirstRefusal s short r
   too-little : length s ≤ 1048576 → short ≡ true → r ≡ record { number = 2; keyword = 0; at = 0 } → FirstRefusal s short r

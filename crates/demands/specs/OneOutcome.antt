@@ -64,9 +64,12 @@ pub record OneOutcome : Type 0 where
   pub text-found : (s t : List ℕ) {r r′ : LookUp} → r ≡ lookUp s t → r′ ≡ lookUp s t → r ≡ r′
   pub text-under : (s t : List ℕ) {r r′ : List ℕ} → r ≡ textUnder s t → r′ ≡ textUnder s t → r ≡ r′
   -- nuvaleta_find_module, nuvaleta_find_submodule, nuvaleta_find_import_module, nuvaleta_text
-  pub host-module : (s t : List ℕ) {n n′ : ℕ} {a a′ : List ℕ} → let w = toldWords imageBroken (findModule s t) in Told w n a → Told w n′ a′ → (n ≡ n′) × (a ≡ a′)
-  pub host-submodule : (s t : List ℕ) {n n′ : ℕ} {a a′ : List ℕ} → let w = toldWords imageBroken (findSubmodule s t) in Told w n a → Told w n′ a′ → (n ≡ n′) × (a ≡ a′)
-  pub host-import : (s t : List ℕ) {n n′ : ℕ} {a a′ : List ℕ} → let w = toldWords imageBroken (findImportModule s t) in Told w n a → Told w n′ a′ → (n ≡ n′) × (a ≡ a′)
+  pub host-module : (s t : List ℕ) {n n′ : ℕ} {a a′ : List ℕ} → let w = toldWords imageBroken (findModule s t) in
+      Told w n a → Told w n′ a′ → (n ≡ n′) × (a ≡ a′)
+  pub host-submodule : (s t : List ℕ) {n n′ : ℕ} {a a′ : List ℕ} → let w = toldWords imageBroken (findSubmodule s t) in
+      Told w n a → Told w n′ a′ → (n ≡ n′) × (a ≡ a′)
+  pub host-import : (s t : List ℕ) {n n′ : ℕ} {a a′ : List ℕ} → let w = toldWords imageBroken (findImportModule s t) in
+      Told w n a → Told w n′ a′ → (n ≡ n′) × (a ≡ a′)
   pub host-text : (s t : List ℕ) {n n′ : ℕ} {a a′ : List ℕ} → let w = toldWords bundleBroken (lookUp s t) in Told w n a → Told w n′ a′ → (n ≡ n′) × (a ≡ a′)
   -- to_graph and nuvaleta_graph; s: image, b: bundle; x₁ to x₆: node table, edge table, value store, import table, include table, levels; y: at exit
   pub graph : (s b : List ℕ) (x₁ x₂ x₃ x₄ x₅ x₆ x₁′ x₂′ x₃′ x₄′ x₅′ x₆′ : List ℕ) → lengthsOf x₁ x₂ x₃ x₄ x₅ x₆ ≡ lengthsOf x₁′ x₂′ x₃′ x₄′ x₅′ x₆′

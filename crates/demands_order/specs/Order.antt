@@ -1,6 +1,6 @@
 -- The order of registration, beside the words of the request. A graph has n nodes, the numbers below n, and edges es; `row u v` is the edge from u to v.
--- What is computed is defined where code promises it: `taken` the order (crate order_take), `ringOf` the cycle that is written out (crate order_ring), `placeOf` the
--- answer of the check (crate order_places). Here stands what these are, said by edges alone.
+-- What is computed is defined where code promises it: `taken` the order (crate order_take), `ringOf` the cycle that is written out (crate order_ring),
+-- `placeOf` the answer of the check (crate order_places). Here stands what these are, said by edges alone.
 -- Assumes nothing.
 use Prim.Native.Nat.{ℕ, zero, suc, _+_, _-_, _≤_, _<_}
 use mathlib.Core.Path.{_≡_}

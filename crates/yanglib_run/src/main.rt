@@ -40,21 +40,17 @@ fn refusal_agrees(answer: &[u8], number: u32, scan: Refusal) -> bool {
     replay::refusal_agrees(answer, 4, scan)
 }
 
-// A record: image; bundle; number, and the scan's number, keyword and position; the places of the nodes' names; the edges.
-fn record_agrees(data: &[u8], at: usize) -> bool {
+// The graph of an image and a bundle; behind the answer stand the places of the nodes' names and the edges.
+fn graph_agrees(image: &[u8], bundle: &[u8], answer: &[u8], data: &[u8], nodes_at: usize) -> bool {
     let mut nodes = [0u32; 2048];
     let mut edges = [0u32; 16384];
     let mut store = [0u8; 65536];
     let mut imports = [0u32; 1792];
     let mut includes = [0u32; 1280];
     let mut levels = [0u32; 2304];
-    let bundle_at = replay::after(data, at);
-    let answer_at = replay::after(data, bundle_at);
-    let nodes_at = replay::after(data, answer_at);
-    let answer = replay::field(data, answer_at);
     let graphed = yanglib::to_graph(
-        replay::field(data, at),
-        replay::field(data, bundle_at),
+        image,
+        bundle,
         &mut nodes,
         &mut edges,
         &mut store,
@@ -71,6 +67,19 @@ fn record_agrees(data: &[u8], at: usize) -> bool {
         }
         Graphed::Refused(number, entry, scan, place) => refusal_agrees(answer, number, scan),
     }
+}
+
+// A record: image; bundle; number, and the scan's number, keyword and position; the places of the nodes' names; the edges.
+fn record_agrees(data: &[u8], at: usize) -> bool {
+    let bundle_at = replay::after(data, at);
+    let answer_at = replay::after(data, bundle_at);
+    graph_agrees(
+        replay::field(data, at),
+        replay::field(data, bundle_at),
+        replay::field(data, answer_at),
+        data,
+        replay::after(data, answer_at),
+    )
 }
 
 // One record more, if there is one. It has five fields.

@@ -120,16 +120,12 @@ fn read_agrees(
     check::same(page, replay::field(data, page_at))
 }
 
-// A record: text, answer and, where the answer's number is 0, the values and the page.
-fn record_agrees(data: &[u8], at: usize) -> bool {
+// The dependencies of a text and their printed form; where the answer's number is 0, the values and the page stand behind it.
+fn dependencies_agree(s: &[u8], answer: &[u8], data: &[u8], values_at: usize) -> bool {
     let mut store = [0u8; 65536];
     let mut imports = [0u32; scan_rows::MOST_ROWS * scan_rows::IMPORT_SIZE];
     let mut includes = [0u32; scan_rows::MOST_ROWS * scan_rows::INCLUDE_SIZE];
     let mut page = [0u8; 72480];
-    let s = replay::field(data, at);
-    let answer_at = replay::after(data, at);
-    let answer = replay::field(data, answer_at);
-    let values_at = replay::after(data, answer_at);
     let printed = scan_page::print_yang_dependencies(
         s,
         &mut store,
@@ -154,19 +150,6 @@ fn record_agrees(data: &[u8], at: usize) -> bool {
     }
 }
 
-// A good record has three values for each import, two for each include, and the page.
-fn behind_record(data: &[u8], at: usize) -> usize {
-    let answer_at = replay::after(data, at);
-    let answer = replay::field(data, answer_at);
-    let values_at = replay::after(data, answer_at);
-    if replay::word(answer, 0) != 0 {
-        return values_at;
-    }
-    let imports = replay::word(answer, 12) as u64;
-    let includes = replay::word(answer, 16) as u64;
-    replay::after_fields(data, values_at, imports * 3 + includes * 2 + 1)
-}
-
 // The first five values of a metadata record; the Rust has no newest revision.
 fn values_agree(store: &[u8], values: [Span; 6], data: &[u8], at: usize) -> bool {
     let mut next = at;
@@ -182,13 +165,9 @@ fn values_agree(store: &[u8], values: [Span; 6], data: &[u8], at: usize) -> bool
     true
 }
 
-// A record: text, answer and, where the answer's number is 0, the values.
-fn metadata_agrees(data: &[u8], at: usize) -> bool {
+// The metadata of a text; where the answer's number is 0, the values stand behind it.
+fn metadata_agrees(s: &[u8], answer: &[u8], data: &[u8], values_at: usize) -> bool {
     let mut store = [0u8; 65536];
-    let s = replay::field(data, at);
-    let answer_at = replay::after(data, at);
-    let answer = replay::field(data, answer_at);
-    let values_at = replay::after(data, answer_at);
     let read = scan_metadata::extract_yang_metadata(s, &mut store);
     let r = read.answer;
     if r.number != text::NO_REFUSAL {
@@ -201,35 +180,44 @@ fn metadata_agrees(data: &[u8], at: usize) -> bool {
     values_agree(&store, values, data, values_at)
 }
 
-// A good record has five values.
-fn behind_metadata(data: &[u8], at: usize) -> usize {
-    let answer_at = replay::after(data, at);
-    let answer = replay::field(data, answer_at);
-    let values_at = replay::after(data, answer_at);
-    if replay::word(answer, 0) != 0 {
-        return values_at;
-    }
-    replay::after_fields(data, values_at, 5)
-}
-
 // What the records of a file tell of.
 enum Kind {
     Dependencies,
     Metadata,
 }
 
+// A record: text, answer, and what stands behind it.
 fn agrees(kind: Kind, data: &[u8], at: usize) -> bool {
+    let answer_at = replay::after(data, at);
+    let values_at = replay::after(data, answer_at);
+    let s = replay::field(data, at);
+    let answer = replay::field(data, answer_at);
     match kind {
-        Kind::Dependencies => record_agrees(data, at),
-        Kind::Metadata => metadata_agrees(data, at),
+        Kind::Dependencies => dependencies_agree(s, answer, data, values_at),
+        Kind::Metadata => metadata_agrees(s, answer, data, values_at),
+    }
+}
+
+// How many fields stand behind a good answer: three values for each import, two for each include, and the page; or five values.
+fn fields_behind(kind: Kind, answer: &[u8]) -> u64 {
+    match kind {
+        Kind::Dependencies => {
+            let imports = replay::word(answer, 12) as u64;
+            let includes = replay::word(answer, 16) as u64;
+            imports * 3 + includes * 2 + 1
+        }
+        Kind::Metadata => 5,
     }
 }
 
 fn behind(kind: Kind, data: &[u8], at: usize) -> usize {
-    match kind {
-        Kind::Dependencies => behind_record(data, at),
-        Kind::Metadata => behind_metadata(data, at),
+    let answer_at = replay::after(data, at);
+    let answer = replay::field(data, answer_at);
+    let values_at = replay::after(data, answer_at);
+    if replay::word(answer, 0) != 0 {
+        return values_at;
     }
+    replay::after_fields(data, values_at, fields_behind(kind, answer))
 }
 
 // One record more, if there is one.
