@@ -11,7 +11,7 @@ use lib.ListN.{length, take, drop}
 use Rattle.text.specs.Keyword.{same}
 use Rattle.text.proofs.Here.{never}
 use Rattle.text.specs.declared.Refusal.{Refusal}
-use Rattle.library_form.specs.Form.{Ans, good, bad, Word}
+use Rattle.library_form.specs.Form.{Ans, good, bad, PlacedName}
 use Rattle.library_form.specs.declared.LookUp.{LookUp}
 use Rattle.library_form.specs.declared.LookUp.the-variants.{Broken, Nothing, At}
 use Rattle.library_index.specs.Names.{firstBy}
@@ -41,7 +41,7 @@ use Rattle.demands.proofs.MetadataNumbers.{metadata-refused, metadata-f
 -- ---- finds and texts
 
 -- a search for a place is never broken
-never-broken : {A : Type 0} (name : A → Word) (place count : A → ℕ) (t : List ℕ) (l : List A) (p : ℕ)
+never-broken : {A : Type 0} (name : A → PlacedName) (place count : A → ℕ) (t : List ℕ) (l : List A) (p : ℕ)
     → firstBy name (λ a. At (place a) (count a)) t l Nothing ≡ Broken p → ⊥
 never-broken name place count t [] p e = let z : _≡_ {A = ℕ} 0 1 = cc in omega arith
 never-broken name place count t (a ∷ l) p e = go (same (name a .text) t) (never-broken name place count t l p) e
@@ -204,7 +204,7 @@ demand1 = record {
   module-found = λ s t p.
       find-broken (firstModule t) (λ l. never-broken (λ (m : Module). m .name) (λ m. m .name .place) (λ m. 0) t (modulesOf l)) s p;
   submodule-found = λ s t p.
-      find-broken (firstSubmodule t) (λ l. never-broken (λ (w : Word). w) (λ w. w .place) (λ w. 0) t (submodulesOf (modulesOf l))) s p;
+      find-broken (firstSubmodule t) (λ l. never-broken (λ (w : PlacedName). w) (λ w. w .place) (λ w. 0) t (submodulesOf (modulesOf l))) s p;
   import-found = λ s t p. find-broken (firstImportOnly t)
       (λ l. never-broken (λ (m : ImportOnly). m .name) (λ m. m .name .place) (λ m. length (m .revisions)) t (importOnlyOf l)) s p;
   text-found = text-broken;

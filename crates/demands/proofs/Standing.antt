@@ -5,7 +5,7 @@ use mathlib.Core.Path.{_≡_, refl, sym, ap, _∙_, subst}
 use mathlib.Core.Logic.{⊎-elim}
 use mathlib.Core.Bool.{Bool, true, false, cond, _&&_}
 use mathlib.Core.List.{List, [], _∷_, _++_, map, List·Memᴰ, List·Memᴰ·head, List·Memᴰ·tail, List·Memᴰ·eq-of-singleton, List·Memᴰ·append-cases, List·Memᴰ·not-nil}
-use Rattle.library_form.specs.Form.{Ans, good, Word, nameAt}
+use Rattle.library_form.specs.Form.{Ans, good, PlacedName, nameAt}
 use Rattle.library_form.specs.Writer.{AllBytes}
 use Rattle.library_form.proofs.Bounds.{opened}
 use Rattle.library_index.specs.Names.{among}
@@ -23,20 +23,20 @@ use Rattle.yanglib.proofs.Outcome.{nodes-named, image-here, revised-here}
 use Rattle.demands.specs.Demand3.{nameOf}
 
 module _ (s : List ℕ) where
-  abbrev AllStand : List Word → Type 0
-  AllStand ws = (w : Word) → List·Memᴰ w ws → nameOf s w ≡ w .text
+  abbrev AllStand : List PlacedName → Type 0
+  AllStand ws = (w : PlacedName) → List·Memᴰ w ws → nameOf s w ≡ w .text
 
   none-stand : AllStand []
   none-stand w m = absurd (List·Memᴰ·not-nil m)
 
-  and-stand : {ws : List Word} (w : Word) → AllStand ws → nameOf s w ≡ w .text → AllStand (ws ++ (w ∷ []))
+  and-stand : {ws : List PlacedName} (w : PlacedName) → AllStand ws → nameOf s w ≡ w .text → AllStand (ws ++ (w ∷ []))
   and-stand {ws} w f e v m =
       ⊎-elim (f v) (λ n. subst (λ u. nameOf s u ≡ u .text) (sym (List·Memᴰ·eq-of-singleton n)) e) (List·Memᴰ·append-cases ws m)
 
   -- ---- items are read where they stand
 
   abbrev Standing : Items → Type 0
-  Standing xs = (x : ItemOf Word) → List·Memᴰ x xs → nameOf s (x .name) ≡ x .name .text
+  Standing xs = (x : ItemOf PlacedName) → List·Memᴰ x xs → nameOf s (x .name) ≡ x .name .text
 
   -- whatever is read stands there
   abbrev Sure : Ans Items → Type 0
@@ -61,8 +61,8 @@ module _ (s : List ℕ) where
   unfolding nameRead
   name-sure k at xs n e =
       on-good (nameAt s at) _ e (λ w m e₁ e₂.
-      let q : nameOf s w ≡ w .text = subst (λ (v : Word). nameOf s v ≡ v .text) (opened s at e₁ .word) refl in
-      carry (λ v j. Standing v) e₂ (λ x o. subst (λ (y : ItemOf Word). nameOf s (y .name) ≡ y .name .text) (sym (List·Memᴰ·eq-of-singleton o)) q))
+      let q : nameOf s w ≡ w .text = subst (λ (v : PlacedName). nameOf s v ≡ v .text) (opened s at e₁ .word) refl in
+      carry (λ v j. Standing v) e₂ (λ x o. subst (λ (y : ItemOf PlacedName). nameOf s (y .name) ≡ y .name .text) (sym (List·Memᴰ·eq-of-singleton o)) q))
 
   list-sure : (k at : ℕ) → Sure (listRead k s at)
   unfolding listRead
@@ -93,7 +93,7 @@ module _ (s : List ℕ) where
 
   -- ---- nodes are names of items
 
-  name-added : (a : Adding) (there : Bool) (w : Word) → AllStand (a .nodes) → nameOf s w ≡ w .text → AllStand (addName a there w .nodes)
+  name-added : (a : Adding) (there : Bool) (w : PlacedName) → AllStand (a .nodes) → nameOf s w ≡ w .text → AllStand (addName a there w .nodes)
   unfolding addName
   name-added a there w f e = go (among plainName (w .text) (a .nodes))
     where
@@ -101,7 +101,7 @@ module _ (s : List ℕ) where
       go true = f
       go false = and-stand w f e
 
-  item-added : (a : Adding) (x : ItemOf Word) → AllStand (a .nodes) → nameOf s (x .name) ≡ x .name .text → AllStand (addItem a x .nodes)
+  item-added : (a : Adding) (x : ItemOf PlacedName) → AllStand (a .nodes) → nameOf s (x .name) ≡ x .name .text → AllStand (addItem a x .nodes)
   unfolding addItem
   item-added a x f e = go (isEntry (x .kind)) (a .adding && isSub (x .kind))
     where
@@ -128,6 +128,6 @@ module _ (s : List ℕ) where
     pub names-read : map (nameOf s) (wordsAt passOver s) ≡ nodesOf passOver (plainAt s)
     names-read = go (wordsAt passOver s) words-stand ∙ nodes-named passOver s
       where
-        go : (ws : List Word) → AllStand ws → map (nameOf s) ws ≡ map plainName ws
+        go : (ws : List PlacedName) → AllStand ws → map (nameOf s) ws ≡ map plainName ws
         go [] f = refl
         go (w ∷ ws) f = ap (λ x. x ∷ map (nameOf s) ws) (f w (List·Memᴰ·head refl)) ∙ ap (λ l. w .text ∷ l) (go ws (λ v m. f v (List·Memᴰ·tail m)))

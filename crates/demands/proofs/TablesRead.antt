@@ -6,7 +6,7 @@ use mathlib.Core.List.{List, [], _∷_, _++_, map}
 use native.Mathlib.Omega.{arith}
 use lib.ListN.{length, getD}
 use Rattle.text_lent.specs.Padded.{padded}
-use Rattle.library_form.specs.Form.{Word}
+use Rattle.library_form.specs.Form.{PlacedName}
 use Rattle.library_image.specs.Library.{Name}
 use Rattle.graph.specs.Numbers.{Row, row}
 use Rattle.graph_edges.specs.Edges.{rowsIn}
@@ -44,10 +44,10 @@ names-reader : (s : List ℕ) → Reader Name (λ p z. nameOf s (record { place 
 unfolding tableNames
 names-reader s = record { none = λ w. refl; more = λ n w. refl }
 
-pub nodes-read : (s : List ℕ) (k : ℕ) (ws : List Word) → tableNames s (length ws) (padded k (nodeWords ws)) ≡ map (nameOf s) ws
+pub nodes-read : (s : List ℕ) (k : ℕ) (ws : List PlacedName) → tableNames s (length ws) (padded k (nodeWords ws)) ≡ map (nameOf s) ws
 unfolding padded nodeWords
 nodes-read s k ws = go ws _
   where
-    go : (ws : List Word) (z : List ℕ) → tableNames s (length ws) (nodeWords ws ++ z) ≡ map (nameOf s) ws
+    go : (ws : List PlacedName) (z : List ℕ) → tableNames s (length ws) (nodeWords ws ++ z) ≡ map (nameOf s) ws
     go [] z = names-reader s .none z
     go (w ∷ ws) z = front (names-reader s) (length ws) (w .place) (w .size) (nodeWords ws ++ z) ∙ ap (λ l. nameOf s w ∷ l) (go ws z)

@@ -8,7 +8,7 @@ use mathlib.Core.Logic.{_↔_}
 use mathlib.Core.List.{List, [], _∷_, _++_, map, List·Memᴰ, List·Nodup, Perm}
 use lib.ListN.{length, getD, take, drop}
 use Rattle.text.specs.declared.Refusal.{Refusal}
-use Rattle.library_form.specs.Form.{Word}
+use Rattle.library_form.specs.Form.{PlacedName}
 use Rattle.library_form.specs.Writer.{AllBytes}
 use Rattle.library_image.specs.Image.{imageAt}
 use Rattle.library_image.specs.Library.{Name, PlainLibrary}
@@ -27,7 +27,7 @@ use Rattle.yanglib.specs.declared.Graphed.the-variants.{Built, Refused}
 -- ---- names and edges, as a caller reads them
 
 -- a node's name: so many bytes of the image, from its place on
-abbrev pub nameOf : (image : List ℕ) → Word → Name
+abbrev pub nameOf : (image : List ℕ) → PlacedName → Name
 nameOf s w = take (w .size) (drop (w .place) s)
 
 abbrev pub names : (image : List ℕ) → Result → List Name

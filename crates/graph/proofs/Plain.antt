@@ -4,7 +4,7 @@ use mathlib.Core.Path.{_≡_, refl, sym, ap, ap₂, _∙_}
 use mathlib.Core.Bool.{_||_}
 use mathlib.Core.List.{List, [], _∷_, _++_, map, map-append, flatMap}
 use Rattle.text.specs.Keyword.{same}
-use Rattle.library_form.specs.Form.{Word}
+use Rattle.library_form.specs.Form.{PlacedName}
 use Rattle.library_image.specs.Library.{Name, Module, ImportOnly, PlainModule, PlainImportOnly, Library, plainName, plainModule, plainImportOnly, plain, modulesOf, importOnlyOf, submodulesOf}
 use Rattle.library_index.specs.Names.{among}
 use Rattle.library_index.proofs.First.{among-append, among-map}
@@ -51,7 +51,7 @@ listed-words u l = ap (memb u) (plain-submodules l) ∙ sym (among-names u (subm
 
 -- ---- the entries
 
-abbrev pub plainEntry : EntryOf Word → Entry
+abbrev pub plainEntry : EntryOf PlacedName → Entry
 plainEntry e = record { name = plainName (e .name); lists = map plainName (e .lists) }
 
 module-entries : (ms : List Module) → map moduleEntry (map plainModule ms) ≡ map plainEntry (map moduleEntry ms)

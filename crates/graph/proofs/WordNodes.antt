@@ -4,39 +4,39 @@ use mathlib.Core.Path.{_≡_, refl, sym, ap, ap₂, _∙_}
 use mathlib.Core.Bool.{Bool, true, false, cond, _||_}
 use mathlib.Core.List.{List, [], _∷_, _++_, map, map-append, flatMap}
 use Rattle.text.specs.Keyword.{same}
-use Rattle.library_form.specs.Form.{Word}
+use Rattle.library_form.specs.Form.{PlacedName}
 use Rattle.library_image.specs.Library.{Name, Module, ImportOnly, Library, plainName, plainModule, plainImportOnly, plain}
 use Rattle.library_index.specs.Names.{among, addNew, addAll}
 use Rattle.library_index.proofs.First.{among-map}
 use Rattle.graph.specs.Nodes.{Mode, passOver, Group, moduleGroup, revisionGroups, setGroups, groups, addGroup, addGroups, nodesBy, itself, memb, wordNodes, nodesOf}
 
-abbrev texts : List Word → List Name
+abbrev texts : List PlacedName → List Name
 texts ws = map plainName ws
 
-abbrev plainGroup : Group Word → Group Name
+abbrev plainGroup : Group PlacedName → Group Name
 plainGroup g = record { head = plainName (g .head); subs = texts (g .subs) }
 
 -- ---- one after another
 
-pub among-names : (u : Name) (ws : List Word) → among plainName u ws ≡ memb u (map plainName ws)
+pub among-names : (u : Name) (ws : List PlacedName) → among plainName u ws ≡ memb u (map plainName ws)
 among-names u ws = sym (among-map itself plainName u ws)
 
-snoc-names : (ns : List Word) (w : Word) → texts (ns ++ (w ∷ [])) ≡ texts ns ++ (plainName w ∷ [])
+snoc-names : (ns : List PlacedName) (w : PlacedName) → texts (ns ++ (w ∷ [])) ≡ texts ns ++ (plainName w ∷ [])
 snoc-names ns w = map-append plainName ns (w ∷ [])
 
-node-added : (ns : List Word) (w : Word) → texts (addNew plainName ns w) ≡ addNew itself (texts ns) (plainName w)
+node-added : (ns : List PlacedName) (w : PlacedName) → texts (addNew plainName ns w) ≡ addNew itself (texts ns) (plainName w)
 node-added ns w = go (among plainName (plainName w) ns) ∙ ap (λ b. cond b (texts ns) (texts ns ++ (plainName w ∷ []))) (among-names (plainName w) ns)
   where
     go : (b : Bool) → texts (cond b ns (ns ++ (w ∷ []))) ≡ cond b (texts ns) (texts ns ++ (plainName w ∷ []))
     go true = refl
     go false = snoc-names ns w
 
-pub nodes-added : (ws ns : List Word) → map plainName (addAll plainName ns ws) ≡ addAll itself (map plainName ns) (map plainName ws)
+pub nodes-added : (ws ns : List PlacedName) → map plainName (addAll plainName ns ws) ≡ addAll itself (map plainName ns) (map plainName ws)
 unfolding addAll
 nodes-added [] ns = refl
 nodes-added (w ∷ ws) ns = nodes-added ws (addNew plainName ns w) ∙ ap (λ l. addAll itself l (texts ws)) (node-added ns w)
 
-group-added : (mode : Mode) (ns : List Word) (g : Group Word) → texts (addGroup plainName mode ns g) ≡ addGroup itself mode (texts ns) (plainGroup g)
+group-added : (mode : Mode) (ns : List PlacedName) (g : Group PlacedName) → texts (addGroup plainName mode ns g) ≡ addGroup itself mode (texts ns) (plainGroup g)
 group-added passOver ns g =
     go (among plainName (plainName (g .head)) ns)
     ∙ ap (λ b. cond b (texts ns) (addAll itself (texts ns ++ (plainName (g .head) ∷ [])) (texts (g .subs)))) (among-names (plainName (g .head)) ns)
@@ -46,7 +46,7 @@ group-added passOver ns g =
     go true = refl
     go false = nodes-added (g .subs) (ns ++ (g .head ∷ [])) ∙ ap (λ l. addAll itself l (texts (g .subs))) (snoc-names ns (g .head))
 
-groups-added : (mode : Mode) (gs : List (Group Word)) (ns : List Word)
+groups-added : (mode : Mode) (gs : List (Group PlacedName)) (ns : List PlacedName)
     → texts (addGroups plainName mode ns gs) ≡ addGroups itself mode (texts ns) (map plainGroup gs)
 unfolding addGroups
 groups-added mode [] ns = refl
@@ -59,8 +59,8 @@ modules-plain : (ms : List Module) → map plainGroup (map moduleGroup ms) ≡ m
 modules-plain [] = refl
 modules-plain (m ∷ ms) = ap (λ l. moduleGroup (plainModule m) ∷ l) (modules-plain ms)
 
-revisions-plain : (w : Word) (rs : List (List Word))
-    → map plainGroup (map (λ (subs : List Word). record { head = w; subs = subs }) rs) ≡ map (λ (subs : List Name). record { head = plainName w; subs = subs }) (map (map plainName) rs)
+revisions-plain : (w : PlacedName) (rs : List (List PlacedName))
+    → map plainGroup (map (λ (subs : List PlacedName). record { head = w; subs = subs }) rs) ≡ map (λ (subs : List Name). record { head = plainName w; subs = subs }) (map (map plainName) rs)
 revisions-plain w [] = refl
 revisions-plain w (r ∷ rs) = ap (λ (l : List (Group Name)). record { head = plainName w; subs = texts r } ∷ l) (revisions-plain w rs)
 

@@ -3,7 +3,7 @@
 -- Assumes nothing.
 use mathlib.Core.Bool.{Bool, cond}
 use mathlib.Core.List.{List, [], _∷_, _++_, map, flatMap}
-use Rattle.library_form.specs.Form.{Word}
+use Rattle.library_form.specs.Form.{PlacedName}
 use Rattle.library_index.specs.Names.{among, addAll}
 use Rattle.library_image.specs.Library.{ModuleOf, ImportOnlyOf, SetOf, LibraryOf, Name, PlainLibrary, Library, plainName}
 
@@ -44,7 +44,7 @@ module _ {A : Type 0} (name : A → Name) where
   nodesBy mode l = addGroups mode [] (groups l)
 
 -- the nodes, each with the place where it was added; and their names alone
-abbrev pub wordNodes : Mode → Library → List Word
+abbrev pub wordNodes : Mode → Library → List PlacedName
 wordNodes mode l = nodesBy plainName mode l
 
 abbrev pub itself : Name → Name

@@ -5,7 +5,7 @@ use Prim.Native.Nat.{ℕ, _+_}
 use mathlib.Core.Path.{_≡_, refl, sym, ap, ap₂, _∙_}
 use mathlib.Core.Bool.{Bool, true, false, cond}
 use mathlib.Core.List.{List, [], _∷_, _++_, map, map-append, flatMap, append-nil, append-assoc}
-use Rattle.library_form.specs.Form.{Word}
+use Rattle.library_form.specs.Form.{PlacedName}
 use Rattle.library_image.specs.Library.{Name, Module, ImportOnly, ModuleSet, plainName, plainModule, plainImportOnly, plainSet}
 use Rattle.library_items.specs.Items.{moduleKind, submoduleKind, augmentingKind, deviationKind, importOnlyKind, firstSubKind, laterSubKind, ItemOf, item, moduleItems, laterItems, revisionItems, importItems, setItems, itemsOf, libraryOf, itemsAt}
 use Rattle.graph.specs.Graph.{ScanAnswer, noEntryText, deepest, Entry, moduleEntry, importEntry, setEntries, entries, Out, built, refused, thenO, onOut}
@@ -53,32 +53,32 @@ module _ (s b : List ℕ) (ns : List Name) where
 
   -- ---- one item: an entry, one that is listed, or neither
 
-  abbrev asked : (entry listed : Bool) → (k v : ℕ) → List Row → Word → List (ItemOf Word) → Drawing
+  abbrev asked : (entry listed : Bool) → (k v : ℕ) → List Row → PlacedName → List (ItemOf PlacedName) → Drawing
   asked e l k v rs w xs =
       onOut
       (cond e (walkCodes (codesHere s b ns) mostEdges deepest noEntryText (numberOf ns (w .text)) rs) (cond l (givenCode mostEdges v (knownAt s ns (w .text)) rs) (built rs)))
       (λ rs₁. drawItems s b ns (cond e (k + 1) k) (cond e (numberOf ns (w .text)) v) rs₁ xs) (λ n a. faulty n (cond e (k + 1) k) a)
 
-  asks : (j : ℕ) {e l : Bool} → isEntry j ≡ e → isListed j ≡ l → (k v : ℕ) (rs : List Row) (w : Word) (xs : List (ItemOf Word))
+  asks : (j : ℕ) {e l : Bool} → isEntry j ≡ e → isListed j ≡ l → (k v : ℕ) (rs : List Row) (w : PlacedName) (xs : List (ItemOf PlacedName))
       → drawItems s b ns k v rs (item j w ∷ xs) ≡ asked e l k v rs w xs
   unfolding drawItems itemWalk
   asks j p q k v rs w xs = ap₂ (λ e l. asked e l k v rs w xs) p q
 
   -- ---- items that ask for nothing
 
-  silent : (j k v : ℕ) (rs : List Row) → isEntry j ≡ false → isListed j ≡ false → (ws : List Word) (xs : List (ItemOf Word))
+  silent : (j k v : ℕ) (rs : List Row) → isEntry j ≡ false → isListed j ≡ false → (ws : List PlacedName) (xs : List (ItemOf PlacedName))
       → drawItems s b ns k v rs (map (item j) ws ++ xs) ≡ drawItems s b ns k v rs xs
   silent j k v rs p q [] xs = refl
   silent j k v rs p q (w ∷ ws) xs = asks j p q k v rs w (map (item j) ws ++ xs) ∙ silent j k v rs p q ws xs
 
-  later-silent : (k v : ℕ) (rs : List Row) (ls : List (List Word)) (xs : List (ItemOf Word)) → drawItems s b ns k v rs (laterItems ls ++ xs) ≡ drawItems s b ns k v rs xs
+  later-silent : (k v : ℕ) (rs : List Row) (ls : List (List PlacedName)) (xs : List (ItemOf PlacedName)) → drawItems s b ns k v rs (laterItems ls ++ xs) ≡ drawItems s b ns k v rs xs
   unfolding flatMap
   later-silent k v rs [] xs = refl
   later-silent k v rs (l ∷ ls) xs =
       ap (drawItems s b ns k v rs) (append-assoc (map (item laterSubKind) l) (laterItems ls) xs)
       ∙ (silent laterSubKind k v rs refl refl l (laterItems ls ++ xs) ∙ later-silent k v rs ls xs)
 
-  revisions-silent : (k v : ℕ) (rs : List Row) (ls : List (List Word)) (xs : List (ItemOf Word))
+  revisions-silent : (k v : ℕ) (rs : List Row) (ls : List (List PlacedName)) (xs : List (ItemOf PlacedName))
       → drawItems s b ns k v rs (revisionItems ls ++ xs) ≡ drawItems s b ns k v rs xs
   revisions-silent k v rs [] xs = refl
   revisions-silent k v rs (l ∷ ls) xs =
@@ -87,10 +87,10 @@ module _ (s b : List ℕ) (ns : List Name) where
 
   -- ---- items that are linked
 
-  abbrev linked : (v : ℕ) → List Word → List Row → Out Row
+  abbrev linked : (v : ℕ) → List PlacedName → List Row → Out Row
   linked v ws rs = eachO (givenCode mostEdges v) (map code (map plainName ws)) rs
 
-  listed : (j k v : ℕ) → isEntry j ≡ false → isListed j ≡ true → (ws : List Word) (xs : List (ItemOf Word)) (rs : List Row)
+  listed : (j k v : ℕ) → isEntry j ≡ false → isListed j ≡ true → (ws : List PlacedName) (xs : List (ItemOf PlacedName)) (rs : List Row)
       → drawItems s b ns k v rs (map (item j) ws ++ xs) ≡ onOut (linked v ws rs) (λ rs₁. drawItems s b ns k v rs₁ xs) (λ n a. faulty n k a)
   unfolding eachO
   listed j k v p q [] xs rs = refl
@@ -103,14 +103,14 @@ module _ (s b : List ℕ) (ns : List Name) where
   -- ---- an entry
 
   -- items and entries that draw the same, whatever comes behind
-  abbrev Draws : List (ItemOf Word) → List Entry → Type 0
-  Draws xs es = (ys : List (ItemOf Word)) (fs : List Entry)
+  abbrev Draws : List (ItemOf PlacedName) → List Entry → Type 0
+  Draws xs es = (ys : List (ItemOf PlacedName)) (fs : List Entry)
       → ((k v : ℕ) (rs : List Row) → drawItems s b ns k v rs ys ≡ drawFrom under mostEdges (k + 1) rs (map entry fs))
       → (k v : ℕ) (rs : List Row) → drawItems s b ns k v rs (xs ++ ys) ≡ drawFrom under mostEdges (k + 1) rs (map entry (es ++ fs))
 
   -- what comes behind an entry's item is what it lists
-  entry-draws : (j : ℕ) (w : Word) (us : List Name) (xs : List (ItemOf Word)) → isEntry j ≡ true
-      → ((k : ℕ) (ys : List (ItemOf Word)) (rs : List Row) → drawItems s b ns k (numberOf ns (w .text)) rs (xs ++ ys)
+  entry-draws : (j : ℕ) (w : PlacedName) (us : List Name) (xs : List (ItemOf PlacedName)) → isEntry j ≡ true
+      → ((k : ℕ) (ys : List (ItemOf PlacedName)) (rs : List Row) → drawItems s b ns k (numberOf ns (w .text)) rs (xs ++ ys)
       ≡ onOut (eachO (givenCode mostEdges (numberOf ns (w .text))) (map code us) rs) (λ rs₁. drawItems s b ns k (numberOf ns (w .text)) rs₁ ys) (λ n a. faulty n k a))
       → Draws (item j w ∷ xs) (record { name = w .text; lists = us } ∷ [])
   unfolding codesHere drawFrom walkEntryCodes
@@ -130,13 +130,13 @@ module _ (s b : List ℕ) (ns : List Name) where
   module-draws m =
       entry-draws moduleKind (m .name) (map plainName (m .augmenting) ++ map plainName (m .deviations)) (subs ++ (augs ++ devs)) refl lists
     where
-      subs : List (ItemOf Word)
+      subs : List (ItemOf PlacedName)
       subs = map (item submoduleKind) (m .submodules)
 
-      augs : List (ItemOf Word)
+      augs : List (ItemOf PlacedName)
       augs = map (item augmentingKind) (m .augmenting)
 
-      devs : List (ItemOf Word)
+      devs : List (ItemOf PlacedName)
       devs = map (item deviationKind) (m .deviations)
 
       node : ℕ
@@ -148,7 +148,7 @@ module _ (s b : List ℕ) (ns : List Name) where
           ap (λ cs. eachO (givenCode mostEdges node) cs rs) (map-append code (map plainName (m .augmenting)) (map plainName (m .deviations)))
           ∙ each-append (givenCode mostEdges node) (map code (map plainName (m .augmenting))) (map code (map plainName (m .deviations))) rs
 
-      lists : (k : ℕ) (ys : List (ItemOf Word)) (rs : List Row) → drawItems s b ns k node rs ((subs ++ (augs ++ devs)) ++ ys)
+      lists : (k : ℕ) (ys : List (ItemOf PlacedName)) (rs : List Row) → drawItems s b ns k node rs ((subs ++ (augs ++ devs)) ++ ys)
           ≡ onOut (eachO (givenCode mostEdges node) (map code (map plainName (m .augmenting) ++ map plainName (m .deviations))) rs) (λ rs₁. drawItems s b ns k node rs₁ ys) (λ n a. faulty n k a)
       lists k ys rs =
           ap (drawItems s b ns k node rs) (append-assoc subs (augs ++ devs) ys ∙ ap (λ xs. subs ++ xs) (append-assoc augs devs ys))
@@ -166,12 +166,12 @@ module _ (s b : List ℕ) (ns : List Name) where
 
   -- ---- all of them
 
-  draws-append : (xs ys : List (ItemOf Word)) (es fs : List Entry) → Draws xs es → Draws ys fs → Draws (xs ++ ys) (es ++ fs)
+  draws-append : (xs ys : List (ItemOf PlacedName)) (es fs : List Entry) → Draws xs es → Draws ys fs → Draws (xs ++ ys) (es ++ fs)
   draws-append xs ys es fs f g zs hs h k v rs =
       ap (drawItems s b ns k v rs) (append-assoc xs ys zs)
       ∙ (f (ys ++ zs) (fs ++ hs) (g zs hs h) k v rs ∙ ap (λ l. drawFrom under mostEdges (k + 1) rs (map entry l)) (sym (append-assoc es fs hs)))
 
-  each-draws : {A B : Type 0} (f : A → List (ItemOf Word)) (p : A → B) (g : B → Entry) → ((a : A) → Draws (f a) (g (p a) ∷ []))
+  each-draws : {A B : Type 0} (f : A → List (ItemOf PlacedName)) (p : A → B) (g : B → Entry) → ((a : A) → Draws (f a) (g (p a) ∷ []))
       → (l : List A) → Draws (flatMap f l) (map g (map p l))
   unfolding flatMap
   each-draws f p g h [] = λ ys fs e. e

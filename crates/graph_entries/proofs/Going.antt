@@ -10,7 +10,7 @@ use lib.Dec.{eqb}
 use lib.ListN.{length, take, drop}
 use borrow.Author.Tests.{ne-eqb}
 use Rattle.text.specs.declared.Refusal.{Refusal}
-use Rattle.library_form.specs.Form.{Word, wordAt}
+use Rattle.library_form.specs.Form.{PlacedName, wordAt}
 use Rattle.library_form.proofs.Bounds.{part-word}
 use Rattle.library_image.specs.Library.{Name, Module, ImportOnly, ModuleSet, Library}
 use Rattle.library_items.specs.declared.Item.{Item}
@@ -107,15 +107,15 @@ kept-same store imports includes levels = record { store-long = refl; imports-lo
 
 -- ---- the first item is an entry
 
-abbrev Headed : List (ItemOf Word) → Type 0
+abbrev Headed : List (ItemOf PlacedName) → Type 0
 Headed [] = Unit {0}
 Headed (x ∷ xs) = isEntry (x .kind) ≡ true
 
-headed-append : (xs ys : List (ItemOf Word)) → Headed xs → Headed ys → Headed (xs ++ ys)
+headed-append : (xs ys : List (ItemOf PlacedName)) → Headed xs → Headed ys → Headed (xs ++ ys)
 headed-append [] ys g h = h
 headed-append (x ∷ xs) ys g h = g
 
-each-headed : {A : Type 0} (f : A → List (ItemOf Word)) → ((a : A) → Headed (f a)) → (l : List A) → Headed (flatMap f l)
+each-headed : {A : Type 0} (f : A → List (ItemOf PlacedName)) → ((a : A) → Headed (f a)) → (l : List A) → Headed (flatMap f l)
 unfolding flatMap
 each-headed f h [] = tt
 each-headed f h (a ∷ l) = headed-append (f a) (flatMap f l) (h a) (each-headed f h l)
@@ -153,7 +153,7 @@ entry-known {s} {tab} g i l h = known-items (itemWord s (itemIn tab i) .name .te
 
 -- ---- what the loop keeps
 
-walk-same : (s b : List ℕ) (ns : List Name) (x : ItemOf Word) (v : ℕ) (rs : List Row) → itemWalk s b ns x v rs ≡ itemWalk s b ns x (nextNode ns x v) rs
+walk-same : (s b : List ℕ) (ns : List Name) (x : ItemOf PlacedName) (v : ℕ) (rs : List Row) → itemWalk s b ns x v rs ≡ itemWalk s b ns x (nextNode ns x v) rs
 unfolding itemWalk
 walk-same s b ns x v rs = go (isEntry (x .kind)) (isListed (x .kind))
   where
@@ -180,7 +180,7 @@ unfolding rowsIn
 going-none s b ns n table items store imports includes levels edges chains v z t g =
     let q : items ≡ items - 0 = omega arith in
     record {
-      rest = ap₂ (λ (j : ℕ) (xs : List (ItemOf Word)). drawItems s b ns 0 j [] xs) (sym z) (sym (items-all g) ∙ ap (itemsFrom s table 0) q);
+      rest = ap₂ (λ (j : ℕ) (xs : List (ItemOf PlacedName)). drawItems s b ns 0 j [] xs) (sym z) (sym (items-all g) ∙ ap (itemsFrom s table 0) q);
       listed = g;
       some = omega arith;
       entries = omega arith;
@@ -242,7 +242,7 @@ module _ {s b : List ℕ} {ns : List Name} {n : ℕ} {table : List ℕ} {items :
 
         module _ {k : ℕ} (q : k ≡ cond (isEntry (x .kind)) (entry + 1) entry) {w : Walked} {edges₁ chains₁ : List ℕ}
             (d : Drew (itemWalk s b ns (itemWord s x) u (rowsIn total edges)) edges chains w edges₁ chains₁) where
-          abbrev behind : (y : ItemOf Word) → Out Row → (k u : ℕ) → Drawing
+          abbrev behind : (y : ItemOf PlacedName) → Out Row → (k u : ℕ) → Drawing
           behind y out k u = onOut out (λ rs. drawItems s b ns k u rs (itemsFrom s table (i + 1) (items - (i + 1)))) (λ number a. faulty number k a)
 
           turn : drawItems s b ns 0 0 [] (itemsAt s) ≡ behind (itemWord s x) (walkSeen w edges₁) k u

@@ -7,7 +7,7 @@ use mathlib.Core.Bool.{Bool, true, false, cond, _||_}
 use mathlib.Core.List.{List, [], _∷_}
 use lib.ListN.{length}
 use lib.Dec.{eqb}
-use Rattle.library_form.specs.Form.{Word, wordAt}
+use Rattle.library_form.specs.Form.{PlacedName, wordAt}
 use Rattle.library_image.specs.Library.{Name}
 use Rattle.library_index.specs.Names.{namesIn}
 use Rattle.library_items.specs.declared.Item.{Item}
@@ -29,23 +29,23 @@ abbrev pub isListed : ℕ → Bool
 isListed k = eqb k augmentingKind || eqb k deviationKind
 
 -- the node of an item's name; ns: the names of the nodes
-abbrev pub itemNode : List Name → ItemOf Word → ℕ
+abbrev pub itemNode : List Name → ItemOf PlacedName → ℕ
 itemNode ns x = numberOf ns (x .name .text)
 
 -- what one item asks; v: the node of the entry that it belongs to
-unfoldable pub itemWalk : (image bundle : List ℕ) → (ns : List Name) → ItemOf Word → (v : ℕ) → List Row → Out Row
+unfoldable pub itemWalk : (image bundle : List ℕ) → (ns : List Name) → ItemOf PlacedName → (v : ℕ) → List Row → Out Row
 itemWalk s b ns x v rs =
     cond (isEntry (x .kind)) (walkCodes (codesHere s b ns) mostEdges deepest noEntryText (itemNode ns x) rs)
     (cond (isListed (x .kind)) (givenCode mostEdges v (knownAt s ns (x .name .text)) rs) (built rs))
 
-abbrev pub nextNode : List Name → ItemOf Word → ℕ → ℕ
+abbrev pub nextNode : List Name → ItemOf PlacedName → ℕ → ℕ
 nextNode ns x v = cond (isEntry (x .kind)) (itemNode ns x) v
 
-abbrev pub nextEntry : ItemOf Word → ℕ → ℕ
+abbrev pub nextEntry : ItemOf PlacedName → ℕ → ℕ
 nextEntry x k = cond (isEntry (x .kind)) (k + 1) k
 
 -- k: the entries so far
-unfoldable pub drawItems : (image bundle : List ℕ) → (ns : List Name) → (k v : ℕ) → List Row → List (ItemOf Word) → Drawing
+unfoldable pub drawItems : (image bundle : List ℕ) → (ns : List Name) → (k v : ℕ) → List Row → List (ItemOf PlacedName) → Drawing
 drawItems s b ns k v rs [] = drawn rs
 drawItems s b ns k v rs (x ∷ xs) =
     onOut (itemWalk s b ns x v rs) (λ rs₁. drawItems s b ns (nextEntry x k) (nextNode ns x v) rs₁ xs) (λ n a. faulty n (nextEntry x k) a)

@@ -8,7 +8,7 @@ use mathlib.Core.List.{List, [], _∷_, _++_, map, flatMap, List·Memᴰ, List·
 use native.Mathlib.Omega.{arith}
 use lib.ListN.{length, length-append}
 use Rattle.text.specs.Keyword.{same}
-use Rattle.library_form.specs.Form.{Word}
+use Rattle.library_form.specs.Form.{PlacedName}
 use Rattle.library_image.specs.Library.{Name, Module, ImportOnly, ModuleSet, Library, plainName, plainImportOnly, plainSet, plain}
 use Rattle.library_items.specs.Items.{submoduleKind, augmentingKind, deviationKind, firstSubKind, laterSubKind, ItemOf, item, moduleItems, laterItems, importItems, setItems, itemsOf}
 use Rattle.library_index.specs.Names.{among, addNew, addAll}
@@ -22,14 +22,14 @@ use Rattle.graph_nodes.specs.Adding.{isEntry, isSub, Adding, so, addName
 
 -- ---- one list of items behind another
 
-pub items-append : (xs ys : List (ItemOf Word)) (a : Adding) → addItems a (xs ++ ys) ≡ addItems (addItems a xs) ys
+pub items-append : (xs ys : List (ItemOf PlacedName)) (a : Adding) → addItems a (xs ++ ys) ≡ addItems (addItems a xs) ys
 unfolding addItems
 items-append [] ys a = refl
 items-append (x ∷ xs) ys a = items-append xs ys (addItem a x)
 
 -- ---- the list only grows
 
-name-grows : (a : Adding) (there : Bool) (w : Word) → length (a .nodes) ≤ length (addName a there w .nodes)
+name-grows : (a : Adding) (there : Bool) (w : PlacedName) → length (a .nodes) ≤ length (addName a there w .nodes)
 unfolding addName
 name-grows a there w = go (among plainName (w .text) (a .nodes))
   where
@@ -37,7 +37,7 @@ name-grows a there w = go (among plainName (w .text) (a .nodes))
     go true = omega arith
     go false = omega (arith, length-append (a .nodes) (w ∷ []))
 
-item-grows : (a : Adding) (x : ItemOf Word) → length (a .nodes) ≤ length (addItem a x .nodes)
+item-grows : (a : Adding) (x : ItemOf PlacedName) → length (a .nodes) ≤ length (addItem a x .nodes)
 unfolding addItem
 item-grows a x = go (isEntry (x .kind)) (a .adding && isSub (x .kind))
   where
@@ -46,7 +46,7 @@ item-grows a x = go (isEntry (x .kind)) (a .adding && isSub (x .kind))
     go false true = name-grows a true (x .name)
     go false false = omega arith
 
-pub items-grow : (xs : List (ItemOf Word)) (a : Adding) → length (a .nodes) ≤ length (addItems a xs .nodes)
+pub items-grow : (xs : List (ItemOf PlacedName)) (a : Adding) → length (a .nodes) ≤ length (addItems a xs .nodes)
 unfolding addItems
 items-grow [] a = omega arith
 items-grow (x ∷ xs) a = omega (arith, item-grows a x, items-grow xs (addItem a x))
@@ -54,7 +54,7 @@ items-grow (x ∷ xs) a = omega (arith, item-grows a x, items-grow xs (addItem a
 -- ---- a list of names of one kind
 
 -- of a kind that is never added
-none-added : (k : ℕ) → isEntry k ≡ false → isSub k ≡ false → (ws : List Word) (a : Adding) → addItems a (map (item k) ws) ≡ a
+none-added : (k : ℕ) → isEntry k ≡ false → isSub k ≡ false → (ws : List PlacedName) (a : Adding) → addItems a (map (item k) ws) ≡ a
 unfolding addItems addItem
 none-added k e q [] a = refl
 none-added k e q (w ∷ ws) a = ap (λ (c : Adding). addItems c (map (item k) ws)) (go (isEntry k) (isSub k) (a .adding) e q) ∙ none-added k e q ws a
@@ -66,7 +66,7 @@ none-added k e q (w ∷ ws) a = ap (λ (c : Adding). addItems c (map (item k) ws
     go false false false p q = refl
 
 -- submodules of an entry that was passed over
-subs-passed : (k : ℕ) → isEntry k ≡ false → (ws : List Word) (ns : List Word) → addItems (so ns false) (map (item k) ws) ≡ so ns false
+subs-passed : (k : ℕ) → isEntry k ≡ false → (ws : List PlacedName) (ns : List PlacedName) → addItems (so ns false) (map (item k) ws) ≡ so ns false
 unfolding addItems addItem
 subs-passed k e [] ns = refl
 subs-passed k e (w ∷ ws) ns = ap (λ (c : Adding). addItems c (map (item k) ws)) (go (isEntry k) e) ∙ subs-passed k e ws ns
@@ -76,7 +76,7 @@ subs-passed k e (w ∷ ws) ns = ap (λ (c : Adding). addItems c (map (item k) ws
     go false p = refl
 
 -- submodules of an entry that was added
-subs-added : (k : ℕ) → isEntry k ≡ false → isSub k ≡ true → (ws : List Word) (ns : List Word)
+subs-added : (k : ℕ) → isEntry k ≡ false → isSub k ≡ true → (ws : List PlacedName) (ns : List PlacedName)
     → addItems (so ns true) (map (item k) ws) ≡ so (addAll plainName ns ws) true
 unfolding addItems addItem addAll addName
 subs-added k e q [] ns = refl
@@ -103,7 +103,7 @@ module-added m a = ap (λ (c : Adding). c .nodes) (items-append (map (item submo
     t : Bool
     t = among plainName (m .name .text) (a .nodes)
 
-    lists : List (ItemOf Word)
+    lists : List (ItemOf PlacedName)
     lists = map (item augmentingKind) (m .augmenting) ++ map (item deviationKind) (m .deviations)
 
     headed : Bool → Adding
@@ -122,7 +122,7 @@ module-added m a = ap (λ (c : Adding). c .nodes) (items-append (map (item submo
 
 -- an import-only module, of which the later revisions find its name among the nodes
 
-kept : (u : Name) (ws ns : List Word) → among plainName u ns ≡ true → among plainName u (addAll plainName ns ws) ≡ true
+kept : (u : Name) (ws ns : List PlacedName) → among plainName u ns ≡ true → among plainName u (addAll plainName ns ws) ≡ true
 unfolding addAll
 kept u [] ns h = h
 kept u (w ∷ ws) ns h = kept u ws (addNew plainName ns w) (go (among plainName (w .text) ns))
@@ -131,32 +131,32 @@ kept u (w ∷ ws) ns h = kept u ws (addNew plainName ns w) (go (among plainName 
     go true = h
     go false = among-append plainName u ns (w ∷ []) ∙ or-left (among plainName u ns) _ h
 
-last-among : (w : Word) (ns : List Word) → among plainName (w .text) (ns ++ (w ∷ [])) ≡ true
+last-among : (w : PlacedName) (ns : List PlacedName) → among plainName (w .text) (ns ++ (w ∷ [])) ≡ true
 unfolding among
 last-among w ns =
     among-append plainName (w .text) ns (w ∷ []) ∙ or-right (among plainName (w .text) ns) _ (or-left (same (w .text) (w .text)) false (same-refl (w .text)))
 
-head-among : (w : Word) (ws ns : List Word) → among plainName (w .text) (addGroup plainName passOver ns (record { head = w; subs = ws })) ≡ true
+head-among : (w : PlacedName) (ws ns : List PlacedName) → among plainName (w .text) (addGroup plainName passOver ns (record { head = w; subs = ws })) ≡ true
 head-among w ws ns = go (among plainName (w .text) ns) refl
   where
     go : (b : Bool) → among plainName (w .text) ns ≡ b → among plainName (w .text) (cond b ns (addAll plainName (ns ++ (w ∷ [])) ws)) ≡ true
     go true h = h
     go false h = kept (w .text) ws (ns ++ (w ∷ [])) (last-among w ns)
 
-abbrev revisionGroup : Word → List Word → Group Word
+abbrev revisionGroup : PlacedName → List PlacedName → Group PlacedName
 revisionGroup w ws = record { head = w; subs = ws }
 
-later-passed : (w : Word) (rs : List (List Word)) (ns : List Word) → among plainName (w .text) ns ≡ true
+later-passed : (w : PlacedName) (rs : List (List PlacedName)) (ns : List PlacedName) → among plainName (w .text) ns ≡ true
     → addGroups plainName passOver ns (map (revisionGroup w) rs) ≡ ns
 unfolding addGroups
 later-passed w [] ns h = refl
-later-passed w (r ∷ rs) ns h = ap (λ (l : List Word). addGroups plainName passOver l (map (revisionGroup w) rs)) (go (among plainName (w .text) ns) h) ∙ later-passed w rs ns h
+later-passed w (r ∷ rs) ns h = ap (λ (l : List PlacedName). addGroups plainName passOver l (map (revisionGroup w) rs)) (go (among plainName (w .text) ns) h) ∙ later-passed w rs ns h
   where
     go : (b : Bool) → b ≡ true → cond b ns (addAll plainName (ns ++ (w ∷ [])) r) ≡ ns
     go true h = refl
     go false h = both-bools h refl
 
-later-added : (rs : List (List Word)) (a : Adding) → addItems a (laterItems rs) ≡ a
+later-added : (rs : List (List PlacedName)) (a : Adding) → addItems a (laterItems rs) ≡ a
 unfolding flatMap addItems
 later-added [] a = refl
 later-added (r ∷ rs) a =
@@ -164,7 +164,7 @@ later-added (r ∷ rs) a =
     ∙ ap (λ (c : Adding). addItems c (laterItems rs)) (none-added laterSubKind refl refl r a)
     ∙ later-added rs a
 
-import-added : (w : Word) (r : List Word) (rs : List (List Word)) (a : Adding)
+import-added : (w : PlacedName) (r : List PlacedName) (rs : List (List PlacedName)) (a : Adding)
     → addItems a (importItems (record { name = w; revisions = r ∷ rs })) .nodes ≡ addGroups plainName passOver (a .nodes) (map (revisionGroup w) (r ∷ rs))
 unfolding addItems addItem addName addGroups
 import-added w r rs a =
@@ -185,14 +185,14 @@ import-added w r rs a =
 
 -- ---- the groups one after another
 
-groups-append : (gs hs : List (Group Word)) (ns : List Word)
+groups-append : (gs hs : List (Group PlacedName)) (ns : List PlacedName)
     → addGroups plainName passOver ns (gs ++ hs) ≡ addGroups plainName passOver (addGroups plainName passOver ns gs) hs
 unfolding addGroups
 groups-append [] hs ns = refl
 groups-append (g ∷ gs) hs ns = groups-append gs hs (addGroup plainName passOver ns g)
 
 -- items that add their groups, one list behind another
-module _ {B : Type 0} (f : B → List (ItemOf Word)) (g : B → List (Group Word)) where
+module _ {B : Type 0} (f : B → List (ItemOf PlacedName)) (g : B → List (Group PlacedName)) where
   each-added : (bs : List B) → ((b : B) → List·Memᴰ b bs → (a : Adding) → addItems a (f b) .nodes ≡ addGroups plainName passOver (a .nodes) (g b)) → (a : Adding)
       → addItems a (flatMap f bs) .nodes ≡ addGroups plainName passOver (a .nodes) (flatMap g bs)
   unfolding flatMap addItems addGroups
@@ -200,7 +200,7 @@ module _ {B : Type 0} (f : B → List (ItemOf Word)) (g : B → List (Group Word
   each-added (b ∷ bs) h a =
       ap (λ (c : Adding). c .nodes) (items-append (f b) (flatMap f bs) a)
       ∙ each-added bs (λ x m. h x (List·Memᴰ·tail m)) (addItems a (f b))
-      ∙ ap (λ (ns : List Word). addGroups plainName passOver ns (flatMap g bs)) (h b (List·Memᴰ·head refl) a)
+      ∙ ap (λ (ns : List PlacedName). addGroups plainName passOver ns (flatMap g bs)) (h b (List·Memᴰ·head refl) a)
       ∙ sym (groups-append (g b) (flatMap g bs) (a .nodes))
 
 modules-added : (ms : List Module) (a : Adding) → addItems a (flatMap moduleItems ms) .nodes ≡ addGroups plainName passOver (a .nodes) (map moduleGroup ms)
@@ -209,7 +209,7 @@ modules-added [] a = refl
 modules-added (m ∷ ms) a =
     ap (λ (c : Adding). c .nodes) (items-append (moduleItems m) (flatMap moduleItems ms) a)
     ∙ modules-added ms (addItems a (moduleItems m))
-    ∙ ap (λ (ns : List Word). addGroups plainName passOver ns (map moduleGroup ms)) (module-added m a)
+    ∙ ap (λ (ns : List PlacedName). addGroups plainName passOver ns (map moduleGroup ms)) (module-added m a)
 
 -- an import-only module that has a revision
 abbrev OneRevised : ImportOnly → Type 0
@@ -218,7 +218,7 @@ OneRevised i = (subs : List Name) × List·Memᴰ subs (map (map plainName) (i .
 revised-added : (i : ImportOnly) → OneRevised i → (a : Adding) → addItems a (importItems i) .nodes ≡ addGroups plainName passOver (a .nodes) (revisionGroups i)
 revised-added i h a = go (i .revisions) (h .1)
   where
-    go : (rs : List (List Word)) → List·Memᴰ (h .0) (map (map plainName) rs)
+    go : (rs : List (List PlacedName)) → List·Memᴰ (h .0) (map (map plainName) rs)
         → addItems a (importItems (record { name = i .name; revisions = rs })) .nodes ≡ addGroups plainName passOver (a .nodes) (map (revisionGroup (i .name)) rs)
     go [] m = absurd (List·Memᴰ·not-nil m)
     go (r ∷ rs) m = import-added (i .name) r rs a
@@ -228,7 +228,7 @@ set-added : (s : ModuleSet) → ((i : ImportOnly) → List·Memᴰ i (s .importO
 set-added s h a =
     ap (λ (c : Adding). c .nodes) (items-append (flatMap moduleItems (s .modules)) (flatMap importItems (s .importOnly)) a)
     ∙ each-added importItems revisionGroups (s .importOnly) (λ i m. revised-added i (h i m)) (addItems a (flatMap moduleItems (s .modules)))
-    ∙ ap (λ (ns : List Word). addGroups plainName passOver ns (flatMap revisionGroups (s .importOnly))) (modules-added (s .modules) a)
+    ∙ ap (λ (ns : List PlacedName). addGroups plainName passOver ns (flatMap revisionGroups (s .importOnly))) (modules-added (s .modules) a)
     ∙ sym (groups-append (map moduleGroup (s .modules)) (flatMap revisionGroups (s .importOnly)) (a .nodes))
 
 -- the nodes of a library

@@ -10,7 +10,7 @@ use native.Mathlib.Numerals.{add-one}
 use lib.Dec.{eqb}
 use lib.ListN.{length, length-append}
 use borrow.Author.Tests.{ne-eqb}
-use Rattle.library_form.specs.Form.{Word, wordAt}
+use Rattle.library_form.specs.Form.{PlacedName, wordAt}
 use Rattle.library_image.specs.Library.{plainName}
 use Rattle.library_index.specs.Names.{among, namesIn, Cleared, Added}
 use Rattle.library_index.specs.declared.Found.{Found}
@@ -48,10 +48,10 @@ sub-first k f = rw (ne-eqb k 1 f)
 -- ---- a name
 
 module _ (s tab after : List ℕ) (n place size : ℕ) (there : Bool) where
-  abbrev nodes : List Word
+  abbrev nodes : List PlacedName
   nodes = namesIn s tab n
 
-  abbrev name : Word
+  abbrev name : PlacedName
   name = wordAt s place size
 
   abbrev grown : Adding
@@ -89,7 +89,7 @@ pub item-asks : (s table tab : List ℕ) (i n : ℕ) {x : Item} → x ≡ itemIn
 item-asks s table tab i n {x} e h = subst (λ (y : Item). Adds s tab n (y .place) (y .size)) (sym e) (record { holding = h .holding; inside = h .fits .inside; short = h .short })
 
 module _ (s table tab : List ℕ) (i n : ℕ) (adding : Bool) {x : Item} (e : x ≡ itemIn table i) where
-  abbrev before : List Word
+  abbrev before : List PlacedName
   before = namesIn s tab n
 
   abbrev more : Adding
@@ -134,7 +134,7 @@ pub record Building (s table before : List ℕ) (count : ℕ) (tab : List ℕ) (
 -- what the items say when all are there
 all-nodes : {s table : List ℕ} {count : ℕ} → Itemized s count table → Bytes s → so-far s table count .nodes ≡ wordsAt passOver s
 unfolding wordsAt
-all-nodes {s} m b = ap (λ (xs : List (ItemOf Word)). addItems (so [] false) xs .nodes) (m .items) ∙ added (libraryOf s) (revised-at s b)
+all-nodes {s} m b = ap (λ (xs : List (ItemOf PlacedName)). addItems (so [] false) xs .nodes) (m .items) ∙ added (libraryOf s) (revised-at s b)
 
 module _ (s table before : List ℕ) (count : ℕ) where
   pub build-begun : {entry : List ℕ} → Cleared entry before → 5123 ≤ length entry → Building s table before count before 0 false 0
@@ -186,7 +186,7 @@ module _ (s table before : List ℕ) (count : ℕ) where
           ∙ ap (addItems (so [] false)) (items-from s table (count - (i + 1)) (i + 1))
           ∙ items-append (itemsIn s table (i + 1)) (itemsFrom s table (i + 1) (count - (i + 1))) (so [] false) in
           let p : length (addItems (so-far s table (i + 1)) (itemsFrom s table (i + 1) (count - (i + 1))) .nodes) ≡ length (wordsAt passOver s) =
-          ap (λ (a : Adding). length (a .nodes)) (sym o) ∙ ap (λ (ns : List Word). length ns) (all-nodes m bytes) in
+          ap (λ (a : Adding). length (a .nodes)) (sym o) ∙ ap (λ (ns : List PlacedName). length ns) (all-nodes m bytes) in
           let u : mostNodes < length (wordsAt passOver s) = omega (arith, k, p, items-grow (itemsFrom s table (i + 1) (count - (i + 1))) (so-far s table (i + 1))) in
           record { answer = u; kept = w .kept ∙ g .kept ∙ k₀ .kept }
 
@@ -194,4 +194,4 @@ module _ (s table before : List ℕ) (count : ℕ) where
     build-done k₀ m bytes l =
         let e : i ≡ count = omega (arith, g .room) in
         let p : so-far s table i .nodes ≡ wordsAt passOver s = ap (λ (j : ℕ). so-far s table j .nodes) e ∙ all-nodes m bytes in
-        record { answer = subst (λ (ns : List Word). Holding s tab n ns) p (g .holding); kept = g .kept ∙ k₀ .kept }
+        record { answer = subst (λ (ns : List PlacedName). Holding s tab n ns) p (g .holding); kept = g .kept ∙ k₀ .kept }

@@ -14,7 +14,7 @@ use mir.Syntax.{w8, w32, w64}
 use mir.Val.{Fits}
 use Rattle.text.specs.Keyword.{same}
 use Rattle.text.proofs.KeywordLaws.{same-eq}
-use Rattle.library_form.specs.Form.{Ans, good, bad, Word, wordAt}
+use Rattle.library_form.specs.Form.{Ans, good, bad, PlacedName, wordAt}
 use Rattle.library_form.proofs.Bounds.{part-word}
 use Rattle.library_form.specs.declared.LookUp.{LookUp}
 use Rattle.library_form.specs.declared.LookUp.the-variants.{Broken, Nothing as NotThere, At as There}
@@ -47,7 +47,7 @@ use Rattle.graph_nodes.proofs.OfKind.{known-items, listed-items}
 
 -- ---- the answer of a search through words
 
-number-first : (ws : List Word) (t : Name) (j : ℕ) {i : ℕ} → firstFrom j t ws ≡ At i → i ≡ j + numberOf (map plainName ws) t
+number-first : (ws : List PlacedName) (t : Name) (j : ℕ) {i : ℕ} → firstFrom j t ws ≡ At i → i ≡ j + numberOf (map plainName ws) t
 unfolding firstFrom numberOf
 number-first [] t j e = let z : _≡_ {A = ℕ} 0 1 = cc in absurd (omega arith)
 number-first (w ∷ ws) t j {i} e = go (same (w .text) t) (number-first ws t (suc j)) e
@@ -57,10 +57,10 @@ number-first (w ∷ ws) t j {i} e = go (same (w .text) t) (number-first ws t (su
     go true ih e = let x : j ≡ i = cc in omega arith
     go false ih e = let x = ih e in omega arith
 
-abbrev word : Word → Word
+abbrev word : PlacedName → PlacedName
 word w = w
 
-text-of : (t : Name) (ws : List Word) → firstBy word plainName t ws t ≡ t
+text-of : (t : Name) (ws : List PlacedName) → firstBy word plainName t ws t ≡ t
 text-of t [] = refl
 text-of t (w ∷ ws) = go (same (w .text) t) refl (text-of t ws)
   where
@@ -231,7 +231,7 @@ module _ {s tab marks : List ℕ} {n : ℕ} (d : Desk s tab n marks) (t : Name) 
 
 -- ---- a submodule in the image
 
-found-among : (t : Name) (ws : List Word) {p r : ℕ} → firstBy word wordFound t ws NotThere ≡ There p r → among plainName t ws ≡ true
+found-among : (t : Name) (ws : List PlacedName) {p r : ℕ} → firstBy word wordFound t ws NotThere ≡ There p r → among plainName t ws ≡ true
 unfolding among
 found-among t [] e = let z : _≡_ {A = ℕ} 0 1 = cc in absurd (omega arith)
 found-among t (w ∷ ws) {p} {r} e = go (same (w .text) t) (found-among t ws) e
@@ -241,7 +241,7 @@ found-among t (w ∷ ws) {p} {r} e = go (same (w .text) t) (found-among t ws) e
     go true ih e = refl
     go false ih e = ih e
 
-missed-among : (t : Name) (ws : List Word) → firstBy word wordFound t ws NotThere ≡ NotThere → among plainName t ws ≡ false
+missed-among : (t : Name) (ws : List PlacedName) → firstBy word wordFound t ws NotThere ≡ NotThere → among plainName t ws ≡ false
 unfolding among
 missed-among t [] e = refl
 missed-among t (w ∷ ws) e = go (same (w .text) t) (missed-among t ws) e
@@ -251,7 +251,7 @@ missed-among t (w ∷ ws) e = go (same (w .text) t) (missed-among t ws) e
     go true ih e = let z : _≡_ {A = ℕ} 0 1 = cc in absurd (omega arith)
     go false ih e = ih e
 
-never-broken : (t : Name) (ws : List Word) {p : ℕ} → firstBy word wordFound t ws NotThere ≡ Broken p → ⊥
+never-broken : (t : Name) (ws : List PlacedName) {p : ℕ} → firstBy word wordFound t ws NotThere ≡ Broken p → ⊥
 never-broken t [] e = let z : _≡_ {A = ℕ} 0 1 = cc in omega arith
 never-broken t (w ∷ ws) {p} e = go (same (w .text) t) (never-broken t ws) e
   where

@@ -7,7 +7,7 @@ use mathlib.Core.Bool.{Bool, true, false, cond, _||_}
 use mathlib.Core.List.{List, [], _∷_, _++_, append-assoc, map, flatMap}
 use Rattle.text.specs.Keyword.{same}
 use Rattle.text.proofs.Here.{or-none}
-use Rattle.library_form.specs.Form.{Word}
+use Rattle.library_form.specs.Form.{PlacedName}
 use Rattle.library_image.specs.Library.{Name, Module, ImportOnly, Library, plainName, plain, modulesOf, importOnlyOf, submodulesOf}
 use Rattle.library_items.specs.Items.{submoduleKind, augmentingKind, deviationKind, firstSubKind, laterSubKind, ItemOf, item, moduleItems, laterItems, revisionItems, importItems, setItems, itemsOf}
 use Rattle.library_index.specs.Names.{among}
@@ -32,7 +32,7 @@ or-right false c h = h
 -- ---- one list behind another
 
 module _ (kind : ℕ → Bool) (u : Name) where
-  pub kind-append : (xs ys : List (ItemOf Word)) → amongKind kind u (xs ++ ys) ≡ (amongKind kind u xs || amongKind kind u ys)
+  pub kind-append : (xs ys : List (ItemOf PlacedName)) → amongKind kind u (xs ++ ys) ≡ (amongKind kind u xs || amongKind kind u ys)
   unfolding amongKind
   kind-append [] ys = refl
   kind-append (x ∷ xs) ys = go (kind (x .kind)) (same (x .name .text) u) (kind-append xs ys)
@@ -44,7 +44,7 @@ module _ (kind : ℕ → Bool) (u : Name) where
       go false c ih = ih
 
   -- names of another kind, and of the kind
-  others : (k : ℕ) → kind k ≡ false → (ws : List Word) → amongKind kind u (map (item k) ws) ≡ false
+  others : (k : ℕ) → kind k ≡ false → (ws : List PlacedName) → amongKind kind u (map (item k) ws) ≡ false
   unfolding amongKind
   others k e [] = refl
   others k e (w ∷ ws) = go (kind k) (same (w .text) u) e (others k e ws)
@@ -54,7 +54,7 @@ module _ (kind : ℕ → Bool) (u : Name) where
       go true c p ih = both-bools refl p
       go false c p ih = ih
 
-  these : (k : ℕ) → kind k ≡ true → (ws : List Word) → amongKind kind u (map (item k) ws) ≡ among plainName u ws
+  these : (k : ℕ) → kind k ≡ true → (ws : List PlacedName) → amongKind kind u (map (item k) ws) ≡ among plainName u ws
   unfolding amongKind among
   these k e [] = refl
   these k e (w ∷ ws) = go (kind k) (same (w .text) u) e (these k e ws)
@@ -65,12 +65,12 @@ module _ (kind : ℕ → Bool) (u : Name) where
       go true false p ih = ih
       go false c p ih = both-bools p refl
 
-  later-others : kind laterSubKind ≡ false → (rs : List (List Word)) → amongKind kind u (laterItems rs) ≡ false
+  later-others : kind laterSubKind ≡ false → (rs : List (List PlacedName)) → amongKind kind u (laterItems rs) ≡ false
   unfolding flatMap amongKind
   later-others e [] = refl
   later-others e (r ∷ rs) = kind-append (map (item laterSubKind) r) (laterItems rs) ∙ ap₂ _||_ (others laterSubKind e r) (later-others e rs)
 
-  revision-others : kind firstSubKind ≡ false → kind laterSubKind ≡ false → (rs : List (List Word)) → amongKind kind u (revisionItems rs) ≡ false
+  revision-others : kind firstSubKind ≡ false → kind laterSubKind ≡ false → (rs : List (List PlacedName)) → amongKind kind u (revisionItems rs) ≡ false
   unfolding amongKind
   revision-others d e [] = refl
   revision-others d e (r ∷ rs) = kind-append (map (item firstSubKind) r) (laterItems rs) ∙ ap₂ _||_ (others firstSubKind d r) (later-others e rs)
@@ -90,7 +90,7 @@ abbrev importName : ImportOnly → Name
 importName i = plainName (i .name)
 
 module _ (u : Name) where
-  abbrev entry : List (ItemOf Word) → Bool
+  abbrev entry : List (ItemOf PlacedName) → Bool
   entry xs = amongKind isEntry u xs
 
   module-entry : (m : Module) → entry (moduleItems m) ≡ same (m .name .text) u
@@ -136,10 +136,10 @@ known-items u l = known-words u l ∙ sym (entries-known u l)
 submodules-append : (ms ns : List Module) → submodulesOf (ms ++ ns) ≡ submodulesOf ms ++ submodulesOf ns
 unfolding submodulesOf
 submodules-append [] ns = refl
-submodules-append (m ∷ ms) ns = ap (λ (l : List Word). m .submodules ++ l) (submodules-append ms ns) ∙ sym (append-assoc (m .submodules) (submodulesOf ms) (submodulesOf ns))
+submodules-append (m ∷ ms) ns = ap (λ (l : List PlacedName). m .submodules ++ l) (submodules-append ms ns) ∙ sym (append-assoc (m .submodules) (submodulesOf ms) (submodulesOf ns))
 
 module _ (u : Name) where
-  abbrev sub : List (ItemOf Word) → Bool
+  abbrev sub : List (ItemOf PlacedName) → Bool
   sub xs = amongKind isSubmodule u xs
 
   module-sub : (m : Module) → sub (moduleItems m) ≡ among plainName u (m .submodules)

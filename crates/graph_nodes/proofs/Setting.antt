@@ -19,7 +19,7 @@ use borrow.Author.Tests.{eqb-true, ne-eqb}
 use Rattle.text.specs.Keyword.{same}
 use Rattle.text.proofs.Here.{or-none}
 use Rattle.text.proofs.KeywordLaws.{same-eq}
-use Rattle.library_form.specs.Form.{Word, wordAt}
+use Rattle.library_form.specs.Form.{PlacedName, wordAt}
 use Rattle.library_form.proofs.Bounds.{part-word}
 use Rattle.library_image.specs.Library.{Name, plainName}
 use Rattle.library_index.specs.Names.{firstOf, among, nameIn, namesIn, Indexed}
@@ -62,10 +62,10 @@ apart s tab n i j x l k e =
 
 module _ (kind : ℕ → Bool) (u : Name) where
   -- the item has the kind and the name
-  hits : ItemOf Word → Bool
+  hits : ItemOf PlacedName → Bool
   hits x = cond (kind (x .kind)) (same (x .name .text) u) false
 
-  with-item : (xs : List (ItemOf Word)) (x : ItemOf Word) → amongKind kind u (xs ++ (x ∷ [])) ≡ (amongKind kind u xs || hits x)
+  with-item : (xs : List (ItemOf PlacedName)) (x : ItemOf PlacedName) → amongKind kind u (xs ++ (x ∷ [])) ≡ (amongKind kind u xs || hits x)
   unfolding amongKind hits
   with-item xs x = kind-append kind u xs (x ∷ []) ∙ ap (λ (b : Bool). amongKind kind u xs || b) (go (kind (x .kind)) (same (x .name .text) u))
     where
@@ -74,11 +74,11 @@ module _ (kind : ℕ → Bool) (u : Name) where
       go true false = refl
       go false c = refl
 
-  other-kind : (x : ItemOf Word) → kind (x .kind) ≡ false → hits x ≡ false
+  other-kind : (x : ItemOf PlacedName) → kind (x .kind) ≡ false → hits x ≡ false
   unfolding hits
   other-kind x e = rw e
 
-  other-name : (x : ItemOf Word) → same (x .name .text) u ≡ false → hits x ≡ false
+  other-name : (x : ItemOf PlacedName) → same (x .name .text) u ≡ false → hits x ≡ false
   unfolding hits
   other-name x e = go (kind (x .kind)) e
     where
@@ -86,15 +86,15 @@ module _ (kind : ℕ → Bool) (u : Name) where
       go true h = h
       go false h = refl
 
-  it-hits : (x : ItemOf Word) → kind (x .kind) ≡ true → x .name .text ≡ u → hits x ≡ true
+  it-hits : (x : ItemOf PlacedName) → kind (x .kind) ≡ true → x .name .text ≡ u → hits x ≡ true
   unfolding hits
   it-hits x e q = rw (e, q, same-refl u)
 
   -- a mark that stays, and one that is set
-  stays : (xs : List (ItemOf Word)) (x : ItemOf Word) {m : ℕ} → m ≡ bit (amongKind kind u xs) → hits x ≡ false → m ≡ bit (amongKind kind u (xs ++ (x ∷ [])))
+  stays : (xs : List (ItemOf PlacedName)) (x : ItemOf PlacedName) {m : ℕ} → m ≡ bit (amongKind kind u xs) → hits x ≡ false → m ≡ bit (amongKind kind u (xs ++ (x ∷ [])))
   stays xs x e h = e ∙ ap (λ (b : Bool). bit b) (sym (with-item xs x ∙ ap (λ (b : Bool). amongKind kind u xs || b) h ∙ or-none (amongKind kind u xs)))
 
-  is-set : (xs : List (ItemOf Word)) (x : ItemOf Word) {m : ℕ} → m ≡ 1 → hits x ≡ true → m ≡ bit (amongKind kind u (xs ++ (x ∷ [])))
+  is-set : (xs : List (ItemOf PlacedName)) (x : ItemOf PlacedName) {m : ℕ} → m ≡ 1 → hits x ≡ true → m ≡ bit (amongKind kind u (xs ++ (x ∷ [])))
   is-set xs x e h = e ∙ ap (λ (b : Bool). bit b) (sym (with-item xs x ∙ ap (λ (b : Bool). amongKind kind u xs || b) h ∙ or-right (amongKind kind u xs) true refl))
 
 order : (j k : ℕ) → (j ≡ k → ⊥) → (j < k) ⊎ (k < j)
@@ -110,7 +110,7 @@ no-entry-sub k e = go (eqb k 1) refl
     go false q = q
 
 module _ (s table tab marks : List ℕ) (i n : ℕ) (m : Marking s table i tab n marks) {x : Item} (e : x ≡ itemIn table i) where
-  abbrev it : ItemOf Word
+  abbrev it : ItemOf PlacedName
   it = itemWord s (itemIn table i)
 
   -- the bytes that are sought are the item's
@@ -134,7 +134,7 @@ module _ (s table tab marks : List ℕ) (i n : ℕ) (m : Marking s table i tab n
   ListedAfter after = (j : ℕ) → j < n → getD after (j * 2 + 1) 0 ≡ bit (amongKind isSubmodule (nameIn s tab j .text) (itemsIn s table i ++ (it ∷ [])))
 
   all-marked : (after : List ℕ) → length after ≡ length marks → KnownAfter after → ListedAfter after → After after
-  all-marked after l k h = subst (λ (xs : List (ItemOf Word)). Marked s tab n xs after) (sym next) (record { wide = omega (arith, m .marked .wide); known = k; listed = h })
+  all-marked after l k h = subst (λ (xs : List (ItemOf PlacedName)). Marked s tab n xs after) (sym next) (record { wide = omega (arith, m .marked .wide); known = k; listed = h })
 
   pub end-in : x .place + x .size ≤ length s
   end-in = omega (arith, ap (λ (y : Item). y .place + y .size) e, m .fits .inside)
@@ -286,4 +286,4 @@ module _ (s table tab : List ℕ) (count n : ℕ) where
     pub marks-done : Itemized s count table → count ≤ i → Marked s tab n (itemsAt s) marks
     marks-done t l =
         let e : i ≡ count = omega (arith, g .room) in
-        subst (λ (xs : List (ItemOf Word)). Marked s tab n xs marks) (ap (itemsIn s table) e ∙ t .items) (g .marked)
+        subst (λ (xs : List (ItemOf PlacedName)). Marked s tab n xs marks) (ap (itemsIn s table) e ∙ t .items) (g .marked)

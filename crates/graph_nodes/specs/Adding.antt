@@ -7,7 +7,7 @@ use mathlib.Core.Bool.{Bool, true, false, cond, _||_, _&&_}
 use mathlib.Core.List.{List, [], _∷_, _++_, map}
 use lib.ListN.{length}
 use lib.Dec.{eqb}
-use Rattle.library_form.specs.Form.{Word}
+use Rattle.library_form.specs.Form.{PlacedName}
 use Rattle.library_image.specs.Library.{Name, PlainLibrary, plainName, plain}
 use Rattle.library_image.specs.Image.{mostImage}
 use Rattle.library_index.specs.Names.{among, namesIn, Indexed}
@@ -34,20 +34,20 @@ isSub k = eqb k submoduleKind || eqb k firstSubKind
 
 -- the nodes so far, and whether submodules that come now belong to a module that was added
 pub record Adding : Type 0 where
-  pub nodes : List Word
+  pub nodes : List PlacedName
   pub adding : Bool
 
-abbrev pub so : List Word → Bool → Adding
+abbrev pub so : List PlacedName → Bool → Adding
 so ns b = record { nodes = ns; adding = b }
 
 -- a name more, unless it is a node; `there`: whether submodules are added even then
-unfoldable pub addName : Adding → (there : Bool) → Word → Adding
+unfoldable pub addName : Adding → (there : Bool) → PlacedName → Adding
 addName a there w = cond (among plainName (w .text) (a .nodes)) (so (a .nodes) there) (so (a .nodes ++ (w ∷ [])) true)
 
-unfoldable pub addItem : Adding → ItemOf Word → Adding
+unfoldable pub addItem : Adding → ItemOf PlacedName → Adding
 addItem a x = cond (isEntry (x .kind)) (addName a false (x .name)) (cond (a .adding && isSub (x .kind)) (addName a true (x .name)) a)
 
-unfoldable pub addItems : Adding → List (ItemOf Word) → Adding
+unfoldable pub addItems : Adding → List (ItemOf PlacedName) → Adding
 addItems a [] = a
 addItems a (x ∷ xs) = addItems (addItem a x) xs
 
@@ -57,7 +57,7 @@ abbrev pub plainAt : List ℕ → PlainLibrary
 plainAt s = plain (libraryOf s)
 
 -- the nodes of an image, each with the place where it was added
-unfoldable pub wordsAt : Mode → List ℕ → List Word
+unfoldable pub wordsAt : Mode → List ℕ → List PlacedName
 wordsAt mode s = wordNodes mode (libraryOf s)
 
 -- the names that an index of nodes holds, in the order of their numbers. All that goes on over the nodes speaks of these, in whatever mode they were made
@@ -67,7 +67,7 @@ namesHeld s tab n = map plainName (namesIn s tab n)
 -- ---- what the code asks and does
 
 -- an index that holds the nodes so far
-pub record Holding (s tab : List ℕ) (n : ℕ) (ns : List Word) : Type 0 where
+pub record Holding (s tab : List ℕ) (n : ℕ) (ns : List PlacedName) : Type 0 where
   pub indexed : Indexed s tab n
   pub names : namesIn s tab n ≡ ns
   pub few : n ≤ mostNodes

@@ -8,7 +8,7 @@ use mathlib.Core.List.{List, [], _∷_}
 use lib.ListN.{length, getD}
 use lib.Dec.{eqb}
 use Rattle.text.specs.Keyword.{same}
-use Rattle.library_form.specs.Form.{Word, wordAt}
+use Rattle.library_form.specs.Form.{PlacedName, wordAt}
 use Rattle.library_image.specs.Image.{imageAt}
 use Rattle.library_image.specs.Library.{Name}
 use Rattle.library_items.specs.Items.{submoduleKind, ItemOf, itemsAt}
@@ -31,7 +31,7 @@ abbrev pub isSubmodule : ℕ → Bool
 isSubmodule k = eqb k submoduleKind
 
 -- a name is that of an item of such a kind
-unfoldable pub amongKind : (ℕ → Bool) → Name → List (ItemOf Word) → Bool
+unfoldable pub amongKind : (ℕ → Bool) → Name → List (ItemOf PlacedName) → Bool
 amongKind kind u [] = false
 amongKind kind u (x ∷ xs) = cond (kind (x .kind)) (cond (same (x .name .text) u) true (amongKind kind u xs)) (amongKind kind u xs)
 
@@ -40,7 +40,7 @@ bit b = cond b 1 0
 
 -- ---- the marks of n nodes, from so many items
 
-pub record Marked (s tab : List ℕ) (n : ℕ) (xs : List (ItemOf Word)) (marks : List ℕ) : Type 0 where
+pub record Marked (s tab : List ℕ) (n : ℕ) (xs : List (ItemOf PlacedName)) (marks : List ℕ) : Type 0 where
   pub wide : markTable ≤ length marks
   pub known : (i : ℕ) → i < n → getD marks (i * 2) 0 ≡ bit (amongKind isEntry (nameIn s tab i .text) xs)
   pub listed : (i : ℕ) → i < n → getD marks (i * 2 + 1) 0 ≡ bit (amongKind isSubmodule (nameIn s tab i .text) xs)

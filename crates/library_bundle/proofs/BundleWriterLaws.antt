@@ -11,7 +11,7 @@ use borrow.Author.Tests.{le-ltb}
 use Rattle.text.specs.Keyword.{same}
 use Rattle.text.proofs.KeywordLaws.{same-yes, same-no}
 use Rattle.text.proofs.Here.{never, neither, or-none}
-use Rattle.library_form.specs.Form.{Ans, good, bad, bind, Word, many}
+use Rattle.library_form.specs.Form.{Ans, good, bad, bind, PlacedName, many}
 use Rattle.library_form.specs.Writer.{writeNumber, writeName, AllBytes}
 use Rattle.library_form.proofs.Bounds.{number-end}
 use Rattle.library_form.proofs.Standing.{Wrote, wrote-none, wrote-join, number-wrote, name-wrote, Stands, stands-left, stands-right, stands-within, number-stands, name-stands}
@@ -26,7 +26,7 @@ use Rattle.library_bundle.proofs.Parts.{bundle-parted}
 
 -- ---- names that are new
 
-abbrev Fresh : List Word → List Named → Type 0
+abbrev Fresh : List PlacedName → List Named → Type 0
 Fresh ws [] = Unit
 Fresh ws (t ∷ ts) = (memb (t .name) ws ≡ false) × Fresh ws ts
 
@@ -35,16 +35,16 @@ unfolding among
 fresh-nil [] = tt
 fresh-nil (t ∷ ts) = (refl, fresh-nil ts)
 
-memb-snoc : (t : List ℕ) (ws : List Word) (w : Word) → memb t (ws ++ (w ∷ [])) ≡ (memb t ws || same (w .text) t)
+memb-snoc : (t : List ℕ) (ws : List PlacedName) (w : PlacedName) → memb t (ws ++ (w ∷ [])) ≡ (memb t ws || same (w .text) t)
 unfolding among
-memb-snoc t ws w = among-append (λ (w : Word). w .text) t ws (w ∷ []) ∙ ap (λ b. memb t ws || b) (or-none (same (w .text) t))
+memb-snoc t ws w = among-append (λ (w : PlacedName). w .text) t ws (w ∷ []) ∙ ap (λ b. memb t ws || b) (or-none (same (w .text) t))
 
-fresh-more : (ws : List Word) (w : Word) (ts : List Named) → Fresh ws ts → Others (w .text) ts → Fresh (ws ++ (w ∷ [])) ts
+fresh-more : (ws : List PlacedName) (w : PlacedName) (ts : List Named) → Fresh ws ts → Others (w .text) ts → Fresh (ws ++ (w ∷ [])) ts
 fresh-more ws w [] f o = tt
 fresh-more ws w (t ∷ ts) f o =
     (memb-snoc (t .name) ws w ∙ rw (f .0) (same-no (w .text) (t .name) (o .0)), fresh-more ws w ts (f .1) (o .1))
 
-fresh-less : (ws : List Word) (w : Word) (ts : List Named) → Fresh (ws ++ (w ∷ [])) ts → Fresh ws ts × Others (w .text) ts
+fresh-less : (ws : List PlacedName) (w : PlacedName) (ts : List Named) → Fresh (ws ++ (w ∷ [])) ts → Fresh ws ts × Others (w .text) ts
 fresh-less ws w [] f = (tt, tt)
 fresh-less ws w (t ∷ ts) f =
     let q = neither (memb (t .name) ws) (same (w .text) (t .name)) (sym (memb-snoc (t .name) ws w) ∙ f .0) in
@@ -54,12 +54,12 @@ fresh-less ws w (t ∷ ts) f =
 -- ---- read back: what stands at a place
 
 module _ (s : List ℕ) where
-  record Back (ws : List Word) (at : ℕ) (t : Named) : Type 0 where
+  record Back (ws : List PlacedName) (at : ℕ) (t : Named) : Type 0 where
     entry : Text
     said : named s entry ≡ t
     read : filedAt s ws at ≡ good entry (at + length (writeText t))
 
-  text-back : (ws : List Word) (at : ℕ) (t : Named) (l : List ℕ) → Stands s at (writeText t) l → TextBytes t → memb (t .name) ws ≡ false → Back ws at t
+  text-back : (ws : List PlacedName) (at : ℕ) (t : Named) (l : List ℕ) → Stands s at (writeText t) l → TextBytes t → memb (t .name) ws ≡ false → Back ws at t
   unfolding writeText filedAt newName bodyAt
   text-back ws at t l g h new =
       let bs = t .name in
@@ -135,7 +135,7 @@ module _ (s : List ℕ) where
       wrote : Wrote s at (writeText (named s e)) n
       fine : TextBytes (named s e)
 
-    text-written : (ws : List Word) (at : ℕ) {e : Text} {n : ℕ} → filedAt s ws at ≡ good e n → Said at e n
+    text-written : (ws : List PlacedName) (at : ℕ) {e : Text} {n : ℕ} → filedAt s ws at ≡ good e n → Said at e n
     unfolding writeText
     text-written ws at {e} {n} h =
         let o = parted s ws at h in

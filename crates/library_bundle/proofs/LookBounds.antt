@@ -9,7 +9,7 @@ use native.Mathlib.Omega.{arith}
 use lib.ListN.{length}
 use lib.Dec.{ltb}
 use borrow.Author.Tests.{ltb-true, ltb-false}
-use Rattle.library_form.specs.Form.{Ans, good, bad, bind, Word, numberAt, nameAt, many}
+use Rattle.library_form.specs.Form.{Ans, good, bad, bind, PlacedName, numberAt, nameAt, many}
 use Rattle.library_form.specs.declared.LookUp.the-variants.{Broken, At as Stands}
 use Rattle.library_form.proofs.Bounds.{number-place, number-end, name-place, name-end}
 use Rattle.library_index.specs.Names.{newName}
@@ -23,7 +23,7 @@ use Rattle.library_bundle.proofs.Parts.{bundle-parted, texts-sized}
 
 -- ---- where a bundle is wrong
 
-body-place : (s : List ℕ) (w : Word) (start size from : ℕ) {p : ℕ} → bodyAt s w start size from ≡ bad p → p ≡ start
+body-place : (s : List ℕ) (w : PlacedName) (start size from : ℕ) {p : ℕ} → bodyAt s w start size from ≡ bad p → p ≡ start
 unfolding bodyAt
 body-place s w start size from {p} e = go (ltb (length s - from) size) e
   where
@@ -31,15 +31,15 @@ body-place s w start size from {p} e = go (ltb (length s - from) size) e
     go true k = cc
     go false k = cc
 
-text-place : (s : List ℕ) (ws : List Word) (at : ℕ) {p : ℕ} → filedAt s ws at ≡ bad p → at ≤ length s → p ≤ length s
+text-place : (s : List ℕ) (ws : List PlacedName) (at : ℕ) {p : ℕ} → filedAt s ws at ≡ bad p → at ≤ length s → p ≤ length s
 unfolding filedAt
 text-place s ws at {p} e l = go (newName s ws at) refl e
   where
-    size : (w : Word) (n : ℕ) → n ≤ length s → (a : Ans ℕ) → numberAt s n ≡ a → bind a (bodyAt s w n) ≡ bad p → p ≤ length s
+    size : (w : PlacedName) (n : ℕ) → n ≤ length s → (a : Ans ℕ) → numberAt s n ≡ a → bind a (bodyAt s w n) ≡ bad p → p ≤ length s
     size w n m (good z from) h k = omega (arith, body-place s w n z from k)
     size w n m (bad q) h k = let z : q ≡ p = cc in omega (arith, number-place s n h)
 
-    go : (a : Ans Word) → newName s ws at ≡ a → bind a (λ w n. bind (numberAt s n) (bodyAt s w n)) ≡ bad p → p ≤ length s
+    go : (a : Ans PlacedName) → newName s ws at ≡ a → bind a (λ w n. bind (numberAt s n) (bodyAt s w n)) ≡ bad p → p ≤ length s
     go (good w n) h k = size w n (name-end s at (new-read s ws at h .0) .inside) (numberAt s n) refl k
     go (bad q) h k = let z : q ≡ p = cc in omega (arith, new-place s ws at h)
 

@@ -9,7 +9,7 @@ use lib.ListN.{length, getD, take, drop}
 use mir.Syntax.{w64}
 use mir.Val.{Fits}
 use Rattle.text.specs.Keyword.{same}
-use Rattle.library_form.specs.Form.{Ans, good, bad, Word, numberAt, numberSeen}
+use Rattle.library_form.specs.Form.{Ans, good, bad, PlacedName, numberAt, numberSeen}
 use Rattle.library_form.specs.declared.ImageCursor.{ImageCursor}
 use Rattle.library_form.specs.declared.Number.{Number}
 use Rattle.library_form.specs.declared.Number.the-variants.{Value, Wrong as WrongNumber}
@@ -31,7 +31,7 @@ abbrev seenPlace : Ans ℕ → TextPlace
 seenPlace (good z f) = At f z
 seenPlace (bad p) = Nothing
 
-abbrev behind : List ℕ → Word → TextPlace
+abbrev behind : List ℕ → PlacedName → TextPlace
 behind s w = seenPlace (numberAt s (w .place + w .size))
 
 place-first : (s t : List ℕ) (es : List Text) → Sizes s es → placeOf t es ≡ firstBy (λ w. w) (behind s) t (words es) Nothing
@@ -61,7 +61,7 @@ module _ (s tab t : List ℕ) (n : ℕ) (g : Held s tab n) {r : Found} (a : r �
   sought : lookUp s t ≡ looked (firstBy (λ w. w) (behind s) t (namesIn s tab n) Nothing)
   sought =
       held-look s tab t n g
-      ∙ ap looked (place-first s t (g .texts) (g .sizes) ∙ ap (λ (ws : List Word). firstBy (λ w. w) (behind s) t ws Nothing) (sym (g .names)))
+      ∙ ap looked (place-first s t (g .texts) (g .sizes) ∙ ap (λ (ws : List PlacedName). firstBy (λ w. w) (behind s) t ws Nothing) (sym (g .names)))
 
   pub unnamed : r ≡ Unnumbered → looked Nothing ≡ lookUp s t
   unnamed e = sym (sought ∙ ap looked (no-hit (behind s) Nothing s tab t n (sym a ∙ e)))

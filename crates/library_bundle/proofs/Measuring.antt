@@ -8,7 +8,7 @@ use Prim.Native.Nat.{ℕ, suc, max, _+_, _≤_, _<_}
 use native.Mathlib.Omega.{arith}
 use lib.ListN.{length, getD}
 use Rattle.text.specs.Keyword.{same}
-use Rattle.library_form.specs.Form.{Word, numberAt, numberSeen}
+use Rattle.library_form.specs.Form.{PlacedName, numberAt, numberSeen}
 use Rattle.library_form.specs.declared.ImageCursor.{ImageCursor}
 use Rattle.library_form.specs.declared.LookUp.the-variants.{At as Stands}
 use Rattle.library_form.specs.declared.Number.{Number}
@@ -35,11 +35,11 @@ module _ (s tab : List ℕ) (i : ℕ) {place len : ℕ} (p : place ≡ getD tab 
 
 -- ---- the largest of the lengths behind names
 
-unfoldable pub mostBehind : List ℕ → List Word → ℕ
+unfoldable pub mostBehind : List ℕ → List PlacedName → ℕ
 mostBehind s [] = 0
 mostBehind s (w ∷ ws) = max (sizeBehind s w) (mostBehind s ws)
 
-most-snoc : (s : List ℕ) (ws : List Word) (w : Word) → mostBehind s (ws ++ (w ∷ [])) ≡ max (mostBehind s ws) (sizeBehind s w)
+most-snoc : (s : List ℕ) (ws : List PlacedName) (w : PlacedName) → mostBehind s (ws ++ (w ∷ [])) ≡ max (mostBehind s ws) (sizeBehind s w)
 unfolding mostBehind
 most-snoc s [] w = omega arith
 most-snoc s (v ∷ ws) w = omega (arith, most-snoc s ws w)

@@ -6,7 +6,7 @@ use Prim.Native.Nat.{ℕ, suc, _+_, _-_, _≤_, _<_}
 use native.Mathlib.Omega.{arith}
 use lib.ListN.{length, length-map}
 use borrow.Author.Tests.{lt-ltb, le-ltb}
-use Rattle.library_form.specs.Form.{good, bad, bind, Word, numberAt, numberSeen, many}
+use Rattle.library_form.specs.Form.{good, bad, bind, PlacedName, numberAt, numberSeen, many}
 use Rattle.library_form.specs.declared.ImageCursor.{ImageCursor}
 use Rattle.library_form.specs.declared.Number.{Number}
 use Rattle.library_form.specs.declared.Number.the-variants.{Value, Wrong as WrongNumber}
@@ -82,7 +82,7 @@ module _ (s before tab : List ℕ) (count start i at : ℕ) (g : Reading s befor
     kept = k .kept ∙ g .kept;
     space = omega (arith, g .space, k .kept);
     indexed = k .indexed;
-    names = k .names ∙ ap (λ (ws : List Word). ws ++ (k .entry .word ∷ [])) (g .names) ∙ sym (words-snoc (g .seen) (k .entry));
+    names = k .names ∙ ap (λ (ws : List PlacedName). ws ++ (k .entry .word ∷ [])) (g .names) ∙ sym (words-snoc (g .seen) (k .entry));
     sizes = sizes-snoc s (g .seen) (k .entry) (g .sizes) (text-sized s (namesIn s tab i) at (k .read) .0);
   }
 

@@ -8,7 +8,7 @@ use mathlib.Core.Bool.{cond}
 use mathlib.Core.List.{List, [], map}
 use lib.ListN.{length, take, drop}
 use lib.Dec.{ltb}
-use Rattle.library_form.specs.Form.{Ans, good, bad, bind, Word, numberAt, many}
+use Rattle.library_form.specs.Form.{Ans, good, bad, bind, PlacedName, numberAt, many}
 use Rattle.library_index.specs.Names.{firstBy, newName}
 use Rattle.library_bundle.specs.declared.TextPlace.{TextPlace}
 use Rattle.library_bundle.specs.declared.TextPlace.the-variants.{At, Nothing}
@@ -30,22 +30,22 @@ mostTexts = 2048
 
 -- a name and the bytes under it, by their place and length
 pub record Text : Type 0 where
-  pub word : Word
+  pub word : PlacedName
   pub from : ℕ
   pub size : ℕ
 
-abbrev pub textOf : Word → ℕ → ℕ → Text
+abbrev pub textOf : PlacedName → ℕ → ℕ → Text
 textOf w f z = record { word = w; from = f; size = z }
 
 -- behind a text's length, which starts at `start`: a text cut short is wrong there
-unfoldable pub bodyAt : List ℕ → Word → (start size from : ℕ) → Ans Text
+unfoldable pub bodyAt : List ℕ → PlacedName → (start size from : ℕ) → Ans Text
 bodyAt s w start size from = cond (ltb (length s - from) size) (bad start) (good (textOf w from size) (from + size))
 
 -- a text whose name is none of the words; a repeated name is wrong where it comes again, whatever follows it
-unfoldable pub filedAt : List ℕ → List Word → ℕ → Ans Text
+unfoldable pub filedAt : List ℕ → List PlacedName → ℕ → Ans Text
 filedAt s ws at = bind (newName s ws at) (λ w n. bind (numberAt s n) (bodyAt s w n))
 
-abbrev pub words : List Text → List Word
+abbrev pub words : List Text → List PlacedName
 words es = map (λ (e : Text). e .word) es
 
 abbrev pub newText : List ℕ → List Text → ℕ → Ans Text

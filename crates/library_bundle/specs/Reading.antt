@@ -5,7 +5,7 @@ use Prim.Native.Nat.{ℕ, max, _+_, _≤_}
 use mathlib.Core.Path.{_≡_}
 use mathlib.Core.List.{List, [], _∷_, _++_}
 use lib.ListN.{length, getD}
-use Rattle.library_form.specs.Form.{Ans, good, bad, Word, numberAt}
+use Rattle.library_form.specs.Form.{Ans, good, bad, PlacedName, numberAt}
 use Rattle.library_form.specs.Writer.{NameBytes}
 use Rattle.library_index.specs.Names.{rowOf, rowWords, nameIn, namesIn, Indexed}
 use Rattle.library_bundle.specs.Bundle.{Text, filedAt, words, bundleAt}
@@ -82,7 +82,7 @@ abbrev pub sizeRead : Ans ℕ → ℕ
 sizeRead (good z f) = z
 sizeRead (bad p) = 0
 
-abbrev pub sizeBehind : List ℕ → Word → ℕ
+abbrev pub sizeBehind : List ℕ → PlacedName → ℕ
 sizeBehind s w = sizeRead (numberAt s (w .place + w .size))
 
 unfoldable pub sizeIn : List ℕ → List ℕ → ℕ → ℕ

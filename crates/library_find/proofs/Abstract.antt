@@ -8,7 +8,7 @@ use Prim.Native.Nat.{ℕ, _≤_}
 use native.Mathlib.Omega.{arith}
 use lib.ListN.{length}
 use Rattle.text.specs.Keyword.{same}
-use Rattle.library_form.specs.Form.{good, Word, numberAt, nameAt}
+use Rattle.library_form.specs.Form.{good, PlacedName, numberAt, nameAt}
 use Rattle.library_form.proofs.Bounds.{name-end}
 use Rattle.library_index.specs.Names.{newName}
 use Rattle.library_image.specs.Library.{Module, ImportOnly, ModuleSet, Library, modulesOf, submodulesOf, importOnlyOf}
@@ -27,8 +27,8 @@ use Rattle.library_find.proofs.Lists.{orElse, firstHit, or-nothing, non
 
 -- ---- what is looked for
 
-abbrev wordLook : List ℕ → Word → LookUp
-wordLook t = lookFor (λ (w : Word). w) (λ w. w .place) (λ w. 0) t
+abbrev wordLook : List ℕ → PlacedName → LookUp
+wordLook t = lookFor (λ (w : PlacedName). w) (λ w. w .place) (λ w. 0) t
 
 abbrev moduleLook : List ℕ → Module → LookUp
 moduleLook t = lookFor (λ (m : Module). m .name) (λ m. m .name .place) (λ m. 0) t
@@ -86,7 +86,7 @@ set-parts s seen at e =
 
 -- ---- names
 
-word-in : (s : List ℕ) (at : ℕ) {w : Word} {n : ℕ} (r : ℕ) → nameAt s at ≡ good w n → r ≤ mostRevisions → HitIn s (w .place) r
+word-in : (s : List ℕ) (at : ℕ) {w : PlacedName} {n : ℕ} (r : ℕ) → nameAt s at ≡ good w n → r ≤ mostRevisions → HitIn s (w .place) r
 word-in s at r e h =
     let q = name-end s at e in
     record { later = omega (arith, q .later); inside = omega (arith, q .behind, q .inside, q .some); few = h }
@@ -115,7 +115,7 @@ wantedLook wanted look a = cond wanted (look a) Nothing
 
 module _ (s t : List ℕ) (importOnly wanted : Bool) where
   -- what stands behind the name of an entry is passed; a hit has r revisions
-  entry-passed : (at r : ℕ) {w : Word} {n₁ n : ℕ} → nameAt s at ≡ good w n₁ → restAt importOnly s n₁ ≡ good tt n → hitAt s importOnly (w .place) n₁ ≡ Hit (w .place) r
+  entry-passed : (at r : ℕ) {w : PlacedName} {n₁ n : ℕ} → nameAt s at ≡ good w n₁ → restAt importOnly s n₁ ≡ good tt n → hitAt s importOnly (w .place) n₁ ≡ Hit (w .place) r
       → r ≤ mostRevisions → Passed s (entryTried s t importOnly wanted at) (cond wanted (cond (same (w .text) t) (At (w .place) r) Nothing) Nothing) n
   unfolding entryTried
   entry-passed at r {w} {n₁} {n} e f g h = record { tried = on-read _ _ e ∙ go wanted (same (w .text) t); fine = fine wanted }
@@ -141,12 +141,12 @@ module-passed s t wanted seen at m n e =
     entry-passed s t false wanted at 0 (o .name) (module-rest s at o) refl (omega arith)
 
 -- the count of a list of revisions is its length
-pub record Revisions (s : List ℕ) (at : ℕ) (l : List (List Word)) : Type 0 where
+pub record Revisions (s : List ℕ) (at : ℕ) (l : List (List PlacedName)) : Type 0 where
   pub behind : ℕ
   pub count : numberAt s at ≡ good (length l) behind
   pub few : length l ≤ mostRevisions
 
-revisions-read : (s : List ℕ) (at : ℕ) {l : List (List Word)} {n : ℕ} → counted leastRevisions mostRevisions revisionAt s at ≡ good l n → Revisions s at l
+revisions-read : (s : List ℕ) (at : ℕ) {l : List (List PlacedName)} {n : ℕ} → counted leastRevisions mostRevisions revisionAt s at ≡ good l n → Revisions s at l
 revisions-read s at e =
     let i = listed revisionAt s (λ n. past (revisionAt s [] n)) (λ r. Nothing) (λ seen at a n h. record { tried = ap past h; fine = tt }) leastRevisions mostRevisions at e in
     let c = count-good s leastRevisions mostRevisions at (i .count) in
@@ -156,7 +156,7 @@ import-rest : (s : List ℕ) (at : ℕ) {m : ImportOnly} {n : ℕ} → (o : Impo
 unfolding restAt
 import-rest s at o = ap done (o .revisions)
 
-import-hit : (s : List ℕ) (place at : ℕ) {l : List (List Word)} → Revisions s at l → hitAt s true place at ≡ Hit place (length l)
+import-hit : (s : List ℕ) (place at : ℕ) {l : List (List PlacedName)} → Revisions s at l → hitAt s true place at ≡ Hit place (length l)
 unfolding hitAt
 import-hit s place at r = on-read _ _ (r .count)
 
@@ -290,7 +290,7 @@ module _ (s t : List ℕ) {l : Library} {n : ℕ} (e : imageAt s ≡ good l n) w
   pub submodule-comes : Comes s (allSubmodulesTried s t) (firstSubmodule t l)
   submodule-comes =
       comes s (submodules-passed s t e)
-      (all-submodules-hit t l ∙ submodules-hit t (modulesOf l) ∙ hit-by (λ (w : Word). w) (λ w. w .place) (λ w. 0) t (submodulesOf (modulesOf l)))
+      (all-submodules-hit t l ∙ submodules-hit t (modulesOf l) ∙ hit-by (λ (w : PlacedName). w) (λ w. w .place) (λ w. 0) t (submodulesOf (modulesOf l)))
 
   -- in a well-formed image each search over the bytes is the search in the library
   pub module-found : foundBy (setsTried s t true false) ≡ firstModule t l

@@ -7,7 +7,7 @@ use mathlib.Core.Bool.{Bool, true, false, cond}
 use Prim.Native.Nat.{ℕ, zero, suc, _≤_, _<_}
 use lib.ListN.{length}
 use Rattle.text.specs.Keyword.{same}
-use Rattle.library_form.specs.Form.{Ans, good, Word, many}
+use Rattle.library_form.specs.Form.{Ans, good, PlacedName, many}
 use Rattle.library_index.specs.Names.{firstBy}
 use Rattle.library_image.specs.Image.{mostRevisions, Reader, countAt, counted}
 use Rattle.library_image.proofs.Steps.{on-good}
@@ -49,7 +49,7 @@ hit-append look [] k = refl
 hit-append look (a ∷ l) k = ap (orElse (look a)) (hit-append look l k) ∙ sym (or-assoc (look a) (firstHit look l) (firstHit look k))
 
 -- one that has the bytes t
-module _ {A : Type 0} (name : A → Word) (place revisions : A → ℕ) (t : List ℕ) where
+module _ {A : Type 0} (name : A → PlacedName) (place revisions : A → ℕ) (t : List ℕ) where
   abbrev pub lookFor : A → LookUp
   lookFor a = cond (same (name a .text) t) (At (place a) (revisions a)) Nothing
 

@@ -7,7 +7,7 @@ use mathlib.Core.Bool.{Bool, true, false, cond}
 use Prim.Native.Nat.{ℕ, zero, suc, _-_, _≤_, _<_}
 use native.Mathlib.Omega.{arith}
 use Rattle.text.specs.Keyword.{same}
-use Rattle.library_form.specs.Form.{Ans, good, bad, Word, numberSeen, nameAt}
+use Rattle.library_form.specs.Form.{Ans, good, bad, PlacedName, numberSeen, nameAt}
 use Rattle.library_form.specs.declared.ImageCursor.{ImageCursor}
 use Rattle.library_form.specs.declared.Number.{Number}
 use Rattle.library_form.specs.declared.Number.the-variants.{Value, Wrong as WrongNumber}
@@ -49,7 +49,7 @@ module _ (s t : List ℕ) (importOnly : Bool) where
   unfolding entryTried
   entry-none at = go (nameAt s at)
     where
-      go : (a : Ans Word) → NoHit (onAns a (λ w n. past (restAt importOnly s n)) (λ p. Bad))
+      go : (a : Ans PlacedName) → NoHit (onAns a (λ w n. past (restAt importOnly s n)) (λ p. Bad))
       go (good w n) = past-none (restAt importOnly s n)
       go (bad p) = tt
 
@@ -67,11 +67,11 @@ word-later : (s t : List ℕ) (at : ℕ) {p n : ℕ} → wordTried s t at ≡ Hi
 unfolding wordTried
 word-later s t at {p} {n} e = go (nameAt s at) refl e
   where
-    test : (w : Word) (m : ℕ) (b : Bool) → nameAt s at ≡ good w m → cond b (Hit (w .place) 0) (Next m) ≡ Hit p n → (0 < p) × (n ≡ 0)
+    test : (w : PlacedName) (m : ℕ) (b : Bool) → nameAt s at ≡ good w m → cond b (Hit (w .place) 0) (Next m) ≡ Hit p n → (0 < p) × (n ≡ 0)
     test w m true h e = let x : w .place ≡ p = cc in let y : 0 ≡ n = cc in (omega (arith, name-end s at h .later), sym y)
     test w m false h e = let z : _≡_ {A = ℕ} 0 1 = cc in absurd (omega arith)
 
-    go : (a : Ans Word) → nameAt s at ≡ a → onAns a (λ w n. cond (same (w .text) t) (Hit (w .place) 0) (Next n)) (λ p. Bad) ≡ Hit p n → (0 < p) × (n ≡ 0)
+    go : (a : Ans PlacedName) → nameAt s at ≡ a → onAns a (λ w n. cond (same (w .text) t) (Hit (w .place) 0) (Next n)) (λ p. Bad) ≡ Hit p n → (0 < p) × (n ≡ 0)
     go (good w m) h e = test w m (same (w .text) t) h e
     go (bad q) h e = let z : _≡_ {A = ℕ} 0 1 = cc in absurd (omega arith)
 

@@ -4,7 +4,7 @@
 use Prim.Native.Nat.{ℕ}
 use mathlib.Core.List.{List}
 use lib.ListN.{length}
-use Rattle.library_form.specs.Form.{Word}
+use Rattle.library_form.specs.Form.{PlacedName}
 use Rattle.library_index.specs.Names.{firstBy}
 use Rattle.library_image.specs.Library.{Module, ImportOnly, Library, modulesOf, submodulesOf, importOnlyOf}
 use Rattle.library_image.specs.Image.{imageAt}
@@ -15,7 +15,7 @@ use Rattle.library_form.specs.declared.LookUp.the-variants.{Broken, Nothing, At
 -- ---- the searches in the library
 
 -- a module and a submodule have no revisions to tell of
-abbrev pub wordFound : Word → LookUp
+abbrev pub wordFound : PlacedName → LookUp
 wordFound w = At (w .place) 0
 
 abbrev pub moduleFound : Module → LookUp
@@ -28,7 +28,7 @@ abbrev pub firstModule : List ℕ → Library → LookUp
 firstModule t l = firstBy (λ (m : Module). m .name) moduleFound t (modulesOf l) Nothing
 
 abbrev pub firstSubmodule : List ℕ → Library → LookUp
-firstSubmodule t l = firstBy (λ (w : Word). w) wordFound t (submodulesOf (modulesOf l)) Nothing
+firstSubmodule t l = firstBy (λ (w : PlacedName). w) wordFound t (submodulesOf (modulesOf l)) Nothing
 
 abbrev pub firstImportOnly : List ℕ → Library → LookUp
 firstImportOnly t l = firstBy (λ (m : ImportOnly). m .name) importFound t (importOnlyOf l) Nothing

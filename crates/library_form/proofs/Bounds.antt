@@ -14,7 +14,7 @@ use borrow.Author.Tests.{ltb-true, ltb-false}
 use Rattle.text.specs.Keyword.{same}
 use Rattle.text.proofs.Here.{never}
 use Rattle.text.proofs.KeywordLaws.{same-yes, same-no}
-use Rattle.library_form.specs.Form.{Ans, good, bad, bind, groups, numberAt, printableAt, Word, wordAt, nameBody, nameAt, nameSeen}
+use Rattle.library_form.specs.Form.{Ans, good, bad, bind, groups, numberAt, printableAt, PlacedName, wordAt, nameBody, nameAt, nameSeen}
 use Rattle.library_form.specs.declared.Name.{Name}
 use Rattle.library_form.specs.declared.Name.the-variants.{Bytes, Wrong}
 
@@ -53,7 +53,7 @@ unfolding numberAt
 number-end s at e = groups-end 3 s at at 1 0 e
 
 -- a name that was read, by its parts
-pub record Opened (s : List ℕ) (at : ℕ) (w : Word) (n : ℕ) : Type 0 where
+pub record Opened (s : List ℕ) (at : ℕ) (w : PlacedName) (n : ℕ) : Type 0 where
   pub len : ℕ
   pub first : ℕ
   pub number : numberAt s at ≡ good len first
@@ -64,7 +64,7 @@ pub record Opened (s : List ℕ) (at : ℕ) (w : Word) (n : ℕ) : Type 0 where
   pub word : wordAt s first len ≡ w
   pub behind : first + len ≡ n
 
-pub opened : (s : List ℕ) (at : ℕ) {w : Word} {n : ℕ} → nameAt s at ≡ good w n → Opened s at w n
+pub opened : (s : List ℕ) (at : ℕ) {w : PlacedName} {n : ℕ} → nameAt s at ≡ good w n → Opened s at w n
 unfolding nameAt nameBody
 opened s at {w} {n} e = go (numberAt s at) refl e
   where
@@ -82,7 +82,7 @@ opened s at {w} {n} e = go (numberAt s at) refl e
     go (bad p) h e = let z : _≡_ {A = ℕ} 0 1 = cc in absurd (omega arith)
 
 -- what holds of a name that was read: it is from 1 to 128 bytes long, lies within the bytes, and what follows starts right behind it
-pub record Within (s : List ℕ) (at : ℕ) (w : Word) (n : ℕ) : Type 0 where
+pub record Within (s : List ℕ) (at : ℕ) (w : PlacedName) (n : ℕ) : Type 0 where
   pub later : at < w .place
   pub some : 1 ≤ w .size
   pub few : w .size ≤ 128
@@ -90,13 +90,13 @@ pub record Within (s : List ℕ) (at : ℕ) (w : Word) (n : ℕ) : Type 0 where
   pub inside : n ≤ length s
   pub sized : length (w .text) ≡ w .size
 
-pub name-end : (s : List ℕ) (at : ℕ) {w : Word} {n : ℕ} → nameAt s at ≡ good w n → Within s at w n
+pub name-end : (s : List ℕ) (at : ℕ) {w : PlacedName} {n : ℕ} → nameAt s at ≡ good w n → Within s at w n
 name-end s at {w} {n} e =
     let o = opened s at e in
     let q = number-end s at (o .number) in
     let r = o .room in
-    let e₁ : o .first ≡ w .place = ap (λ (w : Word). w .place) (o .word) in
-    let e₂ : o .len ≡ w .size = ap (λ (w : Word). w .size) (o .word) in
+    let e₁ : o .first ≡ w .place = ap (λ (w : PlacedName). w .place) (o .word) in
+    let e₂ : o .len ≡ w .size = ap (λ (w : PlacedName). w .size) (o .word) in
     let l : length (take (o .len) (drop (o .first) s)) ≡ o .len = length-take-le (o .len) (drop (o .first) s) (rw length-drop r) in
     record {
       later = omega (arith, q, e₁);
@@ -104,7 +104,7 @@ name-end s at {w} {n} e =
       few = omega (arith, o .few, e₂);
       behind = omega (arith, o .behind, e₁, e₂);
       inside = omega (arith, o .behind, q, r, o .some);
-      sized = sym (ap (λ (w : Word). length (w .text)) (o .word)) ∙ l ∙ e₂;
+      sized = sym (ap (λ (w : PlacedName). length (w .text)) (o .word)) ∙ l ∙ e₂;
     }
 
 -- the same, in the terms of the code: what was answered, and where

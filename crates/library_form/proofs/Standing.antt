@@ -7,7 +7,7 @@ use Prim.Native.Nat.{ℕ, _+_, _-_, _≤_}
 use native.Mathlib.Omega.{arith}
 use lib.ListN.{length, take, drop, length-append, length-drop, take-append-drop}
 use lib.Seq.{drop-drop, take-add, drop-append-seam, length-take-le}
-use Rattle.library_form.specs.Form.{good, mostNumber, numberAt, Word, nameAt}
+use Rattle.library_form.specs.Form.{good, mostNumber, numberAt, PlacedName, nameAt}
 use Rattle.library_form.specs.Writer.{writeNumber, writeName, NameBytes, AllBytes}
 use Rattle.library_form.proofs.Bounds.{number-end, name-end}
 use Rattle.library_form.proofs.WriterLaws.{number-back, number-written, name-back, name-written}
@@ -38,7 +38,7 @@ module _ (s : List ℕ) where
   pub number-wrote : AllBytes s → (at : ℕ) {c n : ℕ} → numberAt s at ≡ good c n → Wrote s at (writeNumber c) n
   number-wrote bytes at e = let q = number-end s at e in record { later = omega arith; bytes = number-written s bytes at e }
 
-  pub name-wrote : AllBytes s → (at : ℕ) {w : Word} {n : ℕ} → nameAt s at ≡ good w n → Wrote s at (writeName (w .text)) n
+  pub name-wrote : AllBytes s → (at : ℕ) {w : PlacedName} {n : ℕ} → nameAt s at ≡ good w n → Wrote s at (writeName (w .text)) n
   name-wrote bytes at e =
       let q = name-end s at e in
       let l = q .later in

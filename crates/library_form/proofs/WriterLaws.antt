@@ -11,7 +11,7 @@ use lib.Seq.{drop-cons, drop-drop, getD-append-seam, getD-append-add, getD-take,
 use lib.Dec.{ltb, eqb}
 use borrow.Author.Tests.{lt-ltb, le-ltb, ltb-true, ltb-false, eqb-true, eqb-false}
 use Rattle.text.proofs.Here.{by-test, never}
-use Rattle.library_form.specs.Form.{Ans, good, bad, bind, leastByte, mostByte, mostNumber, numberAt, printableAt, Word, nameBody, nameAt}
+use Rattle.library_form.specs.Form.{Ans, good, bad, bind, leastByte, mostByte, mostNumber, numberAt, printableAt, PlacedName, nameBody, nameAt}
 use Rattle.library_form.specs.Writer.{lowest, writeNumber, writeName, NameBytes, AllBytes}
 use Rattle.library_form.proofs.Bounds.{number-end, Opened, opened}
 use Rattle.library_form.proofs.Numbers.{none, one, cut, padded, two, cut3, padded3, three, four}
@@ -252,7 +252,7 @@ name-back pre bs rest h =
 
 -- ---- a name that was read
 
-module _ (s : List ℕ) (at : ℕ) {w : Word} {n : ℕ} (h : nameAt s at ≡ good w n) where
+module _ (s : List ℕ) (at : ℕ) {w : PlacedName} {n : ℕ} (h : nameAt s at ≡ good w n) where
   text-size : (o : Opened s at w n) → length (take (o .len) (drop (o .first) s)) ≡ o .len
   text-size o = let r = o .room in length-take-le (o .len) (drop (o .first) s) (rw length-drop r)
 
@@ -260,7 +260,7 @@ module _ (s : List ℕ) (at : ℕ) {w : Word} {n : ℕ} (h : nameAt s at ≡ goo
   name-bytes =
       let o = opened s at h in
       let l = text-size o in
-      let t : take (o .len) (drop (o .first) s) ≡ w .text = ap (λ (w : Word). w .text) (o .word) in
+      let t : take (o .len) (drop (o .first) s) ≡ w .text = ap (λ (w : PlacedName). w .text) (o .word) in
       let m : length (w .text) ≡ o .len = ap length (sym t) ∙ l in
       record {
         some = rw m (o .some);
@@ -278,7 +278,7 @@ module _ (s : List ℕ) (at : ℕ) {w : Word} {n : ℕ} (h : nameAt s at ≡ goo
       let o = opened s at h in
       let l = text-size o in
       let e = number-end s at (o .number) in
-      let t : take (o .len) (drop (o .first) s) ≡ w .text = ap (λ (w : Word). w .text) (o .word) in
+      let t : take (o .len) (drop (o .first) s) ≡ w .text = ap (λ (w : PlacedName). w .text) (o .word) in
       let m : o .len ≡ length (w .text) = sym l ∙ ap length t in
       let b = o .behind in
       let d : n - at ≡ o .first - at + o .len = omega (arith, b, e) in

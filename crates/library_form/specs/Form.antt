@@ -77,16 +77,16 @@ printableAt zero s at = true
 printableAt (suc n) s at = cond (ltb (getD s at 0) leastByte) false (cond (ltb mostByte (getD s at 0)) false (printableAt n s (at + 1)))
 
 -- a name where it stands: the place of its first byte, how many they are, and the bytes
-pub record Word : Type 0 where
+pub record PlacedName : Type 0 where
   pub place : ℕ
   pub size : ℕ
   pub text : List ℕ
 
-abbrev pub wordAt : List ℕ → ℕ → ℕ → Word
+abbrev pub wordAt : List ℕ → ℕ → ℕ → PlacedName
 wordAt s first len = record { place = first; size = len; text = take len (drop first s) }
 
 -- behind a name's length
-unfoldable pub nameBody : List ℕ → (start len first : ℕ) → Ans Word
+unfoldable pub nameBody : List ℕ → (start len first : ℕ) → Ans PlacedName
 nameBody s start len first =
     cond (ltb len 1) (bad start)
     (cond (ltb mostName len) (bad start)
@@ -94,9 +94,9 @@ nameBody s start len first =
     (cond (printableAt len s first) (good (wordAt s first len) (first + len)) (bad start))))
 
 -- a number 1 to 128 and as many bytes from 33 to 126; wrong where its length starts
-unfoldable pub nameAt : List ℕ → ℕ → Ans Word
+unfoldable pub nameAt : List ℕ → ℕ → Ans PlacedName
 nameAt s at = bind (numberAt s at) (nameBody s at)
 
-abbrev pub nameSeen : List ℕ → Name → Ans Word
+abbrev pub nameSeen : List ℕ → Name → Ans PlacedName
 nameSeen s (Bytes first len) = good (wordAt s first len) (first + len)
 nameSeen s (WrongName p) = bad p

@@ -7,7 +7,7 @@ use Prim.Native.Nat.{ℕ}
 use lib.Dec.{eqb, T}
 use lib.ListN.{length}
 use Rattle.text.specs.Keyword.{same}
-use Rattle.library_form.specs.Form.{Ans, good, bad, groups, numberAt, printableAt, nameBody, nameAt, Word, many}
+use Rattle.library_form.specs.Form.{Ans, good, bad, groups, numberAt, printableAt, nameBody, nameAt, PlacedName, many}
 use Rattle.library_form.specs.Writer.{writeNumber, writeName}
 use Rattle.library_index.specs.Names.{among, newName}
 use Rattle.library_image.specs.Library.{Library, plain}
@@ -18,7 +18,7 @@ use Rattle.library_image.specs.ImageWriter.{writeEach, writeList, writeM
 two : List ℕ
 two = 1 ∷ 2 ∷ 1 ∷ 109 ∷ 1 ∷ 1 ∷ 115 ∷ 0 ∷ 0 ∷ 1 ∷ 98 ∷ 0 ∷ 0 ∷ 0 ∷ 0 ∷ []
 
-letter : ℕ → ℕ → Word
+letter : ℕ → ℕ → PlacedName
 letter p b = record { place = p; size = 1; text = b ∷ [] }
 
 twoRead : Library

@@ -8,7 +8,7 @@ use Prim.Native.Nat.{ℕ, zero, suc, _≤_}
 use native.Mathlib.Omega.{arith}
 use lib.ListN.{length}
 use lib.Dec.{ltb}
-use Rattle.library_form.specs.Form.{Ans, good, bad, bind, Word, numberAt, nameAt, many}
+use Rattle.library_form.specs.Form.{Ans, good, bad, bind, PlacedName, numberAt, nameAt, many}
 use Rattle.library_form.proofs.Bounds.{number-end, number-place, name-end, name-place}
 use Rattle.library_index.specs.Names.{memb, newName}
 use Rattle.library_image.specs.Library.{Module, ImportOnly, Library}
@@ -38,7 +38,7 @@ module _ (s : List ℕ) (at : ℕ) (h : at ≤ length s) where
   name-placed : Placed s at (nameAt s at)
   name-placed = go (nameAt s at) refl
     where
-      go : (r : Ans Word) → nameAt s at ≡ r → Placed s at r
+      go : (r : Ans PlacedName) → nameAt s at ≡ r → Placed s at r
       go (good w n) e = let q = name-end s at e in let l = q .later in let b = q .behind in record { later = omega arith; inside = q .inside }
       go (bad p) e = let q = name-place s at e in record { later = omega arith; inside = omega arith }
 
@@ -76,7 +76,7 @@ module _ {A : Type 0} (p : Reader A) (law : Bounded p) (s : List ℕ) where
 
 -- ---- the library
 
-pub new-placed : (s : List ℕ) (before : List Word) (at : ℕ) → at ≤ length s → Placed s at (newName s before at)
+pub new-placed : (s : List ℕ) (before : List PlacedName) (at : ℕ) → at ≤ length s → Placed s at (newName s before at)
 unfolding newName
 new-placed s before at h =
     bind-placed s at (nameAt s at) _ (name-placed s at h) (λ w m i j. cond-placed s at h (memb (w .text) before) (good w m) (record { later = i; inside = j }))

@@ -10,7 +10,7 @@ use lib.ListN.{length, take, length-append}
 use lib.Seq.{take-all}
 use lib.Dec.{ltb}
 use borrow.Author.Tests.{lt-ltb, le-ltb, ltb-false}
-use Rattle.library_form.specs.Form.{good, bad, bind, Word, nameAt}
+use Rattle.library_form.specs.Form.{good, bad, bind, PlacedName, nameAt}
 use Rattle.library_form.specs.Writer.{writeNumber, writeName, AllBytes}
 use Rattle.library_form.proofs.WriterLaws.{name-bytes}
 use Rattle.library_index.specs.Names.{memb, newName}
@@ -34,7 +34,7 @@ any-lawful = record {
   };
 }
 
-new-forth : (s : List ℕ) → AllBytes s → (before : List Word) (at : ℕ) {w : Word} {n : ℕ} → newName s before at ≡ good w n
+new-forth : (s : List ℕ) → AllBytes s → (before : List PlacedName) (at : ℕ) {w : PlacedName} {n : ℕ} → newName s before at ≡ good w n
     → Forth writeName NewName s (map plainName before) at (w .text) n
 unfolding newName
 new-forth s bytes before at e =
@@ -43,7 +43,7 @@ new-forth s bytes before at e =
     carry (λ w n. Forth writeName NewName s (map plainName before) at (w .text) n) (g .1)
     (record { wrote = name-wrote s bytes at e₁; right = (name-bytes s at e₁, none-of (v .text) before (g .0)) }))
 
-new-back : (s : List ℕ) (before : List Word) (at : ℕ) (b : Name) (rest : List ℕ) → NewName (map plainName before) b → Stands s at (writeName b) rest
+new-back : (s : List ℕ) (before : List PlacedName) (at : ℕ) (b : Name) (rest : List ℕ) → NewName (map plainName before) b → Stands s at (writeName b) rest
     → Back newWord plainName writeName s before at b
 unfolding newName
 new-back s before at b rest h t = record {

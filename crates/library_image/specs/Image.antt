@@ -8,7 +8,7 @@ use mathlib.Core.Bool.{cond}
 use mathlib.Core.List.{List, [], map}
 use lib.ListN.{length}
 use lib.Dec.{ltb}
-use Rattle.library_form.specs.Form.{Ans, good, bad, bind, Word, numberAt, nameAt, many}
+use Rattle.library_form.specs.Form.{Ans, good, bad, bind, PlacedName, numberAt, nameAt, many}
 use Rattle.library_index.specs.Names.{newName}
 use Rattle.library_image.specs.Library.{Module, ImportOnly, ModuleSet, Library}
 
@@ -53,10 +53,10 @@ counted least most p s at = bind (countAt least most s at) (λ c n. many (p s) c
 -- ---- names that differ
 
 -- one of a list whose names may be the same, and one of a list whose names differ
-abbrev pub anyWord : Reader Word
+abbrev pub anyWord : Reader PlacedName
 anyWord s seen at = nameAt s at
 
-abbrev pub newWord : Reader Word
+abbrev pub newWord : Reader PlacedName
 newWord s seen at = newName s seen at
 
 -- ---- the library
@@ -70,7 +70,7 @@ moduleAt s seen at =
     good (record { name = w; submodules = submodules; augmenting = augmenting; deviations = deviations }) n₄))))
 
 -- a revision is its submodules
-abbrev pub revisionAt : Reader (List Word)
+abbrev pub revisionAt : Reader (List PlacedName)
 revisionAt s seen at = counted 0 mostNames newWord s at
 
 unfoldable pub importOnlyAt : Reader ImportOnly

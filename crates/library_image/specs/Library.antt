@@ -3,7 +3,7 @@
 -- Assumes nothing.
 use Prim.Native.Nat.{ℕ}
 use mathlib.Core.List.{List, [], _∷_, _++_, map}
-use Rattle.library_form.specs.Form.{Word}
+use Rattle.library_form.specs.Form.{PlacedName}
 
 pub record ModuleOf (A : Type 0) : Type 0 where
   pub name : A
@@ -41,16 +41,16 @@ module _ {A : Type 0} where
 -- ---- as an image is read, and without places
 
 abbrev pub Module : Type 0
-Module = ModuleOf Word
+Module = ModuleOf PlacedName
 
 abbrev pub ImportOnly : Type 0
-ImportOnly = ImportOnlyOf Word
+ImportOnly = ImportOnlyOf PlacedName
 
 abbrev pub ModuleSet : Type 0
-ModuleSet = SetOf Word
+ModuleSet = SetOf PlacedName
 
 abbrev pub Library : Type 0
-Library = LibraryOf Word
+Library = LibraryOf PlacedName
 
 abbrev pub Name : Type 0
 Name = List ℕ
@@ -67,7 +67,7 @@ PlainSet = SetOf Name
 abbrev pub PlainLibrary : Type 0
 PlainLibrary = LibraryOf Name
 
-abbrev pub plainName : Word → Name
+abbrev pub plainName : PlacedName → Name
 plainName w = w .text
 
 abbrev pub plainModule : Module → PlainModule

@@ -13,7 +13,7 @@ use lib.Dec.{eqb}
 use mir.Syntax.{w64}
 use mir.Val.{Fits}
 use borrow.Author.Tests.{eqb-true, eqb-false}
-use Rattle.library_form.specs.Form.{Word}
+use Rattle.library_form.specs.Form.{PlacedName}
 use Rattle.library_form.proofs.Bounds.{part-word}
 use Rattle.text.specs.Keyword.{same}
 use Rattle.text.proofs.KeywordLaws.{same-yes, same-no}
@@ -52,7 +52,7 @@ abbrev orElse : Found → Found → Found
 orElse (At i) k = At i
 orElse Nothing k = k
 
-first-snoc : (i : ℕ) (t : List ℕ) (ws : List Word) (w : Word)
+first-snoc : (i : ℕ) (t : List ℕ) (ws : List PlacedName) (w : PlacedName)
     → firstFrom i t (ws ++ (w ∷ [])) ≡ orElse (firstFrom i t ws) (cond (same (w .text) t) (At (i + length ws)) Nothing)
 unfolding firstFrom
 first-snoc i t [] w = let e : i + 0 ≡ i = omega arith in rw e

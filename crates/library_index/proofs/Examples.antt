@@ -4,7 +4,7 @@ use mathlib.Core.Path.{_≡_, refl}
 use mathlib.Core.List.{List, [], _∷_}
 use Prim.Native.Nat.{ℕ}
 use Rattle.text.specs.Keyword.{same}
-use Rattle.library_form.specs.Form.{Word, wordAt}
+use Rattle.library_form.specs.Form.{PlacedName, wordAt}
 use Rattle.library_index.specs.declared.Found.the-variants.{At, Nothing}
 use Rattle.library_index.specs.Names.{firstFrom, firstOf, firstBy, among, addAll, hashFrom, hashOf}
 
@@ -12,7 +12,7 @@ use Rattle.library_index.specs.Names.{firstFrom, firstOf, firstBy, among
 abbrev bytes : List ℕ
 bytes = 97 ∷ 98 ∷ 97 ∷ 99 ∷ 97 ∷ 98 ∷ []
 
-abbrev words : List Word
+abbrev words : List PlacedName
 words = wordAt bytes 0 2 ∷ wordAt bytes 2 2 ∷ wordAt bytes 4 2 ∷ []
 
 -- the first hit, not the last
@@ -29,16 +29,16 @@ beginning : firstOf (97 ∷ []) words ≡ Nothing
 unfolding firstFrom same
 beginning = refl
 
-place-of-first : firstBy (λ (w : Word). w) (λ (w : Word). w .place) (97 ∷ 98 ∷ []) words 9 ≡ 0
+place-of-first : firstBy (λ (w : PlacedName). w) (λ (w : PlacedName). w .place) (97 ∷ 98 ∷ []) words 9 ≡ 0
 unfolding same
 place-of-first = refl
 
-nowhere : firstBy (λ (w : Word). w) (λ (w : Word). w .place) (98 ∷ []) words 9 ≡ 9
+nowhere : firstBy (λ (w : PlacedName). w) (λ (w : PlacedName). w .place) (98 ∷ []) words 9 ≡ 9
 unfolding same
 nowhere = refl
 
 -- a repeated name is left out
-repeated : addAll (λ (w : Word). w .text) [] words ≡ wordAt bytes 0 2 ∷ wordAt bytes 2 2 ∷ []
+repeated : addAll (λ (w : PlacedName). w .text) [] words ≡ wordAt bytes 0 2 ∷ wordAt bytes 2 2 ∷ []
 unfolding same among addAll
 repeated = refl
 

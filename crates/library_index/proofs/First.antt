@@ -9,7 +9,7 @@ use native.Mathlib.Omega.{arith}
 use native.Mathlib.Nat.{eq-or-lt-of-le}
 use lib.ListN.{length, getD, List·getD-append}
 use lib.Seq.{getD-at}
-use Rattle.library_form.specs.Form.{Word, wordAt}
+use Rattle.library_form.specs.Form.{PlacedName, wordAt}
 use Rattle.text.specs.Keyword.{same}
 use Rattle.text.proofs.KeywordLaws.{same-no}
 use Rattle.text.proofs.Here.{by-test, never}
@@ -17,16 +17,16 @@ use Rattle.library_index.specs.declared.Found.the-variants.{At, Nothing}
 use Rattle.library_index.specs.Names.{firstFrom, firstOf, firstBy, among, addNew, addAll, memb, nameIn, namesIn}
 use Rattle.library_index.proofs.Chain.{length-names}
 
-none : Word
+none : PlacedName
 none = wordAt [] 0 0
 
 -- here what is looked through is words
-abbrev word : Word → Word
+abbrev word : PlacedName → PlacedName
 word w = w
 
 -- ---- a name is among the words where the search finds it
 
-pub not-among : (k : ℕ) (t : List ℕ) (ws : List Word) → firstFrom k t ws ≡ Nothing → memb t ws ≡ false
+pub not-among : (k : ℕ) (t : List ℕ) (ws : List PlacedName) → firstFrom k t ws ≡ Nothing → memb t ws ≡ false
 unfolding firstFrom among
 not-among k t [] e = refl
 not-among k t (w ∷ ws) e = go (same (w .text) t) (not-among (suc k) t ws) e
@@ -36,7 +36,7 @@ not-among k t (w ∷ ws) e = go (same (w .text) t) (not-among (suc k) t ws) e
     go true ih e = cc
     go false ih e = ih e
 
-pub is-among : (k : ℕ) (t : List ℕ) (ws : List Word) {i : ℕ} → firstFrom k t ws ≡ At i → memb t ws ≡ true
+pub is-among : (k : ℕ) (t : List ℕ) (ws : List PlacedName) {i : ℕ} → firstFrom k t ws ≡ At i → memb t ws ≡ true
 unfolding firstFrom among
 is-among k t [] e = cc
 is-among k t (w ∷ ws) {i} e = go (same (w .text) t) (is-among (suc k) t ws) e
@@ -75,14 +75,14 @@ nth s tab (suc n) i l = ⊎-elim
 
 -- ---- the number is of the word that any other search through the same words finds
 
-module _ {A : Type 0} (f : Word → A) (d : A) where
-  record Which (t : List ℕ) (ws : List Word) (k i : ℕ) : Type 0 where
+module _ {A : Type 0} (f : PlacedName → A) (d : A) where
+  record Which (t : List ℕ) (ws : List PlacedName) (k i : ℕ) : Type 0 where
     j : ℕ
     number : i ≡ k + j
     low : j < length ws
     it : firstBy word f t ws d ≡ f (getD ws j none)
 
-  which : (t : List ℕ) (ws : List Word) (k i : ℕ) → firstFrom k t ws ≡ At i → Which t ws k i
+  which : (t : List ℕ) (ws : List PlacedName) (k i : ℕ) → firstFrom k t ws ≡ At i → Which t ws k i
   unfolding firstFrom
   which t [] k i e = let z : _≡_ {A = ℕ} 0 1 = cc in absurd (omega arith)
   which t (w ∷ ws) k i e = go (same (w .text) t) refl (which t ws (suc k) i) e
@@ -92,7 +92,7 @@ module _ {A : Type 0} (f : Word → A) (d : A) where
       go true q ih e = let x : k ≡ i = cc in record { j = 0; number = omega arith; low = omega arith; it = rw q }
       go false q ih e = let x = ih e in record { j = suc (x .j); number = omega (arith, x .number); low = omega (arith, x .low); it = rw q (x .it) }
 
-  nowhere : (t : List ℕ) (ws : List Word) (k : ℕ) → firstFrom k t ws ≡ Nothing → firstBy word f t ws d ≡ d
+  nowhere : (t : List ℕ) (ws : List PlacedName) (k : ℕ) → firstFrom k t ws ≡ Nothing → firstBy word f t ws d ≡ d
   unfolding firstFrom
   nowhere t [] k e = refl
   nowhere t (w ∷ ws) k e = go (same (w .text) t) (nowhere t ws (suc k)) e
@@ -115,16 +115,16 @@ module _ {A : Type 0} (f : Word → A) (d : A) where
         x .it ∙ ap (λ (k : ℕ). f (getD (namesIn s tab n) k none)) y ∙ ap f (nth s tab n i l)
 
 pub hit-low : (s tab t : List ℕ) (n : ℕ) {i : ℕ} → firstOf t (namesIn s tab n) ≡ At i → i < n
-hit-low s tab t n {i} e = let x = which (λ (w : Word). w .size) 0 t (namesIn s tab n) 0 i e in omega (arith, x .number, x .low, length-names s tab n)
+hit-low s tab t n {i} e = let x = which (λ (w : PlacedName). w .size) 0 t (namesIn s tab n) 0 i e in omega (arith, x .number, x .low, length-names s tab n)
 
 -- ---- names that are there already may be left out
 
-by-append : {A : Type 0} (f : Word → A) (t : List ℕ) (ws vs : List Word) (d : A) → firstBy word f t (ws ++ vs) d ≡ firstBy word f t ws (firstBy word f t vs d)
+by-append : {A : Type 0} (f : PlacedName → A) (t : List ℕ) (ws vs : List PlacedName) (d : A) → firstBy word f t (ws ++ vs) d ≡ firstBy word f t ws (firstBy word f t vs d)
 by-append f t [] vs d = refl
 by-append f t (w ∷ ws) vs d = ap (cond (same (w .text) t) (f w)) (by-append f t ws vs d)
 
 -- where there is a hit, what comes behind does not matter
-by-hit : {A : Type 0} (f : Word → A) (t : List ℕ) (ws : List Word) (d e : A) → memb t ws ≡ true → firstBy word f t ws d ≡ firstBy word f t ws e
+by-hit : {A : Type 0} (f : PlacedName → A) (t : List ℕ) (ws : List PlacedName) (d e : A) → memb t ws ≡ true → firstBy word f t ws d ≡ firstBy word f t ws e
 unfolding among
 by-hit f t [] d e m = cc
 by-hit {A} f t (w ∷ ws) d e m = go (same (w .text) t) (by-hit f t ws d e) m
@@ -135,12 +135,12 @@ by-hit {A} f t (w ∷ ws) d e m = go (same (w .text) t) (by-hit f t ws d e) m
     go false ih m = ih m
 
 -- the same bytes are among the same words
-memb-same : (a b : List ℕ) (ws : List Word) → same a b ≡ true → memb a ws ≡ true → memb b ws ≡ true
+memb-same : (a b : List ℕ) (ws : List PlacedName) → same a b ≡ true → memb a ws ≡ true → memb b ws ≡ true
 memb-same a b ws e m =
     by-test (memb b ws) (λ y. y) (λ n. absurd (never (same-no a b (λ p. never n (ap (λ (x : List ℕ). memb x ws) (sym p) ∙ m))) e))
 
-add-new : {A : Type 0} (f : Word → A) (t : List ℕ) (ws : List Word) (w : Word) (d : A)
-    → firstBy word f t (addNew (λ (w : Word). w .text) ws w) d ≡ firstBy word f t ws (cond (same (w .text) t) (f w) d)
+add-new : {A : Type 0} (f : PlacedName → A) (t : List ℕ) (ws : List PlacedName) (w : PlacedName) (d : A)
+    → firstBy word f t (addNew (λ (w : PlacedName). w .text) ws w) d ≡ firstBy word f t ws (cond (same (w .text) t) (f w) d)
 add-new {A} f t ws w d = go (memb (w .text) ws) refl (same (w .text) t) refl
   where
     go : (b : Bool) → memb (w .text) ws ≡ b → (c : Bool) → same (w .text) t ≡ c
@@ -150,8 +150,8 @@ add-new {A} f t ws w d = go (memb (w .text) ws) refl (same (w .text) t) refl
     go false h c k = by-append f t ws (w ∷ []) d ∙ ap (λ (c : Bool). firstBy word f t ws (cond c (f w) d)) k
 
 -- a search through all words, repeated ones too, is the search through those that were new
-pub once : {A : Type 0} (f : Word → A) (t : List ℕ) (ws vs : List Word) (d : A) → firstBy word f t (addAll (λ (w : Word). w .text) ws vs) d ≡ firstBy word f t (ws ++ vs) d
+pub once : {A : Type 0} (f : PlacedName → A) (t : List ℕ) (ws vs : List PlacedName) (d : A) → firstBy word f t (addAll (λ (w : PlacedName). w .text) ws vs) d ≡ firstBy word f t (ws ++ vs) d
 unfolding addAll
-once f t ws [] d = ap (λ (l : List Word). firstBy word f t l d) (sym (append-nil ws))
+once f t ws [] d = ap (λ (l : List PlacedName). firstBy word f t l d) (sym (append-nil ws))
 once f t ws (v ∷ vs) d =
-    once f t (addNew (λ (w : Word). w .text) ws v) vs d ∙ by-append f t (addNew (λ (w : Word). w .text) ws v) vs d ∙ add-new f t ws v (firstBy word f t vs d) ∙ sym (by-append f t ws (v ∷ vs) d)
+    once f t (addNew (λ (w : PlacedName). w .text) ws v) vs d ∙ by-append f t (addNew (λ (w : PlacedName). w .text) ws v) vs d ∙ add-new f t ws v (firstBy word f t vs d) ∙ sym (by-append f t ws (v ∷ vs) d)

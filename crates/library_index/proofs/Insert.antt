@@ -11,7 +11,7 @@ use native.Mathlib.Numerals.{add-one}
 use lib.ListN.{length, getD, take, drop}
 use lib.Dec.{eqb}
 use borrow.Author.Tests.{eq-eqb, ne-eqb}
-use Rattle.library_form.specs.Form.{Word, wordAt}
+use Rattle.library_form.specs.Form.{PlacedName, wordAt}
 use Rattle.library_form.proofs.Bounds.{part-word}
 use Rattle.library_index.specs.declared.Found.{Found}
 use Rattle.library_index.specs.declared.Found.the-variants.{At, Nothing}
@@ -37,12 +37,12 @@ module _ (s tab after : List ℕ) (n : ℕ) (same : (i : ℕ) → i < n → name
   names-same : (m : ℕ) → m ≤ n → namesIn s after m ≡ namesIn s tab m
   unfolding namesIn
   names-same zero l = refl
-  names-same (suc m) l = ap₂ (λ (ws : List Word) (w : Word). ws ++ (w ∷ [])) (names-same m (omega arith)) (same m (omega arith))
+  names-same (suc m) l = ap₂ (λ (ws : List PlacedName) (w : PlacedName). ws ++ (w ∷ [])) (names-same m (omega arith)) (same m (omega arith))
 
   top-same : (h m : ℕ) → m ≤ n → topIn s after h m ≡ topIn s tab h m
   unfolding topIn
   top-same h zero l = refl
-  top-same h (suc m) l = ap₂ (λ (w : Word) (k : ℕ). cond (eqb (hashOf (w .text)) h) (suc m) k) (same m (omega arith)) (top-same h m (omega arith))
+  top-same h (suc m) l = ap₂ (λ (w : PlacedName) (k : ℕ). cond (eqb (hashOf (w .text)) h) (suc m) k) (same m (omega arith)) (top-same h m (omega arith))
 
 -- ---- one name more
 
@@ -56,17 +56,17 @@ module _ (s tab after : List ℕ) (n h place len : ℕ) (g : Indexed s tab n) (q
 
   grown : namesIn s after (n + 1) ≡ namesIn s tab n ++ (wordAt s place len ∷ [])
   unfolding namesIn
-  grown = rw add-one (ap₂ (λ (ws : List Word) (w : Word). ws ++ (w ∷ [])) (names-same s tab after n same n (omega arith)) own)
+  grown = rw add-one (ap₂ (λ (ws : List PlacedName) (w : PlacedName). ws ++ (w ∷ [])) (names-same s tab after n same n (omega arith)) own)
 
   -- the buckets
   in-own : topIn s after h (suc n) ≡ suc n
   unfolding topIn
-  in-own = ap (λ (w : Word). cond (eqb (hashOf (w .text)) h) (suc n) (topIn s after h n)) own
+  in-own = ap (λ (w : PlacedName). cond (eqb (hashOf (w .text)) h) (suc n) (topIn s after h n)) own
       ∙ rw (eq-eqb (hashOf (wordAt s place len .text)) h (sym b))
 
   in-other : (k : ℕ) → (k ≡ h → ⊥) → topIn s after k (suc n) ≡ topIn s tab k n
   unfolding topIn
-  in-other k d = ap (λ (w : Word). cond (eqb (hashOf (w .text)) k) (suc n) (topIn s after k n)) own
+  in-other k d = ap (λ (w : PlacedName). cond (eqb (hashOf (w .text)) k) (suc n) (topIn s after k n)) own
       ∙ rw (ne-eqb (hashOf (wordAt s place len .text)) k (λ e. d (sym (b ∙ e)))) (top-same s tab after n same k n (omega arith))
 
   heads : (k : ℕ) → k < 2048 → getD after k 0 ≡ topIn s after k (suc n)
@@ -79,11 +79,11 @@ module _ (s tab after : List ℕ) (n h place len : ℕ) (g : Indexed s tab n) (q
   links i l = ⊎-elim
       (λ e. ap (λ (k : ℕ). getD after (2048 + k * 3 + 2) 0) e ∙ q .link-of ∙ g .heads h low
       ∙ sym (top-same s tab after n same h n (omega arith))
-      ∙ ap (λ (k : ℕ). topIn s after k n) (b ∙ ap (λ (w : Word). hashOf (w .text)) (sym own))
+      ∙ ap (λ (k : ℕ). topIn s after k n) (b ∙ ap (λ (w : PlacedName). hashOf (w .text)) (sym own))
       ∙ ap (λ (k : ℕ). topIn s after (hashOf (nameIn s after k .text)) k) (sym e))
       (λ m. q .rows (2048 + i * 3 + 2) (omega arith) (omega arith) ∙ g .links i m
       ∙ sym (top-same s tab after n same (hashOf (nameIn s tab i .text)) i (omega arith))
-      ∙ ap (λ (w : Word). topIn s after (hashOf (w .text)) i) (sym (same i m)))
+      ∙ ap (λ (w : PlacedName). topIn s after (hashOf (w .text)) i) (sym (same i m)))
       (eq-or-lt-of-le {n = i} {m = n} (omega arith))
 
   inside : place + len ≤ length s → (i : ℕ) → i < suc n → getD after (2048 + i * 3) 0 + getD after (2048 + i * 3 + 1) 0 ≤ length s
@@ -99,8 +99,8 @@ module _ (s tab after : List ℕ) (n h place len : ℕ) (g : Indexed s tab n) (q
       → (i : ℕ) → i < suc n → firstOf (nameIn s after i .text) (namesIn s after i) ≡ Nothing
   differ f i l = ⊎-elim
       (λ e. ap (λ (k : ℕ). firstOf (nameIn s after k .text) (namesIn s after k)) e
-      ∙ ap₂ (λ (w : Word) (ws : List Word). firstOf (w .text) ws) own (names-same s tab after n same n (omega arith)) ∙ f)
-      (λ m. ap₂ (λ (w : Word) (ws : List Word). firstOf (w .text) ws) (same i m) (names-same s tab after n same i (omega arith)) ∙ g .differ i m)
+      ∙ ap₂ (λ (w : PlacedName) (ws : List PlacedName). firstOf (w .text) ws) own (names-same s tab after n same n (omega arith)) ∙ f)
+      (λ m. ap₂ (λ (w : PlacedName) (ws : List PlacedName). firstOf (w .text) ws) (same i m) (names-same s tab after n same i (omega arith)) ∙ g .differ i m)
       (eq-or-lt-of-le {n = i} {m = n} (omega arith))
 
   kept : place + len ≤ length s → firstOf (wordAt s place len .text) (namesIn s tab n) ≡ Nothing → Indexed s after (n + 1)

@@ -5,7 +5,7 @@ use mathlib.Core.Bool.{Bool, true, false, cond}
 use mathlib.Core.List.{List}
 use Prim.Native.Nat.{ℕ}
 use native.Mathlib.Omega.{arith}
-use Rattle.library_form.specs.Form.{Ans, good, bad, bind, Word, wordAt, nameAt, nameSeen}
+use Rattle.library_form.specs.Form.{Ans, good, bad, bind, PlacedName, wordAt, nameAt, nameSeen}
 use Rattle.library_form.specs.declared.Name.{Name}
 use Rattle.library_form.specs.declared.Name.the-variants.{Bytes, Wrong}
 use Rattle.library_form.proofs.Bounds.{spanned, missed, name-place}
@@ -15,30 +15,30 @@ use Rattle.library_index.specs.Names.{memb, newName, namesIn, Room, Adde
 use Rattle.library_index.proofs.First.{not-among, is-among}
 
 -- a new name is a name, and none of the words
-pub new-read : (s : List ℕ) (ws : List Word) (at : ℕ) {w : Word} {n : ℕ} → newName s ws at ≡ good w n → (nameAt s at ≡ good w n) × (memb (w .text) ws ≡ false)
+pub new-read : (s : List ℕ) (ws : List PlacedName) (at : ℕ) {w : PlacedName} {n : ℕ} → newName s ws at ≡ good w n → (nameAt s at ≡ good w n) × (memb (w .text) ws ≡ false)
 unfolding newName
 new-read s ws at {w} {n} e = go (nameAt s at) refl e
   where
-    new : (v : Word) (m : ℕ) → nameAt s at ≡ good v m → (b : Bool) → memb (v .text) ws ≡ b → cond b (bad at) (good v m) ≡ good w n
+    new : (v : PlacedName) (m : ℕ) → nameAt s at ≡ good v m → (b : Bool) → memb (v .text) ws ≡ b → cond b (bad at) (good v m) ≡ good w n
         → (nameAt s at ≡ good w n) × (memb (w .text) ws ≡ false)
     new v m h true k e = let z : _≡_ {A = ℕ} 0 1 = cc in absurd (omega arith)
     new v m h false k e = let x : v ≡ w = cc in (h ∙ e, rw (← x) k)
 
-    go : (a : Ans Word) → nameAt s at ≡ a → bind a (λ v m. cond (memb (v .text) ws) (bad at) (good v m)) ≡ good w n
+    go : (a : Ans PlacedName) → nameAt s at ≡ a → bind a (λ v m. cond (memb (v .text) ws) (bad at) (good v m)) ≡ good w n
         → (nameAt s at ≡ good w n) × (memb (w .text) ws ≡ false)
     go (good v m) h e = new v m h (memb (v .text) ws) refl e
     go (bad p) h e = let z : _≡_ {A = ℕ} 0 1 = cc in absurd (omega arith)
 
 -- a new name is wrong where it starts
-pub new-place : (s : List ℕ) (ws : List Word) (at : ℕ) {p : ℕ} → newName s ws at ≡ bad p → p ≡ at
+pub new-place : (s : List ℕ) (ws : List PlacedName) (at : ℕ) {p : ℕ} → newName s ws at ≡ bad p → p ≡ at
 unfolding newName
 new-place s ws at {p} e = go (nameAt s at) refl e
   where
-    new : (w : Word) (n : ℕ) (b : Bool) → cond b (bad at) (good w n) ≡ bad p → p ≡ at
+    new : (w : PlacedName) (n : ℕ) (b : Bool) → cond b (bad at) (good w n) ≡ bad p → p ≡ at
     new w n true k = cc
     new w n false k = cc
 
-    go : (a : Ans Word) → nameAt s at ≡ a → bind a (λ w n. cond (memb (w .text) ws) (bad at) (good w n)) ≡ bad p → p ≡ at
+    go : (a : Ans PlacedName) → nameAt s at ≡ a → bind a (λ w n. cond (memb (w .text) ws) (bad at) (good w n)) ≡ bad p → p ≡ at
     go (good w n) h k = new w n (memb (w .text) ws) k
     go (bad q) h k = let z : q ≡ p = cc in sym z ∙ name-place s at h
 

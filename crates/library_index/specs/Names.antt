@@ -9,7 +9,7 @@ use mathlib.Core.List.{List, [], _∷_, _++_}
 use lib.ListN.{length, getD}
 use lib.Dec.{eqb}
 use Rattle.text.specs.Keyword.{same}
-use Rattle.library_form.specs.Form.{Ans, good, bad, bind, Word, wordAt, nameAt, nameSeen}
+use Rattle.library_form.specs.Form.{Ans, good, bad, bind, PlacedName, wordAt, nameAt, nameSeen}
 use Rattle.library_form.specs.declared.Name.{Name}
 use Rattle.library_form.specs.declared.Name.the-variants.{Bytes}
 use Rattle.library_index.specs.declared.Found.{Found}
@@ -18,15 +18,15 @@ use Rattle.library_index.specs.declared.Found.the-variants.{At, Nothing}
 -- ---- the plain search
 
 -- the number of the first of the words, counted from i, whose bytes are t
-unfoldable pub firstFrom : ℕ → List ℕ → List Word → Found
+unfoldable pub firstFrom : ℕ → List ℕ → List PlacedName → Found
 firstFrom i t [] = Nothing
 firstFrom i t (w ∷ ws) = cond (same (w .text) t) (At i) (firstFrom (suc i) t ws)
 
-abbrev pub firstOf : List ℕ → List Word → Found
+abbrev pub firstOf : List ℕ → List PlacedName → Found
 firstOf t ws = firstFrom 0 t ws
 
 -- any search for the first hit: f of the first whose name has the bytes t, or d
-abbrev pub firstBy : {A B : Type 0} → (name : A → Word) → (f : A → B) → List ℕ → List A → B → B
+abbrev pub firstBy : {A B : Type 0} → (name : A → PlacedName) → (f : A → B) → List ℕ → List A → B → B
 firstBy name f t [] d = d
 firstBy name f t (a ∷ l) d = cond (same (name a .text) t) (f a) (firstBy name f t l d)
 
@@ -44,11 +44,11 @@ module _ {A : Type 0} (name : A → List ℕ) where
   addAll l (a ∷ more) = addAll (addNew l a) more
 
 -- the same of words
-abbrev pub memb : List ℕ → List Word → Bool
-memb t ws = among (λ (w : Word). w .text) t ws
+abbrev pub memb : List ℕ → List PlacedName → Bool
+memb t ws = among (λ (w : PlacedName). w .text) t ws
 
 -- a name that is none of those before it; a repeated one is wrong where it comes again
-unfoldable pub newName : List ℕ → (before : List Word) → ℕ → Ans Word
+unfoldable pub newName : List ℕ → (before : List PlacedName) → ℕ → Ans PlacedName
 newName s before at = bind (nameAt s at) (λ w n. cond (memb (w .text) before) (bad at) (good w n))
 
 -- ---- the table
@@ -74,10 +74,10 @@ abbrev pub rowOf : ℕ → ℕ
 rowOf i = buckets + i * rowWords
 
 -- the i-th name of the table, and the first n
-abbrev pub nameIn : List ℕ → List ℕ → ℕ → Word
+abbrev pub nameIn : List ℕ → List ℕ → ℕ → PlacedName
 nameIn s tab i = wordAt s (getD tab (rowOf i) 0) (getD tab (rowOf i + 1) 0)
 
-unfoldable pub namesIn : List ℕ → List ℕ → ℕ → List Word
+unfoldable pub namesIn : List ℕ → List ℕ → ℕ → List PlacedName
 namesIn s tab zero = []
 namesIn s tab (suc n) = namesIn s tab n ++ (nameIn s tab n ∷ [])
 

@@ -5,7 +5,7 @@ use mathlib.Core.List.{List, [], _∷_, _++_, map, flatMap, append-nil, append-a
 use mathlib.Core.Bool.{true, false}
 use Prim.Native.Nat.{ℕ, zero, suc, _-_, _≤_}
 use native.Mathlib.Omega.{arith}
-use Rattle.library_form.specs.Form.{Ans, good, Word, nameAt, many}
+use Rattle.library_form.specs.Form.{Ans, good, PlacedName, nameAt, many}
 use Rattle.library_index.specs.Names.{newName}
 use Rattle.library_image.specs.Library.{Module, ImportOnly, Library}
 use Rattle.library_image.specs.Image.{mostSets, mostModules, mostNames, leastRevisions, mostRevisions, Reader, countAt, counted, anyWord, newWord, moduleAt, revisionAt, importOnlyAt, setAt, libraryAt}
@@ -55,19 +55,19 @@ unfolding flatMap
 flat-single f [] = refl
 flat-single f (a ∷ l) = ap (λ k. f a ∷ k) (flat-single f l)
 
-name-told : (s : List ℕ) (k at : ℕ) {w : Word} {n : ℕ} → nameAt s at ≡ good w n → nameRead k s at ≡ good (item k w ∷ []) n
+name-told : (s : List ℕ) (k at : ℕ) {w : PlacedName} {n : ℕ} → nameAt s at ≡ good w n → nameRead k s at ≡ good (item k w ∷ []) n
 unfolding nameRead
 name-told s k at e = bind-good _ e refl
 
 -- a list of names that are read alone, or differ
-module _ (p : Reader Word) (plain : (s : List ℕ) (seen : List Word) (at : ℕ) (w : Word) (n : ℕ) → p s seen at ≡ good w n → nameAt s at ≡ good w n) (s : List ℕ) (k : ℕ) where
-  list-told : (at : ℕ) {l : List Word} {n : ℕ} → counted 0 mostNames p s at ≡ good l n → listRead k s at ≡ good (map (item k) l) n
+module _ (p : Reader PlacedName) (plain : (s : List ℕ) (seen : List PlacedName) (at : ℕ) (w : PlacedName) (n : ℕ) → p s seen at ≡ good w n → nameAt s at ≡ good w n) (s : List ℕ) (k : ℕ) where
+  list-told : (at : ℕ) {l : List PlacedName} {n : ℕ} → counted 0 mostNames p s at ≡ good l n → listRead k s at ≡ good (map (item k) l) n
   unfolding listRead
   list-told at {l} {n} e =
       counted-told p s (nameRead k s) (λ w. item k w ∷ []) (λ seen at w n h. name-told s k at (plain s seen at w n h)) 0 mostNames at e
       ∙ ap (λ x. good x n) (flat-single (item k) l)
 
-names-told : (s : List ℕ) (k at : ℕ) {l : List Word} {n : ℕ} → counted 0 mostNames anyWord s at ≡ good l n → listRead k s at ≡ good (map (item k) l) n
+names-told : (s : List ℕ) (k at : ℕ) {l : List PlacedName} {n : ℕ} → counted 0 mostNames anyWord s at ≡ good l n → listRead k s at ≡ good (map (item k) l) n
 names-told s k at e = list-told anyWord (λ s seen at w n h. h) s k at e
 
 revision-told : (s : List ℕ) (k : ℕ) → Tells revisionAt s (listRead k s) (map (item k))
@@ -88,7 +88,7 @@ module-told s seen at m n e =
     (then-good (listRead deviationKind s) (names-told s augmentingKind n₂ e₃) (names-told s deviationKind n₃ e₄))))))))
 
 -- the first of the revisions, and the later ones
-revisions-told : (s : List ℕ) (at : ℕ) {l : List (List Word)} {n : ℕ} → counted leastRevisions mostRevisions revisionAt s at ≡ good l n
+revisions-told : (s : List ℕ) (at : ℕ) {l : List (List PlacedName)} {n : ℕ} → counted leastRevisions mostRevisions revisionAt s at ≡ good l n
     → revisionsRead s at ≡ good (revisionItems l) n
 unfolding counted revisionsRead many
 revisions-told s at {l} {n} e =

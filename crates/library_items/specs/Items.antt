@@ -2,7 +2,7 @@
 -- Assumes nothing.
 use Prim.Native.Nat.{ℕ}
 use mathlib.Core.List.{List, [], _∷_, _++_, map, flatMap}
-use Rattle.library_form.specs.Form.{Word}
+use Rattle.library_form.specs.Form.{PlacedName}
 use Rattle.library_image.specs.Library.{ModuleOf, ImportOnlyOf, SetOf, LibraryOf, Library}
 use Rattle.library_image.specs.Image.{imageAt}
 use Rattle.library_read.specs.Reading.{onAns}
@@ -70,5 +70,5 @@ module _ {A : Type 0} where
 unfoldable pub libraryOf : List ℕ → Library
 libraryOf s = onAns (imageAt s) (λ l n. l) (λ p. [])
 
-abbrev pub itemsAt : List ℕ → List (ItemOf Word)
+abbrev pub itemsAt : List ℕ → List (ItemOf PlacedName)
 itemsAt s = itemsOf (libraryOf s)

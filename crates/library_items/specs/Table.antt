@@ -6,7 +6,7 @@ use mathlib.Core.Path.{_≡_}
 use mathlib.Core.Bool.{Bool, true, false, cond}
 use mathlib.Core.List.{List, [], _∷_, _++_}
 use lib.ListN.{length, getD}
-use Rattle.library_form.specs.Form.{Ans, good, bind, Word, wordAt, nameAt}
+use Rattle.library_form.specs.Form.{Ans, good, bind, PlacedName, wordAt, nameAt}
 use Rattle.library_image.specs.Image.{mostImage, mostSets, mostModules, mostNames, leastRevisions, mostRevisions, countAt}
 use Rattle.library_read.specs.Reading.{onAns}
 use Rattle.library_items.specs.Items.{ItemOf, item, moduleKind, submoduleKind, augmentingKind, deviationKind, importOnlyKind, firstSubKind, laterSubKind, mostKind, itemsAt}
@@ -28,22 +28,22 @@ tableWords = 65536
 unfoldable pub itemIn : List ℕ → ℕ → Item
 itemIn tab i = record { kind = getD tab (i * 2 + 1) 0 % kinds; place = getD tab (i * 2) 0; size = getD tab (i * 2 + 1) 0 / kinds }
 
-abbrev pub itemWord : List ℕ → Item → ItemOf Word
+abbrev pub itemWord : List ℕ → Item → ItemOf PlacedName
 itemWord s x = item (x .kind) (wordAt s (x .place) (x .size))
 
-unfoldable pub itemsIn : List ℕ → List ℕ → ℕ → List (ItemOf Word)
+unfoldable pub itemsIn : List ℕ → List ℕ → ℕ → List (ItemOf PlacedName)
 itemsIn s tab zero = []
 itemsIn s tab (suc n) = itemsIn s tab n ++ (itemWord s (itemIn tab n) ∷ [])
 
 -- those from the i-th on, k of them
-unfoldable pub itemsFrom : List ℕ → List ℕ → (i k : ℕ) → List (ItemOf Word)
+unfoldable pub itemsFrom : List ℕ → List ℕ → (i k : ℕ) → List (ItemOf PlacedName)
 itemsFrom s tab i zero = []
 itemsFrom s tab i (suc k) = itemWord s (itemIn tab i) ∷ itemsFrom s tab (i + 1) k
 
 -- ---- the items of a part, and the place behind it
 
 abbrev pub Items : Type 0
-Items = List (ItemOf Word)
+Items = List (ItemOf PlacedName)
 
 -- one part behind another
 abbrev pub andThen : Ans Items → (ℕ → Ans Items) → Ans Items

@@ -9,7 +9,7 @@ use native.Mathlib.Omega.{arith}
 use lib.ListN.{length}
 use mir.Syntax.{w64}
 use mir.Val.{Fits}
-use Rattle.library_form.specs.Form.{Ans, good, bad, bind, Word, wordAt, numberSeen, nameAt, nameSeen, many}
+use Rattle.library_form.specs.Form.{Ans, good, bad, bind, PlacedName, wordAt, numberSeen, nameAt, nameSeen, many}
 use Rattle.library_form.specs.declared.ImageCursor.{ImageCursor}
 use Rattle.library_form.specs.declared.Number.{Number}
 use Rattle.library_form.specs.declared.Number.the-variants.{Value, Wrong as WrongNumber}
@@ -63,24 +63,24 @@ module-entry : (s : List ℕ) (seen : List Module) (at : ℕ) → onRead (λ (m 
 unfolding moduleAt entryAt restAt listAt
 module-entry s seen at = name (newName s (map (λ (m : Module). m .name) seen) at)
   where
-    deviations : (w : Word) (a b : List Word) (r : Ans (List Word))
+    deviations : (w : PlacedName) (a b : List PlacedName) (r : Ans (List PlacedName))
         → onRead (λ (m : Module). m .name) (bind r (λ c n. good (record { name = w; submodules = a; augmenting = b; deviations = c }) n)) ≡ bind (done r) (λ u m. good w m)
     deviations w a b (good c n) = refl
     deviations w a b (bad p) = refl
 
-    augmenting : (w : Word) (a : List Word) (r : Ans (List Word))
+    augmenting : (w : PlacedName) (a : List PlacedName) (r : Ans (List PlacedName))
         → onRead (λ (m : Module). m .name) (bind r (λ b n. bind (counted 0 mostNames anyWord s n) (λ c n. good (record { name = w; submodules = a; augmenting = b; deviations = c }) n)))
         ≡ bind (bind r (λ b n. done (counted 0 mostNames anyWord s n))) (λ u m. good w m)
     augmenting w a (good b n) = deviations w a b (counted 0 mostNames anyWord s n)
     augmenting w a (bad p) = refl
 
-    submodules : (w : Word) (r : Ans (List Word))
+    submodules : (w : PlacedName) (r : Ans (List PlacedName))
         → onRead (λ (m : Module). m .name) (bind r (λ a n. bind (counted 0 mostNames anyWord s n) (λ b n. bind (counted 0 mostNames anyWord s n) (λ c n. good (record { name = w; submodules = a; augmenting = b; deviations = c }) n))))
         ≡ bind (bind r (λ a n. bind (counted 0 mostNames anyWord s n) (λ b n. done (counted 0 mostNames anyWord s n)))) (λ u m. good w m)
     submodules w (good a n) = augmenting w a (counted 0 mostNames anyWord s n)
     submodules w (bad p) = refl
 
-    name : (r : Ans Word)
+    name : (r : Ans PlacedName)
         → onRead (λ (m : Module). m .name) (bind r (λ w n. bind (counted 0 mostNames anyWord s n) (λ a n. bind (counted 0 mostNames anyWord s n) (λ b n. bind (counted 0 mostNames anyWord s n) (λ c n. good (record { name = w; submodules = a; augmenting = b; deviations = c }) n)))))
         ≡ bind r (λ w n. bind (bind (counted 0 mostNames anyWord s n) (λ a n. bind (counted 0 mostNames anyWord s n) (λ b n. done (counted 0 mostNames anyWord s n)))) (λ u m. good w m))
     name (good w n) = submodules w (counted 0 mostNames anyWord s n)
@@ -90,12 +90,12 @@ import-only-entry : (s : List ℕ) (seen : List ImportOnly) (at : ℕ) → onRea
 unfolding importOnlyAt entryAt restAt
 import-only-entry s seen at = name (newName s (map (λ (m : ImportOnly). m .name) seen) at)
   where
-    revisions : (w : Word) (r : Ans (List (List Word)))
+    revisions : (w : PlacedName) (r : Ans (List (List PlacedName)))
         → onRead (λ (m : ImportOnly). m .name) (bind r (λ a n. good (record { name = w; revisions = a }) n)) ≡ bind (done r) (λ u m. good w m)
     revisions w (good a n) = refl
     revisions w (bad p) = refl
 
-    name : (r : Ans Word)
+    name : (r : Ans PlacedName)
         → onRead (λ (m : ImportOnly). m .name) (bind r (λ w n. bind (counted leastRevisions mostRevisions revisionAt s n) (λ a n. good (record { name = w; revisions = a }) n)))
         ≡ bind r (λ w n. bind (done (counted leastRevisions mostRevisions revisionAt s n)) (λ u m. good w m))
     name (good w n) = revisions w (counted leastRevisions mostRevisions revisionAt s n)
@@ -180,7 +180,7 @@ module _ (importOnly : Bool) (s : List ℕ) where
           room = record { space = omega (arith, l, g .room .space); short = g .room .short };
           kept = l ∙ g .kept;
           indexed = k .indexed;
-          names = k .names ∙ ap (λ (ws : List Word). ws ++ (k .word ∷ [])) (g .names);
+          names = k .names ∙ ap (λ (ws : List PlacedName). ws ++ (k .word ∷ [])) (g .names);
         }
 
     pub entries-further : (r : Read) {n : ℕ} {after : List ℕ} → r ≡ End n → EntryTaken importOnly s tab i here r after → i < count → Entering importOnly s before after count from (i + 1) n

@@ -10,7 +10,7 @@ use mir.Syntax.{w64}
 use mir.Val.{Fits}
 use Rattle.text.specs.Keyword.{same}
 use Rattle.text.proofs.Here.{or-none}
-use Rattle.library_form.specs.Form.{Ans, good, bad, bind, Word, wordAt, numberSeen, nameAt, nameSeen, many}
+use Rattle.library_form.specs.Form.{Ans, good, bad, bind, PlacedName, wordAt, numberSeen, nameAt, nameSeen, many}
 use Rattle.library_form.specs.declared.ImageCursor.{ImageCursor}
 use Rattle.library_form.specs.declared.Number.{Number}
 use Rattle.library_form.specs.declared.Number.the-variants.{Value, Wrong as WrongNumber}
@@ -81,25 +81,25 @@ module _ (s : List ℕ) (differ : Bool) (from i at : ℕ) (r : Name) where
 -- ---- the words that were read
 
 -- the search over the bytes is the search in the words that were read from them
-among-seen : (s t : List ℕ) (k : ℕ) (seen : List Word) (at : ℕ) {ws : List Word} {n : ℕ} → many (wordOf true s) k seen at ≡ good ws n → memb t ws ≡ (memb t seen || amongAt k s at t)
+among-seen : (s t : List ℕ) (k : ℕ) (seen : List PlacedName) (at : ℕ) {ws : List PlacedName} {n : ℕ} → many (wordOf true s) k seen at ≡ good ws n → memb t ws ≡ (memb t seen || amongAt k s at t)
 unfolding many amongAt newName among
 among-seen s t zero seen at {ws} e = let q : seen ≡ ws = cc in rw (← q) (sym (or-none (memb t seen)))
 among-seen s t (suc k) seen at {ws} {n} e = go (nameAt s at) refl (λ w m. among-seen s t k (seen ++ (w ∷ [])) m) e
   where
     Ih : Type 0
-    Ih = (w : Word) (m : ℕ) → many (wordOf true s) k (seen ++ (w ∷ [])) m ≡ good ws n → memb t ws ≡ (memb t (seen ++ (w ∷ [])) || amongAt k s m t)
+    Ih = (w : PlacedName) (m : ℕ) → many (wordOf true s) k (seen ++ (w ∷ [])) m ≡ good ws n → memb t ws ≡ (memb t (seen ++ (w ∷ [])) || amongAt k s m t)
 
     bool : (a b c : Bool) → ((a || (b || false)) || c) ≡ (a || cond b true c)
     bool true b c = refl
     bool false true c = refl
     bool false false c = refl
 
-    new : (w : Word) (m : ℕ) (b : Bool) → Ih → bind (cond b (bad at) (good w m)) (λ a n. many (wordOf true s) k (seen ++ (a ∷ [])) n) ≡ good ws n
+    new : (w : PlacedName) (m : ℕ) (b : Bool) → Ih → bind (cond b (bad at) (good w m)) (λ a n. many (wordOf true s) k (seen ++ (a ∷ [])) n) ≡ good ws n
         → memb t ws ≡ (memb t seen || cond (same (w .text) t) true (amongAt k s m t))
     new w m true ih e = let z : _≡_ {A = ℕ} 0 1 = cc in absurd (omega arith)
-    new w m false ih e = ih w m e ∙ rw (among-append (λ (w : Word). w .text) t seen (w ∷ [])) (bool (memb t seen) (same (w .text) t) (amongAt k s m t))
+    new w m false ih e = ih w m e ∙ rw (among-append (λ (w : PlacedName). w .text) t seen (w ∷ [])) (bool (memb t seen) (same (w .text) t) (amongAt k s m t))
 
-    go : (r : Ans Word) → nameAt s at ≡ r → Ih → bind (bind r (λ w n. cond (memb (w .text) seen) (bad at) (good w n))) (λ a n. many (wordOf true s) k (seen ++ (a ∷ [])) n) ≡ good ws n
+    go : (r : Ans PlacedName) → nameAt s at ≡ r → Ih → bind (bind r (λ w n. cond (memb (w .text) seen) (bad at) (good w n))) (λ a n. many (wordOf true s) k (seen ++ (a ∷ [])) n) ≡ good ws n
         → memb t ws ≡ (memb t seen || onAns r (λ w n. cond (same (w .text) t) true (amongAt k s n t)) (λ p. false))
     go (good w m) h ih e = new w m (memb (w .text) seen) ih e
     go (bad p) h ih e = let z : _≡_ {A = ℕ} 0 1 = cc in absurd (omega arith)
@@ -109,17 +109,17 @@ next-word : (differ : Bool) (s : List ℕ) {count from i at : ℕ} (g : Going (w
 unfolding wordBehind newName among
 next-word true s {count} {from} {i} {at} g = go (nameAt s at)
   where
-    go : (r : Ans Word) → bind r (λ w n. cond (amongAt i s from (w .text)) (bad at) (good w n)) ≡ bind r (λ w n. cond (memb (w .text) (g .seen)) (bad at) (good w n))
+    go : (r : Ans PlacedName) → bind r (λ w n. cond (amongAt i s from (w .text)) (bad at) (good w n)) ≡ bind r (λ w n. cond (memb (w .text) (g .seen)) (bad at) (good w n))
     go (good w n) = ap (λ (b : Bool). cond b (bad at) (good w n)) (sym (among-seen s (w .text) i [] from (g .sofar)))
     go (bad p) = refl
 next-word false s {at = at} g = go (nameAt s at)
   where
-    go : (r : Ans Word) → bind r (λ w n. good w n) ≡ r
+    go : (r : Ans PlacedName) → bind r (λ w n. good w n) ≡ r
     go (good w n) = refl
     go (bad p) = refl
 
 -- it is a name, wrong where it starts
-word-name : (differ : Bool) (s : List ℕ) (from i at : ℕ) {w : Word} {n : ℕ} → wordBehind differ s from i at ≡ good w n → nameAt s at ≡ good w n
+word-name : (differ : Bool) (s : List ℕ) (from i at : ℕ) {w : PlacedName} {n : ℕ} → wordBehind differ s from i at ≡ good w n → nameAt s at ≡ good w n
 unfolding wordBehind
 word-name true s from i at e = on-good (nameAt s at) _ e (λ v m e₁ e₂. e₁ ∙ passed (amongAt i s from (v .text)) at (good v m) e₂ .1)
 word-name false s from i at e = on-good (nameAt s at) _ e (λ v m e₁ e₂. e₁ ∙ e₂)
@@ -128,12 +128,12 @@ word-place : (differ : Bool) (s : List ℕ) (from i at : ℕ) {p : ℕ} → word
 unfolding wordBehind
 word-place differ s from i at {p} e = go (nameAt s at) refl e
   where
-    test : (d b : Bool) (v : Word) (m : ℕ) → cond d (cond b (bad at) (good v m)) (good v m) ≡ bad p → p ≡ at
+    test : (d b : Bool) (v : PlacedName) (m : ℕ) → cond d (cond b (bad at) (good v m)) (good v m) ≡ bad p → p ≡ at
     test true true v m e = cc
     test true false v m e = cc
     test false b v m e = cc
 
-    go : (r : Ans Word) → nameAt s at ≡ r → bind r (λ v m. cond differ (cond (amongAt i s from (v .text)) (bad at) (good v m)) (good v m)) ≡ bad p → p ≡ at
+    go : (r : Ans PlacedName) → nameAt s at ≡ r → bind r (λ v m. cond differ (cond (amongAt i s from (v .text)) (bad at) (good v m)) (good v m)) ≡ bad p → p ≡ at
     go (good v m) h e = test differ (amongAt i s from (v .text)) v m e
     go (bad q) h e = let z : q ≡ p = cc in sym z ∙ name-place s at h
 

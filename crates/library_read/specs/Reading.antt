@@ -7,7 +7,7 @@ use mathlib.Core.Bool.{Bool, true, false, cond}
 use mathlib.Core.List.{List, [], _∷_, _++_}
 use lib.ListN.{length}
 use Rattle.text.specs.Keyword.{same}
-use Rattle.library_form.specs.Form.{Ans, good, bad, bind, Word, nameAt}
+use Rattle.library_form.specs.Form.{Ans, good, bad, bind, PlacedName, nameAt}
 use Rattle.library_index.specs.Names.{newName, namesIn, Indexed}
 use Rattle.library_image.specs.Image.{mostImage, mostModules, mostNames, leastRevisions, mostRevisions, Reader, counted, anyWord, newWord, revisionAt}
 use Rattle.library_read.specs.declared.Read.{Read}
@@ -35,10 +35,10 @@ onAns (bad p) f g = g p
 -- ---- lists of names
 
 -- one of a list of names that may have to differ
-abbrev pub wordOf : (differ : Bool) → Reader Word
+abbrev pub wordOf : (differ : Bool) → Reader PlacedName
 wordOf differ s seen at = cond differ (newWord s seen at) (anyWord s seen at)
 
-unfoldable pub listAt : (differ : Bool) → List ℕ → ℕ → Ans (List Word)
+unfoldable pub listAt : (differ : Bool) → List ℕ → ℕ → Ans (List PlacedName)
 listAt differ s at = counted 0 mostNames (wordOf differ) s at
 
 -- one of the `count` names from `at` on, read one after the other, has the bytes t
@@ -47,7 +47,7 @@ amongAt zero s at t = false
 amongAt (suc k) s at t = onAns (nameAt s at) (λ w n. cond (same (w .text) t) true (amongAt k s n t)) (λ p. false)
 
 -- the name at a place, behind i names from `from` on
-unfoldable pub wordBehind : (differ : Bool) → List ℕ → (from i at : ℕ) → Ans Word
+unfoldable pub wordBehind : (differ : Bool) → List ℕ → (from i at : ℕ) → Ans PlacedName
 wordBehind differ s from i at = bind (nameAt s at) (λ w n. cond differ (cond (amongAt i s from (w .text)) (bad at) (good w n)) (good w n))
 
 -- ---- entries of a set
@@ -59,17 +59,17 @@ restAt importOnly s at =
     (bind (listAt false s at) (λ submodules n₁. bind (listAt false s n₁) (λ augmenting n₂. done (listAt false s n₂))))
 
 -- a module or an import-only module, of which the name is kept
-unfoldable pub entryAt : (importOnly : Bool) → Reader Word
+unfoldable pub entryAt : (importOnly : Bool) → Reader PlacedName
 entryAt importOnly s seen at = bind (newName s seen at) (λ w n. bind (restAt importOnly s n) (λ u m. good w m))
 
-unfoldable pub entriesAt : (importOnly : Bool) → List ℕ → ℕ → Ans (List Word)
+unfoldable pub entriesAt : (importOnly : Bool) → List ℕ → ℕ → Ans (List PlacedName)
 entriesAt importOnly s at = counted 0 mostModules (entryAt importOnly) s at
 
 -- ---- what the code asks and does
 
 -- an entry that was read, whose name is now the last of the table
 pub record Entered (importOnly : Bool) (s tab : List ℕ) (i at n : ℕ) (after : List ℕ) : Type 0 where
-  pub word : Word
+  pub word : PlacedName
   pub read : entryAt importOnly s (namesIn s tab i) at ≡ good word n
   pub indexed : Indexed s after (i + 1)
   pub names : namesIn s after (i + 1) ≡ namesIn s tab i ++ (word ∷ [])

@@ -6,7 +6,7 @@ use mathlib.Core.Bool.{Bool, true, false, cond}
 use mathlib.Core.List.{List, [], map}
 use lib.ListN.{length, length-map}
 use lib.Dec.{ltb}
-use Rattle.library_form.specs.Form.{Word}
+use Rattle.library_form.specs.Form.{PlacedName}
 use Rattle.library_form.specs.Writer.{AllBytes}
 use Rattle.library_image.specs.Library.{Name, plainName, plain}
 use Rattle.library_image.specs.Image.{imageAt}
@@ -32,7 +32,7 @@ use Rattle.yanglib.specs.declared.Graphed.the-variants.{Built}
 use Rattle.graph_entries.proofs.Drawing.{items-drawn}
 
 -- what is answered and left for a drawing between these nodes
-abbrev pub drawingResult : List Word → Drawing → Result
+abbrev pub drawingResult : List PlacedName → Drawing → Result
 drawingResult ws (drawn rs) = record { answer = Built (length ws) (length rs); nodes = ws; rows = rs }
 drawingResult ws (faulty number entry a) = refusal number entry a 0
 

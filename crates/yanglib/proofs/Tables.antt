@@ -10,7 +10,7 @@ use lib.Seq.{ext-getD, getD-drop, getD-set-other, length-take-le, take-suc, take
 use mir.Syntax.{w32}
 use mir.Val.{Fits}
 use Rattle.text_lent.specs.Padded.{zeros, padded}
-use Rattle.library_form.specs.Form.{Word}
+use Rattle.library_form.specs.Form.{PlacedName}
 use Rattle.library_index.specs.Names.{rowOf, rowWords as nameWords, nameIn, namesIn}
 use Rattle.graph.specs.Numbers.{Row}
 use Rattle.graph_edges.specs.Edges.{rowAt, rowsIn, Blank, Filed}
@@ -76,7 +76,7 @@ rows-table edges chains m g =
 
 -- ---- the nodes
 
-nodes-snoc : (ws : List Word) (w : Word) → nodeWords (ws ++ (w ∷ [])) ≡ nodeWords ws ++ (w .place ∷ w .size ∷ [])
+nodes-snoc : (ws : List PlacedName) (w : PlacedName) → nodeWords (ws ++ (w ∷ [])) ≡ nodeWords ws ++ (w .place ∷ w .size ∷ [])
 unfolding nodeWords
 nodes-snoc [] w = refl
 nodes-snoc (v ∷ ws) w = ap (λ (x : List ℕ). v .place ∷ v .size ∷ x) (nodes-snoc ws w)

@@ -10,7 +10,7 @@ use lib.ListN.{length}
 use lib.Dec.{ltb}
 use Rattle.text.specs.declared.Refusal.{Refusal}
 use Rattle.text_lent.specs.Padded.{zeros, padded}
-use Rattle.library_form.specs.Form.{Ans, good, bad, Word}
+use Rattle.library_form.specs.Form.{Ans, good, bad, PlacedName}
 use Rattle.library_image.specs.Image.{imageBroken, imageAt}
 use Rattle.library_bundle.specs.Bundle.{bundleBroken, bundleAt}
 use Rattle.library_bundle.specs.Reading.{longestText}
@@ -57,7 +57,7 @@ tooShort longest k =
 
 pub record Result : Type 0 where
   pub answer : Graphed
-  pub nodes : List Word
+  pub nodes : List PlacedName
   pub rows : List Row
 
 -- a refusal with its number, entry, scan answer and place
@@ -65,7 +65,7 @@ abbrev pub refusal : ℕ → ℕ → Refusal → ℕ → Result
 refusal number entry scan place = record { answer = Refused number entry scan place; nodes = []; rows = [] }
 
 -- a graph between names: its nodes with their places, its edges in numbers
-abbrev pub resultOf : List Word → Graph → Result
+abbrev pub resultOf : List PlacedName → Graph → Result
 resultOf ws (graph ns es) = record { answer = Built (length ns) (length es); nodes = ws; rows = map (rowOf ns) es }
 resultOf ws (fault number entry a) = refusal number entry a 0
 
@@ -89,7 +89,7 @@ AnswerFits (Refused number entry a place) = (entry ≤ 65536) × (a .at ≤ 1677
 
 -- ---- the tables
 
-unfoldable pub nodeWords : List Word → List ℕ
+unfoldable pub nodeWords : List PlacedName → List ℕ
 nodeWords [] = []
 nodeWords (w ∷ ws) = w .place ∷ w .size ∷ nodeWords ws
 
