@@ -1,7 +1,7 @@
 -- Which keyword stands at a place: the keywords' own answers, in the order in which they are tried. One that matched ends behind its first byte and
 -- within the text.
 -- Assumes nothing.
-use mathlib.Core.Path.{_≡_, refl, sym, ap, _∙_}
+use mathlib.Core.Path.{_≡_, refl, sym, _∙_}
 use mathlib.Core.Bool.{Bool, false}
 use mathlib.Core.List.{List}
 use Prim.Native.Nat.{ℕ, _<_, _≤_}
@@ -17,11 +17,25 @@ use Rattle.yangparser.specs.Head.{lastAt, orHead, headAt}
 use Rattle.yangparser.specs.declared.Head.{Head}
 use Rattle.yangparser.specs.declared.Head.the-variants.{Import, Include, Last, Other}
 
--- each word before those after it
-pub last-is : (s : List ℕ) (at : ℕ) {r d c o : Match} → r ≡ matchAt s at referenceWord → d ≡ orMatch (matchAt s at descriptionWord) r
-    → c ≡ orMatch (matchAt s at contactWord) d → o ≡ orMatch (matchAt s at organizationWord) c → o ≡ lastAt s at
-unfolding lastAt
-last-is s at re de ce oe = oe ∙ ap (orMatch _) (ce ∙ ap (orMatch _) (de ∙ ap (orMatch _) re))
+-- o, c, d, r: what the four keywords that end the scan answered, each where those before it did not match
+module _ (s : List ℕ) (at : ℕ) {o : Match} (oe : o ≡ matchAt s at organizationWord) where
+  pub last-organization : (x : Cursor) → o ≡ After x → o ≡ lastAt s at
+  unfolding lastAt orMatch
+  last-organization x h = rw (sym oe ∙ h) h
+
+  module _ (no : o ≡ Not) {c : Match} (ce : c ≡ matchAt s at contactWord) where
+    pub last-contact : (x : Cursor) → c ≡ After x → c ≡ lastAt s at
+    unfolding lastAt orMatch
+    last-contact x h = rw (sym oe ∙ no, sym ce ∙ h) h
+
+    module _ (nc : c ≡ Not) {d : Match} (de : d ≡ matchAt s at descriptionWord) where
+      pub last-description : (x : Cursor) → d ≡ After x → d ≡ lastAt s at
+      unfolding lastAt orMatch
+      last-description x h = rw (sym oe ∙ no, sym ce ∙ nc, sym de ∙ h) h
+
+      pub last-reference : d ≡ Not → {r : Match} → r ≡ matchAt s at referenceWord → r ≡ lastAt s at
+      unfolding lastAt orMatch
+      last-reference h re = rw (sym oe ∙ no, sym ce ∙ nc, sym de ∙ h) re
 
 -- i, n, l: what the functions answered for import, include and the four
 module _ (s : List ℕ) (at : ℕ) {i : Match} (ie : i ≡ matchAt s at importWord) where

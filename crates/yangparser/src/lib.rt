@@ -254,10 +254,19 @@ fn match_last(here: Cursor, classes: &[u8; 128], s: &[u8]) -> Match
     requires { ⌜ now classes ≡ classTable ⌝ }
     ensures { λ r. ⌜ r ≡ lastAt (now (s .entry)) (here .at) ⌝ }
 {
-    let reference = here.match_keyword(classes, s, b"reference");
-    let description = text::or_word(here, classes, s, b"description", reference);
-    let contact = text::or_word(here, classes, s, b"contact", description);
-    text::or_word(here, classes, s, b"organization", contact)
+    let organization = here.match_keyword(classes, s, b"organization");
+    if let Match::After(_) = organization {
+        return organization;
+    }
+    let contact = here.match_keyword(classes, s, b"contact");
+    if let Match::After(_) = contact {
+        return contact;
+    }
+    let description = here.match_keyword(classes, s, b"description");
+    if let Match::After(_) = description {
+        return description;
+    }
+    here.match_keyword(classes, s, b"reference")
 }
 
 // The answer to a row too many: a refusal behind its keyword.
