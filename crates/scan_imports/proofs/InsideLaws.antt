@@ -54,24 +54,30 @@ begun-is at u h k = ap₂ (λ p q. record { at = at; used = u; prefix = p; revis
 
 -- ---- which statement it is
 
--- m: what the keyword j answered
-module _ (j : ℕ) (l : Line) {m n : Match} (e : m ≡ n) where
-  pub line-after : (c : Cursor) → m ≡ After c → Value j c ≡ orLine j n l
+-- m: what revision-date answered
+module _ (s : List ℕ) (at : ℕ) {m : Match} (e : m ≡ matchAt s at revisionDateWord) where
+  pub revision-after : (c : Cursor) → m ≡ After c → Value 10 c ≡ revisionLine s at
   unfolding orLine
-  line-after c h = sym (ap (λ z. orLine j z l) (sym e ∙ h))
+  revision-after c h = sym (ap (λ z. orLine 10 z Other) (sym e ∙ h))
 
-  pub line-not : m ≡ Not → l ≡ orLine j n l
+  pub revision-not : m ≡ Not → Other ≡ revisionLine s at
   unfolding orLine
-  line-not h = sym (ap (λ z. orLine j z l) (sym e ∙ h))
+  revision-not h = sym (ap (λ z. orLine 10 z Other) (sym e ∙ h))
 
-module _ (s : List ℕ) (at k : ℕ) {r : Line} (re : r ≡ revisionLine s at) where
-  pub kind-import : k ≡ 8 → {p : Line} → p ≡ orLine 5 (matchAt s at prefixWord) r → p ≡ lineKind s at k
-  unfolding lineKind
-  kind-import h pe = rw (eq-eqb k 8 h) (pe ∙ ap (orLine 5 _) re)
+-- m: what prefix answered
+module _ (s : List ℕ) (at k : ℕ) where
+  pub kind-prefix : k ≡ 8 → {m : Match} → m ≡ matchAt s at prefixWord → (c : Cursor) → m ≡ After c → Value 5 c ≡ lineKind s at k
+  unfolding lineKind orLine
+  kind-prefix h e c q = rw (eq-eqb k 8 h) (sym (ap (λ z. orLine 5 z (revisionLine s at)) (sym e ∙ q)))
 
-  pub kind-include : (k ≡ 8 → ⊥) → r ≡ lineKind s at k
-  unfolding lineKind
-  kind-include h = rw (ne-eqb k 8 h) re
+  module _ {r : Line} (re : r ≡ revisionLine s at) where
+    pub kind-import : k ≡ 8 → {m : Match} → m ≡ matchAt s at prefixWord → m ≡ Not → r ≡ lineKind s at k
+    unfolding lineKind orLine
+    kind-import h e q = rw (eq-eqb k 8 h) (re ∙ sym (ap (λ z. orLine 5 z (revisionLine s at)) (sym e ∙ q)))
+
+    pub kind-include : (k ≡ 8 → ⊥) → r ≡ lineKind s at k
+    unfolding lineKind
+    kind-include h = rw (ne-eqb k 8 h) re
 
 -- where no identifier begins, no keyword matches
 pub kind-none : (s : List ℕ) (at k : ℕ) {b : ℕ} {t : Bool} → b ≡ getD s at 256 → t ≡ startsIdent b → t ≡ false → Other ≡ lineKind s at k

@@ -15,12 +15,11 @@ ghost use lib.ListN.{length};
 ghost use lib.Seq.{sets};
 ghost use Rattle.text.specs.Bytes.{semicolon};
 ghost use Rattle.text.specs.Class.{classTable};
-ghost use Rattle.text.specs.Keyword.{wordly, matchAt};
 ghost use Rattle.text.specs.Words.{includeKeyword};
 ghost use Rattle.text_skip.specs.Statement.{statementAt};
 ghost use Rattle.text_value.specs.Argument.{lineAt};
 ghost use Rattle.text_value.specs.Value.{valueAt, valueBytes};
-ghost use Rattle.scan_imports.specs.Block.{orLine, lineKind, kept, withValue, withSkipped, begun, moved, insideAt, blockRefusal, blockAt};
+ghost use Rattle.scan_imports.specs.Block.{revisionLine, lineKind, kept, withValue, withSkipped, begun, moved, insideAt, blockRefusal, blockAt};
 ghost use Rattle.scan_imports.specs.Statement.{ofBody, importAt, includeOf, includeAt};
 
 // Refusals: an import closed without prefix, and the end inside a block.
@@ -359,30 +358,32 @@ fn line_kind(here: Cursor, classes: &[u8; 128], s: &[u8], keyword: u32) -> Line
 {
     let at = here.at;
     if text::starts_ident(classes, text::peek_char(s, at)) {
-        let revision = or_line(
-            here,
-            classes,
-            s,
-            b"revision-date",
-            text::REVISION_DATE,
-            Line::Other,
-        );
         if keyword == text::IMPORT {
-            return or_line(here, classes, s, b"prefix", text::PREFIX, revision);
+            let prefix = here.match_keyword(classes, s, b"prefix");
+            if let Match::After(after) = prefix {
+                return Line::Value {
+                    keyword: text::PREFIX,
+                    after,
+                };
+            }
+            return revision_line(here, classes, s);
         }
-        return revision;
+        return revision_line(here, classes, s);
     }
     Line::Other
 }
 
-// The keyword, if its word stands here.
-fn or_line(here: Cursor, classes: &[u8; 128], s: &[u8], word: &[u8], keyword: u32, l: Line) -> Line
-    requires { ⌜ (now classes ≡ classTable) × (wordly (now word) ≡ true) ⌝ }
-    ensures { λ r. ⌜ r ≡ orLine keyword (matchAt (now (s .entry)) (here .at) (now (word .entry))) l ⌝ }
+// A revision-date, or another statement.
+fn revision_line(here: Cursor, classes: &[u8; 128], s: &[u8]) -> Line
+    requires { ⌜ now classes ≡ classTable ⌝ }
+    ensures { λ r. ⌜ r ≡ revisionLine (now (s .entry)) (here .at) ⌝ }
 {
-    let m = here.match_keyword(classes, s, word);
-    match m {
-        Match::After(after) => Line::Value { keyword, after },
-        Match::Not => l,
+    let revision = here.match_keyword(classes, s, b"revision-date");
+    match revision {
+        Match::After(after) => Line::Value {
+            keyword: text::REVISION_DATE,
+            after,
+        },
+        Match::Not => Line::Other,
     }
 }
