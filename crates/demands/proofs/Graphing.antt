@@ -29,7 +29,8 @@ use Rattle.graph_edges.specs.Edges.{rowsIn}
 use Rattle.graph.specs.Limits.{mostEdges, mostNodes}
 use Rattle.graph_nodes.specs.Adding.{plainAt, wordsAt}
 use Rattle.graph_texts.specs.Texts.{textOf}
-use Rattle.yanglib.specs.ToGraph.{lentTooShort, Lengths, tooShort, Result, refusal, resultOf, onRead, graphed, lengthsOf, Graphs}
+use Rattle.yanglib.specs.ToGraph.{lentTooShort, Result, refusal, resultOf, onRead, graphed, Graphs}
+use Rattle.graph_tables.specs.Lengths.{Lengths, tooShort, lengthsOf}
 use Rattle.yanglib.specs.declared.Graphed.the-variants.{Built}
 use Rattle.yanglib.proofs.Outcome.{revised-here}
 use Rattle.demands.specs.Demand3.{nameOf, names, tableNames, named, between, edges, RightGraph, WellFormed, Alike, both-refused, both-built, BytesDemand3}
@@ -165,7 +166,8 @@ right-tables s b n e d f g l i j {n₁} {e₁} bytes h =
 -- ---- second part
 
 module _ (s s₁ b : List ℕ) (k : Lengths) (f : WellFormed s) (f₁ : WellFormed s₁) where
-  graphs-alike : (g g₁ : Graph) → graphHere s b ≡ g → graphHere s₁ b ≡ g₁ → Agree g g₁ → Alike s s₁ (resultOf (wordsAt passOver s) g) (resultOf (wordsAt passOver s₁) g₁)
+  graphs-alike : (g g₁ : Graph) → graphHere s b ≡ g → graphHere s₁ b ≡ g₁ → Agree g g₁
+      → Alike s s₁ (resultOf (wordsAt passOver s) g) (resultOf (wordsAt passOver s₁) g₁)
   graphs-alike (graph ns es) (graph ns₁ es₁) e e₁ (graphs-built p q) =
       both-built refl (ap₂ Built (sym (perm-length p)) (sym (perm-length q)))
       (subst₂ Perm (sym (names-are s b (f .bytes) (f .reads) e)) (sym (names-are s₁ b (f₁ .bytes) (f₁ .reads) e₁)) p)

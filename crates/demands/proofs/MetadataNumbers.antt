@@ -23,21 +23,22 @@ use Rattle.text_value.specs.Argument.{argumentAt}
 use Rattle.text_value.specs.declared.Argument.{Argument}
 use Rattle.text_value.specs.declared.Argument.the-variants.{Read, Refused as NoArgument}
 use Rattle.text_skip.specs.Skip.{tokenAt, skippedAt}
-use Rattle.text_skip.specs.Statement.{statementAt}
+use Rattle.text_statement.specs.Statement.{statementAt}
 use Rattle.text_skip.specs.declared.Skipped.{Skipped}
 use Rattle.text_skip.specs.declared.Skipped.the-variants.{Past, Refused as NoSkip}
 use Rattle.text_skip.proofs.PassLaws.{skipped-refused}
 use Rattle.text_skip.proofs.SkipLaws.{token-refused}
-use Rattle.text_skip.proofs.StatementLaws.{statement-refused}
+use Rattle.text_statement.proofs.StatementLaws.{statement-refused}
 use Rattle.text_lent.specs.Lent.{lentAt}
 use Rattle.text_lent.specs.declared.Lent.{Lent}
 use Rattle.text_lent.specs.declared.Lent.the-variants.{Fit, Unfit}
-use Rattle.scan_header.specs.Header.{pastOf, pastStatement, dueFor, afterRevision, afterValue, passed, kept, withRest, fieldAt, afterSkipped, laterPrefix, statementSaid, tagSaid, saidHere, saidAt}
-use Rattle.scan_header.specs.Tag.{lastTag, orTag, dataAt, tagAt}
+use Rattle.scan_header.specs.Header.{pastOf, pastStatement, dueFor, afterRevision, afterValue, passed, kept, withRest, fieldAt, afterSkipped, laterPrefix}
+use Rattle.scan_header.specs.Header.{statementSaid, tagSaid, saidHere, saidAt}
+use Rattle.scan_tag.specs.Tag.{lastTag, orTag, dataAt, tagAt}
 use Rattle.scan_header.specs.declared.Heard.{Heard}
 use Rattle.scan_header.specs.declared.Heard.the-variants.{Value, Passed, Done, Refused}
-use Rattle.scan_header.specs.declared.Tag.{Tag}
-use Rattle.scan_header.specs.declared.Tag.the-variants.{Statement}
+use Rattle.scan_tag.specs.declared.Tag.{Tag}
+use Rattle.scan_tag.specs.declared.Tag.the-variants.{Statement}
 use Rattle.scan_metadata.specs.Metadata.{Metadata, nothing, Scan, good, bad, ended, afterHeard, metadataTurn, scanFrom, scanned, ifFit, metadata}
 use Rattle.demands.specs.Demand1.{FirstRefusal, Fits, RefusedAs, first, read, MetadataRefusal, no-value, no-byte, no-name}
 use Rattle.demands.proofs.ScanNumbers.{isOne, refusal, of, DueIs, ArgumentIs, due-is, value-is, turns-all, LentIs, lent-is, first-unfit}

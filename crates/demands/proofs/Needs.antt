@@ -5,7 +5,8 @@ use mathlib.Core.Path.{_≡_, refl, sym, _∙_, subst, subst₂}
 use mathlib.Core.Bool.{Bool, true, false, cond}
 use mathlib.Core.HLevel.{⊥-prop}
 use mathlib.Core.Logic.{∥∥₁-elim}
-use mathlib.Core.List.{List, [], _∷_, flatMap, flatten, List·Memᴰ, List·Memᴰ·not-nil, List·Memᴰ·head, List·Memᴰ·tail, List·Memᴰ·eq-of-singleton, Perm, Perm·refl, Perm·swap, Perm·mem-iff}
+use mathlib.Core.List.{List, [], _∷_, flatMap, flatten, List·Memᴰ, List·Memᴰ·not-nil, List·Memᴰ·head, List·Memᴰ·tail, List·Memᴰ·eq-of-singleton, Perm}
+use mathlib.Core.List.{Perm·refl, Perm·swap, Perm·mem-iff}
 use native.Mathlib.Omega.{arith}
 use lib.ListN.{getD}
 use lib.Dec.{ltb}
@@ -15,7 +16,8 @@ use Rattle.text.specs.declared.Refusal.{Refusal}
 use Rattle.library_items.specs.Table.{Reads}
 use Rattle.graph.specs.Demand3.{AlikeImport, Within, SameEntries, Permuted}
 use Rattle.graph.proofs.Tests.{both-bools, mem-memb}
-use Rattle.yanglib.specs.ToGraph.{tooShort, graphed}
+use Rattle.yanglib.specs.ToGraph.{graphed}
+use Rattle.graph_tables.specs.Lengths.{tooShort}
 use Rattle.yanglib.specs.declared.Graphed.{Graphed}
 use Rattle.yanglib.specs.declared.Graphed.the-variants.{Built, Refused}
 use Rattle.text.specs.Class.{classOf}
@@ -26,12 +28,13 @@ use Rattle.text.specs.Turns.{turns}
 use Rattle.text_value.specs.Argument.{argumentOf, argumentAt, afterDue}
 use Rattle.text_value.specs.Value.{isQuote, startsName, addedBy, afterPlus, joinedWith, joined as joinedValue, ofString, valueHere, valueAt, valueBytes}
 use Rattle.text_skip.specs.Skip.{closedToken, tokenHere}
-use Rattle.text_skip.specs.Statement.{statementAt}
+use Rattle.text_statement.specs.Statement.{statementAt}
 use Rattle.text_lent.specs.Lent.{lentAt}
-use Rattle.scan_imports.specs.Block.{orLine}
+use Rattle.scan_block.specs.Block.{orLine}
 use Rattle.scan_imports.specs.Statement.{plainOf, blockOf, openOrPlain, afterValue, includeAt}
-use Rattle.yangparser.specs.Dependencies.{joined, importStep, includeStep, unlessFull, importHere, includeHere, movedTo, afterToken, headStep, stepHere, stepAt, afterStep, scanTurn, scanFrom, scanned, ifFit, dependencies}
-use Rattle.yangparser.specs.Head.{lastAt, orHead, headAt}
+use Rattle.yangparser.specs.Dependencies.{joined, importStep, includeStep, unlessFull, importHere, includeHere, movedTo, afterToken, headStep, stepHere, stepAt}
+use Rattle.yangparser.specs.Dependencies.{afterStep, scanTurn, scanFrom, scanned, ifFit, dependencies}
+use Rattle.scan_head.specs.Head.{lastAt, orHead, headAt}
 use Rattle.library_form.specs.Form.{Ans, good, bad, groups, numberAt, many, printableAt, nameBody, nameAt}
 use Rattle.library_index.specs.Names.{among, addAll, newName}
 use Rattle.library_image.specs.Image.{countAt, counted, moduleAt, importOnlyAt, setAt, libraryAt, imageAt}
@@ -78,7 +81,8 @@ formed-by : (s : List ℕ) → lows s ≡ true → isGood (imageAt s) ≡ true �
 formed-by s h k = record { bytes = bytes-by s h; reads = reads-by (imageAt s) k }
 
 formed : WellFormed emptyFirst × WellFormed fullFirst × WellFormed sFirst × WellFormed tFirst
-unfolding lows isGood libraryOf imageAt libraryAt setAt importOnlyAt moduleAt counted countAt newName among nameAt nameBody printableAt many numberAt groups same modulesOf importOnlyOf
+unfolding lows isGood libraryOf imageAt libraryAt setAt importOnlyAt moduleAt counted countAt newName among nameAt nameBody printableAt many numberAt groups
+    same modulesOf importOnlyOf
 formed = (formed-by emptyFirst refl refl, formed-by fullFirst refl refl, formed-by sFirst refl refl, formed-by tFirst refl refl)
 
 -- ---- the graphs
@@ -97,7 +101,13 @@ record Computed : Type 0 where
   t-names : names tFirst (graphed passOver tFirst alone lent) ≡ with-t
 
 computed : Computed
-unfolding with-s with-t graphed tooShort wordsAt numberOf graphOf walkFrom run addBy memE textSteps nodesBy addGroups addAll among textOf scanText importNames includeNames valueIn longestText longestOf lookUp bundleAt textsAt filedAt bodyAt libraryOf imageAt libraryAt setAt importOnlyAt moduleAt counted countAt newName nameAt nameBody printableAt many numberAt groups modulesOf importOnlyOf submodulesOf flatMap joined importStep includeStep unlessFull importHere includeHere movedTo afterToken headStep stepHere stepAt afterStep scanTurn scanFrom scanned lentAt ifFit dependencies orMatch lastAt orHead headAt orLine plainOf blockOf openOrPlain afterValue includeAt argumentOf argumentAt afterDue isQuote startsName addedBy afterPlus joinedWith joinedValue ofString valueHere valueAt valueBytes closedToken tokenHere statementAt dueNumber dueHere dueAt startsIdent endsKeyword same part keywordAt matchAt gapEnd gapTurn afterWhite commentEnd blockEnd closing pairAt runEnd span inRun inIdent classOf turns
+unfolding with-s with-t graphed tooShort wordsAt numberOf graphOf walkFrom run addBy memE textSteps nodesBy addGroups addAll among textOf scanText importNames
+    includeNames valueIn longestText longestOf lookUp bundleAt textsAt filedAt bodyAt libraryOf imageAt libraryAt setAt importOnlyAt moduleAt counted countAt
+    newName nameAt nameBody printableAt many numberAt groups modulesOf importOnlyOf submodulesOf flatMap joined importStep includeStep unlessFull importHere
+    includeHere movedTo afterToken headStep stepHere stepAt afterStep scanTurn scanFrom scanned lentAt ifFit dependencies orMatch lastAt orHead headAt orLine
+    plainOf blockOf openOrPlain afterValue includeAt argumentOf argumentAt afterDue isQuote startsName addedBy afterPlus joinedWith joinedValue ofString
+    valueHere valueAt valueBytes closedToken tokenHere statementAt dueNumber dueHere dueAt startsIdent endsKeyword same part keywordAt matchAt gapEnd gapTurn
+    afterWhite commentEnd blockEnd closing pairAt runEnd span inRun inIdent classOf turns
 computed = record { empty = refl; full = refl; s-first = refl; s-names = refl; t-names = refl }
 
 both-ways : {r : Graphed} {n m number entry place : ℕ} {a : Refusal} → r ≡ Built n m → r ≡ Refused number entry a place → ⊥
@@ -122,11 +132,13 @@ m-of : List Name → PlainModule
 m-of subs = record { name = 109 ∷ []; submodules = subs; augmenting = []; deviations = [] }
 
 permuted : Permuted (plainAt emptyFirst) (plainAt fullFirst)
-unfolding m-of libraryOf imageAt libraryAt setAt importOnlyAt moduleAt counted countAt newName among nameAt nameBody printableAt many numberAt groups same modulesOf importOnlyOf
+unfolding m-of libraryOf imageAt libraryAt setAt importOnlyAt moduleAt counted countAt newName among nameAt nameBody printableAt many numberAt groups same
+    modulesOf importOnlyOf
 permuted = record { modules = Perm·swap (m-of ((115 ∷ []) ∷ [])) (m-of []) []; importOnly = Perm·refl [] }
 
 no-import-only : importOnlyOf (plainAt emptyFirst) ≡ []
-unfolding libraryOf imageAt libraryAt setAt importOnlyAt moduleAt counted countAt newName among nameAt nameBody printableAt many numberAt groups same modulesOf importOnlyOf
+unfolding libraryOf imageAt libraryAt setAt importOnlyAt moduleAt counted countAt newName among nameAt nameBody printableAt many numberAt groups same modulesOf
+    importOnlyOf
 no-import-only = refl
 
 b-of : List (List Name) → PlainImportOnly
@@ -145,7 +157,8 @@ within rs rs₁ p = record {
 }
 
 same-entries : SameEntries (plainAt sFirst) (plainAt tFirst)
-unfolding b-of set-of flatten libraryOf imageAt libraryAt setAt importOnlyAt moduleAt counted countAt newName among nameAt nameBody printableAt many numberAt groups same modulesOf importOnlyOf
+unfolding b-of set-of flatten libraryOf imageAt libraryAt setAt importOnlyAt moduleAt counted countAt newName among nameAt nameBody printableAt many numberAt
+    groups same modulesOf importOnlyOf
 same-entries =
     let s : List (List Name) = ((115 ∷ []) ∷ []) ∷ ((116 ∷ []) ∷ []) ∷ [] in
     let t : List (List Name) = ((116 ∷ []) ∷ []) ∷ ((115 ∷ []) ∷ []) ∷ [] in

@@ -17,7 +17,7 @@ use Rattle.library_form.specs.declared.LookUp.the-variants.{Broken, Nothing, At
 use Rattle.library_index.specs.Names.{firstBy}
 use Rattle.library_image.specs.Image.{imageAt}
 use Rattle.library_image.specs.Library.{Name, Module, ImportOnly, Library, modulesOf, submodulesOf, importOnlyOf}
-use Rattle.library_read.specs.Reading.{onAns}
+use Rattle.library_lists.specs.Lists.{onAns}
 use Rattle.library_find.specs.Find.{firstModule, firstSubmodule, firstImportOnly, findIn, findModule, findSubmodule, findImportModule}
 use Rattle.library_bundle.specs.Bundle.{Text, bundleAt, placeOf, looked, lookIn, lookUp, partOf, textUnder}
 use Rattle.library_bundle.specs.Reading.{longestText}
@@ -26,12 +26,14 @@ use Rattle.library_bundle.specs.declared.TextPlace.the-variants.{At as PlaceAt,
 use Rattle.graph.specs.Nodes.{passOver}
 use Rattle.text.specs.Refusal.{noRefusal}
 use Rattle.graph.specs.Graph.{ScanAnswer, refusing, Entry, Graph, graph as drawing, fault}
-use Rattle.graph.specs.Meaning.{Fault, entry-missing, include-missing, scan-refused, import-unknown, listed-unknown, include-unknown, include-no-node, too-deep, Cause, names, by-fault, edges}
+use Rattle.graph.specs.Meaning.{Fault, entry-missing, include-missing, scan-refused, import-unknown, listed-unknown, include-unknown, include-no-node, too-deep}
+use Rattle.graph.specs.Meaning.{Cause, names, by-fault, edges}
 use Rattle.graph.proofs.Demand.{demand3}
 use Rattle.graph_nodes.specs.Adding.{plainAt, wordsAt}
 use Rattle.graph_texts.specs.Texts.{scanSeen, scanText, lookText, textOf}
 use Rattle.yangparser.specs.Dependencies.{Dependencies, Scan, good as scanGood, bad as scanBad, dependencies}
-use Rattle.yanglib.specs.ToGraph.{Lengths, tooShort, Result, refusal, resultOf, graphed}
+use Rattle.yanglib.specs.ToGraph.{Result, refusal, resultOf, graphed}
+use Rattle.graph_tables.specs.Lengths.{Lengths, tooShort}
 use Rattle.yanglib.specs.declared.Graphed.the-variants.{Built, Refused}
 use Rattle.demands.specs.Demand1.{GraphCause, image, bundle, lent, graph, GraphNumbers, Buildable, Demand1}
 use Rattle.demands.proofs.ScanNumbers.{isOne, one-of, is-one, dependencies-refused, dependencies-first}
@@ -174,7 +176,8 @@ module _ (s b : List ℕ) (k : Lengths) where
   caused number entry place a h = go (imageAt s) (bundleAt b) (tooShort (longestText b) k) (graphHere s b) refl refl refl refl h
     where
       go : (x : Ans Library) (y : Ans (List Text)) (short : Bool) (g : Graph) → imageAt s ≡ x → bundleAt b ≡ y → tooShort (longestText b) k ≡ short
-          → graphHere s b ≡ g → before x y short (resultOf (wordsAt passOver s) g) .answer ≡ Refused number entry a place → GraphCause s b k number entry a place
+          → graphHere s b ≡ g → before x y short (resultOf (wordsAt passOver s) g) .answer ≡ Refused number entry a place
+          → GraphCause s b k number entry a place
       go (bad p) y short g e f t q h = moved (image e) h
       go (good l i) (bad p) short g e f t q h = moved (bundle (record { value = l; end = i; read = e }) f) h
       go (good l i) (good o j) true g e f t q h = moved (lent (record { value = l; end = i; read = e }) (record { value = o; end = j; read = f }) t) h

@@ -19,10 +19,12 @@ use Rattle.graph.proofs.Numbers.{mem-row}
 use Rattle.graph_edges.specs.Edges.{rowsIn}
 use Rattle.library_bundle.specs.Reading.{longestText}
 use Rattle.graph.specs.Nodes.{passOver}
-use Rattle.yanglib.specs.ToGraph.{lengthsOf, tooShort, graphed, nodeWords, rowWords, AnswerFits, Graphs}
+use Rattle.yanglib.specs.ToGraph.{graphed, AnswerFits, Graphs}
+use Rattle.graph_tables.specs.Tables.{nodeWords, rowWords}
+use Rattle.graph_tables.specs.Lengths.{lengthsOf, tooShort}
 use Rattle.yanglib.specs.declared.Graphed.the-variants.{Built}
 use Rattle.yanglib.proofs.Bounds.{answer-fits}
-use Rattle.yanglib.proofs.Short.{Enough, long-enough}
+use Rattle.graph_tables.proofs.Short.{Enough, long-enough}
 use Rattle.order_tables.specs.Tables.{allWithin, fits}
 use Rattle.order_tables.proofs.Within.{fitting}
 use Rattle.order_take.specs.Taking.{taken}

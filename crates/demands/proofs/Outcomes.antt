@@ -8,7 +8,8 @@ use native.Mathlib.Omega.{arith}
 use lib.Dec.{ltb}
 use lib.ListN.{length, getD}
 use Rattle.text_lent.specs.Padded.{zeros, padded}
-use Rattle.yangparser.specs.Dependencies.{Scan, importWordsOf, includeWordsOf, tooShort, pageShort, dependencies, parsedOf, keptOf}
+use Rattle.yangparser.specs.Dependencies.{Scan, importWordsOf, includeWordsOf, pageShort, dependencies, parsedOf, keptOf}
+use Rattle.scan_rows.specs.Short.{tooShort}
 use Rattle.yangparser.specs.Promises.{Leaves}
 use Rattle.yangparser.specs.declared.Parsed.{Parsed}
 use Rattle.scan_page.specs.Page.{pageOf}
@@ -21,11 +22,13 @@ use Rattle.nuvaleta.specs.Orders.{orderWords}
 use Rattle.order.specs.declared.Ordered.{Ordered}
 use Rattle.order.specs.Order.{orderOf}
 use Rattle.graph.specs.Nodes.{passOver}
-use Rattle.yanglib.specs.ToGraph.{Lengths, lengthsOf, Result, graphed, nodeWords, rowWords, Leaves as GraphLeft}
+use Rattle.yanglib.specs.ToGraph.{Result, graphed, Leaves as GraphLeft}
+use Rattle.graph_tables.specs.Tables.{nodeWords, rowWords}
+use Rattle.graph_tables.specs.Lengths.{Lengths, lengthsOf}
 use Rattle.yanglib.specs.declared.Graphed.{Graphed}
-use Rattle.library_read.specs.Reading.{readSeen}
-use Rattle.library_read.specs.declared.Read.{Read}
-use Rattle.library_read.specs.declared.Read.the-variants.{End, Wrong}
+use Rattle.library_lists.specs.Lists.{readSeen}
+use Rattle.library_lists.specs.declared.Read.{Read}
+use Rattle.library_lists.specs.declared.Read.the-variants.{End, Wrong}
 use Rattle.demands.specs.OneOutcome.{OneOutcome}
 
 -- ---- dependencies
@@ -152,7 +155,8 @@ one-outcome = record {
         equals (λ x. Metadata.answerOf x .answer .number) xe (a .number) (b .number),
         filled Metadata.keptOf xe ds (a .stored) (b .stored),
         equals (λ x. recordWords (Metadata.answerOf x .values)) xe (a .words) (b .words),
-        equals (λ x. Metadata.answerOf x .answer .number ∷ Metadata.answerOf x .answer .keyword ∷ Metadata.answerOf x .answer .at ∷ Metadata.answerOf x .used ∷ []) xe (a .answer) (b .answer),
+        equals (λ x. Metadata.answerOf x .answer .number ∷ Metadata.answerOf x .answer .keyword ∷ Metadata.answerOf x .answer .at ∷ Metadata.answerOf x .used
+            ∷ []) xe (a .answer) (b .answer),
       );
   image = λ s {r} {r′} a b. seen-one r r′ (a ∙ sym b);
   module-found = λ s t a b. a ∙ sym b;

@@ -28,40 +28,43 @@ use Rattle.text_value.specs.Value.{Val, value, none, valueAt}
 use Rattle.text_value.specs.declared.Argument.{Argument}
 use Rattle.text_value.specs.declared.Argument.the-variants.{Read, Refused as NoArgument}
 use Rattle.text_skip.specs.Skip.{tokenAt}
-use Rattle.text_skip.specs.Statement.{statementAt}
+use Rattle.text_statement.specs.Statement.{statementAt}
 use Rattle.text_skip.specs.declared.Skipped.{Skipped}
 use Rattle.text_skip.specs.declared.Skipped.the-variants.{Past, Refused as NoSkip}
 use Rattle.text_skip.proofs.SkipLaws.{token-refused}
-use Rattle.text_skip.proofs.StatementLaws.{statement-refused}
+use Rattle.text_statement.proofs.StatementLaws.{statement-refused}
 use Rattle.text_lent.specs.Lent.{lentAt}
 use Rattle.text_lent.proofs.LentLaws.{lent-long, lent-short, lent-high, lent-fit}
 use Rattle.text_lent.specs.declared.Lent.{Lent}
 use Rattle.text_lent.specs.declared.Lent.the-variants.{Fit, Unfit}
 use Rattle.scan_rows.specs.declared.Span.{Span}
-use Rattle.scan_imports.specs.Left.{Left, nothing}
-use Rattle.scan_imports.specs.Block.{orLine, revisionLine, lineKind, withValue, withSkipped, afterKind, insideHere, insideAt, afterInside, blockTurn, blockFrom, begun, blockAt}
+use Rattle.scan_block.specs.Left.{Left, nothing}
+use Rattle.scan_block.specs.Block.{orLine, revisionLine, lineKind, withValue, withSkipped, afterKind, insideHere, insideAt, afterInside, blockTurn, blockFrom}
+use Rattle.scan_block.specs.Block.{begun, blockAt}
 use Rattle.scan_imports.specs.Statement.{ofBody, importOf, withName, afterName, importAt, includeOf, plainOf, blockOf, openOrPlain, afterValue, includeAt}
-use Rattle.scan_imports.specs.declared.Block.{Block}
-use Rattle.scan_imports.specs.declared.Block.the-variants.{Whole, Broken}
-use Rattle.scan_imports.specs.declared.Body.{Body}
-use Rattle.scan_imports.specs.declared.Inside.{Inside}
-use Rattle.scan_imports.specs.declared.Inside.the-variants.{On as OnInside, Closed, Refused as RefusedInside}
-use Rattle.scan_imports.specs.declared.Line.{Line}
-use Rattle.scan_imports.specs.declared.Line.the-variants.{Value as ValueLine, Other as OtherLine}
+use Rattle.scan_block.specs.declared.Block.{Block}
+use Rattle.scan_block.specs.declared.Block.the-variants.{Whole, Broken}
+use Rattle.scan_block.specs.declared.Body.{Body}
+use Rattle.scan_block.specs.declared.Inside.{Inside}
+use Rattle.scan_block.specs.declared.Inside.the-variants.{On as OnInside, Closed, Refused as RefusedInside}
+use Rattle.scan_block.specs.declared.Line.{Line}
+use Rattle.scan_block.specs.declared.Line.the-variants.{Value as ValueLine, Other as OtherLine}
 use Rattle.scan_imports.specs.declared.ParsedImport.{ParsedImport}
 use Rattle.scan_imports.specs.declared.ParsedImport.the-variants.{Import as ReadImport, NoImport}
 use Rattle.scan_imports.specs.declared.ParsedInclude.{ParsedInclude}
 use Rattle.scan_imports.specs.declared.ParsedInclude.the-variants.{Include as ReadInclude, NoInclude}
-use Rattle.scan_imports.proofs.BlockLaws.{block-falls}
+use Rattle.scan_block.proofs.BlockLaws.{block-falls}
 use Rattle.yangparser.specs.Dependencies as Deps
-use Rattle.yangparser.specs.Dependencies.{Step, importStep, includeStep, unlessFull, importHere, includeHere, afterToken, headStep, stepHere, stepAt, afterStep, scanTurn}
-use Rattle.yangparser.specs.Head.{headAt}
+use Rattle.yangparser.specs.Dependencies.{Step, importStep, includeStep, unlessFull, importHere, includeHere, afterToken, headStep, stepHere, stepAt, afterStep}
+use Rattle.yangparser.specs.Dependencies.{scanTurn}
+use Rattle.scan_head.specs.Head.{headAt}
 use Rattle.yangparser.specs.declared.Next.{Next}
 use Rattle.yangparser.specs.declared.Next.the-variants.{On, Done, Stop}
 use Rattle.yangparser.specs.declared.Sofar.{Sofar}
-use Rattle.yangparser.specs.declared.Head.{Head}
-use Rattle.yangparser.specs.declared.Head.the-variants.{Import, Include, Last, Other}
-use Rattle.demands.specs.Demand1.{OneOf, FirstRefusal, too-long, too-little, high, Fits, RefusedAs, first, read, DependenciesRefusal, argument, no-prefix, block-or-rows}
+use Rattle.scan_head.specs.declared.Head.{Head}
+use Rattle.scan_head.specs.declared.Head.the-variants.{Import, Include, Last, Other}
+use Rattle.demands.specs.Demand1.{OneOf, FirstRefusal, too-long, too-little, high, Fits, RefusedAs, first, read, DependenciesRefusal, argument, no-prefix}
+use Rattle.demands.specs.Demand1.{block-or-rows}
 
 -- ---- membership of numerals, by test
 

@@ -4,7 +4,8 @@ use Prim.Native.Nat.{ℕ, zero, suc}
 use mathlib.Core.Path.{_≡_, refl, sym, ap, _∙_, subst}
 use mathlib.Core.Logic.{⊎-elim}
 use mathlib.Core.Bool.{Bool, true, false, cond, _&&_}
-use mathlib.Core.List.{List, [], _∷_, _++_, map, List·Memᴰ, List·Memᴰ·head, List·Memᴰ·tail, List·Memᴰ·eq-of-singleton, List·Memᴰ·append-cases, List·Memᴰ·not-nil}
+use mathlib.Core.List.{List, [], _∷_, _++_, map, List·Memᴰ, List·Memᴰ·head, List·Memᴰ·tail, List·Memᴰ·eq-of-singleton, List·Memᴰ·append-cases}
+use mathlib.Core.List.{List·Memᴰ·not-nil}
 use Rattle.library_form.specs.Form.{Ans, good, PlacedName, nameAt}
 use Rattle.library_form.specs.Writer.{AllBytes}
 use Rattle.library_form.proofs.Bounds.{opened}
@@ -14,7 +15,8 @@ use Rattle.library_image.specs.Library.{plainName}
 use Rattle.library_image.proofs.ImageLaws.{accepted}
 use Rattle.library_image.proofs.Steps.{on-good, carry}
 use Rattle.library_items.specs.Items.{ItemOf, itemsOf, libraryOf}
-use Rattle.library_items.specs.Table.{Items, andThen, each, eachCounted, nameRead, listRead, listsRead, revisionsRead, entryRead, entriesRead, setRead, setsRead, Reads}
+use Rattle.library_items.specs.Table.{Items, andThen, each, eachCounted, nameRead, listRead, listsRead, revisionsRead, entryRead, entriesRead, setRead}
+use Rattle.library_items.specs.Table.{setsRead, Reads}
 use Rattle.library_items.proofs.Told.{library-told}
 use Rattle.graph_nodes.specs.Adding.{Adding, so, isEntry, isSub, addName, addItem, addItems, plainAt, wordsAt}
 use Rattle.graph_nodes.proofs.Gathering.{added}

@@ -13,19 +13,24 @@ use Rattle.text.specs.Scan.{inIdent, inRun, span, runEnd, pairAt, closing, bloc
 use Rattle.text.specs.Turns.{turns}
 use Rattle.text_value.specs.Argument.{argumentOf, argumentAt, afterDue, afterArgument, lineAt}
 use Rattle.text_value.specs.Str.{escaped, escapes, strEnd, strBytes, closedBy, strAt}
-use Rattle.text_value.specs.Value.{isQuote, startsName, addedBy, afterPlus, afterGap, moreAt, addTo, joinTurn, joinedWith, joined as joinedValue, ofString, valueHere, valueAt, valueBytes}
+use Rattle.text_value.specs.Value.{isQuote, startsName, addedBy, afterPlus, afterGap, moreAt, addTo, joinTurn, joinedWith, joined as joinedValue, ofString}
+use Rattle.text_value.specs.Value.{valueHere, valueAt, valueBytes}
 use Rattle.text_skip.specs.Skip.{closedToken, tokenHere, tokenAt}
-use Rattle.text_skip.specs.Statement.{closes, quotedLen, quotedEnd, atSemicolon, atClose, partOf, partAt, ofPart, statementTurn, statementFrom, statementAt}
+use Rattle.text_statement.specs.Statement.{closes, quotedLen, quotedEnd, atSemicolon, atClose, partOf, partAt, ofPart, statementTurn, statementFrom}
+use Rattle.text_statement.specs.Statement.{statementAt}
 use Rattle.text_lent.specs.Lent.{lentAt}
 use Rattle.scan_newest.specs.Newest.{newer, newestFrom, newest, less}
-use Rattle.scan_header.specs.Header.{pastOf, pastStatement, dueFor, afterRevision, afterValue as afterHeaderValue, passed, kept, withRest, fieldAt, laterPrefix, statementSaid, tagSaid, saidHere, saidAt}
-use Rattle.scan_header.specs.Tag.{dataAt, lastTag, orTag, tagAt}
+use Rattle.scan_header.specs.Header.{pastOf, pastStatement, dueFor, afterRevision, afterValue as afterHeaderValue, passed, kept, withRest, fieldAt, laterPrefix}
+use Rattle.scan_header.specs.Header.{statementSaid, tagSaid, saidHere, saidAt}
+use Rattle.scan_tag.specs.Tag.{dataAt, lastTag, orTag, tagAt}
 use Rattle.scan_metadata.specs.Metadata as Metadata
 use Rattle.scan_metadata.specs.Metadata.{told, firstOf, valuesOf, ended, afterHeard, metadataTurn, metadata}
-use Rattle.scan_imports.specs.Block.{orLine, lineKind, kept as keptLine, withValue, withSkipped, afterKind, insideHere, insideAt, afterInside, blockTurn, blockFrom, blockAt}
+use Rattle.scan_block.specs.Block.{orLine, lineKind, kept as keptLine, withValue, withSkipped, afterKind, insideHere, insideAt, afterInside, blockTurn}
+use Rattle.scan_block.specs.Block.{blockFrom, blockAt}
 use Rattle.scan_imports.specs.Statement.{ofBody, importOf, withName, afterName, importAt, includeOf, plainOf, blockOf, openOrPlain, afterValue, includeAt}
-use Rattle.yangparser.specs.Dependencies.{joined, importStep, includeStep, unlessFull, importHere, includeHere, movedTo, afterToken, headStep, stepHere, stepAt, Scan, good, bad, afterStep, scanTurn, scanFrom, scanned, ifFit, dependencies}
-use Rattle.yangparser.specs.Head.{lastAt, orHead, headAt}
+use Rattle.yangparser.specs.Dependencies.{joined, importStep, includeStep, unlessFull, importHere, includeHere, movedTo, afterToken, headStep, stepHere, stepAt}
+use Rattle.yangparser.specs.Dependencies.{Scan, good, bad, afterStep, scanTurn, scanFrom, scanned, ifFit, dependencies}
+use Rattle.scan_head.specs.Head.{lastAt, orHead, headAt}
 use Rattle.library_form.specs.Form.{groups, numberAt, many, printableAt, nameBody, nameAt}
 use Rattle.library_index.specs.Names.{among, addAll, newName}
 use Rattle.library_image.specs.Image.{countAt, counted, moduleAt, importOnlyAt, setAt, libraryAt, imageAt}
@@ -39,7 +44,9 @@ use Rattle.graph.specs.Nodes.{passOver, addGroups, nodesBy}
 use Rattle.graph.specs.Graph.{textSteps, memE, addBy, run, walkFrom, graphOf}
 use Rattle.graph.specs.Numbers.{numberOf}
 use Rattle.graph_nodes.specs.Adding.{wordsAt}
-use Rattle.yanglib.specs.ToGraph.{Lengths, tooShort, Result, graphed, nodeWords, rowWords}
+use Rattle.yanglib.specs.ToGraph.{Result, graphed}
+use Rattle.graph_tables.specs.Tables.{nodeWords, rowWords}
+use Rattle.graph_tables.specs.Lengths.{Lengths, tooShort}
 use Rattle.host_words.specs.Words.{recordWords}
 use Rattle.nuvaleta.specs.Words.{graphWords}
 
@@ -85,10 +92,14 @@ starred =
     ∷ D (109 ∷ 111 ∷ 100 ∷ 117 ∷ 108 ∷ 101 ∷ 32 ∷ 105 ∷ 109 ∷ 112 ∷ 111 ∷ 114 ∷ 116 ∷ 32 ∷ 123 ∷ 125 ∷ []) (4 ∷ 8 ∷ 14 ∷ 0 ∷ 0 ∷ [])
     ∷ D (105 ∷ 109 ∷ 112 ∷ 111 ∷ 114 ∷ 116 ∷ 32 ∷ 34 ∷ 97 ∷ 34 ∷ 43 ∷ 34 ∷ 98 ∷ []) (6 ∷ 8 ∷ 13 ∷ 0 ∷ 0 ∷ [])
     ∷ M ([]) (9 ∷ 0 ∷ 0 ∷ [])
-    ∷ M (115 ∷ 117 ∷ 98 ∷ 109 ∷ 111 ∷ 100 ∷ 117 ∷ 108 ∷ 101 ∷ 32 ∷ 115 ∷ 123 ∷ 98 ∷ 101 ∷ 108 ∷ 111 ∷ 110 ∷ 103 ∷ 115 ∷ 45 ∷ 116 ∷ 111 ∷ 32 ∷ 109 ∷ 123 ∷ 112 ∷ 114 ∷ 101 ∷ 102 ∷ 105 ∷ 120 ∷ 32 ∷ 112 ∷ 59 ∷ 125 ∷ 32 ∷ 105 ∷ 109 ∷ 112 ∷ 111 ∷ 114 ∷ 116 ∷ 32 ∷ 97 ∷ 123 ∷ 112 ∷ 114 ∷ 101 ∷ 102 ∷ 105 ∷ 120 ∷ 32 ∷ 98 ∷ 59 ∷ 125 ∷ 125 ∷ [])
+    ∷ M (115 ∷ 117 ∷ 98 ∷ 109 ∷ 111 ∷ 100 ∷ 117 ∷ 108 ∷ 101 ∷ 32 ∷ 115 ∷ 123 ∷ 98 ∷ 101 ∷ 108 ∷ 111 ∷ 110 ∷ 103 ∷ 115 ∷ 45 ∷ 116 ∷ 111 ∷ 32 ∷ 109 ∷ 123 ∷ 112
+    ∷ 114 ∷ 101 ∷ 102 ∷ 105 ∷ 120 ∷ 32 ∷ 112 ∷ 59 ∷ 125 ∷ 32 ∷ 105 ∷ 109 ∷ 112 ∷ 111 ∷ 114 ∷ 116 ∷ 32 ∷ 97 ∷ 123 ∷ 112 ∷ 114 ∷ 101 ∷ 102 ∷ 105 ∷ 120 ∷ 32
+    ∷ 98 ∷ 59 ∷ 125 ∷ 125 ∷ [])
     (0 ∷ 0 ∷ 0 ∷ 1 ∷ 0 ∷ 1 ∷ 0 ∷ 0 ∷ 0 ∷ 1 ∷ 2 ∷ 1 ∷ 0 ∷ 0 ∷ 0 ∷ 1 ∷ 1 ∷ 1 ∷ 0 ∷ 0 ∷ 0 ∷ 115 ∷ 109 ∷ 98 ∷ [])
     ∷ G (1 ∷ 2 ∷ 1 ∷ 109 ∷ 1 ∷ 1 ∷ 115 ∷ 0 ∷ 0 ∷ 1 ∷ 98 ∷ 0 ∷ 0 ∷ 0 ∷ 0 ∷ [])
-    (3 ∷ 1 ∷ 109 ∷ 29 ∷ 105 ∷ 110 ∷ 99 ∷ 108 ∷ 117 ∷ 100 ∷ 101 ∷ 32 ∷ 115 ∷ 59 ∷ 105 ∷ 109 ∷ 112 ∷ 111 ∷ 114 ∷ 116 ∷ 32 ∷ 98 ∷ 123 ∷ 112 ∷ 114 ∷ 101 ∷ 102 ∷ 105 ∷ 120 ∷ 32 ∷ 98 ∷ 59 ∷ 125 ∷ 1 ∷ 115 ∷ 19 ∷ 105 ∷ 109 ∷ 112 ∷ 111 ∷ 114 ∷ 116 ∷ 32 ∷ 98 ∷ 123 ∷ 112 ∷ 114 ∷ 101 ∷ 102 ∷ 105 ∷ 120 ∷ 32 ∷ 98 ∷ 59 ∷ 125 ∷ 1 ∷ 98 ∷ 0 ∷ [])
+    (3 ∷ 1 ∷ 109 ∷ 29 ∷ 105 ∷ 110 ∷ 99 ∷ 108 ∷ 117 ∷ 100 ∷ 101 ∷ 32 ∷ 115 ∷ 59 ∷ 105 ∷ 109 ∷ 112 ∷ 111 ∷ 114 ∷ 116 ∷ 32 ∷ 98 ∷ 123 ∷ 112 ∷ 114 ∷ 101 ∷ 102
+    ∷ 105 ∷ 120 ∷ 32 ∷ 98 ∷ 59 ∷ 125 ∷ 1 ∷ 115 ∷ 19 ∷ 105 ∷ 109 ∷ 112 ∷ 111 ∷ 114 ∷ 116 ∷ 32 ∷ 98 ∷ 123 ∷ 112 ∷ 114 ∷ 101 ∷ 102 ∷ 105 ∷ 120 ∷ 32 ∷ 98 ∷ 59
+    ∷ 125 ∷ 1 ∷ 98 ∷ 0 ∷ [])
     (0 ∷ 0 ∷ 0 ∷ 0 ∷ 0 ∷ 0 ∷ 3 ∷ 3 ∷ 3 ∷ 1 ∷ 6 ∷ 1 ∷ 10 ∷ 1 ∷ 2 ∷ 0 ∷ 1 ∷ 0 ∷ 2 ∷ 1 ∷ [])
     ∷ G (2 ∷ 1 ∷ 1 ∷ 109 ∷ 0 ∷ 0 ∷ 0 ∷ 0 ∷ 1 ∷ 1 ∷ 109 ∷ 1 ∷ 1 ∷ 115 ∷ 0 ∷ 0 ∷ 0 ∷ [])
     (1 ∷ 1 ∷ 109 ∷ 10 ∷ 105 ∷ 110 ∷ 99 ∷ 108 ∷ 117 ∷ 100 ∷ 101 ∷ 32 ∷ 115 ∷ 59 ∷ [])
@@ -96,5 +107,16 @@ starred =
     ∷ []
 
 right : T (all starred)
-unfolding starred all holds enough drawn graphed tooShort nodeWords rowWords graphWords wordsAt numberOf graphOf walkFrom run addBy memE textSteps nodesBy addGroups addAll among textOf scanText importNames includeNames valueIn longestText longestOf lookUp bundleAt textsAt filedAt bodyAt libraryOf imageAt libraryAt setAt importOnlyAt moduleAt counted countAt newName nameAt nameBody printableAt many numberAt groups modulesOf importOnlyOf submodulesOf flatMap outcome described recordWords metadata Metadata.ifFit Metadata.scanned Metadata.scanFrom metadataTurn afterHeard ended told firstOf valuesOf newer newestFrom newest less pastOf pastStatement dueFor afterRevision afterHeaderValue passed kept withRest fieldAt laterPrefix statementSaid tagSaid saidHere saidAt dataAt lastTag orTag tagAt joined importStep includeStep unlessFull importHere includeHere movedTo afterToken headStep stepHere stepAt afterStep scanTurn scanFrom scanned lentAt ifFit dependencies orMatch lastAt orHead headAt orLine lineKind withValue keptLine withSkipped afterKind insideHere insideAt afterInside blockTurn blockFrom blockAt ofBody importOf withName afterName importAt includeOf plainOf blockOf openOrPlain afterValue includeAt argumentOf argumentAt afterDue afterArgument lineAt escaped escapes strEnd strBytes closedBy strAt isQuote startsName addedBy afterPlus afterGap moreAt addTo joinTurn joinedWith joinedValue ofString valueHere valueAt valueBytes closedToken tokenHere tokenAt closes quotedLen quotedEnd atSemicolon atClose partOf partAt ofPart statementTurn statementFrom statementAt dueNumber dueHere dueAt startsIdent endsKeyword same part keywordAt matchAt gapEnd gapTurn afterWhite commentEnd blockEnd closing pairAt runEnd span inRun inIdent classOf turns
+unfolding starred all holds enough drawn graphed tooShort nodeWords rowWords graphWords wordsAt numberOf graphOf walkFrom run addBy memE textSteps nodesBy
+    addGroups addAll among textOf scanText importNames includeNames valueIn longestText longestOf lookUp bundleAt textsAt filedAt bodyAt libraryOf imageAt
+    libraryAt setAt importOnlyAt moduleAt counted countAt newName nameAt nameBody printableAt many numberAt groups modulesOf importOnlyOf submodulesOf flatMap
+    outcome described recordWords metadata Metadata.ifFit Metadata.scanned Metadata.scanFrom metadataTurn afterHeard ended told firstOf valuesOf newer
+    newestFrom newest less pastOf pastStatement dueFor afterRevision afterHeaderValue passed kept withRest fieldAt laterPrefix statementSaid tagSaid saidHere
+    saidAt dataAt lastTag orTag tagAt joined importStep includeStep unlessFull importHere includeHere movedTo afterToken headStep stepHere stepAt afterStep
+    scanTurn scanFrom scanned lentAt ifFit dependencies orMatch lastAt orHead headAt orLine lineKind withValue keptLine withSkipped afterKind insideHere
+    insideAt afterInside blockTurn blockFrom blockAt ofBody importOf withName afterName importAt includeOf plainOf blockOf openOrPlain afterValue includeAt
+    argumentOf argumentAt afterDue afterArgument lineAt escaped escapes strEnd strBytes closedBy strAt isQuote startsName addedBy afterPlus afterGap moreAt
+    addTo joinTurn joinedWith joinedValue ofString valueHere valueAt valueBytes closedToken tokenHere tokenAt closes quotedLen quotedEnd atSemicolon atClose
+    partOf partAt ofPart statementTurn statementFrom statementAt dueNumber dueHere dueAt startsIdent endsKeyword same part keywordAt matchAt gapEnd gapTurn
+    afterWhite commentEnd blockEnd closing pairAt runEnd span inRun inIdent classOf turns
 right = tt

@@ -10,7 +10,7 @@ use Rattle.library_form.specs.Form.{PlacedName}
 use Rattle.library_image.specs.Library.{Name}
 use Rattle.graph.specs.Numbers.{Row, row}
 use Rattle.graph_edges.specs.Edges.{rowsIn}
-use Rattle.yanglib.specs.ToGraph.{nodeWords, rowWords}
+use Rattle.graph_tables.specs.Tables.{nodeWords, rowWords}
 use Rattle.demands.specs.Demand3.{nameOf, tableNames}
 
 -- n rows from the words, by what f makes of two words

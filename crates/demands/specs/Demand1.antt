@@ -26,7 +26,8 @@ use Rattle.text.specs.Refusal.{noRefusal}
 use Rattle.graph.specs.Meaning.{Sound, Cause}
 use Rattle.graph_nodes.specs.Adding.{plainAt}
 use Rattle.graph_texts.specs.Texts.{textOf}
-use Rattle.yanglib.specs.ToGraph.{Lengths, tooShort, graphed}
+use Rattle.yanglib.specs.ToGraph.{graphed}
+use Rattle.graph_tables.specs.Lengths.{Lengths, tooShort}
 use Rattle.yanglib.specs.declared.Graphed.the-variants.{Built, Refused}
 
 -- ---- scans

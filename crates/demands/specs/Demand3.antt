@@ -1,6 +1,6 @@
--- Demand 3, from bytes to names. `graphed passOver s b k` (crate yanglib) is what to_graph promises for an image s, a bundle b and the lengths k of what is lent:
--- its answer, the rows of the node table and those of the edge table. What is an edge (`IsEdge`), and when two libraries are the same but for their order
--- (`Permuted`, `SameEntries`) and each name stands once (`Once`), is in crate graph: Meaning and Demand3.
+-- Demand 3, from bytes to names. `graphed passOver s b k` (crate yanglib) is what to_graph promises for an image s, a bundle b and the lengths k of what is
+-- lent: its answer, the rows of the node table and those of the edge table. What is an edge (`IsEdge`), and when two libraries are the same but for their
+-- order (`Permuted`, `SameEntries`) and each name stands once (`Once`), is in crate graph: Meaning and Demand3.
 -- Assumes nothing.
 use Prim.Native.Nat.{ℕ, zero, suc, _+_, _*_, _<_}
 use mathlib.Core.Path.{_≡_}
@@ -21,7 +21,8 @@ use Rattle.graph.specs.Demand3.{allNames, Once, SameEntries, Permuted}
 use Rattle.graph_edges.specs.Edges.{rowsIn}
 use Rattle.graph_nodes.specs.Adding.{plainAt}
 use Rattle.graph_texts.specs.Texts.{textOf}
-use Rattle.yanglib.specs.ToGraph.{Lengths, Result, graphed, Graphs}
+use Rattle.yanglib.specs.ToGraph.{Result, graphed, Graphs}
+use Rattle.graph_tables.specs.Lengths.{Lengths}
 use Rattle.yanglib.specs.declared.Graphed.the-variants.{Built, Refused}
 
 -- ---- names and edges, as a caller reads them

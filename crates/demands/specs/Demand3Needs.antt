@@ -9,7 +9,8 @@ use Rattle.library_image.specs.Library.{importOnlyOf}
 use Rattle.graph.specs.Demand3.{SameEntries, Permuted}
 use Rattle.graph_nodes.specs.Adding.{plainAt}
 use Rattle.graph.specs.Nodes.{passOver}
-use Rattle.yanglib.specs.ToGraph.{Lengths, graphed}
+use Rattle.yanglib.specs.ToGraph.{graphed}
+use Rattle.graph_tables.specs.Lengths.{Lengths}
 use Rattle.demands.specs.Demand3.{WellFormed, Alike}
 
 -- what is lent: enough for texts of up to 16 bytes

@@ -8,8 +8,8 @@ use mathlib.Core.List.{List}
 use lib.ListN.{length}
 use Rattle.library_form.specs.declared.LookUp.{LookUp}
 use Rattle.library_image.specs.Image.{imageBroken, imageAt}
-use Rattle.library_read.specs.Reading.{done, readSeen}
-use Rattle.library_read.specs.declared.Read.{Read}
+use Rattle.library_lists.specs.Lists.{done, readSeen}
+use Rattle.library_lists.specs.declared.Read.{Read}
 use Rattle.library_find.specs.Find.{findModule, findSubmodule, findImportModule}
 use Rattle.library_bundle.specs.Bundle.{bundleBroken, lookUp, textUnder}
 use Rattle.yangparser.specs.Promises as Dependencies
@@ -23,7 +23,8 @@ use Rattle.nuvaleta.specs.Record.{MetadataAnswered}
 use Rattle.host_words.specs.Words.{toldWords}
 use Rattle.nuvaleta.specs.Finds.{Told}
 use Rattle.nuvaleta.specs.Graphs.{GraphAnswered}
-use Rattle.yanglib.specs.ToGraph.{lengthsOf, Graphs}
+use Rattle.yanglib.specs.ToGraph.{Graphs}
+use Rattle.graph_tables.specs.Lengths.{lengthsOf}
 use Rattle.yanglib.specs.declared.Graphed.{Graphed}
 use Rattle.order.specs.declared.Ordered.{Ordered}
 use Rattle.order.specs.declared.Checked.{Checked}

@@ -20,7 +20,8 @@ use Rattle.order_tables.proofs.Distinct.{mem-head}
 use Rattle.order_take.proofs.Taken.{InTurn, start, then-one, free-new, free-ready, turn-distinct, turn-below}
 use Rattle.order_ring.specs.Ring.{until}
 use Rattle.demands_order.specs.Order.{Edge, Chain, one, on, Valid}
-use Rattle.demands_order.proofs.OrderLists.{perm-distinct, perm-below, perm-full, all-there, all-perm, distinct-front, until-seam, until-front, until-less}
+use Rattle.demands_order.proofs.OrderLists.{perm-distinct, perm-below, perm-full, all-there, all-perm, distinct-front, until-seam, until-front}
+use Rattle.demands_order.proofs.OrderLists.{until-less}
 
 module _ (n : ℕ) (es : List Row) where
   turn-edge : {xs : List ℕ} → InTurn n es xs → (u v : ℕ) → Edge es u v → mem v xs ≡ true → mem u (until v xs) ≡ true

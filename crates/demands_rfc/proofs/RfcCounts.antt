@@ -14,7 +14,8 @@ use borrow.Author.Tests.{eqb-true}
 use Rattle.text.specs.Turns.{Turn, stop, on, after, turns}
 use Rattle.text.proofs.Here.{by-test, here, both}
 use Rattle.text.proofs.Turns.{turns-stop, turns-on, turns-rule}
-use Rattle.demands_rfc.specs.Rfc.{isBlank, areAt, commentClose, pastComment, separator, pastGap, Read, reads, nothing, with, first, Piece, double, single, gap, singleBody, doubleBody, columnOf, stringAt, gapTo, gapAt, gapAndString, plusAndString, addedStrings, moreStrings}
+use Rattle.demands_rfc.specs.Rfc.{isBlank, areAt, commentClose, pastComment, separator, pastGap, Read, reads, nothing, with, first, Piece, double, single}
+use Rattle.demands_rfc.specs.Rfc.{gap, singleBody, doubleBody, columnOf, stringAt, gapTo, gapAt, gapAndString, plusAndString, addedStrings, moreStrings}
 use Rattle.demands_rfc.specs.RfcEquality.{RfcUncounted}
 use Rattle.demands_rfc.proofs.RfcStrings.{nothing-read, read-is, with-reads, none-some, some-is}
 
@@ -77,7 +78,8 @@ gap-again : (s : List ℕ) (at : ℕ) → pastGap s at ≡ after (λ next. pastG
 unfolding pastGap
 gap-again s at = by-turn (separator s at) refl
   where
-    by-turn : (t : Turn ℕ (Option ℕ)) → separator s at ≡ t → turns (separator s) none (suc (length s)) at ≡ after (λ next. turns (separator s) none (suc (length s)) next) t
+    by-turn : (t : Turn ℕ (Option ℕ)) → separator s at ≡ t → turns (separator s) none (suc (length s)) at
+        ≡ after (λ next. turns (separator s) none (suc (length s)) next) t
     by-turn (stop r) e = turns-stop (separator s) none (λ k. length s - k) (gap-falls s) (suc (length s)) at r (omega arith) e
     by-turn (on j) e = turns-on (separator s) none (λ k. length s - k) (gap-falls s) (suc (length s)) (suc (length s)) at j (omega arith) (omega arith) e
 
@@ -107,7 +109,8 @@ double-far true (b ∷ xs) at raw end h =
 double-far false (b ∷ xs) at raw end h =
     by-test (eqb b 34)
     (λ q. omega (arith, read-is [] raw (at + 1) end refl (rw q at h) .1))
-    (λ q. let w = with-reads (b ∷_) (doubleBody (eqb b 92) xs (at + 1)) raw end (rw q at h) in omega (arith, double-far (eqb b 92) xs (at + 1) (w .0) end (w .1)))
+    (λ q. let w = with-reads (b ∷_) (doubleBody (eqb b 92) xs (at + 1)) raw end (rw q at h) in omega
+    (arith, double-far (eqb b 92) xs (at + 1) (w .0) end (w .1)))
 
 single-far : (xs : List ℕ) (at : ℕ) (raw : List ℕ) (end : ℕ) → singleBody xs at ≡ reads raw end → (at < end) × (end ≤ at + length xs)
 unfolding singleBody
@@ -137,7 +140,8 @@ first-same (reads p m) f g h = ap (with (p ∷_)) (h p m refl)
 first-same nothing f g h = refl
 
 -- what follows a string is asked for only at places after it
-plus-same : (s : List ℕ) (at : ℕ) (f g : ℕ → Read (List Piece)) → ((e : ℕ) → at + 2 < e → e ≤ length s → f e ≡ g e) → plusAndString f s at ≡ plusAndString g s at
+plus-same : (s : List ℕ) (at : ℕ) (f g : ℕ → Read (List Piece)) → ((e : ℕ) → at + 2 < e → e ≤ length s → f e ≡ g e)
+    → plusAndString f s at ≡ plusAndString g s at
 unfolding plusAndString gapAndString
 plus-same s at f g h =
     ap (λ r. cond (eqb (getD s at 256) 43) r (reads [] at))

@@ -24,7 +24,9 @@ use Rattle.text_value.specs.Value.{isQuote}
 use Rattle.text_value.proofs.JoinLaws.{at-is, closed-end, str-size}
 use Rattle.text_value.specs.declared.Close.{Close}
 use Rattle.text_value.specs.declared.Close.the-variants.{At, Open}
-use Rattle.demands_rfc.specs.Rfc.{isBlank, areAt, toLineEnd, commentClose, pastComment, separator, pastGap, Read, reads, with, first, Piece, double, single, gap, singleBody, doubleBody, columnOf, stringAt, gapTo, gapAt, gapAndString, plusAndString, moreStrings, piecesAt}
+use Rattle.demands_rfc.specs.Rfc.{isBlank, areAt, toLineEnd, commentClose, pastComment, separator, pastGap, Read, reads, with, first, Piece, double}
+use Rattle.demands_rfc.specs.Rfc.{single, gap, singleBody, doubleBody, columnOf, stringAt, gapTo, gapAt, gapAndString, plusAndString, moreStrings}
+use Rattle.demands_rfc.specs.Rfc.{piecesAt}
 use Rattle.demands_rfc.specs.RfcDomain.{oddWhite, plain, legalIn, every, found, plainAt, legalAt}
 use Rattle.demands_rfc.specs.RfcQuoted.{plainWhite, Filled, done, white, line, block, Closed, Added, last, more, Quoted}
 use Rattle.demands_rfc.proofs.RfcCounts.{rfc-uncounted}
@@ -134,7 +136,8 @@ module _ (s : List ℕ) (i : ℕ) where
 filled-past : (s : List ℕ) (g at : ℕ) → separator s g ≡ stop (some g) → Filled s g at → pastGap s at ≡ some g
 filled-past s g at h (done e) = ap (pastGap s) e ∙ past-stop s g g h
 filled-past s g at h (white b f) = past-on s at (at + 1) (on-byte s at b) ∙ filled-past s g (at + 1) h f
-filled-past s g at h (line p f) = past-on s at (at + 2 + toLineEnd (drop (at + 2) s)) (on-slashes s at p) ∙ filled-past s g (at + 2 + toLineEnd (drop (at + 2) s)) h f
+filled-past s g at h (line p f) = past-on s at (at + 2 + toLineEnd (drop (at + 2) s)) (on-slashes s at p)
+    ∙ filled-past s g (at + 2 + toLineEnd (drop (at + 2) s)) h f
 filled-past s g at h (block {next} p k f) = past-on s at next (on-slash-star s at next p k) ∙ filled-past s g next h f
 
 -- ---- pieces that pass

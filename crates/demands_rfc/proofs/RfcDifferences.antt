@@ -8,9 +8,13 @@ use Rattle.text.specs.Class.{classOf}
 use Rattle.text.specs.Keyword.{part}
 use Rattle.text.specs.Scan.{inIdent, inRun, span, runEnd, pairAt, closing, blockEnd, commentEnd, afterWhite, gapTurn, gapEnd}
 use Rattle.text_value.specs.Str.{escaped, escapes, strEnd, strBytes, closedBy, strAt}
-use Rattle.text_value.specs.Value.{isQuote, startsName, addedBy, afterPlus, afterGap, moreAt, addTo, joinTurn, joinedWith, joined, ofString, valueHere, valueAt, Val, value}
+use Rattle.text_value.specs.Value.{isQuote, startsName, addedBy, afterPlus, afterGap, moreAt, addTo, joinTurn, joinedWith, joined, ofString, valueHere, valueAt}
+use Rattle.text_value.specs.Value.{Val, value}
 use Rattle.text.specs.Turns.{turns}
-use Rattle.demands_rfc.specs.Rfc.{Read, reads, nothing, isBlank, areAt, breakAt, toLineEnd, commentClose, pastComment, separator, pastGap, with, first, singleBody, doubleBody, width, columnAfter, columnOf, stringAt, gapTo, gapAt, gapAndString, plusAndString, addedStrings, moreStrings, piecesAt, blankToBreak, unless, trimEnds, trimStarts, trimmed, escape, joining, unescaped, meaning, meanings, endingAt, meant, rfcValue}
+use Rattle.demands_rfc.specs.Rfc.{Read, reads, nothing, isBlank, areAt, breakAt, toLineEnd, commentClose, pastComment, separator, pastGap, with, first}
+use Rattle.demands_rfc.specs.Rfc.{singleBody, doubleBody, width, columnAfter, columnOf, stringAt, gapTo, gapAt, gapAndString, plusAndString, addedStrings}
+use Rattle.demands_rfc.specs.Rfc.{moreStrings, piecesAt, blankToBreak, unless, trimEnds, trimStarts, trimmed, escape, joining, unescaped, meaning}
+use Rattle.demands_rfc.specs.Rfc.{meanings, endingAt, meant, rfcValue}
 use Rattle.demands_rfc.specs.RfcDomain.{oddWhite, oneLine, legal, plain, legalIn, every, found, plainAt, legalAt}
 use Rattle.demands_rfc.proofs.RfcSame.{sameBool, sameVal, sameRead, agree}
 
@@ -52,13 +56,31 @@ differences =
     -- a comment that never closes
     ∷ record { text = 34 ∷ 97 ∷ 34 ∷ 47 ∷ 42 ∷ []; ours = value (97 ∷ []) 5; rfc = nothing; plainly = false; legally = false }
     -- a line break in double quotes, with blanks after it
-    ∷ record { text = 34 ∷ 97 ∷ 10 ∷ 32 ∷ 32 ∷ 98 ∷ 34 ∷ []; ours = value (97 ∷ 10 ∷ 32 ∷ 32 ∷ 98 ∷ []) 7; rfc = reads (97 ∷ 10 ∷ 32 ∷ 98 ∷ []) 7; plainly = false; legally = true }
+    ∷ record {
+      text = 34 ∷ 97 ∷ 10 ∷ 32 ∷ 32 ∷ 98 ∷ 34 ∷ [];
+      ours = value (97 ∷ 10 ∷ 32 ∷ 32 ∷ 98 ∷ []) 7;
+      rfc = reads
+          (97 ∷ 10 ∷ 32 ∷ 98 ∷ []) 7;
+      plainly = false;
+      legally = true;
+    }
     -- a line break in double quotes, with a blank before it
-    ∷ record { text = 34 ∷ 97 ∷ 32 ∷ 10 ∷ 98 ∷ 34 ∷ []; ours = value (97 ∷ 32 ∷ 10 ∷ 98 ∷ []) 6; rfc = reads (97 ∷ 10 ∷ 98 ∷ []) 6; plainly = false; legally = true }
+    ∷ record {
+      text = 34 ∷ 97 ∷ 32 ∷ 10 ∷ 98 ∷ 34 ∷ [];
+      ours = value (97 ∷ 32 ∷ 10 ∷ 98 ∷ []) 6;
+      rfc = reads
+          (97 ∷ 10 ∷ 98 ∷ []) 6;
+      plainly = false;
+      legally = true;
+    }
     -- an illegal escape: "\x"
     ∷ record { text = 34 ∷ 92 ∷ 120 ∷ 34 ∷ []; ours = value (120 ∷ []) 4; rfc = nothing; plainly = true; legally = false }
     ∷ []
 
 holds : T (all differences)
-unfolding differences all differ valueAt valueHere ofString joined joinedWith joinTurn addTo moreAt afterGap afterPlus addedBy isQuote startsName strAt closedBy strBytes strEnd escaped escapes part gapEnd gapTurn afterWhite commentEnd blockEnd closing pairAt runEnd span inRun inIdent classOf turns isBlank areAt breakAt toLineEnd commentClose pastComment separator pastGap with first singleBody doubleBody width columnAfter columnOf stringAt gapTo gapAt gapAndString plusAndString addedStrings moreStrings piecesAt blankToBreak unless trimEnds trimStarts trimmed escape joining unescaped meaning meanings endingAt meant rfcValue oddWhite oneLine legal plain legalIn every found plainAt legalAt
+unfolding differences all differ valueAt valueHere ofString joined joinedWith joinTurn addTo moreAt afterGap afterPlus addedBy isQuote startsName strAt
+    closedBy strBytes strEnd escaped escapes part gapEnd gapTurn afterWhite commentEnd blockEnd closing pairAt runEnd span inRun inIdent classOf turns isBlank
+    areAt breakAt toLineEnd commentClose pastComment separator pastGap with first singleBody doubleBody width columnAfter columnOf stringAt gapTo gapAt
+    gapAndString plusAndString addedStrings moreStrings piecesAt blankToBreak unless trimEnds trimStarts trimmed escape joining unescaped meaning meanings
+    endingAt meant rfcValue oddWhite oneLine legal plain legalIn every found plainAt legalAt
 holds = tt

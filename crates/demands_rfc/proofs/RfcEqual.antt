@@ -15,7 +15,8 @@ use Rattle.text_value.specs.Str.{whole, strAt}
 use Rattle.text_value.specs.Value.{isQuote, added, ends, addedBy, moreAt, joinedWith, joined, Bytes, value, valueAt}
 use Rattle.text_value.proofs.ValueLaws.{more-plain, more-string}
 use Rattle.text_value.proofs.JoinLaws.{join-on, join-stop, value-string}
-use Rattle.demands_rfc.specs.Rfc.{Read, reads, nothing, first, Piece, double, single, gap, pastGap, stringAt, gapTo, gapAt, gapAndString, plusAndString, addedStrings, moreStrings, piecesAt, escape, joining, unescaped, meaning, meanings, endingAt, meant, rfcValue}
+use Rattle.demands_rfc.specs.Rfc.{Read, reads, nothing, first, Piece, double, single, gap, pastGap, stringAt, gapTo, gapAt, gapAndString, plusAndString}
+use Rattle.demands_rfc.specs.Rfc.{addedStrings, moreStrings, piecesAt, escape, joining, unescaped, meaning, meanings, endingAt, meant, rfcValue}
 use Rattle.demands_rfc.specs.RfcDomain.{oddWhite, legal, plain, legalIn, every, found, plainAt, legalAt}
 use Rattle.demands_rfc.proofs.RfcTrim.{trimmed-same}
 use Rattle.demands_rfc.proofs.RfcStrings.{nothing-read, read-is, with-reads, some-is, joining-some, at-escape, at-byte, string-same}
@@ -152,7 +153,8 @@ meant-is : (r : Read (List Piece)) (bs : List ℕ) (end : ℕ) → meant r ≡ r
 unfolding meant endingAt
 meant-is (reads ps e) bs end h = by-meaning (meanings ps) refl h
   where
-    by-meaning : (o : Option (List ℕ)) → meanings ps ≡ o → endingAt e o ≡ reads bs end → (qs : List Piece) × (reads ps e ≡ reads qs end) × (meanings qs ≡ some bs)
+    by-meaning : (o : Option (List ℕ)) → meanings ps ≡ o → endingAt e o ≡ reads bs end
+        → (qs : List Piece) × (reads ps e ≡ reads qs end) × (meanings qs ≡ some bs)
     by-meaning none k h = absurd (nothing-read refl h)
     by-meaning (some cs) k h = let r = read-is cs bs e end refl h in (ps, ap (reads ps) (r .1), k ∙ ap some (r .0))
 meant-is nothing bs end h = absurd (nothing-read refl h)

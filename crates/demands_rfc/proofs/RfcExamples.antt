@@ -8,9 +8,13 @@ use Rattle.text.specs.Class.{classOf}
 use Rattle.text.specs.Keyword.{part}
 use Rattle.text.specs.Scan.{inIdent, inRun, span, runEnd, pairAt, closing, blockEnd, commentEnd, afterWhite, gapTurn, gapEnd}
 use Rattle.text_value.specs.Str.{escaped, escapes, strEnd, strBytes, closedBy, strAt}
-use Rattle.text_value.specs.Value.{isQuote, startsName, addedBy, afterPlus, afterGap, moreAt, addTo, joinTurn, joinedWith, joined, ofString, valueHere, valueAt, value}
+use Rattle.text_value.specs.Value.{isQuote, startsName, addedBy, afterPlus, afterGap, moreAt, addTo, joinTurn, joinedWith, joined, ofString, valueHere, valueAt}
+use Rattle.text_value.specs.Value.{value}
 use Rattle.text.specs.Turns.{turns}
-use Rattle.demands_rfc.specs.Rfc.{reads, nothing, isBlank, areAt, breakAt, toLineEnd, commentClose, pastComment, separator, pastGap, with, first, singleBody, doubleBody, width, columnAfter, columnOf, stringAt, gapTo, gapAt, gapAndString, plusAndString, addedStrings, moreStrings, piecesAt, blankToBreak, unless, trimEnds, trimStarts, trimmed, escape, joining, unescaped, meaning, meanings, endingAt, meant, rfcValue}
+use Rattle.demands_rfc.specs.Rfc.{reads, nothing, isBlank, areAt, breakAt, toLineEnd, commentClose, pastComment, separator, pastGap, with, first}
+use Rattle.demands_rfc.specs.Rfc.{singleBody, doubleBody, width, columnAfter, columnOf, stringAt, gapTo, gapAt, gapAndString, plusAndString, addedStrings}
+use Rattle.demands_rfc.specs.Rfc.{moreStrings, piecesAt, blankToBreak, unless, trimEnds, trimStarts, trimmed, escape, joining, unescaped, meaning}
+use Rattle.demands_rfc.specs.Rfc.{meanings, endingAt, meant, rfcValue}
 use Rattle.demands_rfc.specs.RfcDomain.{oddWhite, oneLine, legal, plain, legalIn, every, found, plainAt, legalAt}
 use Rattle.demands_rfc.proofs.RfcSame.{sameVal, sameRead, agree}
 
@@ -37,7 +41,12 @@ examples =
     -- "a" + 'b'; after a blank
     ∷ record { text = 32 ∷ 34 ∷ 97 ∷ 34 ∷ 32 ∷ 43 ∷ 32 ∷ 39 ∷ 98 ∷ 39 ∷ 59 ∷ []; bytes = 97 ∷ 98 ∷ []; end = 10 }
     -- "a", a line break, +, a comment, a tab, "b", a line comment, +, "c"
-    ∷ record { text = 34 ∷ 97 ∷ 34 ∷ 10 ∷ 43 ∷ 47 ∷ 42 ∷ 120 ∷ 42 ∷ 47 ∷ 9 ∷ 34 ∷ 98 ∷ 34 ∷ 47 ∷ 47 ∷ 99 ∷ 10 ∷ 43 ∷ 32 ∷ 34 ∷ 99 ∷ 34 ∷ 32 ∷ 123 ∷ []; bytes = 97 ∷ 98 ∷ 99 ∷ []; end = 24 }
+    ∷ record {
+      text = 34 ∷ 97 ∷ 34 ∷ 10 ∷ 43 ∷ 47 ∷ 42 ∷ 120 ∷ 42 ∷ 47 ∷ 9 ∷ 34 ∷ 98 ∷ 34 ∷ 47 ∷ 47 ∷ 99 ∷ 10 ∷ 43 ∷ 32 ∷ 34 ∷ 99 ∷ 34 ∷ 32 ∷ 123
+          ∷ [];
+      bytes = 97 ∷ 98 ∷ 99 ∷ [];
+      end = 24;
+    }
     -- "a\n\t\"\\"
     ∷ record { text = 34 ∷ 97 ∷ 92 ∷ 110 ∷ 92 ∷ 116 ∷ 92 ∷ 34 ∷ 92 ∷ 92 ∷ 34 ∷ []; bytes = 97 ∷ 10 ∷ 9 ∷ 34 ∷ 92 ∷ []; end = 11 }
     -- '\n'
@@ -55,7 +64,11 @@ examples =
     ∷ []
 
 holds : T (all examples)
-unfolding examples all right valueAt valueHere ofString joined joinedWith joinTurn addTo moreAt afterGap afterPlus addedBy isQuote startsName strAt closedBy strBytes strEnd escaped escapes part gapEnd gapTurn afterWhite commentEnd blockEnd closing pairAt runEnd span inRun inIdent classOf turns isBlank areAt breakAt toLineEnd commentClose pastComment separator pastGap with first singleBody doubleBody width columnAfter columnOf stringAt gapTo gapAt gapAndString plusAndString addedStrings moreStrings piecesAt blankToBreak unless trimEnds trimStarts trimmed escape joining unescaped meaning meanings endingAt meant rfcValue oddWhite oneLine legal plain legalIn every found plainAt legalAt
+unfolding examples all right valueAt valueHere ofString joined joinedWith joinTurn addTo moreAt afterGap afterPlus addedBy isQuote startsName strAt closedBy
+    strBytes strEnd escaped escapes part gapEnd gapTurn afterWhite commentEnd blockEnd closing pairAt runEnd span inRun inIdent classOf turns isBlank areAt
+    breakAt toLineEnd commentClose pastComment separator pastGap with first singleBody doubleBody width columnAfter columnOf stringAt gapTo gapAt gapAndString
+    plusAndString addedStrings moreStrings piecesAt blankToBreak unless trimEnds trimStarts trimmed escape joining unescaped meaning meanings endingAt meant
+    rfcValue oddWhite oneLine legal plain legalIn every found plainAt legalAt
 holds = tt
 
 -- ---- where neither gives a value
@@ -82,5 +95,9 @@ silences =
     ∷ []
 
 still : T (allSilent silences)
-unfolding silences allSilent silent valueAt valueHere ofString joined joinedWith joinTurn addTo moreAt afterGap afterPlus addedBy isQuote startsName strAt closedBy strBytes strEnd escaped escapes part gapEnd gapTurn afterWhite commentEnd blockEnd closing pairAt runEnd span inRun inIdent classOf turns isBlank areAt breakAt toLineEnd commentClose pastComment separator pastGap with first singleBody doubleBody width columnAfter columnOf stringAt gapTo gapAt gapAndString plusAndString addedStrings moreStrings piecesAt blankToBreak unless trimEnds trimStarts trimmed escape joining unescaped meaning meanings endingAt meant rfcValue
+unfolding silences allSilent silent valueAt valueHere ofString joined joinedWith joinTurn addTo moreAt afterGap afterPlus addedBy isQuote startsName strAt
+    closedBy strBytes strEnd escaped escapes part gapEnd gapTurn afterWhite commentEnd blockEnd closing pairAt runEnd span inRun inIdent classOf turns isBlank
+    areAt breakAt toLineEnd commentClose pastComment separator pastGap with first singleBody doubleBody width columnAfter columnOf stringAt gapTo gapAt
+    gapAndString plusAndString addedStrings moreStrings piecesAt blankToBreak unless trimEnds trimStarts trimmed escape joining unescaped meaning meanings
+    endingAt meant rfcValue
 still = tt

@@ -40,7 +40,8 @@ not-white b h l o =
     let q = neither (eqb b 11) (eqb b 12) (p .0) in
     by-test (leb 9 b)
     (λ x. by-test (leb b 13)
-    (λ y. absurd (among (leb-true 9 b x) (leb-true b 13 y) (eqb-false b 9 (k .1)) (eqb-false b 10 l) (eqb-false b 11 (q .0)) (eqb-false b 12 (q .1)) (eqb-false b 13 (p .1))))
+    (λ y. absurd (among (leb-true 9 b x) (leb-true b 13 y) (eqb-false b 9 (k .1)) (eqb-false b 10 l) (eqb-false b 11 (q .0)) (eqb-false b 12 (q .1))
+    (eqb-false b 13 (p .1))))
     (λ y. simp (x, y, k .0)))
     (λ x. simp (x, k .0))
   where

@@ -7,7 +7,8 @@ use Rattle.text.specs.Class.{classOf}
 use Rattle.text.specs.Keyword.{part}
 use Rattle.text.specs.Scan.{inIdent, inRun, span, runEnd, pairAt, closing, blockEnd, commentEnd, afterWhite, gapTurn, gapEnd}
 use Rattle.text_value.specs.Str.{escaped, escapes, strEnd, strBytes, closedBy, strAt}
-use Rattle.text_value.specs.Value.{isQuote, startsName, addedBy, afterPlus, afterGap, moreAt, addTo, joinTurn, joinedWith, joined, ofString, valueHere, valueAt, value}
+use Rattle.text_value.specs.Value.{isQuote, startsName, addedBy, afterPlus, afterGap, moreAt, addTo, joinTurn, joinedWith, joined, ofString, valueHere, valueAt}
+use Rattle.text_value.specs.Value.{value}
 use Rattle.text.specs.Turns.{turns}
 use Rattle.demands_rfc.specs.Rfc.{reads, isBlank, areAt, breakAt, toLineEnd, commentClose, rfcValue}
 use Rattle.demands_rfc.specs.RfcDomain.{oneLine, legal}
@@ -19,7 +20,9 @@ abbrev text : List ℕ
 text = 34 ∷ 97 ∷ 34 ∷ 32 ∷ 47 ∷ 42 ∷ 99 ∷ 42 ∷ 47 ∷ 10 ∷ 43 ∷ 47 ∷ 47 ∷ 100 ∷ 10 ∷ 39 ∷ 98 ∷ 39 ∷ 59 ∷ []
 
 quoted : Quoted text 0
-unfolding valueAt valueHere ofString joined joinedWith joinTurn addTo moreAt afterGap afterPlus addedBy isQuote startsName strAt closedBy strBytes strEnd escaped escapes part gapEnd gapTurn afterWhite commentEnd blockEnd closing pairAt runEnd span inRun inIdent classOf turns isBlank areAt breakAt toLineEnd commentClose plainWhite oneLine legal
+unfolding valueAt valueHere ofString joined joinedWith joinTurn addTo moreAt afterGap afterPlus addedBy isQuote startsName strAt closedBy strBytes strEnd
+    escaped escapes part gapEnd gapTurn afterWhite commentEnd blockEnd closing pairAt runEnd span inRun inIdent classOf turns isBlank areAt breakAt toLineEnd
+    commentClose plainWhite oneLine legal
 quoted =
     record {
       gap = done refl;
@@ -35,5 +38,6 @@ same : (bs : List ℕ) × (end : ℕ) × (rfcValue text 0 ≡ reads bs end) × (
 same = rfc-equality .same text 0 quoted
 
 read : valueAt text 0 ≡ value (97 ∷ 98 ∷ []) 18
-unfolding valueAt valueHere ofString joined joinedWith joinTurn addTo moreAt afterGap afterPlus addedBy isQuote startsName strAt closedBy strBytes strEnd escaped escapes part gapEnd gapTurn afterWhite commentEnd blockEnd closing pairAt runEnd span inRun inIdent classOf turns
+unfolding valueAt valueHere ofString joined joinedWith joinTurn addTo moreAt afterGap afterPlus addedBy isQuote startsName strAt closedBy strBytes strEnd
+    escaped escapes part gapEnd gapTurn afterWhite commentEnd blockEnd closing pairAt runEnd span inRun inIdent classOf turns
 read = refl

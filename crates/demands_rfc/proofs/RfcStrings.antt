@@ -14,7 +14,8 @@ use Rattle.text.proofs.Here.{by-test}
 use Rattle.text_value.specs.Str.{escaped, escapes, strEnd, strBytes, whole, closedBy, strAt}
 use Rattle.text_value.specs.Value.{isQuote}
 use Rattle.text_value.specs.declared.Close.the-variants.{At}
-use Rattle.demands_rfc.specs.Rfc.{Read, reads, nothing, with, Piece, double, single, singleBody, doubleBody, columnOf, stringAt, escape, joining, unescaped, meaning}
+use Rattle.demands_rfc.specs.Rfc.{Read, reads, nothing, with, Piece, double, single, singleBody, doubleBody, columnOf, stringAt, escape, joining}
+use Rattle.demands_rfc.specs.Rfc.{unescaped, meaning}
 use Rattle.demands_rfc.specs.RfcDomain.{plain}
 use Rattle.demands_rfc.proofs.RfcTrim.{trimmed-same}
 

@@ -5,7 +5,10 @@ use mathlib.Core.List.{List, [], _∷_}
 use Prim.Native.Nat.{ℕ}
 use lib.Dec.{T}
 use Rattle.text.specs.Turns.{turns}
-use Rattle.demands_rfc.specs.Rfc.{reads, isBlank, areAt, breakAt, toLineEnd, commentClose, pastComment, separator, pastGap, with, first, singleBody, doubleBody, width, columnAfter, columnOf, stringAt, gapTo, gapAt, gapAndString, plusAndString, addedStrings, moreStrings, piecesAt, blankToBreak, unless, trimEnds, trimStarts, trimmed, escape, joining, unescaped, meaning, meanings, endingAt, meant, rfcValue}
+use Rattle.demands_rfc.specs.Rfc.{reads, isBlank, areAt, breakAt, toLineEnd, commentClose, pastComment, separator, pastGap, with, first, singleBody}
+use Rattle.demands_rfc.specs.Rfc.{doubleBody, width, columnAfter, columnOf, stringAt, gapTo, gapAt, gapAndString, plusAndString, addedStrings}
+use Rattle.demands_rfc.specs.Rfc.{moreStrings, piecesAt, blankToBreak, unless, trimEnds, trimStarts, trimmed, escape, joining, unescaped, meaning}
+use Rattle.demands_rfc.specs.Rfc.{meanings, endingAt, meant, rfcValue}
 use Rattle.demands_rfc.proofs.RfcSame.{sameRead}
 
 record Example : Type 0 where
@@ -20,7 +23,13 @@ all (x ∷ xs) = sameRead (rfcValue (x .text) 0) (reads (x .bytes) (x .end)) && 
 examples : List Example
 examples =
     -- the RFC's own: two blanks beyond the column of the quote
-    record { text = 32 ∷ 32 ∷ 32 ∷ 32 ∷ 32 ∷ 34 ∷ 102 ∷ 105 ∷ 114 ∷ 115 ∷ 116 ∷ 32 ∷ 108 ∷ 105 ∷ 110 ∷ 101 ∷ 10 ∷ 32 ∷ 32 ∷ 32 ∷ 32 ∷ 32 ∷ 32 ∷ 32 ∷ 32 ∷ 115 ∷ 101 ∷ 99 ∷ 111 ∷ 110 ∷ 100 ∷ 32 ∷ 108 ∷ 105 ∷ 110 ∷ 101 ∷ 34 ∷ []; bytes = 102 ∷ 105 ∷ 114 ∷ 115 ∷ 116 ∷ 32 ∷ 108 ∷ 105 ∷ 110 ∷ 101 ∷ 10 ∷ 32 ∷ 32 ∷ 115 ∷ 101 ∷ 99 ∷ 111 ∷ 110 ∷ 100 ∷ 32 ∷ 108 ∷ 105 ∷ 110 ∷ 101 ∷ []; end = 37 }
+    record {
+      text = 32 ∷ 32 ∷ 32 ∷ 32 ∷ 32 ∷ 34 ∷ 102 ∷ 105 ∷ 114 ∷ 115 ∷ 116 ∷ 32 ∷ 108 ∷ 105 ∷ 110 ∷ 101 ∷ 10 ∷ 32 ∷ 32 ∷ 32 ∷ 32 ∷ 32 ∷ 32 ∷ 32 ∷ 32 ∷ 115
+          ∷ 101 ∷ 99 ∷ 111 ∷ 110 ∷ 100 ∷ 32 ∷ 108 ∷ 105 ∷ 110 ∷ 101 ∷ 34 ∷ [];
+      bytes = 102 ∷ 105 ∷ 114 ∷ 115 ∷ 116 ∷ 32 ∷ 108 ∷ 105 ∷ 110 ∷ 101 ∷ 10 ∷ 32 ∷ 32
+          ∷ 115 ∷ 101 ∷ 99 ∷ 111 ∷ 110 ∷ 100 ∷ 32 ∷ 108 ∷ 105 ∷ 110 ∷ 101 ∷ [];
+      end = 37;
+    }
     -- blanks and tabs before the break
     ∷ record { text = 34 ∷ 97 ∷ 32 ∷ 9 ∷ 10 ∷ 32 ∷ 98 ∷ 34 ∷ []; bytes = 97 ∷ 10 ∷ 98 ∷ []; end = 8 }
     -- one column is taken away
@@ -42,5 +51,7 @@ examples =
     ∷ []
 
 holds : T (all examples)
-unfolding examples all isBlank areAt breakAt toLineEnd commentClose pastComment separator pastGap with first singleBody doubleBody width columnAfter columnOf stringAt gapTo gapAt gapAndString plusAndString addedStrings moreStrings piecesAt blankToBreak unless trimEnds trimStarts trimmed escape joining unescaped meaning meanings endingAt meant rfcValue turns
+unfolding examples all isBlank areAt breakAt toLineEnd commentClose pastComment separator pastGap with first singleBody doubleBody width columnAfter columnOf
+    stringAt gapTo gapAt gapAndString plusAndString addedStrings moreStrings piecesAt blankToBreak unless trimEnds trimStarts trimmed escape joining unescaped
+    meaning meanings endingAt meant rfcValue turns
 holds = tt

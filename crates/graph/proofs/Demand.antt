@@ -2,7 +2,8 @@
 -- longer than one that holds it, so no other list of edges is longer.
 -- Assumes nothing.
 use mathlib.Core.Path.{_≡_, refl, sym, ap, _∙_, subst, subst₂, subst₃}
-use mathlib.Core.List.{List, [], _∷_, _++_, flatMap, List·Memᴰ, List·Memᴰ·head, List·Memᴰ·tail, List·Memᴰ·cases-cons, List·Memᴰ·not-nil, Memᴰ·append-left, Memᴰ·append-right, Memᴰ·cast, Memᴰ·map, List·Nodup, nodup-nil}
+use mathlib.Core.List.{List, [], _∷_, _++_, flatMap, List·Memᴰ, List·Memᴰ·head, List·Memᴰ·tail, List·Memᴰ·cases-cons, List·Memᴰ·not-nil, Memᴰ·append-left}
+use mathlib.Core.List.{Memᴰ·append-right, Memᴰ·cast, Memᴰ·map, List·Nodup, nodup-nil}
 use mathlib.Core.Logic.{_⊎_, inl, inr, ⊎-elim, _↔_}
 use mathlib.Core.Bool.{Bool, true, false, cond}
 use mathlib.Mathlib.Data.List.Nodup.{of-cons, notMem}
@@ -14,12 +15,14 @@ use borrow.Author.Tests.{ltb-true, ltb-false, le-ltb}
 use Rattle.library_image.specs.Library.{Name, PlainLibrary}
 use Rattle.graph.specs.Nodes.{Mode, nodesOf}
 use Rattle.text.specs.Refusal.{noRefusal}
-use Rattle.graph.specs.Graph.{ScanAnswer, Text, tooManyNodes, Edge, edge, Step, arc, stop, Entry, entries, entrySteps, world, graph, fault, walkOf, graphOf}
+use Rattle.graph.specs.Graph.{ScanAnswer, Text, tooManyNodes, Edge, edge, Step, arc, stop, Entry, entries, entrySteps, world, graph, fault, walkOf}
+use Rattle.graph.specs.Graph.{graphOf}
 use Rattle.graph.specs.Numbers.{rowOf}
 use Rattle.graph.specs.Meaning.{Revised, IsEdge, Sound, FirstAt, Cause, names, edges, by-fault}
 use Rattle.graph.specs.Demand3.{allNames, Right, Demand3}
 use Rattle.graph.proofs.Tests.{each-in, each-out}
-use Rattle.graph.proofs.Runs.{Clean, adds, adds-new, adds-only, adds-nodup, Ran, run-ran, ran-run, Over, run-refused, walk-run, run-walk, Stopped, walk-refused}
+use Rattle.graph.proofs.Runs.{Clean, adds, adds-new, adds-only, adds-nodup, Ran, run-ran, ran-run, Over, run-refused, walk-run, run-walk, Stopped}
+use Rattle.graph.proofs.Runs.{walk-refused}
 use Rattle.graph.proofs.Meaning.{trace, arcs-meant, meant-arcs, ends-nodes}
 use Rattle.graph.proofs.Nodes.{nodes-differ, nodes-only, nodes-whole, entry-node}
 use Rattle.graph.proofs.Numbers.{small-rows, rows-differ, row-edge}
@@ -33,14 +36,19 @@ taken : {e : Edge} {ys : List Edge} → List·Memᴰ e ys
     → (zs : List Edge) × (length ys ≡ suc (length zs)) × ((x : Edge) → List·Memᴰ x ys → (x ≡ e) ⊎ List·Memᴰ x zs)
 taken (List·Memᴰ·head {xs = ys} p) = (ys, refl, λ x m. ⊎-elim (λ q. inl (q ∙ sym p)) (λ n. inr n) (List·Memᴰ·cases-cons m))
 taken (List·Memᴰ·tail {x = y} m) =
-    let t = taken m in
-    (y ∷ t .0, ap suc (t .1), λ x n. ⊎-elim (λ q. inr (List·Memᴰ·head q)) (λ o. ⊎-elim (λ p. inl p) (λ k. inr (List·Memᴰ·tail k)) (t .2 x o)) (List·Memᴰ·cases-cons n))
+    let t = taken m in (
+      y ∷ t .0,
+      ap suc (t .1),
+      λ x n. ⊎-elim (λ q. inr (List·Memᴰ·head q)) (λ o. ⊎-elim (λ p. inl p) (λ k. inr (List·Memᴰ·tail k)) (t .2 x o))
+          (List·Memᴰ·cases-cons n),
+    )
 
 no-longer : (xs ys : List Edge) → List·Nodup xs → ((e : Edge) → List·Memᴰ e xs → List·Memᴰ e ys) → length xs ≤ length ys
 no-longer [] ys d f = omega arith
 no-longer (x ∷ xs) ys d f =
     let t = taken (f x (List·Memᴰ·head refl)) in
-    let k : length xs ≤ length (t .0) = no-longer xs (t .0) (of-cons d) (λ e m. ⊎-elim (λ p. absurd (notMem d ∣ Memᴰ·cast (sym p) m ∣₁)) (λ n. n) (t .2 e (f e (List·Memᴰ·tail m)))) in
+    let k : length xs ≤ length (t .0) = no-longer xs (t .0) (of-cons d) (λ e m. ⊎-elim (λ p. absurd (notMem d ∣ Memᴰ·cast (sym p) m ∣₁)) (λ n. n)
+    (t .2 e (f e (List·Memᴰ·tail m)))) in
     let l : length ys ≡ suc (length (t .0)) = t .1 in
     omega arith
 
@@ -144,7 +152,8 @@ module _ (mode : Mode) (nodeLimit edgeLimit : ℕ) (text : Name → Text) (l : P
     asked-before e m =
         let o = adds-only (flatMap ofEntry (r .before)) [] e (subst (λ t. List·Memᴰ e t) (until .all) m) in
         arcs-meant mode text l e
-        (⊎-elim (λ n. absurd (List·Memᴰ·not-nil n)) (λ n. let p = each-out ofEntry (r .before) n in each-in ofEntry (entries-at (p .0) (Memᴰ·append-left (r .at ∷ r .after) (p .1))) (p .2)) o)
+        (⊎-elim (λ n. absurd (List·Memᴰ·not-nil n)) (λ n. let p = each-out ofEntry (r .before) n in each-in ofEntry
+        (entries-at (p .0) (Memᴰ·append-left (r .at ∷ r .after) (p .1))) (p .2)) o)
 
     asked-here : (e : Edge) → List·Memᴰ (arc e) (ofEntry (r .at)) → IsEdge text l (e .from) (e .to)
     asked-here e m = arcs-meant mode text l e (each-in ofEntry (entries-at (r .at) (Memᴰ·append-right (r .before) (List·Memᴰ·head refl))) m)

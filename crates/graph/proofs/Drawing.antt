@@ -5,14 +5,18 @@ use Prim.Native.Nat.{ℕ, zero, suc, _+_, _<_}
 use mathlib.Core.Path.{_≡_, refl, sym, ap, _∙_, subst}
 use mathlib.Core.Logic.{⊎-elim}
 use mathlib.Core.Bool.{Bool, true, false, cond}
-use mathlib.Core.List.{List, [], _∷_, _++_, map, map-append, List·Memᴰ, List·Memᴰ·head, List·Memᴰ·tail, List·Memᴰ·append-cases, List·Memᴰ·eq-of-singleton, List·Memᴰ·not-nil}
+use mathlib.Core.List.{List, [], _∷_, _++_, map, map-append, List·Memᴰ, List·Memᴰ·head, List·Memᴰ·tail, List·Memᴰ·append-cases, List·Memᴰ·eq-of-singleton}
+use mathlib.Core.List.{List·Memᴰ·not-nil}
 use lib.ListN.{length}
 use lib.Dec.{leb}
 use Rattle.library_image.specs.Library.{Name, PlainLibrary}
 use Rattle.graph.specs.Nodes.{Mode, nodesOf}
 use Rattle.text.specs.Refusal.{noRefusal}
-use Rattle.graph.specs.Graph.{Text, missing, refusing, deps, noEntryText, noIncludedText, unknownModule, unknownSubmodule, noNode, tooDeep, tooManyEdges, deepest, Edge, edge, memE, World, Entry, entries, entrySteps, world, Out, built, refused, thenO, addBy, run, fault, onOut, walkFrom, walkOf}
-use Rattle.graph.specs.Numbers.{numberOf, Row, rowOf, addRow, moduleCode, submoduleCode, codesOf, eachO, importCode, givenCode, includeCode, visitCodes, walkCodes, walkEntryCodes, Drawing, drawn, faulty, drawFrom, codesAt, entryCode, drawingIn, drawingOf, numbered}
+use Rattle.graph.specs.Graph.{Text, missing, refusing, deps, noEntryText, noIncludedText, unknownModule, unknownSubmodule, noNode, tooDeep, tooManyEdges}
+use Rattle.graph.specs.Graph.{deepest, Edge, edge, memE, World, Entry, entries, entrySteps, world, Out, built, refused, thenO, addBy, run, fault, onOut}
+use Rattle.graph.specs.Graph.{walkFrom, walkOf}
+use Rattle.graph.specs.Numbers.{numberOf, Row, rowOf, addRow, moduleCode, submoduleCode, codesOf, eachO, importCode, givenCode, includeCode, visitCodes}
+use Rattle.graph.specs.Numbers.{walkCodes, walkEntryCodes, Drawing, drawn, faulty, drawFrom, codesAt, entryCode, drawingIn, drawingOf, numbered}
 use Rattle.graph.specs.Meaning.{Revised}
 use Rattle.graph.proofs.Tests.{memb-mem}
 use Rattle.graph.proofs.Shape.{eachO as eachE, importO, givenO, includeO, visit, walk, entry-shape}
@@ -80,7 +84,8 @@ module _ (ns : List Name) where
     import-same v m u es j = go (W .known u) refl
       where
         go : (b : Bool) → W .known u ≡ b
-            → Same (importCode limit (numberOf ns v) (cond b (suc (numberOf ns u)) 0) (rows es)) (cond b (addBy memE limit es (edge u v)) (refused unknownModule noRefusal))
+            → Same (importCode limit (numberOf ns v) (cond b (suc (numberOf ns u)) 0) (rows es))
+            (cond b (addBy memE limit es (edge u v)) (refused unknownModule noRefusal))
         go true q = add-same limit (edge u v) (known u q, m) es j
         go false q = record { same = refl; fine = tt }
 
@@ -89,7 +94,8 @@ module _ (ns : List Name) where
     given-same v m u es j = go (W .known u) refl
       where
         go : (b : Bool) → W .known u ≡ b
-            → Same (givenCode limit (numberOf ns v) (cond b (suc (numberOf ns u)) 0) (rows es)) (cond b (addBy memE limit es (edge v u)) (refused unknownModule noRefusal))
+            → Same (givenCode limit (numberOf ns v) (cond b (suc (numberOf ns u)) 0) (rows es))
+            (cond b (addBy memE limit es (edge v u)) (refused unknownModule noRefusal))
         go true q = add-same limit (edge v u) (m, known u q) es j
         go false q = record { same = refl; fine = tt }
 
@@ -115,7 +121,8 @@ module _ (ns : List Name) where
     visit-same f g h absent v m missing es j = record { same = refl; fine = tt }
     visit-same f g h absent v m (refusing a) es j = record { same = refl; fine = tt }
     visit-same f g h absent v m (deps xs ys) es j =
-        then-same (eachE (importO W limit v) xs es) (eachO (includeCode limit f (numberOf ns v)) (map (submoduleCode W ns) ys)) (eachE (includeO W limit g v) ys)
+        then-same (eachE (importO W limit v) xs es) (eachO (includeCode limit f (numberOf ns v)) (map (submoduleCode W ns) ys))
+        (eachE (includeO W limit g v) ys)
         (each-same (moduleCode W ns) (importCode limit (numberOf ns v)) (importO W limit v) (import-same v m) xs es j)
         (each-same (submoduleCode W ns) (includeCode limit f (numberOf ns v)) (includeO W limit g v) (include-same f g h v m) ys)
 
@@ -126,16 +133,20 @@ module _ (ns : List Name) where
     walk-same : (left absent : ℕ) → Below (walkCodes (codesAt W ns) limit left absent) (walk W limit left absent)
     unfolding walkCodes walk
     walk-same zero absent v m es j =
-        rw (under-name v m) (visit-same (λ u rs. refused tooDeep noRefusal) (λ u es₁. refused tooDeep noRefusal) (λ u k es₁ i. record { same = refl; fine = tt }) absent v m (W .text v) es j)
+        rw (under-name v m) (visit-same (λ u rs. refused tooDeep noRefusal) (λ u es₁. refused tooDeep noRefusal)
+        (λ u k es₁ i. record { same = refl; fine = tt }) absent v m (W .text v) es j)
     walk-same (suc left) absent v m es j =
-        rw (under-name v m) (visit-same (walkCodes (codesAt W ns) limit left noIncludedText) (walk W limit left noIncludedText) (walk-same left noIncludedText) absent v m (W .text v) es j)
+        rw (under-name v m) (visit-same (walkCodes (codesAt W ns) limit left noIncludedText) (walk W limit left noIncludedText)
+        (walk-same left noIncludedText) absent v m (W .text v) es j)
 
     entry-same : (e : Entry) → List·Memᴰ (e .name) ns → (es : List Edge) → Joined es
         → Same (walkEntryCodes (codesAt W ns) limit (numberOf ns (e .name)) (map (moduleCode W ns) (e .lists)) (rows es)) (run limit es (entrySteps W e))
     unfolding walkEntryCodes
     entry-same e m es j =
-        subst (λ o. Same (walkEntryCodes (codesAt W ns) limit (numberOf ns (e .name)) (map (moduleCode W ns) (e .lists)) (rows es)) o) (entry-shape W limit e es)
-        (then-same (walk W limit deepest noEntryText (e .name) es) (eachO (givenCode limit (numberOf ns (e .name))) (map (moduleCode W ns) (e .lists))) (eachE (givenO W limit (e .name)) (e .lists))
+        subst (λ o. Same (walkEntryCodes (codesAt W ns) limit (numberOf ns (e .name)) (map (moduleCode W ns) (e .lists)) (rows es)) o)
+        (entry-shape W limit e es)
+        (then-same (walk W limit deepest noEntryText (e .name) es) (eachO (givenCode limit (numberOf ns (e .name))) (map (moduleCode W ns) (e .lists)))
+        (eachE (givenO W limit (e .name)) (e .lists))
         (walk-same deepest noEntryText (e .name) m es j)
         (each-same (moduleCode W ns) (givenCode limit (numberOf ns (e .name))) (givenO W limit (e .name)) (given-same (e .name) m) (e .lists)))
 
@@ -149,9 +160,11 @@ module _ (ns : List Name) where
         go (run limit es (entrySteps W e)) (entry-same e (h e (List·Memᴰ·head refl)) es j) (draw-same l (λ x m. h x (List·Memᴰ·tail m)) (k + 1))
       where
         go : {r : Out Row} (o : Out Edge) → Same r o
-            → ((es₁ : List Edge) → Joined es₁ → (drawFrom (codesAt W ns) limit (k + 1) (rows es₁) (map (entryCode W ns) l) ≡ numbered (walkFrom limit ns (k + 1) es₁ (map (entrySteps W) l)))
+            → ((es₁ : List Edge) → Joined es₁ → (drawFrom (codesAt W ns) limit (k + 1) (rows es₁) (map (entryCode W ns) l)
+            ≡ numbered (walkFrom limit ns (k + 1) es₁ (map (entrySteps W) l)))
             × Sized (drawFrom (codesAt W ns) limit (k + 1) (rows es₁) (map (entryCode W ns) l)))
-            → (onOut r (λ rs₁. drawFrom (codesAt W ns) limit (k + 1) rs₁ (map (entryCode W ns) l)) (λ n a. faulty n k a) ≡ numbered (onOut o (λ es₁. walkFrom limit ns (k + 1) es₁ (map (entrySteps W) l)) (λ n a. fault n k a)))
+            → (onOut r (λ rs₁. drawFrom (codesAt W ns) limit (k + 1) rs₁ (map (entryCode W ns) l)) (λ n a. faulty n k a)
+            ≡ numbered (onOut o (λ es₁. walkFrom limit ns (k + 1) es₁ (map (entrySteps W) l)) (λ n a. fault n k a)))
             × Sized (onOut r (λ rs₁. drawFrom (codesAt W ns) limit (k + 1) rs₁ (map (entryCode W ns) l)) (λ n a. faulty n k a))
         go (built es₁) s ih = rw (s .same) (ih es₁ (s .fine))
         go (refused n a) s ih = rw (s .same) (refl, tt)

@@ -1,7 +1,8 @@
 -- The refusals among the steps of an entry are exactly its faults, each number for itself, whether or not something before it is refused.
 -- Assumes nothing.
 use mathlib.Core.Path.{_≡_, refl, sym, subst, subst₂}
-use mathlib.Core.List.{List, [], _∷_, flatMap, List·Memᴰ, List·Memᴰ·head, List·Memᴰ·tail, List·Memᴰ·cases-cons, List·Memᴰ·append-cases, List·Memᴰ·eq-of-singleton, List·Memᴰ·not-nil, Memᴰ·append-left, Memᴰ·append-right}
+use mathlib.Core.List.{List, [], _∷_, flatMap, List·Memᴰ, List·Memᴰ·head, List·Memᴰ·tail, List·Memᴰ·cases-cons, List·Memᴰ·append-cases}
+use mathlib.Core.List.{List·Memᴰ·eq-of-singleton, List·Memᴰ·not-nil, Memᴰ·append-left, Memᴰ·append-right}
 use mathlib.Core.Logic.{⊎-elim}
 use mathlib.Core.Bool.{Bool, true, false, cond}
 use Prim.Native.Nat.{ℕ, zero, suc}
@@ -9,8 +10,11 @@ use native.Mathlib.Omega.{arith}
 use Rattle.library_image.specs.Library.{Name, PlainLibrary}
 use Rattle.graph.specs.Nodes.{Mode, nodesOf, memb}
 use Rattle.text.specs.Refusal.{noRefusal}
-use Rattle.graph.specs.Graph.{ScanAnswer, Text, missing, refusing, deps, noEntryText, noIncludedText, unknownModule, unknownSubmodule, noNode, tooDeep, deepest, Edge, edge, Step, arc, stop, halt, World, imported, given, included, reading, textSteps, Entry, entrySteps, entryNames, submoduleNames, world}
-use Rattle.graph.specs.Meaning.{Follows, ReadAt, entry, included as included-by, Fault, entry-missing, include-missing, scan-refused, import-unknown, listed-unknown, include-unknown, include-no-node, too-deep}
+use Rattle.graph.specs.Graph.{ScanAnswer, Text, missing, refusing, deps, noEntryText, noIncludedText, unknownModule, unknownSubmodule, noNode, tooDeep}
+use Rattle.graph.specs.Graph.{deepest, Edge, edge, Step, arc, stop, halt, World, imported, given, included, reading, textSteps, Entry, entrySteps}
+use Rattle.graph.specs.Graph.{entryNames, submoduleNames, world}
+use Rattle.graph.specs.Meaning.{Follows, ReadAt, entry, included as included-by, Fault, entry-missing, include-missing, scan-refused, import-unknown}
+use Rattle.graph.specs.Meaning.{listed-unknown, include-unknown, include-no-node, too-deep}
 use Rattle.graph.proofs.Tests.{both-bools, memb-mem, mem-memb, each-in, each-out}
 use Rattle.graph.proofs.Meaning.{belowOf, In, Held, text-in, import-in, include-in}
 
@@ -59,7 +63,12 @@ module _ (mode : Mode) (text : Name → Text) (l : PlainLibrary) (x : Entry) whe
         include : (u : Name) → List·Memᴰ u ys → (b c : Bool) → W .listed u ≡ b → W .node u ≡ c
             → List·Memᴰ (stop n a) (cond b (cond c (arc (edge u v) ∷ below u) (halt noNode)) (halt unknownSubmodule)) → Fault mode text l x n a
         include u k true true e d m =
-            ih u (record { includes = record { imports = xs; includes = ys; scan = q; one = k }; listed = memb-mem u (submoduleNames l) e; node = memb-mem u (nodesOf mode l) d }) (no-stop m)
+            ih u (record {
+              includes = record { imports = xs; includes = ys; scan = q; one = k };
+              listed = memb-mem u (submoduleNames l) e;
+              node = memb-mem u
+                  (nodesOf mode l) d;
+            }) (no-stop m)
         include u k true false e d m =
             fault m (include-no-node r (record { imports = xs; includes = ys; scan = q; one = k }) (memb-mem u (submoduleNames l) e) (out d))
         include u k false c e d m = fault m (include-unknown r (record { imports = xs; includes = ys; scan = q; one = k }) (out e))
@@ -69,7 +78,8 @@ module _ (mode : Mode) (text : Name → Text) (l : PlainLibrary) (x : Entry) whe
     unfolding textSteps
     text-fault zero absent v r f m = read-fault (λ u. halt tooDeep) zero absent v r f (λ u i m. fault m (too-deep r i)) (text v) refl m
     text-fault (suc left) absent v r f m =
-        read-fault (textSteps W left noIncludedText) (suc left) absent v r f (λ u i m. text-fault left noIncludedText u (included-by r i) (λ q. include-missing r i q) m) (text v) refl m
+        read-fault (textSteps W left noIncludedText) (suc left) absent v r f
+        (λ u i m. text-fault left noIncludedText u (included-by r i) (λ q. include-missing r i q) m) (text v) refl m
 
     given-fault : (u : Name) → List·Memᴰ u (x .lists) → (b : Bool) → W .known u ≡ b
         → List·Memᴰ (stop n a) (cond b (arc (edge (x .name) u) ∷ []) (halt unknownModule)) → Fault mode text l x n a
@@ -90,7 +100,8 @@ module _ (mode : Mode) (text : Name → Text) (l : PlainLibrary) (x : Entry) whe
   -- an include that is listed and a node: its text is due
   down : {left : ℕ} {v u : Name} → Held mode text l steps left v → Follows mode text l v u → In steps (belowOf W left u)
   down {left} {v} {u} h i t m =
-      pick (arc (edge u v) ∷ belowOf W left u) (halt noNode) (mem-memb (i .node)) (pick _ (halt unknownSubmodule) (mem-memb (i .listed)) (include-in mode text l h (i .includes))) t (List·Memᴰ·tail m)
+      pick (arc (edge u v) ∷ belowOf W left u) (halt noNode) (mem-memb (i .node))
+      (pick _ (halt unknownSubmodule) (mem-memb (i .listed)) (include-in mode text l h (i .includes))) t (List·Memᴰ·tail m)
 
   entry-in : In steps (textSteps W deepest noEntryText (x .name))
   entry-in s m = Memᴰ·append-left _ m
@@ -111,9 +122,11 @@ module _ (mode : Mode) (text : Name → Text) (l : PlainLibrary) (x : Entry) whe
   fault-stop (import-unknown {v = v} {u = u} r i f) =
       first (pick (arc (edge u v) ∷ []) (halt unknownModule) (not-memb u (entryNames l) f) (import-in mode text l (held r) i))
   fault-stop (listed-unknown {u = u} k f) =
-      first (pick (arc (edge (x .name) u) ∷ []) (halt unknownModule) (not-memb u (entryNames l) f) (λ s m. Memᴰ·append-right (textSteps W deepest noEntryText (x .name)) (each-in (given W (x .name)) k m)))
+      first (pick (arc (edge (x .name) u) ∷ []) (halt unknownModule) (not-memb u (entryNames l) f)
+      (λ s m. Memᴰ·append-right (textSteps W deepest noEntryText (x .name)) (each-in (given W (x .name)) k m)))
   fault-stop (include-unknown {left = left} {v = v} {u = u} r i f) =
       first (pick _ (halt unknownSubmodule) (not-memb u (submoduleNames l) f) (include-in mode text l (held r) i))
   fault-stop (include-no-node {left = left} {v = v} {u = u} r i s f) =
-      first (pick (arc (edge u v) ∷ belowOf W left u) (halt noNode) (not-memb u (nodesOf mode l) f) (pick _ (halt unknownSubmodule) (mem-memb s) (include-in mode text l (held r) i)))
+      first (pick (arc (edge u v) ∷ belowOf W left u) (halt noNode) (not-memb u (nodesOf mode l) f)
+      (pick _ (halt unknownSubmodule) (mem-memb s) (include-in mode text l (held r) i)))
   fault-stop (too-deep r i) = first (down (held r) i)

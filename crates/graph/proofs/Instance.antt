@@ -58,10 +58,12 @@ permuted = record { modules = Perm·refl (m ∷ []); importOnly = Perm·refl (b 
 agree : Agree (graphOf passOver 1024 8192 text one-set) (graphOf passOver 1024 8192 text two-sets)
 agree = demand3 passOver 1024 8192 text .permuted one-set two-sets permuted once
 
-first : graphOf passOver 1024 8192 text one-set ≡ graph ((109 ∷ []) ∷ (115 ∷ []) ∷ (98 ∷ []) ∷ (116 ∷ []) ∷ []) (edge (98 ∷ []) (109 ∷ []) ∷ edge (115 ∷ []) (109 ∷ []) ∷ edge (109 ∷ []) (98 ∷ []) ∷ [])
+first : graphOf passOver 1024 8192 text one-set ≡ graph ((109 ∷ []) ∷ (115 ∷ []) ∷ (98 ∷ []) ∷ (116 ∷ []) ∷ [])
+    (edge (98 ∷ []) (109 ∷ []) ∷ edge (115 ∷ []) (109 ∷ []) ∷ edge (109 ∷ []) (98 ∷ []) ∷ [])
 unfolding text flatMap modulesOf importOnlyOf submodulesOf same among addAll addGroups nodesBy textSteps memE addBy run walkFrom graphOf
 first = refl
 
-second : graphOf passOver 1024 8192 text two-sets ≡ graph ((98 ∷ []) ∷ (116 ∷ []) ∷ (109 ∷ []) ∷ (115 ∷ []) ∷ []) (edge (98 ∷ []) (109 ∷ []) ∷ edge (115 ∷ []) (109 ∷ []) ∷ edge (109 ∷ []) (98 ∷ []) ∷ [])
+second : graphOf passOver 1024 8192 text two-sets ≡ graph ((98 ∷ []) ∷ (116 ∷ []) ∷ (109 ∷ []) ∷ (115 ∷ []) ∷ [])
+    (edge (98 ∷ []) (109 ∷ []) ∷ edge (115 ∷ []) (109 ∷ []) ∷ edge (109 ∷ []) (98 ∷ []) ∷ [])
 unfolding text flatMap modulesOf importOnlyOf submodulesOf same among addAll addGroups nodesBy textSteps memE addBy run walkFrom graphOf
 second = refl

@@ -2,7 +2,8 @@
 -- is meant is asked for by recursion on how its text comes to be read.
 -- Assumes nothing.
 use mathlib.Core.Path.{_≡_, refl, sym, ap, _∙_, subst}
-use mathlib.Core.List.{List, [], _∷_, _++_, flatMap, List·Memᴰ, List·Memᴰ·head, List·Memᴰ·tail, List·Memᴰ·cases-cons, List·Memᴰ·append-cases, List·Memᴰ·eq-of-singleton, List·Memᴰ·not-nil, Memᴰ·append-left, Memᴰ·append-right, Memᴰ·cast, Memᴰ·map}
+use mathlib.Core.List.{List, [], _∷_, _++_, flatMap, List·Memᴰ, List·Memᴰ·head, List·Memᴰ·tail, List·Memᴰ·cases-cons, List·Memᴰ·append-cases}
+use mathlib.Core.List.{List·Memᴰ·eq-of-singleton, List·Memᴰ·not-nil, Memᴰ·append-left, Memᴰ·append-right, Memᴰ·cast, Memᴰ·map}
 use mathlib.Core.Logic.{_⊎_, ⊎-elim}
 use mathlib.Core.Bool.{Bool, true, false, cond}
 use Prim.Native.Nat.{ℕ, zero, suc}
@@ -10,7 +11,9 @@ use native.Mathlib.Omega.{arith}
 use Rattle.library_image.specs.Library.{Name, PlainModule, PlainLibrary, modulesOf}
 use Rattle.graph.specs.Nodes.{Mode, nodesOf}
 use Rattle.text.specs.Refusal.{noRefusal}
-use Rattle.graph.specs.Graph.{ScanAnswer, Text, missing, refusing, deps, noEntryText, noIncludedText, unknownModule, unknownSubmodule, noNode, tooDeep, deepest, Edge, edge, Step, arc, stop, halt, World, imported, given, included, reading, textSteps, Entry, entries, entrySteps, entryNames, world}
+use Rattle.graph.specs.Graph.{ScanAnswer, Text, missing, refusing, deps, noEntryText, noIncludedText, unknownModule, unknownSubmodule, noNode, tooDeep}
+use Rattle.graph.specs.Graph.{deepest, Edge, edge, Step, arc, stop, halt, World, imported, given, included, reading, textSteps, Entry, entries}
+use Rattle.graph.specs.Graph.{entrySteps, entryNames, world}
 use Rattle.graph.specs.Meaning.{Imports, Includes, Reads, entry, included as included-by, IsEdge, imports, includes, augments, deviates}
 use Rattle.graph.proofs.Tests.{memb-mem, each-in, each-out}
 use Rattle.graph.proofs.Runs.{Clean}
@@ -87,7 +90,8 @@ module _ (mode : Mode) (text : Name → Text) (l : PlainLibrary) where
       go (from-import i j q) u k true n = absurd (List·Memᴰ·not-nil (subst (λ (y : Entry). List·Memᴰ u (y .lists)) (sym q) k))
       go (from-module m j q) u k true n =
           let name : x .name ≡ m .name = ap (λ (y : Entry). y .name) (sym q) in
-          is (one-arc n) (⊎-elim (λ o. augments m j name o) (λ o. deviates m j name o) (List·Memᴰ·append-cases (m .augmenting) (subst (λ (y : Entry). List·Memᴰ u (y .lists)) (sym q) k)))
+          is (one-arc n) (⊎-elim (λ o. augments m j name o) (λ o. deviates m j name o)
+          (List·Memᴰ·append-cases (m .augmenting) (subst (λ (y : Entry). List·Memᴰ u (y .lists)) (sym q) k)))
 
   pub arcs-meant : (e : Edge) → List·Memᴰ (arc e) trace → IsEdge text l (e .from) (e .to)
   arcs-meant e m = let p = each-out (entrySteps W) (entries l) m in let c = came l (p .1) in
@@ -111,7 +115,8 @@ module _ (mode : Mode) (text : Name → Text) (l : PlainLibrary) where
 
   pub include-in : {t : List Step} {left : ℕ} {v u : Name} → Held t left v → Includes text v u → In t (included W (belowOf W left) v u)
   include-in {t} {left} {v} h i s m =
-      text-in t left (h .absent) v (h .steps) _ (i .scan) s (Memᴰ·append-right (flatMap (imported W v) (i .imports)) (each-in (included W (belowOf W left) v) (i .one) m))
+      text-in t left (h .absent) v (h .steps) _ (i .scan) s (Memᴰ·append-right (flatMap (imported W v) (i .imports))
+      (each-in (included W (belowOf W left) v) (i .one) m))
 
   entry-in : {v : Name} → List·Memᴰ v (entryNames l) → In trace (textSteps W deepest noEntryText v)
   entry-in {v} k s m =

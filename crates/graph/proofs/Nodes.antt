@@ -2,7 +2,9 @@
 -- it is not there, a group is passed over only if its head is there, and nothing is taken away.
 -- Assumes nothing.
 use mathlib.Core.Path.{_≡_, refl, sym, ap, subst}
-use mathlib.Core.List.{List, [], _∷_, _++_, map, flatMap, List·Memᴰ, List·Memᴰ·head, List·Memᴰ·tail, List·Memᴰ·cases-cons, List·Memᴰ·append-cases, List·Memᴰ·eq-of-singleton, List·Memᴰ·not-nil, Memᴰ·append-left, Memᴰ·append-right, Memᴰ·cast, Memᴰ·map, Memᴰ·of-map, List·Nodup, nodup-nil, concat-eq-append}
+use mathlib.Core.List.{List, [], _∷_, _++_, map, flatMap, List·Memᴰ, List·Memᴰ·head, List·Memᴰ·tail, List·Memᴰ·cases-cons, List·Memᴰ·append-cases}
+use mathlib.Core.List.{List·Memᴰ·eq-of-singleton, List·Memᴰ·not-nil, Memᴰ·append-left, Memᴰ·append-right, Memᴰ·cast, Memᴰ·map, Memᴰ·of-map, List·Nodup}
+use mathlib.Core.List.{nodup-nil, concat-eq-append}
 use mathlib.Core.Logic.{_⊎_, inl, inr, ⊎-elim, ∥∥₁-elim}
 use mathlib.Core.HLevel.{⊥-prop}
 use mathlib.Core.Bool.{Bool, true, false, cond}
@@ -250,4 +252,5 @@ entry-node mode l revised v m = ⊎-elim of-module of-import (List·Memᴰ·appe
 
     of-import : List·Memᴰ v (map (λ (i : PlainImportOnly). i .name) (importOnlyOf l)) → List·Memᴰ v (nodesOf mode l)
     of-import n = let q = Memᴰ·of-map (λ (i : PlainImportOnly). i .name) (importOnlyOf l) n in let r = revised (q .0) (q .1) in
-        Memᴰ·cast (sym (q .2)) (groups-head mode (groups l) [] _ (import-group l (q .1) (Memᴰ·map (λ (subs : List Name). record { head = q .0 .name; subs = subs }) (r .1))))
+        Memᴰ·cast (sym (q .2)) (groups-head mode (groups l) [] _ (import-group l (q .1)
+        (Memᴰ·map (λ (subs : List Name). record { head = q .0 .name; subs = subs }) (r .1))))

@@ -2,7 +2,9 @@
 -- all groups are then the same but for their order.
 -- Assumes nothing.
 use mathlib.Core.Path.{_≡_, refl, subst}
-use mathlib.Core.List.{List, [], _∷_, _++_, map, map-append, flatMap, flatten, Perm, Perm·refl, Perm·symm, Perm·trans, Perm·append, Perm·append-left, Perm·append-right, Perm·mem-iff, Perm·nodup, Perm·map, perm-append-comm, append-assoc, List·Permᴰ, List·Permᴰ·nil, List·Permᴰ·cons, List·Permᴰ·swap, List·Permᴰ·trans}
+use mathlib.Core.List.{List, [], _∷_, _++_, map, map-append, flatMap, flatten, Perm, Perm·refl, Perm·symm, Perm·trans, Perm·append, Perm·append-left}
+use mathlib.Core.List.{Perm·append-right, Perm·mem-iff, Perm·nodup, Perm·map, perm-append-comm, append-assoc, List·Permᴰ, List·Permᴰ·nil, List·Permᴰ·cons}
+use mathlib.Core.List.{List·Permᴰ·swap, List·Permᴰ·trans}
 use mathlib.Core.Logic.{∥∥₁-map, ∥∥₁-elim, ∥∥₁-prop}
 use mathlib.Core.HLevel.{⊥-prop}
 use Prim.Native.Nat.{ℕ}
@@ -23,8 +25,10 @@ module _ {A B : Type 0} (f : A → List B) where
   flat-permᴰ (List·Permᴰ·cons {a = a} {b = b} {l₁ = s} {l₂ = t} e d) =
       subst (λ x. Perm (f a ++ flatMap f s) (f x ++ flatMap f t)) e (Perm·append-left (f a) (flat-permᴰ d))
   flat-permᴰ (List·Permᴰ·swap {a = a} {b = b} {a′ = c} {b′ = d} {l = l} p q) =
-      subst (λ x. Perm (f a ++ (f b ++ flatMap f l)) (f x ++ (f d ++ flatMap f l))) q (subst (λ y. Perm (f a ++ (f b ++ flatMap f l)) (f b ++ (f y ++ flatMap f l))) p
-      (rw (← append-assoc (f a) (f b) (flatMap f l), ← append-assoc (f b) (f a) (flatMap f l)) (Perm·append-right (flatMap f l) (perm-append-comm (f a) (f b)))))
+      subst (λ x. Perm (f a ++ (f b ++ flatMap f l)) (f x ++ (f d ++ flatMap f l))) q
+      (subst (λ y. Perm (f a ++ (f b ++ flatMap f l)) (f b ++ (f y ++ flatMap f l))) p
+      (rw (← append-assoc (f a) (f b) (flatMap f l), ← append-assoc (f b) (f a) (flatMap f l))
+      (Perm·append-right (flatMap f l) (perm-append-comm (f a) (f b)))))
   flat-permᴰ (List·Permᴰ·trans d e) = Perm·trans (flat-permᴰ d) (flat-permᴰ e)
 
   flat-perm : {s t : List A} → Perm s t → Perm (flatMap f s) (flatMap f t)
@@ -42,7 +46,8 @@ groups-apart : (l : PlainLibrary) → Perm (groups l) (map moduleGroup (modulesO
 unfolding flatMap modulesOf importOnlyOf
 groups-apart [] = Perm·refl []
 groups-apart (s ∷ l) = rw (map-append moduleGroup (s .modules) (modulesOf l), flatMap-append revisionGroups (s .importOnly) (importOnlyOf l))
-    (Perm·trans (Perm·append-left (setGroups s) (groups-apart l)) (middle (map moduleGroup (s .modules)) (flatMap revisionGroups (s .importOnly)) (map moduleGroup (modulesOf l)) (flatMap revisionGroups (importOnlyOf l))))
+    (Perm·trans (Perm·append-left (setGroups s) (groups-apart l)) (middle (map moduleGroup (s .modules)) (flatMap revisionGroups (s .importOnly))
+    (map moduleGroup (modulesOf l)) (flatMap revisionGroups (importOnlyOf l))))
 
 -- ---- the same modules and import-only modules
 
@@ -54,7 +59,12 @@ groups-perm {l} {l₁} p =
 within : {l l₁ : PlainLibrary} → Permuted l l₁ → Within l l₁
 within p = record {
   modules =
-      λ m k. ∥∥₁-map (Perm·mem-iff (p .modules) .0 ∣ k ∣₁) (λ j. (m, j, record { name = refl; submodules = Perm·refl (m .submodules); augmenting = Perm·refl (m .augmenting); deviations = Perm·refl (m .deviations) }));
+      λ m k. ∥∥₁-map (Perm·mem-iff (p .modules) .0 ∣ k ∣₁) (λ j. (
+        m,
+        j,
+        record
+            { name = refl; submodules = Perm·refl (m .submodules); augmenting = Perm·refl (m .augmenting); deviations = Perm·refl (m .deviations) },
+      ));
   importOnly = λ i k. ∥∥₁-map (Perm·mem-iff (p .importOnly) .0 ∣ k ∣₁) (λ j. (i, j, record { name = refl; submodules = Perm·refl (flatten (i .revisions)) }));
 }
 

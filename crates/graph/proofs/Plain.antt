@@ -5,7 +5,8 @@ use mathlib.Core.Bool.{_||_}
 use mathlib.Core.List.{List, [], _∷_, _++_, map, map-append, flatMap}
 use Rattle.text.specs.Keyword.{same}
 use Rattle.library_form.specs.Form.{PlacedName}
-use Rattle.library_image.specs.Library.{Name, Module, ImportOnly, PlainModule, PlainImportOnly, Library, plainName, plainModule, plainImportOnly, plain, modulesOf, importOnlyOf, submodulesOf}
+use Rattle.library_image.specs.Library.{Name, Module, ImportOnly, PlainModule, PlainImportOnly, Library, plainName, plainModule, plainImportOnly, plain}
+use Rattle.library_image.specs.Library.{modulesOf, importOnlyOf, submodulesOf}
 use Rattle.library_index.specs.Names.{among}
 use Rattle.library_index.proofs.First.{among-append, among-map}
 use Rattle.graph.specs.Nodes.{itself, memb}
@@ -39,12 +40,14 @@ among-of : {A B : Type 0} (name : B → Name) (f : A → B) (u : Name) (l : List
 among-of name f u l = among-map itself name u (map f l) ∙ among-map name f u l
 
 pub known-words : (u : Name) (l : Library)
-    → memb u (entryNames (plain l)) ≡ (among (λ (m : Module). plainName (m .name)) u (modulesOf l) || among (λ (i : ImportOnly). plainName (i .name)) u (importOnlyOf l))
+    → memb u (entryNames (plain l)) ≡ (among (λ (m : Module). plainName (m .name)) u (modulesOf l)
+    || among (λ (i : ImportOnly). plainName (i .name)) u (importOnlyOf l))
 known-words u l =
     among-append itself u (map (λ (m : PlainModule). m .name) (modulesOf (plain l))) (map (λ (i : PlainImportOnly). i .name) (importOnlyOf (plain l)))
     ∙ ap₂ _||_
     (ap (λ t. memb u (map (λ (m : PlainModule). m .name) t)) (plain-modules l) ∙ among-of (λ (m : PlainModule). m .name) plainModule u (modulesOf l))
-    (ap (λ t. memb u (map (λ (i : PlainImportOnly). i .name) t)) (plain-importOnly l) ∙ among-of (λ (i : PlainImportOnly). i .name) plainImportOnly u (importOnlyOf l))
+    (ap (λ t. memb u (map (λ (i : PlainImportOnly). i .name) t)) (plain-importOnly l)
+    ∙ among-of (λ (i : PlainImportOnly). i .name) plainImportOnly u (importOnlyOf l))
 
 pub listed-words : (u : Name) (l : Library) → memb u (submoduleNames (plain l)) ≡ among plainName u (submodulesOf (modulesOf l))
 listed-words u l = ap (memb u) (plain-submodules l) ∙ sym (among-names u (submodulesOf (modulesOf l)))
@@ -70,6 +73,7 @@ unfolding flatMap
 plain-entries [] = refl
 plain-entries (s ∷ l) =
     ap₂ _++_
-    (ap₂ _++_ (module-entries (s .modules)) (import-entries (s .importOnly)) ∙ sym (map-append plainEntry (map moduleEntry (s .modules)) (map importEntry (s .importOnly))))
+    (ap₂ _++_ (module-entries (s .modules)) (import-entries (s .importOnly))
+    ∙ sym (map-append plainEntry (map moduleEntry (s .modules)) (map importEntry (s .importOnly))))
     (plain-entries l)
     ∙ sym (map-append plainEntry (setEntries s) (entries l))

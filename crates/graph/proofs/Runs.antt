@@ -2,7 +2,8 @@
 -- by recursion on the steps, since an edge that is present is not added again.
 -- Assumes nothing.
 use mathlib.Core.Path.{_≡_, refl, sym, ap, _∙_, subst}
-use mathlib.Core.List.{List, [], _∷_, _++_, map, flatMap, List·Memᴰ, List·Memᴰ·head, List·Memᴰ·tail, List·Memᴰ·cases-cons, List·Memᴰ·append-cases, List·Memᴰ·eq-of-singleton, List·Memᴰ·not-nil, Memᴰ·append-left, Memᴰ·append-right, List·Nodup, concat-eq-append}
+use mathlib.Core.List.{List, [], _∷_, _++_, map, flatMap, List·Memᴰ, List·Memᴰ·head, List·Memᴰ·tail, List·Memᴰ·cases-cons, List·Memᴰ·append-cases}
+use mathlib.Core.List.{List·Memᴰ·eq-of-singleton, List·Memᴰ·not-nil, Memᴰ·append-left, Memᴰ·append-right, List·Nodup, concat-eq-append}
 use mathlib.Core.Logic.{_⊎_, inl, inr, ⊎-elim, ∥∥₁-elim}
 use mathlib.Core.HLevel.{⊥-prop}
 use mathlib.Core.Bool.{Bool, true, false, cond}
@@ -14,7 +15,8 @@ use lib.Dec.{leb}
 use borrow.Author.Tests.{leb-true, leb-false}
 use Rattle.library_image.specs.Library.{Name}
 use Rattle.text.specs.Refusal.{noRefusal}
-use Rattle.graph.specs.Graph.{ScanAnswer, Edge, memE, Step, arc, stop, tooManyEdges, Out, built, refused, thenO, addBy, step, run, graph, fault, onOut, walkFrom}
+use Rattle.graph.specs.Graph.{ScanAnswer, Edge, memE, Step, arc, stop, tooManyEdges, Out, built, refused, thenO, addBy, step, run, graph, fault, onOut}
+use Rattle.graph.specs.Graph.{walkFrom}
 use Rattle.graph.proofs.Tests.{both-bools, memE-mem, mem-memE}
 
 -- no step refuses
@@ -140,7 +142,8 @@ ran-run limit (arc e ∷ t) es c k = go (memE e es) (leb limit (length es)) refl
   where
     go : (b d : Bool) → leb limit (length es) ≡ d → ((es₂ : List Edge) → length (adds es₂ t) ≤ limit → run limit es₂ t ≡ built (adds es₂ t))
         → length (adds (cond b es (es ++ (e ∷ []))) t) ≤ limit
-        → thenO (cond b (built es) (cond d (refused tooManyEdges noRefusal) (built (es ++ (e ∷ []))))) (λ es₂. run limit es₂ t) ≡ built (adds (cond b es (es ++ (e ∷ []))) t)
+        → thenO (cond b (built es) (cond d (refused tooManyEdges noRefusal) (built (es ++ (e ∷ []))))) (λ es₂. run limit es₂ t)
+        ≡ built (adds (cond b es (es ++ (e ∷ []))) t)
     go true d q ih k = ih es k
     go false true q ih k = absurd (omega (arith, leb-true limit (length es) q, length-append es (e ∷ []), adds-grow t (es ++ (e ∷ []))))
     go false false q ih k = ih (es ++ (e ∷ [])) k
@@ -167,7 +170,15 @@ run-refused limit (arc e ∷ t) es n a d h = go (memE e es) (leb limit (length e
     later es₁ f (inl m) = inl (List·Memᴰ·tail m)
     later es₁ f (inr o) =
         inr
-        (record { number = o .number; answer = o .answer; edges = o .edges; differ = o .differ; many = o .many; asked = λ x m. ⊎-elim (λ k. ⊎-elim (λ j. inl j) (λ p. inr (List·Memᴰ·head (ap arc p))) (f x k)) (λ k. inr (List·Memᴰ·tail k)) (o .asked x m) })
+        (record {
+          number = o .number;
+          answer = o .answer;
+          edges = o .edges;
+          differ = o .differ;
+          many = o .many;
+          asked = λ x m. ⊎-elim
+              (λ k. ⊎-elim (λ j. inl j) (λ p. inr (List·Memᴰ·head (ap arc p))) (f x k)) (λ k. inr (List·Memᴰ·tail k)) (o .asked x m);
+        })
 
     snoc : (x : Edge) → List·Memᴰ x (es ++ (e ∷ [])) → List·Memᴰ x es ⊎ (x ≡ e)
     snoc x m = ⊎-elim (λ o. inl o) (λ n. inr (List·Memᴰ·eq-of-singleton n)) (List·Memᴰ·append-cases es m)
@@ -182,7 +193,16 @@ run-refused limit (arc e ∷ t) es n a d h = go (memE e es) (leb limit (length e
     go true c p q ih h = later es (λ x m. inl m) (ih es d h)
     go false true p q ih h =
         inr
-        (record { number = cc; answer = cc; edges = es ++ (e ∷ []); differ = more p; many = omega (arith, leb-true limit (length es) q, length-append es (e ∷ [])); asked = λ x m. ⊎-elim (λ o. inl o) (λ r. inr (List·Memᴰ·head (ap arc r))) (snoc x m) })
+        (record {
+          number = cc;
+          answer = cc;
+          edges = es ++ (e ∷ []);
+          differ = more p;
+          many = omega
+              (arith, leb-true limit (length es) q, length-append es (e ∷ []));
+          asked = λ x m. ⊎-elim (λ o. inl o) (λ r. inr (List·Memᴰ·head (ap arc r)))
+              (snoc x m);
+        })
     go false false p q ih h = later (es ++ (e ∷ [])) snoc (ih (es ++ (e ∷ [])) (more p) h)
 
 -- ---- one entry after another

@@ -7,7 +7,9 @@ use mathlib.Core.Bool.{Bool, true, false, cond}
 use Prim.Native.Nat.{ℕ, zero, suc}
 use Rattle.library_image.specs.Library.{Name}
 use Rattle.text.specs.Refusal.{noRefusal}
-use Rattle.graph.specs.Graph.{Text, missing, refusing, deps, noEntryText, noIncludedText, scanRefused, unknownModule, unknownSubmodule, noNode, tooDeep, deepest, Edge, edge, memE, Step, arc, halt, World, imported, given, included, reading, textSteps, Entry, entrySteps, Out, built, refused, thenO, addBy, run}
+use Rattle.graph.specs.Graph.{Text, missing, refusing, deps, noEntryText, noIncludedText, scanRefused, unknownModule, unknownSubmodule, noNode, tooDeep}
+use Rattle.graph.specs.Graph.{deepest, Edge, edge, memE, Step, arc, halt, World, imported, given, included, reading, textSteps, Entry, entrySteps, Out}
+use Rattle.graph.specs.Graph.{built, refused, thenO, addBy, run}
 use Rattle.graph.proofs.Runs.{run-append}
 
 -- ---- the shape
@@ -67,7 +69,8 @@ arc-run limit es e false = refl
 
 include-run : (limit : ℕ) (below : List Edge → Out Edge) (t : List Step) → ((es : List Edge) → below es ≡ run limit es t)
     → (es : List Edge) (e : Edge) (b c : Bool)
-    → cond b (cond c (thenO (addBy memE limit es e) below) (refused noNode noRefusal)) (refused unknownSubmodule noRefusal) ≡ run limit es (cond b (cond c (arc e ∷ t) (halt noNode)) (halt unknownSubmodule))
+    → cond b (cond c (thenO (addBy memE limit es e) below) (refused noNode noRefusal)) (refused unknownSubmodule noRefusal)
+    ≡ run limit es (cond b (cond c (arc e ∷ t) (halt noNode)) (halt unknownSubmodule))
 unfolding run
 include-run limit below t h es e true true = go (addBy memE limit es e)
   where
@@ -90,7 +93,8 @@ visit-run W limit below t h absent v (deps xs ys) es =
     go : (o : Out Edge) → o ≡ run limit es (flatMap (imported W v) xs)
         → thenO o (eachO (includeO W limit below v) ys) ≡ thenO (run limit es (flatMap (imported W v) xs)) (λ es₁. run limit es₁ (flatMap (included W t v) ys))
     go (built es₁) q =
-        each-run limit (includeO W limit below v) (included W t v) (λ u es. include-run limit (below u) (t u) (h u) es (edge u v) (W .listed u) (W .node u)) ys es₁
+        each-run limit (includeO W limit below v) (included W t v) (λ u es. include-run limit (below u) (t u) (h u) es (edge u v) (W .listed u) (W .node u)) ys
+        es₁
         ∙ ap (λ o. thenO o (λ es₂. run limit es₂ (flatMap (included W t v) ys))) q
     go (refused n a) q = ap (λ o. thenO o (λ es₂. run limit es₂ (flatMap (included W t v) ys))) q
 
@@ -106,7 +110,8 @@ entry-shape W limit e es =
     ∙ sym (run-append limit (textSteps W deepest noEntryText (e .name)) (flatMap (given W (e .name)) (e .lists)) es)
   where
     go : (o : Out Edge) → o ≡ run limit es (textSteps W deepest noEntryText (e .name))
-        → thenO o (eachO (givenO W limit (e .name)) (e .lists)) ≡ thenO (run limit es (textSteps W deepest noEntryText (e .name))) (λ es₁. run limit es₁ (flatMap (given W (e .name)) (e .lists)))
+        → thenO o (eachO (givenO W limit (e .name)) (e .lists)) ≡ thenO (run limit es (textSteps W deepest noEntryText (e .name)))
+        (λ es₁. run limit es₁ (flatMap (given W (e .name)) (e .lists)))
     go (built es₁) q =
         each-run limit (givenO W limit (e .name)) (given W (e .name)) (λ u es. arc-run limit es (edge (e .name) u) (W .known u)) (e .lists) es₁
         ∙ ap (λ o. thenO o (λ es₂. run limit es₂ (flatMap (given W (e .name)) (e .lists)))) q

@@ -2,7 +2,9 @@
 -- library and which steps it takes hang on membership alone.
 -- Assumes nothing.
 use mathlib.Core.Path.{_≡_, refl, sym, ap, _∙_, subst, subst₂}
-use mathlib.Core.List.{List, [], _∷_, _++_, map, flatMap, flatten, List·Mem, List·Memᴰ, List·Memᴰ·head, List·Memᴰ·tail, List·Memᴰ·cases-cons, List·Memᴰ·append-cases, List·Memᴰ·not-nil, Memᴰ·append-left, Memᴰ·append-right, Memᴰ·cast, Memᴰ·map, Memᴰ·of-map, nodup-nil, Perm, Perm·mem-iff, List·Permᴰ, List·Permᴰ·nil, List·Permᴰ·cons, List·Permᴰ·swap, List·Permᴰ·trans, perm-ext-iff-of-nodup}
+use mathlib.Core.List.{List, [], _∷_, _++_, map, flatMap, flatten, List·Mem, List·Memᴰ, List·Memᴰ·head, List·Memᴰ·tail, List·Memᴰ·cases-cons}
+use mathlib.Core.List.{List·Memᴰ·append-cases, List·Memᴰ·not-nil, Memᴰ·append-left, Memᴰ·append-right, Memᴰ·cast, Memᴰ·map, Memᴰ·of-map, nodup-nil, Perm}
+use mathlib.Core.List.{Perm·mem-iff, List·Permᴰ, List·Permᴰ·nil, List·Permᴰ·cons, List·Permᴰ·swap, List·Permᴰ·trans, perm-ext-iff-of-nodup}
 use mathlib.Core.Logic.{_⊎_, inl, inr, ⊎-elim, ∥∥₁-elim, ∥∥₁-map, ∥∥₁-prop}
 use mathlib.Core.HLevel.{⊥-prop}
 use mathlib.Core.Bool.{Bool, true, false, cond}
@@ -14,7 +16,8 @@ use lib.Dec.{ltb}
 use Rattle.library_image.specs.Library.{Name, PlainModule, PlainImportOnly, PlainLibrary, modulesOf, importOnlyOf}
 use Rattle.graph.specs.Nodes.{Mode, Group, groups, nodesOf, memb}
 use Rattle.text.specs.Refusal.{noRefusal}
-use Rattle.graph.specs.Graph.{Text, noEntryText, tooManyNodes, deepest, Edge, Step, arc, stop, World, given, textSteps, Entry, moduleEntry, importEntry, entries, entrySteps, entryNames, submoduleNames, world, Graph, graph, fault, walkOf, graphOf}
+use Rattle.graph.specs.Graph.{Text, noEntryText, tooManyNodes, deepest, Edge, Step, arc, stop, World, given, textSteps, Entry, moduleEntry, importEntry}
+use Rattle.graph.specs.Graph.{entries, entrySteps, entryNames, submoduleNames, world, Graph, graph, fault, walkOf, graphOf}
 use Rattle.graph.specs.Demand3.{groupNames, allNames, Once, AlikeModule, AlikeImport, Within, SameEntries, Agree, both-refused, both-built}
 use Rattle.graph.proofs.Tests.{both-bools, memᴰ, memb-same, each-in, each-out}
 use Rattle.graph.proofs.Sets.{submodule-in, submodule-out}
@@ -58,11 +61,13 @@ module _ {l l₁ : PlainLibrary} (within : Within l l₁) where
     where
       module-in : List·Memᴰ v (map (λ (m : PlainModule). m .name) (modulesOf l)) → List·Memᴰ v (entryNames l₁)
       module-in n = let q = Memᴰ·of-map (λ (m : PlainModule). m .name) (modulesOf l) n in
-          merely (within .modules (q .0) (q .1)) (λ r. Memᴰ·append-left _ (Memᴰ·cast (sym (q .2) ∙ r .2 .name) (Memᴰ·map (λ (m : PlainModule). m .name) (r .1))))
+          merely (within .modules (q .0) (q .1)) (λ r. Memᴰ·append-left _
+          (Memᴰ·cast (sym (q .2) ∙ r .2 .name) (Memᴰ·map (λ (m : PlainModule). m .name) (r .1))))
 
       import-in : List·Memᴰ v (map (λ (i : PlainImportOnly). i .name) (importOnlyOf l)) → List·Memᴰ v (entryNames l₁)
       import-in n = let q = Memᴰ·of-map (λ (i : PlainImportOnly). i .name) (importOnlyOf l) n in
-          merely (within .importOnly (q .0) (q .1)) (λ r. Memᴰ·append-right (map (λ (m : PlainModule). m .name) (modulesOf l₁)) (Memᴰ·cast (sym (q .2) ∙ r .2 .name) (Memᴰ·map (λ (i : PlainImportOnly). i .name) (r .1))))
+          merely (within .importOnly (q .0) (q .1)) (λ r. Memᴰ·append-right (map (λ (m : PlainModule). m .name) (modulesOf l₁))
+          (Memᴰ·cast (sym (q .2) ∙ r .2 .name) (Memᴰ·map (λ (i : PlainImportOnly). i .name) (r .1))))
 
   submodules-in : (v : Name) → List·Memᴰ v (submoduleNames l) → List·Memᴰ v (submoduleNames l₁)
   submodules-in v m = let q = submodule-out (modulesOf l) m in
@@ -93,7 +98,8 @@ module _ {l l₁ : PlainLibrary} (within : Within l l₁) where
       go g (by-module m k q) o =
           merely (within .modules m k) (like-module m (List·Memᴰ·cases-cons (subst (λ (x : Group Name). List·Memᴰ v (groupNames x)) (sym q) o)))
       go g (by-import i k n) o = let q = Memᴰ·of-map (λ (subs : List Name). record { head = i .name; subs = subs }) (i .revisions) n in
-          merely (within .importOnly i k) (like-import i (q .0) (q .1) (List·Memᴰ·cases-cons (subst (λ (x : Group Name). List·Memᴰ v (groupNames x)) (sym (q .2)) o)))
+          merely (within .importOnly i k) (like-import i (q .0) (q .1) (List·Memᴰ·cases-cons
+          (subst (λ (x : Group Name). List·Memᴰ v (groupNames x)) (sym (q .2)) o)))
 
   nodes-in : (mode : Mode) → Once l₁ → (v : Name) → List·Memᴰ v (nodesOf mode l) → List·Memᴰ v (nodesOf mode l₁)
   nodes-in mode once v m = nodes-whole mode l₁ (once .differ) v (names-in once v (nodes-only mode l v m))
@@ -104,7 +110,8 @@ entry-steps : (W : World) (x y : Entry) (s : Step) → x .name ≡ y .name → (
 entry-steps W x y s q f m =
     ⊎-elim
     (λ n. Memᴰ·append-left _ (subst (λ w. List·Memᴰ s (textSteps W deepest noEntryText w)) q n))
-    (λ n. let r = each-out (given W (x .name)) (x .lists) n in Memᴰ·append-right (textSteps W deepest noEntryText (y .name)) (each-in (given W (y .name)) (f (r .0) (r .1)) (subst (λ w. List·Memᴰ s (given W w (r .0))) q (r .2))))
+    (λ n. let r = each-out (given W (x .name)) (x .lists) n in Memᴰ·append-right (textSteps W deepest noEntryText (y .name))
+    (each-in (given W (y .name)) (f (r .0) (r .1)) (subst (λ w. List·Memᴰ s (given W w (r .0))) q (r .2))))
     (List·Memᴰ·append-cases (textSteps W deepest noEntryText (x .name)) m)
 
 steps-in : {l l₁ : PlainLibrary} → Within l l₁ → (W : World) (s : Step) → List·Memᴰ s (flatMap (entrySteps W) (entries l))
@@ -113,7 +120,8 @@ steps-in {l} {l₁} within W s m = let q = each-out (entrySteps W) (entries l) m
   where
     go : (x : Entry) → Came l x → List·Memᴰ s (entrySteps W x) → List·Mem s (flatMap (entrySteps W) (entries l₁))
     go x (from-module n k q) o =
-        ∥∥₁-map (within .modules n k) (λ r. each-in (entrySteps W) (module-entry l₁ (r .1)) (entry-steps W (moduleEntry n) (moduleEntry (r .0)) s (r .2 .name) (lists (r .2)) (subst (λ (y : Entry). List·Memᴰ s (entrySteps W y)) (sym q) o)))
+        ∥∥₁-map (within .modules n k) (λ r. each-in (entrySteps W) (module-entry l₁ (r .1))
+        (entry-steps W (moduleEntry n) (moduleEntry (r .0)) s (r .2 .name) (lists (r .2)) (subst (λ (y : Entry). List·Memᴰ s (entrySteps W y)) (sym q) o)))
       where
         lists : {m n : PlainModule} → AlikeModule m n → (u : Name) → List·Memᴰ u (m .augmenting ++ m .deviations)
             → List·Memᴰ u (n .augmenting ++ n .deviations)
@@ -123,7 +131,8 @@ steps-in {l} {l₁} within W s m = let q = each-out (entrySteps W) (entries l) m
             (λ j. Memᴰ·append-right (n .augmenting) (perm-memᴰ (a .deviations) j))
             (List·Memᴰ·append-cases (m .augmenting) k)
     go x (from-import i k q) o =
-        ∥∥₁-map (within .importOnly i k) (λ r. each-in (entrySteps W) (import-entry l₁ (r .1)) (entry-steps W (importEntry i) (importEntry (r .0)) s (r .2 .name) (λ u k. k) (subst (λ (y : Entry). List·Memᴰ s (entrySteps W y)) (sym q) o)))
+        ∥∥₁-map (within .importOnly i k) (λ r. each-in (entrySteps W) (import-entry l₁ (r .1))
+        (entry-steps W (importEntry i) (importEntry (r .0)) s (r .2 .name) (λ u k. k) (subst (λ (y : Entry). List·Memᴰ s (entrySteps W y)) (sym q) o)))
 
 -- ---- both are refused, or both are built and the same
 
@@ -138,14 +147,18 @@ turn s = record { alike = record { there = s .alike .back; back = s .alike .ther
 module _ (mode : Mode) where
   same-world : {l l₁ : PlainLibrary} → SameEntries l l₁ → Once l → Once l₁ → (text : Name → Text) → world mode text l ≡ world mode text l₁
   same-world {l} {l₁} alike once once₁ text =
-      let p : (u : Name) → memb u (entryNames l) ≡ memb u (entryNames l₁) = λ u. memb-same u (entryNames l) (entryNames l₁) (entries-in (alike .there) u) (entries-in (alike .back) u) in
-      let q : (u : Name) → memb u (submoduleNames l) ≡ memb u (submoduleNames l₁) = λ u. memb-same u (submoduleNames l) (submoduleNames l₁) (submodules-in (alike .there) u) (submodules-in (alike .back) u) in
-      let r : (u : Name) → memb u (nodesOf mode l) ≡ memb u (nodesOf mode l₁) = λ u. memb-same u (nodesOf mode l) (nodesOf mode l₁) (nodes-in (alike .there) mode once₁ u) (nodes-in (alike .back) mode once u) in
+      let p : (u : Name) → memb u (entryNames l) ≡ memb u (entryNames l₁) = λ u. memb-same u (entryNames l) (entryNames l₁) (entries-in (alike .there) u)
+      (entries-in (alike .back) u) in
+      let q : (u : Name) → memb u (submoduleNames l) ≡ memb u (submoduleNames l₁) = λ u. memb-same u (submoduleNames l) (submoduleNames l₁)
+      (submodules-in (alike .there) u) (submodules-in (alike .back) u) in
+      let r : (u : Name) → memb u (nodesOf mode l) ≡ memb u (nodesOf mode l₁) = λ u. memb-same u (nodesOf mode l) (nodesOf mode l₁)
+      (nodes-in (alike .there) mode once₁ u) (nodes-in (alike .back) mode once u) in
       λ i. record { known = λ u. p u i; listed = λ u. q u i; node = λ u. r u i; text = text }
 
   trace-in : {l l₁ : PlainLibrary} → Spread l l₁ → (text : Name → Text) (s : Step) → List·Memᴰ s (trace mode text l) → List·Mem s (trace mode text l₁)
   trace-in {l} {l₁} sp text s m =
-      steps-in (sp .alike .there) (world mode text l₁) s (subst (λ W. List·Memᴰ s (flatMap (entrySteps W) (entries l))) (same-world (sp .alike) (sp .once) (sp .once₁) text) m)
+      steps-in (sp .alike .there) (world mode text l₁) s (subst (λ W. List·Memᴰ s (flatMap (entrySteps W) (entries l)))
+      (same-world (sp .alike) (sp .once) (sp .once₁) text) m)
 
   same-nodes : {l l₁ : PlainLibrary} → Spread l l₁ → Perm (nodesOf mode l) (nodesOf mode l₁)
   same-nodes {l} {l₁} sp = perm-ext-iff-of-nodup (nodes-differ mode l) (nodes-differ mode l₁) .1
@@ -156,7 +169,8 @@ module _ (mode : Mode) where
 
   edges-in : {l l₁ : PlainLibrary} → Spread l l₁ → (text : Name → Text) (e : Edge) → List·Mem e (allEdges text l) → List·Mem e (allEdges text l₁)
   edges-in {l} {l₁} sp text e m =
-      ∥∥₁-elim m ∥∥₁-prop (λ n. ⊎-elim (λ o. absurd (List·Memᴰ·not-nil o)) (λ o. ∥∥₁-map (trace-in sp text (arc e) o) (adds-new (trace mode text l₁) [] e)) (adds-only (trace mode text l) [] e n))
+      ∥∥₁-elim m ∥∥₁-prop (λ n. ⊎-elim (λ o. absurd (List·Memᴰ·not-nil o)) (λ o. ∥∥₁-map (trace-in sp text (arc e) o) (adds-new (trace mode text l₁) [] e))
+      (adds-only (trace mode text l) [] e n))
 
   same-edges : {l l₁ : PlainLibrary} → Spread l l₁ → (text : Name → Text) → Perm (allEdges text l) (allEdges text l₁)
   same-edges {l} {l₁} sp text = perm-ext-iff-of-nodup (adds-nodup (trace mode text l) [] nodup-nil) (adds-nodup (trace mode text l₁) [] nodup-nil) .1
@@ -185,7 +199,8 @@ module _ (mode : Mode) where
       go : (g g₁ : Graph) → walkOf mode limit text l ≡ g → walkOf mode limit text l₁ ≡ g₁ → Agree g g₁
       go (graph ns es) (graph ns₁ es₁) h h₁ =
           let r = built-whole limit text l h in let r₁ = built-whole limit text l₁ h₁ in
-          both-built (subst₂ (λ a b. Perm a b) (r .1) (r₁ .1) (same-nodes sp)) (subst₂ (λ a b. Perm a b) (sym (r .0 .all)) (sym (r₁ .0 .all)) (same-edges sp text))
+          both-built (subst₂ (λ a b. Perm a b) (r .1) (r₁ .1) (same-nodes sp))
+          (subst₂ (λ a b. Perm a b) (sym (r .0 .all)) (sym (r₁ .0 .all)) (same-edges sp text))
       go (graph ns es) (fault n k a) h h₁ = let q = built-too limit text sp h in let z : _≡_ {A = ℕ} 0 1 = cc in absurd (omega arith)
       go (fault n k a) (graph ns es) h h₁ = let q = built-too limit text (turn sp) h₁ in let z : _≡_ {A = ℕ} 0 1 = cc in absurd (omega arith)
       go (fault n k a) (fault n₁ k₁ a₁) h h₁ = both-refused

@@ -3,7 +3,8 @@
 use mathlib.Core.Path.{_≡_, refl, sym, ap, ap₂, _∙_, subst}
 use mathlib.Core.Logic.{⊎-elim, ∥∥₁-elim}
 use mathlib.Core.Bool.{Bool, true, false, cond, _&&_, _||_, true≢false, Bool-set}
-use mathlib.Core.List.{List, [], _∷_, _++_, append-assoc, flatMap, List·Mem, List·Memᴰ, List·Memᴰ·head, List·Memᴰ·tail, List·Memᴰ·append-cases, List·Memᴰ·not-nil, Memᴰ·append-left, Memᴰ·append-right}
+use mathlib.Core.List.{List, [], _∷_, _++_, append-assoc, flatMap, List·Mem, List·Memᴰ, List·Memᴰ·head, List·Memᴰ·tail, List·Memᴰ·append-cases}
+use mathlib.Core.List.{List·Memᴰ·not-nil, Memᴰ·append-left, Memᴰ·append-right}
 use Rattle.text.specs.Keyword.{same}
 use Rattle.text.proofs.KeywordLaws.{same-eq, same-yes}
 use Rattle.library_image.specs.Library.{Name}
@@ -108,3 +109,11 @@ or-not false = refl
 pub always : (b : Bool) → cond b true true ≡ true
 always true = refl
 always false = refl
+
+pub or-left : (b c : Bool) → b ≡ true → (b || c) ≡ true
+or-left true c h = refl
+or-left false c h = both-bools h refl
+
+pub or-right : (b c : Bool) → c ≡ true → (b || c) ≡ true
+or-right true c h = refl
+or-right false c h = h

@@ -8,7 +8,8 @@ use Rattle.library_form.specs.Form.{PlacedName}
 use Rattle.library_image.specs.Library.{Name, Module, ImportOnly, Library, plainName, plainModule, plainImportOnly, plain}
 use Rattle.library_index.specs.Names.{among, addNew, addAll}
 use Rattle.library_index.proofs.First.{among-map}
-use Rattle.graph.specs.Nodes.{Mode, passOver, Group, moduleGroup, revisionGroups, setGroups, groups, addGroup, addGroups, nodesBy, itself, memb, wordNodes, nodesOf}
+use Rattle.graph.specs.Nodes.{Mode, passOver, Group, moduleGroup, revisionGroups, setGroups, groups, addGroup, addGroups, nodesBy, itself, memb}
+use Rattle.graph.specs.Nodes.{wordNodes, nodesOf}
 
 abbrev texts : List PlacedName → List Name
 texts ws = map plainName ws
@@ -36,13 +37,15 @@ unfolding addAll
 nodes-added [] ns = refl
 nodes-added (w ∷ ws) ns = nodes-added ws (addNew plainName ns w) ∙ ap (λ l. addAll itself l (texts ws)) (node-added ns w)
 
-group-added : (mode : Mode) (ns : List PlacedName) (g : Group PlacedName) → texts (addGroup plainName mode ns g) ≡ addGroup itself mode (texts ns) (plainGroup g)
+group-added : (mode : Mode) (ns : List PlacedName) (g : Group PlacedName)
+    → texts (addGroup plainName mode ns g) ≡ addGroup itself mode (texts ns) (plainGroup g)
 group-added passOver ns g =
     go (among plainName (plainName (g .head)) ns)
     ∙ ap (λ b. cond b (texts ns) (addAll itself (texts ns ++ (plainName (g .head) ∷ [])) (texts (g .subs)))) (among-names (plainName (g .head)) ns)
   where
     go : (b : Bool)
-        → texts (cond b ns (addAll plainName (ns ++ (g .head ∷ [])) (g .subs))) ≡ cond b (texts ns) (addAll itself (texts ns ++ (plainName (g .head) ∷ [])) (texts (g .subs)))
+        → texts (cond b ns (addAll plainName (ns ++ (g .head ∷ [])) (g .subs)))
+        ≡ cond b (texts ns) (addAll itself (texts ns ++ (plainName (g .head) ∷ [])) (texts (g .subs)))
     go true = refl
     go false = nodes-added (g .subs) (ns ++ (g .head ∷ [])) ∙ ap (λ l. addAll itself l (texts (g .subs))) (snoc-names ns (g .head))
 
@@ -60,7 +63,8 @@ modules-plain [] = refl
 modules-plain (m ∷ ms) = ap (λ l. moduleGroup (plainModule m) ∷ l) (modules-plain ms)
 
 revisions-plain : (w : PlacedName) (rs : List (List PlacedName))
-    → map plainGroup (map (λ (subs : List PlacedName). record { head = w; subs = subs }) rs) ≡ map (λ (subs : List Name). record { head = plainName w; subs = subs }) (map (map plainName) rs)
+    → map plainGroup (map (λ (subs : List PlacedName). record { head = w; subs = subs }) rs)
+    ≡ map (λ (subs : List Name). record { head = plainName w; subs = subs }) (map (map plainName) rs)
 revisions-plain w [] = refl
 revisions-plain w (r ∷ rs) = ap (λ (l : List (Group Name)). record { head = plainName w; subs = texts r } ∷ l) (revisions-plain w rs)
 
@@ -74,7 +78,8 @@ groups-plain : (l : Library) → map plainGroup (groups l) ≡ groups (plain l)
 unfolding flatMap
 groups-plain [] = refl
 groups-plain (s ∷ l) = map-append plainGroup (setGroups s) (groups l)
-    ∙ ap₂ _++_ (map-append plainGroup (map moduleGroup (s .modules)) (flatMap revisionGroups (s .importOnly)) ∙ ap₂ _++_ (modules-plain (s .modules)) (imports-plain (s .importOnly))) (groups-plain l)
+    ∙ ap₂ _++_ (map-append plainGroup (map moduleGroup (s .modules)) (flatMap revisionGroups (s .importOnly))
+    ∙ ap₂ _++_ (modules-plain (s .modules)) (imports-plain (s .importOnly))) (groups-plain l)
 
 pub node-names : (mode : Mode) (l : Library) → map plainName (wordNodes mode l) ≡ nodesOf mode (plain l)
 unfolding nodesBy

@@ -7,7 +7,8 @@ use lib.ListN.{length}
 use Rattle.library_image.specs.Library.{Name, PlainModule, PlainImportOnly, PlainLibrary, modulesOf, importOnlyOf}
 use Rattle.graph.specs.Nodes.{Mode, nodesOf}
 use Rattle.text.specs.Refusal.{noRefusal}
-use Rattle.graph.specs.Graph.{ScanAnswer, Text, missing, refusing, deps, noEntryText, noIncludedText, scanRefused, unknownModule, unknownSubmodule, noNode, tooDeep, tooManyNodes, tooManyEdges, Edge, Entry, entries, entryNames, submoduleNames}
+use Rattle.graph.specs.Graph.{ScanAnswer, Text, missing, refusing, deps, noEntryText, noIncludedText, scanRefused, unknownModule, unknownSubmodule}
+use Rattle.graph.specs.Graph.{noNode, tooDeep, tooManyNodes, tooManyEdges, Edge, Entry, entries, entryNames, submoduleNames}
 
 -- as in every image: no import-only module is without a revision
 abbrev pub Revised : PlainLibrary → Type 0

@@ -9,7 +9,8 @@ use Rattle.text.specs.Keyword.{same}
 use Rattle.library_image.specs.Library.{Name, PlainLibrary}
 use Rattle.graph.specs.Nodes.{Mode, nodesOf}
 use Rattle.text.specs.Refusal.{noRefusal}
-use Rattle.graph.specs.Graph.{ScanAnswer, Text, missing, refusing, deps, noIncludedText, scanRefused, unknownModule, unknownSubmodule, noNode, tooDeep, noEntryText, deepest, Edge, World, Entry, Out, built, refused, thenO, addBy, onOut, entries, world, Graph, graph, fault}
+use Rattle.graph.specs.Graph.{ScanAnswer, Text, missing, refusing, deps, noIncludedText, scanRefused, unknownModule, unknownSubmodule, noNode, tooDeep}
+use Rattle.graph.specs.Graph.{noEntryText, deepest, Edge, World, Entry, Out, built, refused, thenO, addBy, onOut, entries, world, Graph, graph, fault}
 
 -- a node's number is its place in the list of nodes
 unfoldable pub numberOf : List Name → Name → ℕ

@@ -22,7 +22,8 @@ use Rattle.graph_edges.proofs.Chains.{last-here, last-else, last-same, 
 -- ---- one edge more
 
 module _ (edges chains edges₁ chains₁ : List ℕ) (count from to h : ℕ) (g : Filed edges chains count)
-    (p : Laid edges chains count h from to edges₁ chains₁) (q : h ≡ bucketOf (row from to)) (b : h < buckets) (f : from < mostNodes) (t : to < mostNodes) (few : count < mostEdges) where
+    (p : Laid edges chains count h from to edges₁ chains₁) (q : h ≡ bucketOf (row from to)) (b : h < buckets) (f : from < mostNodes) (t : to < mostNodes)
+    (few : count < mostEdges) where
   word-same : (j : ℕ) → j < count * 2 → getD edges₁ j 0 ≡ getD edges j 0
   word-same j l = p .other-edges j (λ e. omega arith) (λ e. omega arith)
 

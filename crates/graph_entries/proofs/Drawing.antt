@@ -7,13 +7,15 @@ use mathlib.Core.Bool.{Bool, true, false, cond}
 use mathlib.Core.List.{List, [], _∷_, _++_, map, map-append, flatMap, append-nil, append-assoc}
 use Rattle.library_form.specs.Form.{PlacedName}
 use Rattle.library_image.specs.Library.{Name, Module, ImportOnly, ModuleSet, plainName, plainModule, plainImportOnly, plainSet}
-use Rattle.library_items.specs.Items.{moduleKind, submoduleKind, augmentingKind, deviationKind, importOnlyKind, firstSubKind, laterSubKind, ItemOf, item, moduleItems, laterItems, revisionItems, importItems, setItems, itemsOf, libraryOf, itemsAt}
+use Rattle.library_items.specs.Items.{moduleKind, submoduleKind, augmentingKind, deviationKind, importOnlyKind, firstSubKind, laterSubKind, ItemOf, item}
+use Rattle.library_items.specs.Items.{moduleItems, laterItems, revisionItems, importItems, setItems, itemsOf, libraryOf, itemsAt}
 use Rattle.graph.specs.Graph.{ScanAnswer, noEntryText, deepest, Entry, moduleEntry, importEntry, setEntries, entries, Out, built, refused, thenO, onOut}
-use Rattle.graph.specs.Numbers.{Row, numberOf, Codes, moduleCode, eachO, givenCode, walkCodes, walkEntryCodes, Drawing, faulty, EntryCode, drawFrom, codesAt, entryCode, drawingIn}
+use Rattle.graph.specs.Numbers.{Row, numberOf, Codes, moduleCode, eachO, givenCode, walkCodes, walkEntryCodes, Drawing, faulty, EntryCode, drawFrom, codesAt}
+use Rattle.graph.specs.Numbers.{entryCode, drawingIn}
 use Rattle.graph.specs.Limits.{mostEdges}
 use Rattle.graph_nodes.specs.Adding.{isEntry, plainAt}
-use Rattle.graph_nodes.specs.Marks.{knownAt}
-use Rattle.graph_walk.specs.Walk.{worldOf, codesHere}
+use Rattle.graph_marks.specs.Marks.{knownAt}
+use Rattle.graph_visit.specs.Visit.{worldOf, codesHere}
 use Rattle.graph_entries.specs.Entries.{isListed, itemWalk, drawItems}
 
 -- ---- one after another
@@ -56,7 +58,8 @@ module _ (s b : List ℕ) (ns : List Name) where
   abbrev asked : (entry listed : Bool) → (k v : ℕ) → List Row → PlacedName → List (ItemOf PlacedName) → Drawing
   asked e l k v rs w xs =
       onOut
-      (cond e (walkCodes (codesHere s b ns) mostEdges deepest noEntryText (numberOf ns (w .text)) rs) (cond l (givenCode mostEdges v (knownAt s ns (w .text)) rs) (built rs)))
+      (cond e (walkCodes (codesHere s b ns) mostEdges deepest noEntryText (numberOf ns (w .text)) rs)
+      (cond l (givenCode mostEdges v (knownAt s ns (w .text)) rs) (built rs)))
       (λ rs₁. drawItems s b ns (cond e (k + 1) k) (cond e (numberOf ns (w .text)) v) rs₁ xs) (λ n a. faulty n (cond e (k + 1) k) a)
 
   asks : (j : ℕ) {e l : Bool} → isEntry j ≡ e → isListed j ≡ l → (k v : ℕ) (rs : List Row) (w : PlacedName) (xs : List (ItemOf PlacedName))
@@ -71,7 +74,8 @@ module _ (s b : List ℕ) (ns : List Name) where
   silent j k v rs p q [] xs = refl
   silent j k v rs p q (w ∷ ws) xs = asks j p q k v rs w (map (item j) ws ++ xs) ∙ silent j k v rs p q ws xs
 
-  later-silent : (k v : ℕ) (rs : List Row) (ls : List (List PlacedName)) (xs : List (ItemOf PlacedName)) → drawItems s b ns k v rs (laterItems ls ++ xs) ≡ drawItems s b ns k v rs xs
+  later-silent : (k v : ℕ) (rs : List Row) (ls : List (List PlacedName)) (xs : List (ItemOf PlacedName))
+      → drawItems s b ns k v rs (laterItems ls ++ xs) ≡ drawItems s b ns k v rs xs
   unfolding flatMap
   later-silent k v rs [] xs = refl
   later-silent k v rs (l ∷ ls) xs =
@@ -111,14 +115,16 @@ module _ (s b : List ℕ) (ns : List Name) where
   -- what comes behind an entry's item is what it lists
   entry-draws : (j : ℕ) (w : PlacedName) (us : List Name) (xs : List (ItemOf PlacedName)) → isEntry j ≡ true
       → ((k : ℕ) (ys : List (ItemOf PlacedName)) (rs : List Row) → drawItems s b ns k (numberOf ns (w .text)) rs (xs ++ ys)
-      ≡ onOut (eachO (givenCode mostEdges (numberOf ns (w .text))) (map code us) rs) (λ rs₁. drawItems s b ns k (numberOf ns (w .text)) rs₁ ys) (λ n a. faulty n k a))
+      ≡ onOut (eachO (givenCode mostEdges (numberOf ns (w .text))) (map code us) rs) (λ rs₁. drawItems s b ns k (numberOf ns (w .text)) rs₁ ys)
+      (λ n a. faulty n k a))
       → Draws (item j w ∷ xs) (record { name = w .text; lists = us } ∷ [])
   unfolding codesHere drawFrom walkEntryCodes
   entry-draws j w us xs p behind ys fs h k v rs =
       asks j p refl k v rs w (xs ++ ys)
       ∙ (out-same walked _ _ (λ n a. faulty n (k + 1) a) (λ rs₁. behind (k + 1) ys rs₁
       ∙ out-same (eachO (givenCode mostEdges node) (map code us) rs₁) _ _ (λ n a. faulty n (k + 1) a) (h (k + 1) node))
-      ∙ sym (out-then walked (eachO (givenCode mostEdges node) (map code us)) (λ rs₁. drawFrom under mostEdges (k + 1 + 1) rs₁ (map entry fs)) (λ n a. faulty n (k + 1) a)))
+      ∙ sym (out-then walked (eachO (givenCode mostEdges node) (map code us)) (λ rs₁. drawFrom under mostEdges (k + 1 + 1) rs₁ (map entry fs))
+      (λ n a. faulty n (k + 1) a)))
     where
       node : ℕ
       node = numberOf ns (w .text)
@@ -149,7 +155,8 @@ module _ (s b : List ℕ) (ns : List Name) where
           ∙ each-append (givenCode mostEdges node) (map code (map plainName (m .augmenting))) (map code (map plainName (m .deviations))) rs
 
       lists : (k : ℕ) (ys : List (ItemOf PlacedName)) (rs : List Row) → drawItems s b ns k node rs ((subs ++ (augs ++ devs)) ++ ys)
-          ≡ onOut (eachO (givenCode mostEdges node) (map code (map plainName (m .augmenting) ++ map plainName (m .deviations))) rs) (λ rs₁. drawItems s b ns k node rs₁ ys) (λ n a. faulty n k a)
+          ≡ onOut (eachO (givenCode mostEdges node) (map code (map plainName (m .augmenting) ++ map plainName (m .deviations))) rs)
+          (λ rs₁. drawItems s b ns k node rs₁ ys) (λ n a. faulty n k a)
       lists k ys rs =
           ap (drawItems s b ns k node rs) (append-assoc subs (augs ++ devs) ys ∙ ap (λ xs. subs ++ xs) (append-assoc augs devs ys))
           ∙ (silent submoduleKind k node rs refl refl (m .submodules) (augs ++ (devs ++ ys))
@@ -181,7 +188,8 @@ module _ (s b : List ℕ) (ns : List Name) where
   set-draws x =
       draws-append (flatMap moduleItems (x .modules)) (flatMap importItems (x .importOnly))
       (map moduleEntry (map plainModule (x .modules))) (map importEntry (map plainImportOnly (x .importOnly)))
-      (each-draws moduleItems plainModule moduleEntry module-draws (x .modules)) (each-draws importItems plainImportOnly importEntry import-draws (x .importOnly))
+      (each-draws moduleItems plainModule moduleEntry module-draws (x .modules))
+      (each-draws importItems plainImportOnly importEntry import-draws (x .importOnly))
 
   sets-draw : (l : List ModuleSet) → Draws (flatMap setItems l) (entries (map plainSet l))
   unfolding flatMap

@@ -20,17 +20,18 @@ use Rattle.library_items.proofs.Through.{items-from, items-all}
 use Rattle.graph.specs.Graph.{Out, built, onOut, entryNames}
 use Rattle.graph.specs.Nodes.{memb}
 use Rattle.graph.specs.Numbers.{Row, numberOf, Drawing, faulty, givenCode, walkCodes}
-use Rattle.graph.proofs.Tests.{both-bools, same-refl}
+use Rattle.graph.proofs.Tests.{both-bools, same-refl, or-right}
 use Rattle.graph.specs.Limits.{mostEdges}
 use Rattle.graph_edges.specs.Edges.{rowsIn, Filed}
-use Rattle.graph_nodes.specs.Adding.{isEntry, plainAt, namesHeld}
-use Rattle.graph_nodes.specs.Marks.{amongKind, knownAt, Stands, Desk}
-use Rattle.graph_nodes.proofs.OfKind.{kind-append, known-items, or-right}
-use Rattle.graph_link.specs.Link.{walkSeen, Drew}
-use Rattle.graph_walk.specs.Walk.{codesHere, Tables, Kept}
+use Rattle.graph_nodes.specs.Adding.{isEntry, plainAt, namesHeld, Stands}
+use Rattle.graph_marks.specs.Marks.{amongKind, knownAt, Desk}
+use Rattle.graph_marks.proofs.OfKind.{kind-append, known-items}
+use Rattle.graph_link.specs.Link.{walkSeen, Drew, allLevels}
+use Rattle.graph_walk.specs.Walk.{Tables}
+use Rattle.graph_visit.specs.Visit.{codesHere, Kept}
 use Rattle.graph_link.specs.declared.Walked.{Walked}
 use Rattle.graph_link.specs.declared.Walked.the-variants.{Built, Refused}
-use Rattle.graph_entries.specs.Entries.{isListed, itemNode, itemWalk, nextNode, nextEntry, drawItems, allLevels, Next, Placed, Walks}
+use Rattle.graph_entries.specs.Entries.{isListed, itemNode, itemWalk, nextNode, nextEntry, drawItems, Next, Placed, Walks}
 use Rattle.graph_entries.specs.declared.Drawn.the-variants.{Built as DrawnBuilt, Refused as DrawnRefused}
 
 -- ---- the ways out of `is_listed`
@@ -77,8 +78,10 @@ module _ (s b : List ℕ) (ns : List Name) (x : Item) (v : ℕ) (rs : List Row) 
   unfolding itemWalk
   asked p q = ap₂ asks (sym p) (sym q)
 
-module _ (s b : List ℕ) {ns : List Name} {n : ℕ} {x : Item} {v : ℕ} (g : Placed s ns n x v) {edges chains : List ℕ} (count : ℕ) {e : Bool} (p : e ≡ isEntry (x .kind)) where
-  pub item-walked : e ≡ true → {w : Walked} {edges₁ chains₁ : List ℕ} → Drew (walkCodes (codesHere s b ns) mostEdges 8 23 v (rowsIn count edges)) edges chains w edges₁ chains₁
+module _ (s b : List ℕ) {ns : List Name} {n : ℕ} {x : Item} {v : ℕ} (g : Placed s ns n x v) {edges chains : List ℕ} (count : ℕ) {e : Bool}
+    (p : e ≡ isEntry (x .kind)) where
+  pub item-walked : e ≡ true → {w : Walked} {edges₁ chains₁ : List ℕ} → Drew
+      (walkCodes (codesHere s b ns) mostEdges 8 23 v (rowsIn count edges)) edges chains w edges₁ chains₁
       → Drew (itemWalk s b ns (itemWord s x) v (rowsIn count edges)) edges chains w edges₁ chains₁
   item-walked t {w} {edges₁} {chains₁} d =
       subst (λ (o : Out Row). Drew o edges chains w edges₁ chains₁)
@@ -87,14 +90,16 @@ module _ (s b : List ℕ) {ns : List Name} {n : ℕ} {x : Item} {v : ℕ} (g : P
 
   module _ (f : e ≡ false) {l : Bool} (q : l ≡ isListed (x .kind)) where
     pub item-linked : l ≡ true → {w : Walked} {edges₁ chains₁ : List ℕ}
-        → Drew (givenCode mostEdges v (knownAt s ns (take (x .place + x .size - x .place) (drop (x .place) s))) (rowsIn count edges)) edges chains w edges₁ chains₁
+        → Drew (givenCode mostEdges v (knownAt s ns (take (x .place + x .size - x .place) (drop (x .place) s))) (rowsIn count edges)) edges chains w edges₁
+        chains₁
         → Drew (itemWalk s b ns (itemWord s x) v (rowsIn count edges)) edges chains w edges₁ chains₁
     item-linked t {w} {edges₁} {chains₁} d =
         subst (λ (o : Out Row). Drew o edges chains w edges₁ chains₁)
         (ap (λ (u : Name). givenCode mostEdges v (knownAt s ns u) (rowsIn count edges)) (part-word s (x .place) (x .size))
         ∙ sym (asked s b ns x v (rowsIn count edges) (sym f ∙ p) (sym t ∙ q))) d
 
-    pub item-silent : l ≡ false → Filed edges chains count → Drew (itemWalk s b ns (itemWord s x) v (rowsIn count edges)) edges chains (Built count) edges chains
+    pub item-silent : l ≡ false → Filed edges chains count → Drew (itemWalk s b ns (itemWord s x) v (rowsIn count edges)) edges chains
+        (Built count) edges chains
     item-silent t h = record {
       seen = sym (asked s b ns x v (rowsIn count edges) (sym f ∙ p) (sym t ∙ q));
       filed = h;
@@ -142,7 +147,8 @@ entry-among {s} {tab} {n} g i l h =
     let u = itemWord s (itemIn tab i) .name .text in
     let q : n ≡ i + suc (n - (i + 1)) = omega arith in
     let own : amongKind isEntry u (itemsFrom s tab i (suc (n - (i + 1)))) ≡ true =
-    ap₂ (λ (a c : Bool). cond a (cond c true (amongKind isEntry u (itemsFrom s tab (i + 1) (n - (i + 1))))) (amongKind isEntry u (itemsFrom s tab (i + 1) (n - (i + 1))))) h (same-refl u) in
+    ap₂ (λ (a c : Bool). cond a (cond c true (amongKind isEntry u (itemsFrom s tab (i + 1) (n - (i + 1)))))
+    (amongKind isEntry u (itemsFrom s tab (i + 1) (n - (i + 1))))) h (same-refl u) in
     ap (amongKind isEntry u) (sym (g .items) ∙ ap (itemsIn s tab) q ∙ items-from s tab (suc (n - (i + 1))) i)
     ∙ kind-append isEntry u (itemsIn s tab i) (itemsFrom s tab i (suc (n - (i + 1))))
     ∙ or-right (amongKind isEntry u (itemsIn s tab i)) (amongKind isEntry u (itemsFrom s tab i (suc (n - (i + 1))))) own
@@ -157,12 +163,15 @@ walk-same : (s b : List ℕ) (ns : List Name) (x : ItemOf PlacedName) (v : ℕ) 
 unfolding itemWalk
 walk-same s b ns x v rs = go (isEntry (x .kind)) (isListed (x .kind))
   where
-    go : (e l : Bool) → cond e (walkCodes (codesHere s b ns) mostEdges 8 23 (itemNode ns x) rs) (cond l (givenCode mostEdges v (knownAt s ns (x .name .text)) rs) (built rs))
-        ≡ cond e (walkCodes (codesHere s b ns) mostEdges 8 23 (itemNode ns x) rs) (cond l (givenCode mostEdges (cond e (itemNode ns x) v) (knownAt s ns (x .name .text)) rs) (built rs))
+    go : (e l : Bool) → cond e (walkCodes (codesHere s b ns) mostEdges 8 23 (itemNode ns x) rs)
+        (cond l (givenCode mostEdges v (knownAt s ns (x .name .text)) rs) (built rs))
+        ≡ cond e (walkCodes (codesHere s b ns) mostEdges 8 23 (itemNode ns x) rs)
+        (cond l (givenCode mostEdges (cond e (itemNode ns x) v) (knownAt s ns (x .name .text)) rs) (built rs))
     go true l = refl
     go false l = refl
 
-pub record Going (s b : List ℕ) (ns : List Name) (n : ℕ) (table : List ℕ) (items : ℕ) (store₀ imports₀ includes₀ levels₀ edges₀ chains₀ store imports includes levels edges chains : List ℕ) (total entry v i : ℕ) : Type 0 where
+pub record Going (s b : List ℕ) (ns : List Name) (n : ℕ) (table : List ℕ) (items : ℕ)
+    (store₀ imports₀ includes₀ levels₀ edges₀ chains₀ store imports includes levels edges chains : List ℕ) (total entry v i : ℕ) : Type 0 where
   pub rest : drawItems s b ns 0 0 [] (itemsAt s) ≡ drawItems s b ns entry v (rowsIn total edges) (itemsFrom s table i (items - i))
   pub listed : Itemized s items table
   pub some : i ≤ items
@@ -191,7 +200,8 @@ going-none s b ns n table items store imports includes levels edges chains v z t
       kept-chains = refl;
     }
 
-module _ {s b : List ℕ} {ns : List Name} {n : ℕ} {table : List ℕ} {items : ℕ} {store₀ imports₀ includes₀ levels₀ edges₀ chains₀ store imports includes levels edges chains : List ℕ} {total entry v i : ℕ}
+module _ {s b : List ℕ} {ns : List Name} {n : ℕ} {table : List ℕ} {items : ℕ}
+    {store₀ imports₀ includes₀ levels₀ edges₀ chains₀ store imports includes levels edges chains : List ℕ} {total entry v i : ℕ}
     (g : Going s b ns n table items store₀ imports₀ includes₀ levels₀ edges₀ chains₀ store imports includes levels edges chains total entry v i) where
   pub all-drawn : items ≤ i → Walks s b ns store₀ imports₀ includes₀ levels₀ edges₀ chains₀ (DrawnBuilt total) store imports includes levels edges chains
   unfolding itemsFrom drawItems
@@ -220,7 +230,8 @@ module _ {s b : List ℕ} {ns : List Name} {n : ℕ} {table : List ℕ} {items :
       behind-entry f = go i refl
         where
           go : (j : ℕ) → i ≡ j → v < n
-          go zero q = both-bools (ap (λ (k : ℕ). isEntry (itemIn table k .kind)) q ∙ first-entry (g .listed) (omega arith)) (ap (λ (y : Item). isEntry (y .kind)) (sym e) ∙ f)
+          go zero q = both-bools (ap (λ (k : ℕ). isEntry (itemIn table k .kind)) q ∙ first-entry (g .listed) (omega arith))
+              (ap (λ (y : Item). isEntry (y .kind)) (sym e) ∙ f)
           go (suc j) q = g .low (omega arith)
 
       pub next-asked : {ntab marks : List ℕ} → Desk s ntab n marks → Next s ntab n x v
@@ -251,8 +262,10 @@ module _ {s b : List ℕ} {ns : List Name} {n : ℕ} {table : List ℕ} {items :
               let j : items - i ≡ suc (items - (i + 1)) = omega arith in
               g .rest
               ∙ ap (λ (m : ℕ). drawItems s b ns entry v (rowsIn total edges) (itemsFrom s table i m)) j
-              ∙ ap (λ (y : Item). behind (itemWord s y) (itemWalk s b ns (itemWord s y) v (rowsIn total edges)) (nextEntry (itemWord s y) entry) (nextNode ns (itemWord s y) v)) (sym e)
-              ∙ ap (λ (out : Out Row). behind (itemWord s x) out (nextEntry (itemWord s x) entry) (nextNode ns (itemWord s x) v)) (walk-same s b ns (itemWord s x) v (rowsIn total edges))
+              ∙ ap (λ (y : Item). behind (itemWord s y) (itemWalk s b ns (itemWord s y) v (rowsIn total edges)) (nextEntry (itemWord s y) entry)
+              (nextNode ns (itemWord s y) v)) (sym e)
+              ∙ ap (λ (out : Out Row). behind (itemWord s x) out (nextEntry (itemWord s x) entry) (nextNode ns (itemWord s x) v))
+              (walk-same s b ns (itemWord s x) v (rowsIn total edges))
               ∙ ap₂ (λ (m z : ℕ). behind (itemWord s x) (itemWalk s b ns (itemWord s x) z (rowsIn total edges)) m z) (sym q) (sym p)
               ∙ ap (λ (out : Out Row). behind (itemWord s x) out k u) (sym (d .seen))
 
@@ -283,7 +296,8 @@ module _ {s b : List ℕ} {ns : List Name} {n : ℕ} {table : List ℕ} {items :
                 go true z = omega (arith, g .entries)
                 go false z = omega (arith, g .entries)
 
-            pub going-on : {m : ℕ} → w ≡ Built m → Going s b ns n table items store₀ imports₀ includes₀ levels₀ edges₀ chains₀ store₁ imports₁ includes₁ levels₁ edges₁ chains₁ m k u (i + 1)
+            pub going-on : {m : ℕ} → w ≡ Built m → Going s b ns n table items store₀ imports₀ includes₀ levels₀ edges₀ chains₀ store₁ imports₁ includes₁
+                levels₁ edges₁ chains₁ m k u (i + 1)
             going-on {m} y = record {
               rest = turn ∙ ap (λ (w : Walked). behind (itemWord s x) (walkSeen w edges₁) k u) y;
               listed = g .listed;

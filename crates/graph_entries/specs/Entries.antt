@@ -1,7 +1,7 @@
 -- The walk of the entries, going through the items of an image: a module or an import-only module is an entry, whose text is walked; then what a module
 -- lists is linked. Entries are numbered from 1.
 -- Assumes nothing.
-use Prim.Native.Nat.{ℕ, _+_, _*_, _<_}
+use Prim.Native.Nat.{ℕ, _+_, _<_}
 use mathlib.Core.Path.{_≡_}
 use mathlib.Core.Bool.{Bool, true, false, cond, _||_}
 use mathlib.Core.List.{List, [], _∷_}
@@ -19,9 +19,9 @@ use Rattle.graph.specs.Numbers.{Row, numberOf, givenCode, walkCodes, Drawing, d
 use Rattle.graph.specs.Limits.{mostEdges}
 use Rattle.graph_edges.specs.Edges.{rowsIn, Filed}
 use Rattle.graph_nodes.specs.Adding.{isEntry, namesHeld, Holding}
-use Rattle.graph_nodes.specs.Marks.{knownAt}
-use Rattle.graph_link.specs.Link.{levelWords}
-use Rattle.graph_walk.specs.Walk.{codesHere, Kept}
+use Rattle.graph_marks.specs.Marks.{knownAt}
+use Rattle.graph_link.specs.Link.{allLevels}
+use Rattle.graph_visit.specs.Visit.{codesHere, Kept}
 use Rattle.graph_entries.specs.declared.Drawn.{Drawn}
 use Rattle.graph_entries.specs.declared.Drawn.the-variants.{Built, Refused}
 
@@ -60,10 +60,6 @@ DrawnFiled (Refused number entry a) edges chains = Unit {0}
 
 -- ---- what the code asks and does
 
--- the words of all levels
-abbrev pub allLevels : ℕ
-allLevels = (deepest + 1) * levelWords
-
 -- an item and the node before it: an entry's name is a node, and what is no entry stands behind one
 pub record Next (s tab : List ℕ) (n : ℕ) (x : Item) (v : ℕ) : Type 0 where
   pub holding : Holding s tab n (namesIn s tab n)
@@ -78,7 +74,8 @@ pub record Placed (s : List ℕ) (ns : List Name) (n : ℕ) (x : Item) (v : ℕ)
   pub own : isEntry (x .kind) ≡ true → v ≡ itemNode ns (itemWord s x)
 
 -- all items were walked, or up to the first refusal; the tables are as long as before
-pub record Walks (s b : List ℕ) (ns : List Name) (store imports includes levels edges chains : List ℕ) (r : Drawn) (store₁ imports₁ includes₁ levels₁ edges₁ chains₁ : List ℕ) : Type 0 where
+pub record Walks (s b : List ℕ) (ns : List Name) (store imports includes levels edges chains : List ℕ) (r : Drawn)
+    (store₁ imports₁ includes₁ levels₁ edges₁ chains₁ : List ℕ) : Type 0 where
   pub seen : drawnSeen r edges₁ ≡ drawItems s b ns 0 0 [] (itemsAt s)
   pub filed : DrawnFiled r edges₁ chains₁
   pub kept-edges : length edges₁ ≡ length edges

@@ -1,8 +1,8 @@
 // The entries of an image, one after another: the text of each is walked, then what a module lists is linked.
 use graph::NodeIndex;
 use graph_link::Walked;
-use graph_walk::Sizes;
-use graph_walk::Spot;
+use graph_visit::Sizes;
+use graph_visit::Spot;
 use library_items::Item;
 use text::Refusal;
 ghost use mathlib.Core.Path.{_≡_};
@@ -11,9 +11,10 @@ ghost use Prim.Native.Nat.{_+_, _<_};
 ghost use Rattle.library_items.specs.Table.{mostItems, itemWord, Itemized};
 ghost use Rattle.graph_edges.specs.Edges.{rowsIn};
 ghost use Rattle.graph_nodes.specs.Adding.{isEntry, namesHeld};
-ghost use Rattle.graph_link.specs.Link.{Drew};
-ghost use Rattle.graph_walk.specs.Walk.{Ground, Tables, Kept};
-ghost use Rattle.graph_entries.specs.Entries.{isListed, itemWalk, nextNode, allLevels, Next, Placed, Walks};
+ghost use Rattle.graph_link.specs.Link.{Drew, allLevels};
+ghost use Rattle.graph_walk.specs.Walk.{Tables};
+ghost use Rattle.graph_visit.specs.Visit.{Ground, Kept};
+ghost use Rattle.graph_entries.specs.Entries.{isListed, itemWalk, nextNode, Next, Placed, Walks};
 
 // The depth left to an entry's own text.
 const DEEPEST: usize = 8;

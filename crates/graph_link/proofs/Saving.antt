@@ -16,9 +16,9 @@ use Rattle.scan_rows.specs.Rows.{includeSize, includeAt, rowsOf, includesIn, mo
 use Rattle.scan_rows.specs.declared.YangInclude.{YangInclude}
 use Rattle.scan_rows.proofs.Laws.{rows-done, rows-more}
 use Rattle.graph.specs.Limits.{mostNodes}
-use Rattle.graph_nodes.specs.Marks.{Desk, includedAt, includedCode, IncludedNode}
-use Rattle.graph_nodes.specs.declared.Included.{Included}
-use Rattle.graph_nodes.specs.declared.Included.the-variants.{NotFound, NotNode, Node as Below}
+use Rattle.graph_marks.specs.Marks.{Desk, includedAt, includedCode, IncludedNode}
+use Rattle.graph_marks.specs.declared.Included.{Included}
+use Rattle.graph_marks.specs.declared.Included.the-variants.{NotFound, NotNode, Node as Below}
 use Rattle.graph_texts.specs.Texts.{includeNames}
 use Rattle.graph_link.specs.Link.{levelWords, includeCodes, wordsFrom, Words, IncludeRows, Saved}
 
@@ -74,13 +74,16 @@ saving-begins n s ns store includes k base levels h = record {
   long = refl;
 }
 
-module _ (n : ℕ) (s : List ℕ) (ns : List Name) (store includes : List ℕ) (k base : ℕ) (levels₀ levels : List ℕ) (i : ℕ) (g : Saving n s ns store includes k base levels₀ levels i) where
+module _ (n : ℕ) (s : List ℕ) (ns : List Name) (store includes : List ℕ) (k base : ℕ) (levels₀ levels : List ℕ) (i : ℕ)
+    (g : Saving n s ns store includes k base levels₀ levels i) where
   pub all-saved : k ≤ i → Saved n (includeCodes s ns store includes k) base k levels₀ levels
   unfolding includesFrom includeNames
   all-saved h =
       let q : i ≡ k = omega (arith, g .room) in
       record {
-        words = ap (wordsFrom levels base) (sym q) ∙ sym (append-nil (wordsFrom levels base i)) ∙ ap (λ l. wordsFrom levels base i ++ map (includedAt s ns) (includeNames store l)) (sym (rows-done (includeAt includes) includeSize k i h)) ∙ g .sofar;
+        words = ap (wordsFrom levels base) (sym q) ∙ sym (append-nil (wordsFrom levels base i))
+            ∙ ap (λ l. wordsFrom levels base i ++ map (includedAt s ns) (includeNames store l)) (sym (rows-done (includeAt includes) includeSize k i h))
+            ∙ g .sofar;
         low = rw q at (g .low);
         above = g .above;
         kept = g .long;
@@ -94,7 +97,8 @@ module _ (n : ℕ) (s : List ℕ) (ns : List Name) (store includes : List ℕ) (
     due : includesFrom s ns store includes k i ≡ w ∷ includesFrom s ns store includes k (i + 1)
     unfolding includesFrom includeNames
     due =
-        let p : w ≡ includedAt s ns (valueIn store (includeAt includes (i * includeSize) .«submodule_name»)) = z ∙ q ∙ ap (includedAt s ns) (f ∙ ap (λ (x : YangInclude). valueIn store (x .«submodule_name»)) e) in
+        let p : w ≡ includedAt s ns (valueIn store (includeAt includes (i * includeSize) .«submodule_name»)) = z ∙ q
+        ∙ ap (includedAt s ns) (f ∙ ap (λ (x : YangInclude). valueIn store (x .«submodule_name»)) e) in
         rw (rows-more (includeAt includes) includeSize k i h, p)
 
     pub saved-on : Saving n s ns store includes k base levels₀ (set levels (base + i) w) (i + 1)
@@ -107,7 +111,8 @@ module _ (n : ℕ) (s : List ℕ) (ns : List Name) (store includes : List ℕ) (
           few = g .few;
           inside = g .inside;
           sofar =
-              ap (λ l. l ++ includesFrom s ns store includes k (i + 1)) (ap (wordsFrom (set levels (base + i) w) base) one ∙ words-snoc (set levels (base + i) w) base i ∙ ap₂ (λ a b. a ++ (b ∷ [])) (words-before levels (base + i) w base i (omega arith)) same)
+              ap (λ l. l ++ includesFrom s ns store includes k (i + 1)) (ap (wordsFrom (set levels (base + i) w) base) one
+              ∙ words-snoc (set levels (base + i) w) base i ∙ ap₂ (λ a b. a ++ (b ∷ [])) (words-before levels (base + i) w base i (omega arith)) same)
               ∙ append-assoc (wordsFrom levels base i) (w ∷ []) (includesFrom s ns store includes k (i + 1))
               ∙ ap (λ l. wordsFrom levels base i ++ l) (sym due)
               ∙ g .sofar;

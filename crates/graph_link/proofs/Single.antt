@@ -18,11 +18,11 @@ use Rattle.graph_edges.specs.declared.Link.{Link}
 use Rattle.graph_edges.specs.declared.Link.the-variants.{Count, Full}
 use Rattle.graph.specs.declared.NodeIndex.{NodeIndex}
 use Rattle.graph.specs.Limits.{mostEdges, mostNodes}
-use Rattle.graph_nodes.specs.Marks.{Desk, knownAt, resolvedCode, includedCode, ResolvedNode, IncludedNode}
-use Rattle.graph_nodes.specs.declared.Resolved.{Resolved}
-use Rattle.graph_nodes.specs.declared.Resolved.the-variants.{Unknown, Node}
-use Rattle.graph_nodes.specs.declared.Included.{Included}
-use Rattle.graph_nodes.specs.declared.Included.the-variants.{Node as Below}
+use Rattle.graph_marks.specs.Marks.{Desk, knownAt, resolvedCode, includedCode, ResolvedNode, IncludedNode}
+use Rattle.graph_marks.specs.declared.Resolved.{Resolved}
+use Rattle.graph_marks.specs.declared.Resolved.the-variants.{Unknown, Node}
+use Rattle.graph_marks.specs.declared.Included.{Included}
+use Rattle.graph_marks.specs.declared.Included.the-variants.{Node as Below}
 use Rattle.graph_link.specs.Link.{eitherCode, belowOf, linkWalked, Drew, Stepped}
 use Rattle.graph_link.specs.declared.Walked.{Walked}
 use Rattle.graph_link.specs.declared.Walked.the-variants.{Built, Refused}
@@ -53,7 +53,13 @@ filled l a z e = ap (Refused 31) z ∙ sym (ap linkWalked e)
 
 drew : (x : Link) (rs : List Row) (r : Row) (edges chains edges₁ chains₁ : List ℕ) (w : Walked) → Linked rs r edges chains x edges₁ chains₁ → w ≡ linkWalked x
     → Drew (addRow mostEdges rs r) edges chains w edges₁ chains₁
-drew (Count n) rs r edges chains edges₁ chains₁ w l e = record { seen = rw e (l .seen); filed = rw e (l .filed); kept-edges = l .kept-edges; kept-chains = l .kept-chains }
+drew (Count n) rs r edges chains edges₁ chains₁ w l e = record {
+  seen = rw e (l .seen);
+  filed = rw e
+      (l .filed);
+  kept-edges = l .kept-edges;
+  kept-chains = l .kept-chains;
+}
 drew Full rs r edges chains edges₁ chains₁ w l e = record { seen = rw e (l .seen); filed = rw e tt; kept-edges = l .kept-edges; kept-chains = l .kept-chains }
 
 module _ (s tab : List ℕ) (n : ℕ) (marks : List ℕ) (d : Desk s tab n marks) where
@@ -63,7 +69,8 @@ module _ (s tab : List ℕ) (n : ℕ) (marks : List ℕ) (d : Desk s tab n marks
   pub node-low : (v : NodeIndex) → v .0 < n → v .0 < mostNodes
   node-low v h = omega (arith, d .holding .few)
 
-module _ (s : List ℕ) (ns : List Name) (u : Name) (r : Resolved) (k : resolvedCode r ≡ knownAt s ns u) (given : Bool) (v : ℕ) (rs : List Row) (edges chains : List ℕ) where
+module _ (s : List ℕ) (ns : List Name) (u : Name) (r : Resolved) (k : resolvedCode r ≡ knownAt s ns u) (given : Bool) (v : ℕ) (rs : List Row)
+    (edges chains : List ℕ) where
   pub unknown : (a : Refusal) → r ≡ Unknown → a ≡ noRefusal
       → Drew (eitherCode given v (knownAt s ns u) rs) edges chains (Refused 26 a) edges chains
   unknown a e z = record { seen = rw (q, z) (go given); filed = tt; kept-edges = refl; kept-chains = refl }

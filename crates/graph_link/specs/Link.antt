@@ -9,13 +9,13 @@ use lib.ListN.{length, getD, drop}
 use Rattle.scan_rows.specs.Rows.{importSize, includeSize, mostRows, importsIn, includesIn}
 use Rattle.library_image.specs.Library.{Name}
 use Rattle.text.specs.Refusal.{noRefusal}
-use Rattle.graph.specs.Graph.{noIncludedText, tooDeep, tooManyEdges, Out, built, refused}
+use Rattle.graph.specs.Graph.{deepest, noIncludedText, tooDeep, tooManyEdges, Out, built, refused}
 use Rattle.graph.specs.Limits.{mostEdges}
 use Rattle.graph.specs.Numbers.{Row, Codes, importCode, givenCode, includeCode, walkCodes}
 use Rattle.graph_edges.specs.Edges.{rowsIn, Filed}
 use Rattle.graph_edges.specs.declared.Link.{Link}
 use Rattle.graph_edges.specs.declared.Link.the-variants.{Count, Full}
-use Rattle.graph_nodes.specs.Marks.{knownAt, includedAt}
+use Rattle.graph_marks.specs.Marks.{knownAt, includedAt}
 use Rattle.graph_texts.specs.Texts.{importNames, includeNames}
 use Rattle.graph_link.specs.declared.Walked.{Walked}
 use Rattle.graph_link.specs.declared.Walked.the-variants.{Built, Refused}
@@ -25,6 +25,10 @@ use Rattle.graph_link.specs.declared.Stepping.the-variants.{Down, Stoppe
 -- the words of a level: one for each include of a text
 abbrev pub levelWords : ℕ
 levelWords = 256
+
+-- the words of all levels, an entry's own text among them
+abbrev pub allLevels : ℕ
+allLevels = (deepest + 1) * levelWords
 
 -- an edge between v and the module of a code: one that v lists, or one that v imports
 abbrev pub eitherCode : (listed : Bool) → (v code : ℕ) → List Row → Out Row

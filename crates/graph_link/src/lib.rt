@@ -1,8 +1,8 @@
 // One edge of the walk, the edges of a text's imports, and an include up to the walk of its text.
 use graph::NodeIndex;
 use graph_edges::Link;
-use graph_nodes::Included;
-use graph_nodes::Resolved;
+use graph_marks::Included;
+use graph_marks::Resolved;
 use text::Refusal;
 ghost use mathlib.Core.Path.{_≡_};
 ghost use mathlib.Core.Bool.{cond};
@@ -11,7 +11,7 @@ ghost use Rattle.graph.specs.Limits.{mostEdges, mostNodes};
 ghost use Rattle.graph.specs.Numbers.{eachO, importCode};
 ghost use Rattle.graph_edges.specs.Edges.{rowsIn, Filed};
 ghost use Rattle.graph_nodes.specs.Adding.{namesHeld};
-ghost use Rattle.graph_nodes.specs.Marks.{Desk, knownAt, includedCode, IncludedNode};
+ghost use Rattle.graph_marks.specs.Marks.{Desk, knownAt, includedCode, IncludedNode};
 ghost use Rattle.graph_link.specs.Link.{linkWalked, eitherCode, importCodes, includeCodes, ImportRows, IncludeRows, Drew, Saved, Stepped};
 
 // The refusals of this layer.
@@ -65,7 +65,7 @@ pub fn link_known(
         (rowsIn count (now (edges .entry))))
         (now (edges .entry)) (now (chains .entry)) r (now (edges .exit)) (now (chains .exit)) ⌝ }
 {
-    let Resolved::Node(u) = graph_nodes::find_known(image, ntab, n, marks, name) else {
+    let Resolved::Node(u) = graph_marks::find_known(image, ntab, n, marks, name) else {
         return Walked::Refused(UNKNOWN_MODULE, text::no_refusal());
     };
     if given {
@@ -134,14 +134,15 @@ pub fn save_includes(
     base: usize,
 )
     requires { ⌜ Desk (now image) (now ntab) n (now marks) × IncludeRows (now includes) rows (now levels) base ⌝ }
-    ensures { λ r. ⌜ Saved n (includeCodes (now (image .entry)) (namesHeld (now (image .entry)) (now (ntab .entry)) n) (now (store .entry)) (now (includes .entry)) rows)
+    ensures { λ r. ⌜ Saved n (includeCodes (now (image .entry)) (namesHeld (now (image .entry)) (now (ntab .entry)) n) (now (store .entry))
+        (now (includes .entry)) rows)
         base rows (now (levels .entry)) (now (levels .exit)) ⌝ }
 {
     let mut i = 0;
     while i < rows {
         let include = scan_rows::get_include(includes, i);
         let name = scan_rows::value_in(store, include.submodule_name);
-        levels[base + i] = code_of(graph_nodes::find_included(image, ntab, n, marks, name));
+        levels[base + i] = code_of(graph_marks::find_included(image, ntab, n, marks, name));
         i += 1;
     }
 }

@@ -3,21 +3,21 @@
 -- Assumes nothing.
 use Prim.Native.Nat.{ℕ, _≤_}
 use mathlib.Core.Path.{_≡_, refl, sym, ap, _∙_}
-use mathlib.Core.Bool.{Bool, true, false, cond, _||_, _&&_}
+use mathlib.Core.Bool.{Bool, true, false, cond, _&&_}
 use mathlib.Core.List.{List, [], _∷_, _++_, map, flatMap, List·Memᴰ, List·Memᴰ·head, List·Memᴰ·tail, List·Memᴰ·not-nil, Memᴰ·map}
 use native.Mathlib.Omega.{arith}
 use lib.ListN.{length, length-append}
 use Rattle.text.specs.Keyword.{same}
 use Rattle.library_form.specs.Form.{PlacedName}
 use Rattle.library_image.specs.Library.{Name, Module, ImportOnly, ModuleSet, Library, plainName, plainImportOnly, plainSet, plain}
-use Rattle.library_items.specs.Items.{submoduleKind, augmentingKind, deviationKind, firstSubKind, laterSubKind, ItemOf, item, moduleItems, laterItems, importItems, setItems, itemsOf}
+use Rattle.library_items.specs.Items.{submoduleKind, augmentingKind, deviationKind, firstSubKind, laterSubKind, ItemOf, item, moduleItems, laterItems}
+use Rattle.library_items.specs.Items.{importItems, setItems, itemsOf}
 use Rattle.library_index.specs.Names.{among, addNew, addAll}
 use Rattle.library_index.proofs.First.{among-append}
 use Rattle.graph.specs.Nodes.{passOver, Group, moduleGroup, revisionGroups, setGroups, addGroup, addGroups, nodesBy, wordNodes}
 use Rattle.graph.specs.Meaning.{Revised}
-use Rattle.graph.proofs.Tests.{same-refl, both-bools}
+use Rattle.graph.proofs.Tests.{same-refl, both-bools, or-left, or-right}
 use Rattle.graph.proofs.Sets.{importOnly-in}
-use Rattle.graph_nodes.proofs.OfKind.{or-left, or-right}
 use Rattle.graph_nodes.specs.Adding.{isEntry, isSub, Adding, so, addName, addItem, addItems}
 
 -- ---- one list of items behind another
@@ -84,7 +84,8 @@ subs-added k e q (w ∷ ws) ns =
     ap (λ (c : Adding). addItems c (map (item k) ws)) (go (isEntry k) (isSub k) e q ∙ named (among plainName (w .text) ns))
     ∙ subs-added k e q ws (addNew plainName ns w)
   where
-    go : (b c : Bool) → b ≡ false → c ≡ true → cond b (addName (so ns true) false w) (cond c (addName (so ns true) true w) (so ns true)) ≡ addName (so ns true) true w
+    go : (b c : Bool) → b ≡ false → c ≡ true → cond b (addName (so ns true) false w) (cond c (addName (so ns true) true w) (so ns true))
+        ≡ addName (so ns true) true w
     go true c p q = both-bools refl p
     go false false p q = both-bools q refl
     go false true p q = refl
@@ -116,7 +117,8 @@ module-added m a = ap (λ (c : Adding). c .nodes) (items-append (map (item submo
         ∙ none-added deviationKind refl refl (m .deviations) c
 
     go : (b : Bool)
-        → addItems (addItems (headed b) (map (item submoduleKind) (m .submodules))) lists .nodes ≡ cond b (a .nodes) (addAll plainName (a .nodes ++ (m .name ∷ [])) (m .submodules))
+        → addItems (addItems (headed b) (map (item submoduleKind) (m .submodules))) lists .nodes
+        ≡ cond b (a .nodes) (addAll plainName (a .nodes ++ (m .name ∷ [])) (m .submodules))
     go true = ap (λ (c : Adding). c .nodes) (unlisted _ ∙ subs-passed submoduleKind refl (m .submodules) (a .nodes))
     go false = ap (λ (c : Adding). c .nodes) (unlisted _ ∙ subs-added submoduleKind refl refl (m .submodules) (a .nodes ++ (m .name ∷ [])))
 
@@ -150,7 +152,8 @@ later-passed : (w : PlacedName) (rs : List (List PlacedName)) (ns : List PlacedN
     → addGroups plainName passOver ns (map (revisionGroup w) rs) ≡ ns
 unfolding addGroups
 later-passed w [] ns h = refl
-later-passed w (r ∷ rs) ns h = ap (λ (l : List PlacedName). addGroups plainName passOver l (map (revisionGroup w) rs)) (go (among plainName (w .text) ns) h) ∙ later-passed w rs ns h
+later-passed w (r ∷ rs) ns h = ap (λ (l : List PlacedName). addGroups plainName passOver l (map (revisionGroup w) rs)) (go (among plainName (w .text) ns) h)
+    ∙ later-passed w rs ns h
   where
     go : (b : Bool) → b ≡ true → cond b ns (addAll plainName (ns ++ (w ∷ [])) r) ≡ ns
     go true h = refl
@@ -193,7 +196,8 @@ groups-append (g ∷ gs) hs ns = groups-append gs hs (addGroup plainName passOve
 
 -- items that add their groups, one list behind another
 module _ {B : Type 0} (f : B → List (ItemOf PlacedName)) (g : B → List (Group PlacedName)) where
-  each-added : (bs : List B) → ((b : B) → List·Memᴰ b bs → (a : Adding) → addItems a (f b) .nodes ≡ addGroups plainName passOver (a .nodes) (g b)) → (a : Adding)
+  each-added : (bs : List B) → ((b : B) → List·Memᴰ b bs → (a : Adding) → addItems a (f b) .nodes ≡ addGroups plainName passOver (a .nodes) (g b))
+      → (a : Adding)
       → addItems a (flatMap f bs) .nodes ≡ addGroups plainName passOver (a .nodes) (flatMap g bs)
   unfolding flatMap addItems addGroups
   each-added [] h a = refl
@@ -219,7 +223,8 @@ revised-added : (i : ImportOnly) → OneRevised i → (a : Adding) → addItems 
 revised-added i h a = go (i .revisions) (h .1)
   where
     go : (rs : List (List PlacedName)) → List·Memᴰ (h .0) (map (map plainName) rs)
-        → addItems a (importItems (record { name = i .name; revisions = rs })) .nodes ≡ addGroups plainName passOver (a .nodes) (map (revisionGroup (i .name)) rs)
+        → addItems a (importItems (record { name = i .name; revisions = rs })) .nodes
+        ≡ addGroups plainName passOver (a .nodes) (map (revisionGroup (i .name)) rs)
     go [] m = absurd (List·Memᴰ·not-nil m)
     go (r ∷ rs) m = import-added (i .name) r rs a
 

@@ -65,7 +65,8 @@ module _ (s tab after : List ℕ) (n place size : ℕ) (there : Bool) where
   name-there {r} {i} q a h =
       let e : grown ≡ so nodes there = is-there (is-among 0 (name .text) nodes (sym (a .answer) ∙ q)) in
       record {
-        answer = subst (λ (x : Adding). GrownAs (On n there) s after x) (sym e) (subst (λ (t : List ℕ). Holding s t n nodes) (sym (a .there i q)) (h .holding), refl);
+        answer = subst (λ (x : Adding). GrownAs (On n there) s after x) (sym e)
+            (subst (λ (t : List ℕ). Holding s t n nodes) (sym (a .there i q)) (h .holding), refl);
         kept = a .kept;
       }
 
@@ -86,7 +87,8 @@ module _ (s tab after : List ℕ) (n place size : ℕ) (there : Bool) where
 -- ---- an item
 
 pub item-asks : (s table tab : List ℕ) (i n : ℕ) {x : Item} → x ≡ itemIn table i → AddsItem s table i tab n → Adds s tab n (x .place) (x .size)
-item-asks s table tab i n {x} e h = subst (λ (y : Item). Adds s tab n (y .place) (y .size)) (sym e) (record { holding = h .holding; inside = h .fits .inside; short = h .short })
+item-asks s table tab i n {x} e h = subst (λ (y : Item). Adds s tab n (y .place) (y .size)) (sym e)
+    (record { holding = h .holding; inside = h .fits .inside; short = h .short })
 
 module _ (s table tab : List ℕ) (i n : ℕ) (adding : Bool) {x : Item} (e : x ≡ itemIn table i) where
   abbrev before : List PlacedName
@@ -96,7 +98,8 @@ module _ (s table tab : List ℕ) (i n : ℕ) (adding : Bool) {x : Item} (e : x 
   more = addItem (so before adding) (itemWord s (itemIn table i))
 
   chosen : {b c d : Bool} → b ≡ isEntry (x .kind) → b ≡ c → (adding && isSub (x .kind)) ≡ d
-      → cond c (addName (so before false) false (wordAt s (x .place) (x .size))) (cond d (addName (so before false) true (wordAt s (x .place) (x .size))) (so before adding)) ≡ more
+      → cond c (addName (so before false) false (wordAt s (x .place) (x .size)))
+      (cond d (addName (so before false) true (wordAt s (x .place) (x .size))) (so before adding)) ≡ more
   unfolding addItem addName
   chosen p q k = rw (← q, p, ← k, e)
 
@@ -172,14 +175,16 @@ module _ (s table before : List ℕ) (count : ℕ) where
           → Building s table before count after m c (i + 1)
       build-on {m} {c} q w l =
           let k : GrownAs (On m c) s after (so-far s table (i + 1)) =
-          subst (λ (x : Adding). GrownAs (On m c) s after x) next-so-far (subst (λ (u : Grown). GrownAs u s after (addItem (so (namesIn s tab n) b) (itemWord s (itemIn table i)))) q (w .answer)) in
+          subst (λ (x : Adding). GrownAs (On m c) s after x) next-so-far
+          (subst (λ (u : Grown). GrownAs u s after (addItem (so (namesIn s tab n) b) (itemWord s (itemIn table i)))) q (w .answer)) in
           record { holding = k .0; adding = k .1; kept = w .kept ∙ g .kept; room = omega arith }
 
       pub build-full : r ≡ Full → Grew s tab (addItem (so (namesIn s tab n) b) (itemWord s (itemIn table i))) r after → {entry : List ℕ} → Cleared entry before
           → Itemized s count table → Bytes s → i < count → Constructed passOver s entry TooMany after
       build-full q w k₀ m bytes l =
           let k : mostNodes < length (so-far s table (i + 1) .nodes) =
-          subst (λ (x : Adding). GrownAs Full s after x) next-so-far (subst (λ (u : Grown). GrownAs u s after (addItem (so (namesIn s tab n) b) (itemWord s (itemIn table i)))) q (w .answer)) in
+          subst (λ (x : Adding). GrownAs Full s after x) next-so-far (subst
+          (λ (u : Grown). GrownAs u s after (addItem (so (namesIn s tab n) b) (itemWord s (itemIn table i)))) q (w .answer)) in
           let e : i + 1 + (count - (i + 1)) ≡ count = omega arith in
           let o : so-far s table count ≡ addItems (so-far s table (i + 1)) (itemsFrom s table (i + 1) (count - (i + 1))) =
           ap (so-far s table) (sym e)
@@ -187,7 +192,13 @@ module _ (s table before : List ℕ) (count : ℕ) where
           ∙ items-append (itemsIn s table (i + 1)) (itemsFrom s table (i + 1) (count - (i + 1))) (so [] false) in
           let p : length (addItems (so-far s table (i + 1)) (itemsFrom s table (i + 1) (count - (i + 1))) .nodes) ≡ length (wordsAt passOver s) =
           ap (λ (a : Adding). length (a .nodes)) (sym o) ∙ ap (λ (ns : List PlacedName). length ns) (all-nodes m bytes) in
-          let u : mostNodes < length (wordsAt passOver s) = omega (arith, k, p, items-grow (itemsFrom s table (i + 1) (count - (i + 1))) (so-far s table (i + 1))) in
+          let u : mostNodes < length (wordsAt passOver s) = omega (
+            arith,
+            k,
+            p,
+            items-grow (itemsFrom s table (i + 1) (count - (i + 1)))
+                (so-far s table (i + 1)),
+          ) in
           record { answer = u; kept = w .kept ∙ g .kept ∙ k₀ .kept }
 
     pub build-done : {entry : List ℕ} → Cleared entry before → Itemized s count table → Bytes s → count ≤ i → Constructed passOver s entry (Count n) tab

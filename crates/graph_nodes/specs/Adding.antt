@@ -7,14 +7,14 @@ use mathlib.Core.Bool.{Bool, true, false, cond, _||_, _&&_}
 use mathlib.Core.List.{List, [], _∷_, _++_, map}
 use lib.ListN.{length}
 use lib.Dec.{eqb}
-use Rattle.library_form.specs.Form.{PlacedName}
+use Rattle.library_form.specs.Form.{PlacedName, wordAt}
 use Rattle.library_image.specs.Library.{Name, PlainLibrary, plainName, plain}
 use Rattle.library_image.specs.Image.{mostImage}
 use Rattle.library_index.specs.Names.{among, namesIn, Indexed}
 use Rattle.library_items.specs.Items.{moduleKind, submoduleKind, importOnlyKind, firstSubKind, ItemOf, libraryOf}
 use Rattle.library_items.specs.Table.{itemIn, ItemFits}
 use Rattle.graph.specs.Limits.{mostNodes}
-use Rattle.graph.specs.Nodes.{Mode, wordNodes}
+use Rattle.graph.specs.Nodes.{Mode, memb, wordNodes}
 use Rattle.graph_nodes.specs.declared.Grown.{Grown}
 use Rattle.graph_nodes.specs.declared.Grown.the-variants.{On, Full}
 use Rattle.graph_nodes.specs.declared.Nodes.{Nodes}
@@ -101,3 +101,15 @@ NodesAs mode TooMany s tab = mostNodes < length (wordsAt mode s)
 pub record Constructed (mode : Mode) (s tab : List ℕ) (r : Nodes) (after : List ℕ) : Type 0 where
   pub answer : NodesAs mode r s after
   pub kept : length after ≡ length tab
+
+-- ---- a node by its name, and a name by its node
+
+-- a name that stands in the image and is a node; and the number of a node
+pub record Stands (s tab : List ℕ) (n place size : ℕ) : Type 0 where
+  pub holding : Holding s tab n (namesIn s tab n)
+  pub inside : place + size ≤ length s
+  pub node : memb (wordAt s place size .text) (namesHeld s tab n) ≡ true
+
+pub record Numbered (s tab : List ℕ) (n v : ℕ) : Type 0 where
+  pub holding : Holding s tab n (namesIn s tab n)
+  pub low : v < n

@@ -14,7 +14,8 @@ use Rattle.scan_rows.specs.Rows.{importsIn, includesIn, Each}
 use Rattle.scan_rows.specs.declared.YangImport.{YangImport}
 use Rattle.scan_rows.specs.declared.YangInclude.{YangInclude}
 use Rattle.scan_rows.proofs.Values.{value-stored}
-use Rattle.yangparser.specs.Dependencies.{Dependencies, tooShort, dependencies, readOf}
+use Rattle.yangparser.specs.Dependencies.{Dependencies, dependencies, readOf}
+use Rattle.scan_rows.specs.Short.{tooShort}
 use Rattle.yangparser.specs.Promises.{Holds, lentScan, Scans}
 use Rattle.yangparser.specs.declared.Parsed.{Parsed}
 use Rattle.yangparser.specs.declared.Parsed.the-variants.{Good, Refused as RefusedScan}

@@ -32,6 +32,7 @@ module _ (b t : List ℕ) {p : TextPlace} (a : looked p ≡ lookUp b t) where
       include-room = m .include-room;
     }
 
-    pub text-under : {d f g : List ℕ} {r : Seen} {e i j : List ℕ} → SeenAs (scanText (take (from + size - from) (drop from b))) d f g r e i j → SeenAs (textOf b t) d f g r e i j
+    pub text-under : {d f g : List ℕ} {r : Seen} {e i j : List ℕ} → SeenAs (scanText (take (from + size - from) (drop from b))) d f g r e i j
+        → SeenAs (textOf b t) d f g r e i j
     unfolding textOf
     text-under {d} {f} {g} {r} {e} {i} {j} w = subst (λ x. SeenAs x d f g r e i j) (ap scanText part ∙ ap (lookText b) (is-there b t a h)) w

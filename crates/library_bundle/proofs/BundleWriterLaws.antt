@@ -14,12 +14,14 @@ use Rattle.text.proofs.Here.{never, neither, or-none}
 use Rattle.library_form.specs.Form.{Ans, good, bad, bind, PlacedName, many}
 use Rattle.library_form.specs.Writer.{writeNumber, writeName, AllBytes}
 use Rattle.library_form.proofs.Bounds.{number-end}
-use Rattle.library_form.proofs.Standing.{Wrote, wrote-none, wrote-join, number-wrote, name-wrote, Stands, stands-left, stands-right, stands-within, number-stands, name-stands}
+use Rattle.library_form.proofs.Standing.{Wrote, wrote-none, wrote-join, number-wrote, name-wrote, Stands, stands-left, stands-right, stands-within}
+use Rattle.library_form.proofs.Standing.{number-stands, name-stands}
 use Rattle.library_form.proofs.WriterLaws.{name-bytes, number-most}
 use Rattle.library_index.specs.Names.{among, memb, newName}
 use Rattle.library_index.proofs.First.{among-append}
 use Rattle.library_bundle.specs.Bundle.{mostTexts, mostBytes, Text, textOf, bodyAt, filedAt, words, newText, textsAt, bundleAt}
-use Rattle.library_bundle.specs.BundleWriter.{Named, writeText, writeTexts, writeBundle, named, allNamed, TextBytes, AllTexts, Others, Differ, BundleTexts}
+use Rattle.library_bundle.specs.BundleWriter.{Named, writeText, writeTexts, writeBundle, named, allNamed, TextBytes, AllTexts, Others, Differ}
+use Rattle.library_bundle.specs.BundleWriter.{BundleTexts}
 use Rattle.library_bundle.proofs.Entries.{parted}
 use Rattle.library_bundle.proofs.Opening.{words-snoc}
 use Rattle.library_bundle.proofs.Parts.{bundle-parted}
@@ -85,7 +87,8 @@ module _ (s : List ℕ) where
     said : allNamed s texts ≡ allNamed s seen ++ ts
     read : many (newText s) (length ts) seen at ≡ good texts (at + length (writeTexts ts))
 
-  texts-back : (at : ℕ) (seen : List Text) (ts : List Named) (l : List ℕ) → Stands s at (writeTexts ts) l → AllTexts ts → Fresh (words seen) ts → Differ ts → AllBack at seen ts
+  texts-back : (at : ℕ) (seen : List Text) (ts : List Named) (l : List ℕ) → Stands s at (writeTexts ts) l → AllTexts ts → Fresh (words seen) ts → Differ ts
+      → AllBack at seen ts
   unfolding writeTexts many
   texts-back at seen [] l g h f d =
       let e : at ≡ at + 0 = omega arith in
@@ -101,7 +104,8 @@ module _ (s : List ℕ) where
       let z : behind + length (writeTexts ts) ≡ at + length (writeText t ++ writeTexts ts) = omega (arith, length-append (writeText t) (writeTexts ts)) in
       record {
         texts = r .texts;
-        said = r .said ∙ ap (λ (x : List Named). x ++ ts) (map-append (named s) seen (e ∷ []) ∙ ap (λ (x : Named). allNamed s seen ++ (x ∷ [])) (b .said)) ∙ append-assoc (allNamed s seen) (t ∷ []) ts;
+        said = r .said ∙ ap (λ (x : List Named). x ++ ts) (map-append (named s) seen (e ∷ []) ∙ ap (λ (x : Named). allNamed s seen ++ (x ∷ [])) (b .said))
+            ∙ append-assoc (allNamed s seen) (t ∷ []) ts;
         read = rw (b .read) (r .read ∙ ap (good (r .texts)) z);
       }
 
@@ -143,8 +147,10 @@ module _ (s : List ℕ) where
         let r = o .room in
         let i : n - e .from ≡ e .size = omega (arith, o .end) in
         let z : length (take (e .size) (drop (e .from) s)) ≡ e .size = length-take-le (e .size) (drop (e .from) s) (rw length-drop r) in
-        let number : Wrote s (o .behind) (writeNumber (length (take (e .size) (drop (e .from) s)))) (e .from) = rw z (number-wrote s bytes (o .behind) (o .size)) in
-        let body : Wrote s (e .from) (take (e .size) (drop (e .from) s)) n = record { later = omega (arith, o .end); bytes = ap (λ (x : ℕ). take x (drop (e .from) s)) i } in
+        let number : Wrote s (o .behind) (writeNumber (length (take (e .size) (drop (e .from) s)))) (e .from) = rw z
+        (number-wrote s bytes (o .behind) (o .size)) in
+        let body : Wrote s (e .from) (take (e .size) (drop (e .from) s)) n = record
+        { later = omega (arith, o .end); bytes = ap (λ (x : ℕ). take x (drop (e .from) s)) i } in
         record {
           inside = omega (arith, r, l .1, o .end);
           wrote = wrote-join s at (o .behind) n (name-wrote s bytes at (o .name)) (wrote-join s (o .behind) (e .from) n number body);

@@ -14,7 +14,8 @@ use Rattle.library_form.specs.declared.LookUp.the-variants.{Broken, At as Stand
 use Rattle.library_form.proofs.Bounds.{number-place, number-end, name-place, name-end}
 use Rattle.library_index.specs.Names.{newName}
 use Rattle.library_index.proofs.Taking.{new-read, new-place}
-use Rattle.library_bundle.specs.Bundle.{mostBytes, mostTexts, Text, textOf, bodyAt, filedAt, words, newText, ended, textsAt, bundleAt, placeOf, looked, lookIn, lookUp}
+use Rattle.library_bundle.specs.Bundle.{mostBytes, mostTexts, Text, textOf, bodyAt, filedAt, words, newText, ended, textsAt, bundleAt, placeOf, looked}
+use Rattle.library_bundle.specs.Bundle.{lookIn, lookUp}
 use Rattle.library_bundle.specs.declared.TextPlace.{TextPlace}
 use Rattle.library_bundle.specs.declared.TextPlace.the-variants.{At, Nothing}
 use Rattle.library_bundle.proofs.Entries.{text-sized}

@@ -43,7 +43,8 @@ pub record Reading (s before tab : List ℕ) (count start i at : ℕ) : Type 0 w
   pub names : namesIn s tab i ≡ words seen
   pub sizes : Sizes s seen
 
-pub begun : (s before tab : List ℕ) (count start : ℕ) → Cleared before tab → start ≤ length s → tableWords ≤ length before → Reading s tab tab count start 0 start
+pub begun : (s before tab : List ℕ) (count start : ℕ) → Cleared before tab → start ≤ length s → tableWords ≤ length before
+    → Reading s tab tab count start 0 start
 unfolding namesIn
 begun s before tab count start e l m = let z : count - 0 ≡ count = omega arith in record {
   seen = [];
@@ -64,7 +65,8 @@ module _ (s before tab : List ℕ) (count start i at : ℕ) (g : Reading s befor
   left : i < count → count - i ≡ suc (count - (i + 1))
   left h = omega arith
 
-  next : i < count → many (newText s) (count - i) (g .seen) at ≡ bind (filedAt s (namesIn s tab i) at) (λ a n. many (newText s) (count - (i + 1)) (g .seen ++ (a ∷ [])) n)
+  next : i < count → many (newText s) (count - i) (g .seen) at ≡ bind (filedAt s (namesIn s tab i) at)
+      (λ a n. many (newText s) (count - (i + 1)) (g .seen ++ (a ∷ [])) n)
   unfolding many
   next h = rw (left h, g .names)
 

@@ -32,7 +32,8 @@ pub bundle-parted : (s : List ℕ) {es : List Text} {n : ℕ} → bundleAt s ≡
 unfolding bundleAt textsAt
 bundle-parted s {es} {n} h = go (ltb mostBytes (length s)) refl h
   where
-    ending : (count at : ℕ) (ds : List Text) (m : ℕ) → length s ≤ mostBytes → numberAt s 0 ≡ good count at → count ≤ mostTexts → many (newText s) count [] at ≡ good ds m
+    ending : (count at : ℕ) (ds : List Text) (m : ℕ) → length s ≤ mostBytes → numberAt s 0 ≡ good count at → count ≤ mostTexts
+        → many (newText s) count [] at ≡ good ds m
         → (b : Bool) → ltb m (length s) ≡ b → cond b (bad m) (good ds m) ≡ good es n → Parted s es n
     ending count at ds m short c few r true p q = let z : _≡_ {A = ℕ} 0 1 = cc in absurd (omega arith)
     ending count at ds m short c few r false p q =

@@ -12,18 +12,21 @@ use Rattle.library_form.specs.Form.{good, PlacedName, numberAt, nameAt}
 use Rattle.library_form.proofs.Bounds.{name-end}
 use Rattle.library_index.specs.Names.{newName}
 use Rattle.library_image.specs.Library.{Module, ImportOnly, ModuleSet, Library, modulesOf, submodulesOf, importOnlyOf}
-use Rattle.library_image.specs.Image.{mostSets, mostModules, mostNames, leastRevisions, mostRevisions, counted, anyWord, moduleAt, revisionAt, importOnlyAt, setAt, libraryAt, imageAt}
+use Rattle.library_image.specs.Image.{mostSets, mostModules, mostNames, leastRevisions, mostRevisions, counted, anyWord, moduleAt, revisionAt, importOnlyAt}
+use Rattle.library_image.specs.Image.{setAt, libraryAt, imageAt}
 use Rattle.library_image.proofs.Steps.{on-good, bind-good, carry, count-good}
 use Rattle.library_image.proofs.ImageLaws.{accepted}
-use Rattle.library_read.specs.Reading.{done, listAt, restAt}
+use Rattle.library_lists.specs.Lists.{done, listAt, restAt}
 use Rattle.library_index.proofs.Taking.{new-read}
 use Rattle.library_find.specs.Find.{firstModule, firstSubmodule, firstImportOnly}
-use Rattle.library_find.specs.Search.{andThen, past, foundBy, submoduleCount, listsBehind, hitAt, entryTried, entriesTried, setTried, setsTried, wordTried, submodulesTried, setSubmodulesTried, allSubmodulesTried}
-use Rattle.library_find.specs.declared.Tried.{Tried}
-use Rattle.library_find.specs.declared.Tried.the-variants.{Hit, Next}
+use Rattle.library_search.specs.Search.{andThen, past, foundBy, submoduleCount, listsBehind, hitAt, entryTried, entriesTried, setTried, setsTried, wordTried}
+use Rattle.library_search.specs.Search.{submodulesTried, setSubmodulesTried, allSubmodulesTried}
+use Rattle.library_search.specs.declared.Tried.{Tried}
+use Rattle.library_search.specs.declared.Tried.the-variants.{Hit, Next}
 use Rattle.library_form.specs.declared.LookUp.{LookUp}
 use Rattle.library_form.specs.declared.LookUp.the-variants.{Nothing, At}
-use Rattle.library_find.proofs.Lists.{orElse, firstHit, or-nothing, none-hit, hit-append, lookFor, hit-by, HitIn, Fine, or-fine, asTried, found-tried, and-then, Passed, Passing, listed, list-tried, on-read}
+use Rattle.library_find.proofs.Lists.{orElse, firstHit, or-nothing, none-hit, hit-append, lookFor, hit-by, HitIn, Fine, or-fine, asTried, found-tried}
+use Rattle.library_find.proofs.Lists.{and-then, Passed, Passing, listed, list-tried, on-read}
 
 -- ---- what is looked for
 
@@ -115,7 +118,8 @@ wantedLook wanted look a = cond wanted (look a) Nothing
 
 module _ (s t : List ℕ) (importOnly wanted : Bool) where
   -- what stands behind the name of an entry is passed; a hit has r revisions
-  entry-passed : (at r : ℕ) {w : PlacedName} {n₁ n : ℕ} → nameAt s at ≡ good w n₁ → restAt importOnly s n₁ ≡ good tt n → hitAt s importOnly (w .place) n₁ ≡ Hit (w .place) r
+  entry-passed : (at r : ℕ) {w : PlacedName} {n₁ n : ℕ} → nameAt s at ≡ good w n₁ → restAt importOnly s n₁ ≡ good tt n
+      → hitAt s importOnly (w .place) n₁ ≡ Hit (w .place) r
       → r ≤ mostRevisions → Passed s (entryTried s t importOnly wanted at) (cond wanted (cond (same (w .text) t) (At (w .place) r) Nothing) Nothing) n
   unfolding entryTried
   entry-passed at r {w} {n₁} {n} e f g h = record { tried = on-read _ _ e ∙ go wanted (same (w .text) t); fine = fine wanted }
@@ -148,7 +152,8 @@ pub record Revisions (s : List ℕ) (at : ℕ) (l : List (List PlacedName)) : Ty
 
 revisions-read : (s : List ℕ) (at : ℕ) {l : List (List PlacedName)} {n : ℕ} → counted leastRevisions mostRevisions revisionAt s at ≡ good l n → Revisions s at l
 revisions-read s at e =
-    let i = listed revisionAt s (λ n. past (revisionAt s [] n)) (λ r. Nothing) (λ seen at a n h. record { tried = ap past h; fine = tt }) leastRevisions mostRevisions at e in
+    let i = listed revisionAt s (λ n. past (revisionAt s [] n)) (λ r. Nothing)
+    (λ seen at a n h. record { tried = ap past h; fine = tt }) leastRevisions mostRevisions at e in
     let c = count-good s leastRevisions mostRevisions at (i .count) in
     record { behind = i .from; count = c .number; few = c .few }
 
@@ -193,7 +198,8 @@ two-lists s k {x} {y} {m} {n} p q =
 
 -- what is looked for in a set
 abbrev setLook : (modules importOnly : Bool) → List ℕ → ModuleSet → LookUp
-setLook modules importOnly t m = orElse (firstHit (wantedLook modules (moduleLook t)) (m .modules)) (firstHit (wantedLook importOnly (importLook t)) (m .importOnly))
+setLook modules importOnly t m = orElse (firstHit (wantedLook modules (moduleLook t)) (m .modules))
+    (firstHit (wantedLook importOnly (importLook t)) (m .importOnly))
 
 abbrev setSubmodules : List ℕ → ModuleSet → LookUp
 setSubmodules t m = orElse (firstHit (submoduleLook t) (m .modules)) (firstHit (wantedLook false (importLook t)) (m .importOnly))
@@ -248,7 +254,8 @@ modules-hit : (t : List ℕ) (l : Library) → firstHit (setLook true false t) l
 unfolding modulesOf
 modules-hit t [] = refl
 modules-hit t (m ∷ l) =
-    ap₂ orElse (ap (orElse (firstHit (moduleLook t) (m .modules))) (none-hit (m .importOnly)) ∙ or-nothing (firstHit (moduleLook t) (m .modules))) (modules-hit t l)
+    ap₂ orElse (ap (orElse (firstHit (moduleLook t) (m .modules))) (none-hit (m .importOnly)) ∙ or-nothing (firstHit (moduleLook t) (m .modules)))
+    (modules-hit t l)
     ∙ sym (hit-append (moduleLook t) (m .modules) (modulesOf l))
 
 imports-hit : (t : List ℕ) (l : Library) → firstHit (setLook false true t) l ≡ firstHit (importLook t) (importOnlyOf l)
@@ -267,7 +274,8 @@ all-submodules-hit : (t : List ℕ) (l : Library) → firstHit (setSubmodules t)
 unfolding modulesOf
 all-submodules-hit t [] = refl
 all-submodules-hit t (m ∷ l) =
-    ap₂ orElse (ap (orElse (firstHit (submoduleLook t) (m .modules))) (none-hit (m .importOnly)) ∙ or-nothing (firstHit (submoduleLook t) (m .modules))) (all-submodules-hit t l)
+    ap₂ orElse (ap (orElse (firstHit (submoduleLook t) (m .modules))) (none-hit (m .importOnly)) ∙ or-nothing (firstHit (submoduleLook t) (m .modules)))
+    (all-submodules-hit t l)
     ∙ sym (hit-append (submoduleLook t) (m .modules) (modulesOf l))
 
 -- ---- what the searches come to, and that it stands within the image
@@ -285,7 +293,8 @@ module _ (s t : List ℕ) {l : Library} {n : ℕ} (e : imageAt s ≡ good l n) w
 
   pub import-comes : Comes s (setsTried s t false true) (firstImportOnly t l)
   import-comes =
-      comes s (sets-passed s t false true e) (imports-hit t l ∙ hit-by (λ (m : ImportOnly). m .name) (λ m. m .name .place) (λ m. length (m .revisions)) t (importOnlyOf l))
+      comes s (sets-passed s t false true e) (imports-hit t l ∙ hit-by (λ (m : ImportOnly). m .name) (λ m. m .name .place) (λ m. length (m .revisions)) t
+      (importOnlyOf l))
 
   pub submodule-comes : Comes s (allSubmodulesTried s t) (firstSubmodule t l)
   submodule-comes =

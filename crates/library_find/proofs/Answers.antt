@@ -9,13 +9,13 @@ use native.Mathlib.Omega.{arith}
 use Rattle.library_form.specs.Form.{Ans, good, bad}
 use Rattle.library_image.specs.Library.{Library}
 use Rattle.library_image.specs.Image.{imageAt}
-use Rattle.library_read.specs.Reading.{done, readSeen}
-use Rattle.library_read.specs.declared.Read.{Read}
-use Rattle.library_read.specs.declared.Read.the-variants.{End, Wrong}
-use Rattle.library_read.proofs.Counting.{done-bad}
+use Rattle.library_lists.specs.Lists.{done, readSeen}
+use Rattle.library_lists.specs.declared.Read.{Read}
+use Rattle.library_lists.specs.declared.Read.the-variants.{End, Wrong}
+use Rattle.library_lists.proofs.Counting.{done-bad}
 use Rattle.library_find.specs.Find.{findIn, findModule, findSubmodule, findImportModule}
-use Rattle.library_find.specs.Search.{foundBy, setsTried, allSubmodulesTried}
-use Rattle.library_find.specs.declared.Tried.{Tried}
+use Rattle.library_search.specs.Search.{foundBy, setsTried, allSubmodulesTried}
+use Rattle.library_search.specs.declared.Tried.{Tried}
 use Rattle.library_form.specs.declared.LookUp.{LookUp}
 use Rattle.library_form.specs.declared.LookUp.the-variants.{Broken}
 use Rattle.library_find.proofs.Lists.{on-read}
@@ -25,7 +25,8 @@ use Rattle.library_find.proofs.Abstract.{module-found, import-found, su
 in-broken : (f : Library → LookUp) (s : List ℕ) {p : ℕ} → bad p ≡ done (imageAt s) → Broken p ≡ findIn f s
 in-broken f s e = rw (done-bad (imageAt s) e)
 
-in-good : (f : Library → LookUp) (s : List ℕ) {n : ℕ} (x : LookUp) → good tt n ≡ done (imageAt s) → ((l : Library) (m : ℕ) → imageAt s ≡ good l m → x ≡ f l) → x ≡ findIn f s
+in-good : (f : Library → LookUp) (s : List ℕ) {n : ℕ} (x : LookUp) → good tt n ≡ done (imageAt s) → ((l : Library) (m : ℕ) → imageAt s ≡ good l m → x ≡ f l)
+    → x ≡ findIn f s
 in-good f s {n} x e g = go (imageAt s) refl e
   where
     go : (a : Ans Library) → imageAt s ≡ a → good tt n ≡ done a → x ≡ findIn f s

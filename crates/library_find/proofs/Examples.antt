@@ -39,18 +39,21 @@ unfolding findModule imageAt libraryAt counted countAt numberAt groups many setA
 first-module = refl
 
 first-submodule : findSubmodule two a ≡ At 6 0
-unfolding findSubmodule imageAt libraryAt counted countAt numberAt groups many setAt moduleAt importOnlyAt newName among nameAt nameBody printableAt same modulesOf submodulesOf
+unfolding findSubmodule imageAt libraryAt counted countAt numberAt groups many setAt moduleAt importOnlyAt newName among nameAt nameBody printableAt same
+    modulesOf submodulesOf
 first-submodule = refl
 
 -- ---- of any set
 
 later-submodule : findSubmodule two b ≡ At 15 0
-unfolding findSubmodule imageAt libraryAt counted countAt numberAt groups many setAt moduleAt importOnlyAt newName among nameAt nameBody printableAt same modulesOf submodulesOf
+unfolding findSubmodule imageAt libraryAt counted countAt numberAt groups many setAt moduleAt importOnlyAt newName among nameAt nameBody printableAt same
+    modulesOf submodulesOf
 later-submodule = refl
 
 -- an import-only module, with its revisions
 import-only : findImportModule two b ≡ At 22 2
-unfolding findImportModule imageAt libraryAt counted countAt numberAt groups many setAt moduleAt importOnlyAt newName among nameAt nameBody printableAt same importOnlyOf
+unfolding findImportModule imageAt libraryAt counted countAt numberAt groups many setAt moduleAt importOnlyAt newName among nameAt nameBody printableAt same
+    importOnlyOf
 import-only = refl
 
 -- ---- each find looks for its own
@@ -61,12 +64,14 @@ unfolding findModule imageAt libraryAt counted countAt numberAt groups many setA
 no-module = refl
 
 no-import-only : findImportModule two m ≡ Nothing
-unfolding findImportModule imageAt libraryAt counted countAt numberAt groups many setAt moduleAt importOnlyAt newName among nameAt nameBody printableAt same importOnlyOf
+unfolding findImportModule imageAt libraryAt counted countAt numberAt groups many setAt moduleAt importOnlyAt newName among nameAt nameBody printableAt same
+    importOnlyOf
 no-import-only = refl
 
 -- a submodule of an import-only module does not count
 no-submodule : findSubmodule two c ≡ Nothing
-unfolding findSubmodule imageAt libraryAt counted countAt numberAt groups many setAt moduleAt importOnlyAt newName among nameAt nameBody printableAt same modulesOf submodulesOf
+unfolding findSubmodule imageAt libraryAt counted countAt numberAt groups many setAt moduleAt importOnlyAt newName among nameAt nameBody printableAt same
+    modulesOf submodulesOf
 no-submodule = refl
 
 -- no name is empty

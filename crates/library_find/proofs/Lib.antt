@@ -3,6 +3,3 @@ pub mod Answers
 pub mod Examples
 pub mod FindBounds
 pub mod Lists
-pub mod Loops
-pub mod Submodules
-pub mod Ways

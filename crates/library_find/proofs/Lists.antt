@@ -11,10 +11,10 @@ use Rattle.library_form.specs.Form.{Ans, good, PlacedName, many}
 use Rattle.library_index.specs.Names.{firstBy}
 use Rattle.library_image.specs.Image.{mostRevisions, Reader, countAt, counted}
 use Rattle.library_image.proofs.Steps.{on-good}
-use Rattle.library_read.specs.Reading.{onAns}
-use Rattle.library_find.specs.Search.{andThen, tries, listTried, foundBy}
-use Rattle.library_find.specs.declared.Tried.{Tried}
-use Rattle.library_find.specs.declared.Tried.the-variants.{Hit, Next, Bad}
+use Rattle.library_lists.specs.Lists.{onAns}
+use Rattle.library_search.specs.Search.{andThen, tries, listTried, foundBy}
+use Rattle.library_search.specs.declared.Tried.{Tried}
+use Rattle.library_search.specs.declared.Tried.the-variants.{Hit, Next, Bad}
 use Rattle.library_form.specs.declared.LookUp.{LookUp}
 use Rattle.library_form.specs.declared.LookUp.the-variants.{Broken, Nothing, At}
 

@@ -8,7 +8,7 @@ use Rattle.library_form.specs.Form.{PlacedName}
 use Rattle.library_index.specs.Names.{firstBy}
 use Rattle.library_image.specs.Library.{Module, ImportOnly, Library, modulesOf, submodulesOf, importOnlyOf}
 use Rattle.library_image.specs.Image.{imageAt}
-use Rattle.library_read.specs.Reading.{onAns}
+use Rattle.library_lists.specs.Lists.{onAns}
 use Rattle.library_form.specs.declared.LookUp.{LookUp}
 use Rattle.library_form.specs.declared.LookUp.the-variants.{Broken, Nothing, At}
 

@@ -1,2 +1,1 @@
 pub mod Find
-pub mod Search

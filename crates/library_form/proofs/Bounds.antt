@@ -24,7 +24,9 @@ unfolding groups
 groups-place zero s b at u v e = cc
 groups-place (suc k) s b at u v {p} e = go (ltb at (length s)) (ltb (getD s at 0) 128) (eqb (getD s at 0) 0) (eqb at b) (groups-place k s b (at + 1) _ _) e
   where
-    go : (t₁ t₂ t₃ t₄ : Bool) → (groups k s b (at + 1) (u * 128) (v + u * (getD s at 0 - 128)) ≡ bad p → p ≡ b) → cond t₁ (cond t₂ (cond t₃ (cond t₄ (good 0 (at + 1)) (bad b)) (good (v + u * getD s at 0) (at + 1))) (groups k s b (at + 1) (u * 128) (v + u * (getD s at 0 - 128)))) (bad b) ≡ bad p → p ≡ b
+    go : (t₁ t₂ t₃ t₄ : Bool) → (groups k s b (at + 1) (u * 128) (v + u * (getD s at 0 - 128)) ≡ bad p → p ≡ b)
+        → cond t₁ (cond t₂ (cond t₃ (cond t₄ (good 0 (at + 1)) (bad b)) (good (v + u * getD s at 0) (at + 1)))
+        (groups k s b (at + 1) (u * 128) (v + u * (getD s at 0 - 128)))) (bad b) ≡ bad p → p ≡ b
     go true true true true ih e = cc
     go true true true false ih e = cc
     go true true false t₄ ih e = cc
@@ -37,7 +39,9 @@ unfolding groups
 groups-end zero s b at u v e = let z : _≡_ {A = ℕ} 0 1 = cc in omega arith
 groups-end (suc k) s b at u v {r} {n} e = go (ltb at (length s)) (ltb (getD s at 0) 128) (eqb (getD s at 0) 0) (eqb at b) refl (groups-end k s b (at + 1) _ _) e
   where
-    go : (t₁ t₂ t₃ t₄ : Bool) → ltb at (length s) ≡ t₁ → (groups k s b (at + 1) (u * 128) (v + u * (getD s at 0 - 128)) ≡ good r n → (at + 1 < n) × (n ≤ length s)) → cond t₁ (cond t₂ (cond t₃ (cond t₄ (good 0 (at + 1)) (bad b)) (good (v + u * getD s at 0) (at + 1))) (groups k s b (at + 1) (u * 128) (v + u * (getD s at 0 - 128)))) (bad b) ≡ good r n → (at < n) × (n ≤ length s)
+    go : (t₁ t₂ t₃ t₄ : Bool) → ltb at (length s) ≡ t₁ → (groups k s b (at + 1) (u * 128) (v + u * (getD s at 0 - 128)) ≡ good r n
+        → (at + 1 < n) × (n ≤ length s)) → cond t₁ (cond t₂ (cond t₃ (cond t₄ (good 0 (at + 1)) (bad b)) (good (v + u * getD s at 0) (at + 1)))
+        (groups k s b (at + 1) (u * 128) (v + u * (getD s at 0 - 128)))) (bad b) ≡ good r n → (at < n) × (n ≤ length s)
     go true true true true h ih e = let q : at + 1 ≡ n = cc in omega (arith, ltb-true at (length s) h)
     go true true true false h ih e = let z : _≡_ {A = ℕ} 0 1 = cc in omega arith
     go true true false t₄ h ih e = let q : at + 1 ≡ n = cc in omega (arith, ltb-true at (length s) h)
@@ -68,14 +72,26 @@ pub opened : (s : List ℕ) (at : ℕ) {w : PlacedName} {n : ℕ} → nameAt s a
 unfolding nameAt nameBody
 opened s at {w} {n} e = go (numberAt s at) refl e
   where
-    body : (len first : ℕ) (t₁ t₂ t₃ t₄ : Bool) → numberAt s at ≡ good len first → ltb len 1 ≡ t₁ → ltb 128 len ≡ t₂ → ltb (length s - first) len ≡ t₃ → printableAt len s first ≡ t₄
+    body : (len first : ℕ) (t₁ t₂ t₃ t₄ : Bool) → numberAt s at ≡ good len first → ltb len 1 ≡ t₁ → ltb 128 len ≡ t₂ → ltb (length s - first) len ≡ t₃
+        → printableAt len s first ≡ t₄
         → cond t₁ (bad at) (cond t₂ (bad at) (cond t₃ (bad at) (cond t₄ (good (wordAt s first len) (first + len)) (bad at)))) ≡ good w n → Opened s at w n
     body len first true t₂ t₃ t₄ h p q k f e = let z : _≡_ {A = ℕ} 0 1 = cc in absurd (omega arith)
     body len first false true t₃ t₄ h p q k f e = let z : _≡_ {A = ℕ} 0 1 = cc in absurd (omega arith)
     body len first false false true t₄ h p q k f e = let z : _≡_ {A = ℕ} 0 1 = cc in absurd (omega arith)
     body len first false false false false h p q k f e = let z : _≡_ {A = ℕ} 0 1 = cc in absurd (omega arith)
     body len first false false false true h p q k f e =
-        record { len = len; first = first; number = h; some = ltb-false len 1 p; few = ltb-false 128 len q; room = ltb-false (length s - first) len k; fine = f; word = cc; behind = cc }
+        record {
+          len = len;
+          first = first;
+          number = h;
+          some = ltb-false len 1 p;
+          few = ltb-false 128 len q;
+          room = ltb-false
+              (length s - first) len k;
+          fine = f;
+          word = cc;
+          behind = cc;
+        }
 
     go : (a : Ans ℕ) → numberAt s at ≡ a → bind a (nameBody s at) ≡ good w n → Opened s at w n
     go (good len first) h e = body len first (ltb len 1) (ltb 128 len) (ltb (length s - first) len) (printableAt len s first) h refl refl refl refl e
@@ -126,7 +142,8 @@ body-place : (s : List ℕ) (at len first : ℕ) {p : ℕ} → nameBody s at len
 unfolding nameBody
 body-place s at len first {p} e = go (ltb len 1) (ltb 128 len) (ltb (length s - first) len) (printableAt len s first) e
   where
-    go : (t₁ t₂ t₃ t₄ : Bool) → cond t₁ (bad at) (cond t₂ (bad at) (cond t₃ (bad at) (cond t₄ (good (wordAt s first len) (first + len)) (bad at)))) ≡ bad p → p ≡ at
+    go : (t₁ t₂ t₃ t₄ : Bool) → cond t₁ (bad at) (cond t₂ (bad at) (cond t₃ (bad at) (cond t₄ (good (wordAt s first len) (first + len)) (bad at)))) ≡ bad p
+        → p ≡ at
     go true t₂ t₃ t₄ e = cc
     go false true t₃ t₄ e = cc
     go false false true t₄ e = cc

@@ -65,13 +65,16 @@ module _ (s : List ℕ) where
   pub cut3 : (at : ℕ) → at < length s → 128 ≤ getD s at 0 → at + 1 < length s → 128 ≤ getD s (at + 1) 0 → length s ≤ at + 1 + 1 → bad at ≡ numberAt s at
   cut3 at h g e l k = sym (past at h g e l ∙ stop 0 _ _ _ _ k)
 
-  pub padded3 : (at : ℕ) → at < length s → 128 ≤ getD s at 0 → at + 1 < length s → 128 ≤ getD s (at + 1) 0 → at + 1 + 1 < length s → getD s (at + 1 + 1) 0 ≡ 0 → bad at ≡ numberAt s at
+  pub padded3 : (at : ℕ) → at < length s → 128 ≤ getD s at 0 → at + 1 < length s → 128 ≤ getD s (at + 1) 0 → at + 1 + 1 < length s → getD s (at + 1 + 1) 0 ≡ 0
+      → bad at ≡ numberAt s at
   padded3 at h g e l k z = sym (past at h g e l ∙ long 0 _ _ _ _ k z (λ e. omega arith))
 
-  pub three : (at : ℕ) → at < length s → 128 ≤ getD s at 0 → at + 1 < length s → 128 ≤ getD s (at + 1) 0 → at + 1 + 1 < length s → (getD s (at + 1 + 1) 0 ≡ 0 → ⊥) → getD s (at + 1 + 1) 0 < 128
+  pub three : (at : ℕ) → at < length s → 128 ≤ getD s at 0 → at + 1 < length s → 128 ≤ getD s (at + 1) 0 → at + 1 + 1 < length s
+      → (getD s (at + 1 + 1) 0 ≡ 0 → ⊥) → getD s (at + 1 + 1) 0 < 128
       → good (getD s at 0 - 128 + 128 * (getD s (at + 1) 0 - 128) + 16384 * getD s (at + 1 + 1) 0) (at + 1 + 1 + 1) ≡ numberAt s at
   three at h g e l k z m = sym (past at h g e l ∙ last 0 _ _ _ _ k m z)
 
-  pub four : (at : ℕ) → at < length s → 128 ≤ getD s at 0 → at + 1 < length s → 128 ≤ getD s (at + 1) 0 → at + 1 + 1 < length s → 128 ≤ getD s (at + 1 + 1) 0 → bad at ≡ numberAt s at
+  pub four : (at : ℕ) → at < length s → 128 ≤ getD s at 0 → at + 1 < length s → 128 ≤ getD s (at + 1) 0 → at + 1 + 1 < length s → 128 ≤ getD s (at + 1 + 1) 0
+      → bad at ≡ numberAt s at
   unfolding groups
   four at h g e l k m = sym (past at h g e l ∙ more 0 _ _ _ _ k m)

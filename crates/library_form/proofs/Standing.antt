@@ -83,7 +83,8 @@ module _ (s : List ℕ) (at : ℕ) where
 
   -- a name, with its place
   pub name-stands : (bs rest : List ℕ) → NameBytes bs → Stands s at (writeName bs) rest
-      → let first = at + length (writeNumber (length bs)) in nameAt s at ≡ good (record { place = first; size = length bs; text = bs }) (at + length (writeName bs))
+      → let first = at + length (writeNumber (length bs)) in nameAt s at
+      ≡ good (record { place = first; size = length bs; text = bs }) (at + length (writeName bs))
   unfolding writeName
   name-stands bs rest b h =
       let e = whole (writeName bs) rest h in

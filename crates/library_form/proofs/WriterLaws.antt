@@ -126,7 +126,8 @@ module _ (s : List ℕ) where
         let v = q .0 in
         let x = bytes at in
         let low : 128 ≤ n = by-test (eqb b 0) (λ t. absurd (z (eqb-true b 0 t))) (λ u. omega (arith, v, eqb-false b 0 u)) in (
-          rw d (ap (take 2) (bytes-two at i) ∙ ap₂ (λ y w. y ∷ w ∷ []) (begins-low a b g x v) (begins-rest a b g x v) ∙ sym (write-two n low (omega (arith, v, x, g, l)))),
+          rw d (ap (take 2) (bytes-two at i) ∙ ap₂ (λ y w. y ∷ w ∷ []) (begins-low a b g x v) (begins-rest a b g x v)
+              ∙ sym (write-two n low (omega (arith, v, x, g, l)))),
           omega (arith, v, x, g, l),
         )
 
@@ -143,7 +144,8 @@ module _ (s : List ℕ) where
         let r = begins-rest a m g (bytes at) v in
         let c₃ : c ≡ n / 16384 = omega (arith, begins-rest b c k (bytes (at + 1)) r) in
         let low : 16384 ≤ n = by-test (eqb c 0) (λ t. absurd (z (eqb-true c 0 t))) (λ u. omega (arith, v, eqb-false c 0 u)) in (
-          rw d (ap (take 3) (bytes-three at i) ∙ ap₂ (λ w l. w ∷ l) (begins-low a m g (bytes at) v) (ap₂ (λ w l. w ∷ l ∷ []) (begins-low b c k (bytes (at + 1)) r) c₃) ∙ sym (write-three n low)),
+          rw d (ap (take 3) (bytes-three at i) ∙ ap₂ (λ w l. w ∷ l) (begins-low a m g (bytes at) v)
+              (ap₂ (λ w l. w ∷ l ∷ []) (begins-low b c k (bytes (at + 1)) r) c₃) ∙ sym (write-three n low)),
           omega (arith, c₃, l),
         )
 

@@ -85,5 +85,6 @@ examples =
     ∷ []
 
 right : T (all examples)
-unfolding examples all holds isFine isWrong imageAt libraryAt setAt importOnlyAt moduleAt newName among same counted countAt many nameAt nameBody printableAt numberAt groups
+unfolding examples all holds isFine isWrong imageAt libraryAt setAt importOnlyAt moduleAt newName among same counted countAt many nameAt nameBody printableAt
+    numberAt groups
 right = tt

@@ -12,7 +12,8 @@ use Rattle.library_form.specs.Form.{Ans, good, bad, bind, PlacedName, numberAt,
 use Rattle.library_form.proofs.Bounds.{number-end, number-place, name-end, name-place}
 use Rattle.library_index.specs.Names.{memb, newName}
 use Rattle.library_image.specs.Library.{Module, ImportOnly, Library}
-use Rattle.library_image.specs.Image.{mostImage, mostSets, mostModules, mostNames, leastRevisions, mostRevisions, Reader, countAt, counted, anyWord, newWord, moduleAt, revisionAt, importOnlyAt, setAt, libraryAt, imageAt}
+use Rattle.library_image.specs.Image.{mostImage, mostSets, mostModules, mostNames, leastRevisions, mostRevisions, Reader, countAt, counted, anyWord}
+use Rattle.library_image.specs.Image.{newWord, moduleAt, revisionAt, importOnlyAt, setAt, libraryAt, imageAt}
 
 -- the place of an answer
 abbrev pub placeOf : {A : Type 0} → Ans A → ℕ
@@ -50,7 +51,8 @@ module _ {A : Type 0} (s : List ℕ) (at : ℕ) where
   from-earlier : (r : Ans A) (m : ℕ) → at ≤ m → Placed s m r → Placed s at r
   from-earlier r m h k = let q = k .later in record { later = omega arith; inside = k .inside }
 
-  bind-placed : {C : Type 0} (r : Ans A) (k : A → ℕ → Ans C) → Placed s at r → ((a : A) (m : ℕ) → at ≤ m → m ≤ length s → Placed s at (k a m)) → Placed s at (bind r k)
+  bind-placed : {C : Type 0} (r : Ans A) (k : A → ℕ → Ans C) → Placed s at r → ((a : A) (m : ℕ) → at ≤ m → m ≤ length s → Placed s at (k a m))
+      → Placed s at (bind r k)
   bind-placed (good a m) k h f = f a m (h .later) (h .inside)
   bind-placed (bad p) k h f = record { later = h .later; inside = h .inside }
 
@@ -105,13 +107,15 @@ import-only-bounded : Bounded importOnlyAt
 unfolding importOnlyAt
 import-only-bounded s seen at h =
     bind-placed s at _ _ (new-placed s (map (λ (m : ImportOnly). m .name) seen) at h) (λ w n₁ i₁ j₁.
-    from-earlier s at _ n₁ i₁ (bind-placed s n₁ _ _ (counted-placed revisionAt revision-bounded s leastRevisions mostRevisions n₁ j₁) (λ a n₂ i₂ j₂. record { later = i₂; inside = j₂ })))
+    from-earlier s at _ n₁ i₁ (bind-placed s n₁ _ _ (counted-placed revisionAt revision-bounded s leastRevisions mostRevisions n₁ j₁)
+    (λ a n₂ i₂ j₂. record { later = i₂; inside = j₂ })))
 
 set-bounded : Bounded setAt
 unfolding setAt
 set-bounded s seen at h =
     bind-placed s at _ _ (counted-placed moduleAt module-bounded s 0 mostModules at h) (λ a n₁ i₁ j₁.
-    from-earlier s at _ n₁ i₁ (bind-placed s n₁ _ _ (counted-placed importOnlyAt import-only-bounded s 0 mostModules n₁ j₁) (λ b n₂ i₂ j₂. record { later = i₂; inside = j₂ })))
+    from-earlier s at _ n₁ i₁ (bind-placed s n₁ _ _ (counted-placed importOnlyAt import-only-bounded s 0 mostModules n₁ j₁)
+    (λ b n₂ i₂ j₂. record { later = i₂; inside = j₂ })))
 
 library-placed : (s : List ℕ) (at : ℕ) → at ≤ length s → Placed s at (libraryAt s at)
 unfolding libraryAt

@@ -14,9 +14,12 @@ use Rattle.library_form.specs.Form.{good, bad, bind, PlacedName, nameAt}
 use Rattle.library_form.specs.Writer.{writeNumber, writeName, AllBytes}
 use Rattle.library_form.proofs.WriterLaws.{name-bytes}
 use Rattle.library_index.specs.Names.{memb, newName}
-use Rattle.library_image.specs.Library.{Module, ImportOnly, ModuleSet, Library, Name, PlainModule, PlainImportOnly, PlainSet, PlainLibrary, plainName, plainModule, plainImportOnly, plainSet, plain}
-use Rattle.library_image.specs.Image.{mostImage, mostSets, mostModules, mostNames, leastRevisions, mostRevisions, counted, anyWord, newWord, moduleAt, revisionAt, importOnlyAt, setAt, libraryAt, imageAt}
-use Rattle.library_image.specs.ImageWriter.{writeList, writeModule, writeImportOnly, writeSet, writeImage, Listed, AnyName, NewName, FormedModule, FormedRevision, FormedImportOnly, FormedSet, Formed}
+use Rattle.library_image.specs.Library.{Module, ImportOnly, ModuleSet, Library, Name, PlainModule, PlainImportOnly, PlainSet, PlainLibrary, plainName}
+use Rattle.library_image.specs.Library.{plainModule, plainImportOnly, plainSet, plain}
+use Rattle.library_image.specs.Image.{mostImage, mostSets, mostModules, mostNames, leastRevisions, mostRevisions, counted, anyWord, newWord, moduleAt}
+use Rattle.library_image.specs.Image.{revisionAt, importOnlyAt, setAt, libraryAt, imageAt}
+use Rattle.library_image.specs.ImageWriter.{writeList, writeModule, writeImportOnly, writeSet, writeImage, Listed, AnyName, NewName, FormedModule}
+use Rattle.library_image.specs.ImageWriter.{FormedRevision, FormedImportOnly, FormedSet, Formed}
 use Rattle.library_form.proofs.Standing.{wrote-join, name-wrote, Stands, stands-left, stands-right, name-stands}
 use Rattle.library_image.proofs.Steps.{on-good, bind-good, passed, carry}
 use Rattle.library_image.proofs.Differ.{none-of, not-among}
@@ -63,7 +66,8 @@ names-lawful = counted-lawful any-lawful 0 mostNames (omega arith)
 revision-lawful : Lawful revisionAt (map plainName) (writeList writeName) FormedRevision
 revision-lawful = counted-lawful new-lawful 0 mostNames (omega arith)
 
-revisions-lawful : Lawful (λ s seen at. counted leastRevisions mostRevisions revisionAt s at) (map (map plainName)) (writeList (writeList writeName)) (λ before. Listed leastRevisions mostRevisions FormedRevision)
+revisions-lawful : Lawful (λ s seen at. counted leastRevisions mostRevisions revisionAt s at) (map (map plainName)) (writeList (writeList writeName))
+    (λ before. Listed leastRevisions mostRevisions FormedRevision)
 revisions-lawful = counted-lawful revision-lawful leastRevisions mostRevisions (omega arith)
 
 -- ---- a module
@@ -91,7 +95,8 @@ module-forth s bytes seen at e =
       };
     })))))
 
-module-back : (s : List ℕ) (seen : List Module) (at : ℕ) (b : PlainModule) (rest : List ℕ) → FormedModule (map plainModule seen) b → Stands s at (writeModule b) rest
+module-back : (s : List ℕ) (seen : List Module) (at : ℕ) (b : PlainModule) (rest : List ℕ) → FormedModule (map plainModule seen) b
+    → Stands s at (writeModule b) rest
     → Back moduleAt plainModule writeModule s seen at b
 unfolding moduleAt writeModule
 module-back s seen at b rest h t =
@@ -124,7 +129,8 @@ module-back s seen at b rest h t =
 module-lawful : Lawful moduleAt plainModule writeModule FormedModule
 module-lawful = record { forth = module-forth; back = module-back }
 
-modules-lawful : Lawful (λ s seen at. counted 0 mostModules moduleAt s at) (map plainModule) (writeList writeModule) (λ before. Listed 0 mostModules FormedModule)
+modules-lawful : Lawful (λ s seen at. counted 0 mostModules moduleAt s at) (map plainModule) (writeList writeModule)
+    (λ before. Listed 0 mostModules FormedModule)
 modules-lawful = counted-lawful module-lawful 0 mostModules (omega arith)
 
 -- ---- an import-only module
@@ -163,7 +169,8 @@ import-only-back s seen at b rest h t =
 import-only-lawful : Lawful importOnlyAt plainImportOnly writeImportOnly FormedImportOnly
 import-only-lawful = record { forth = import-only-forth; back = import-only-back }
 
-imports-lawful : Lawful (λ s seen at. counted 0 mostModules importOnlyAt s at) (map plainImportOnly) (writeList writeImportOnly) (λ before. Listed 0 mostModules FormedImportOnly)
+imports-lawful : Lawful (λ s seen at. counted 0 mostModules importOnlyAt s at) (map plainImportOnly) (writeList writeImportOnly)
+    (λ before. Listed 0 mostModules FormedImportOnly)
 imports-lawful = counted-lawful import-only-lawful 0 mostModules (omega arith)
 
 -- ---- a set

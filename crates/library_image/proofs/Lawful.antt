@@ -64,7 +64,8 @@ module _ {A B : Type 0} {p : Reader A} {f : A → B} {w : B → List ℕ} {Right
     plain : map f more ≡ bs
     read : many (p s) (length bs) seen at ≡ good (seen ++ more) (at + length (writeEach w bs))
 
-  many-back : (s : List ℕ) (seen : List A) (at : ℕ) (bs : List B) (rest : List ℕ) → EachOf Right (map f seen) bs → Stands s at (writeEach w bs) rest → Made s seen at bs
+  many-back : (s : List ℕ) (seen : List A) (at : ℕ) (bs : List B) (rest : List ℕ) → EachOf Right (map f seen) bs → Stands s at (writeEach w bs) rest
+      → Made s seen at bs
   unfolding many writeEach EachOf
   many-back s seen at [] rest h t =
       let e : at ≡ at + 0 = omega arith in

@@ -119,7 +119,8 @@ hit-low s tab t n {i} e = let x = which (λ (w : PlacedName). w .size) 0 t (name
 
 -- ---- names that are there already may be left out
 
-by-append : {A : Type 0} (f : PlacedName → A) (t : List ℕ) (ws vs : List PlacedName) (d : A) → firstBy word f t (ws ++ vs) d ≡ firstBy word f t ws (firstBy word f t vs d)
+by-append : {A : Type 0} (f : PlacedName → A) (t : List ℕ) (ws vs : List PlacedName) (d : A)
+    → firstBy word f t (ws ++ vs) d ≡ firstBy word f t ws (firstBy word f t vs d)
 by-append f t [] vs d = refl
 by-append f t (w ∷ ws) vs d = ap (cond (same (w .text) t) (f w)) (by-append f t ws vs d)
 
@@ -150,8 +151,10 @@ add-new {A} f t ws w d = go (memb (w .text) ws) refl (same (w .text) t) refl
     go false h c k = by-append f t ws (w ∷ []) d ∙ ap (λ (c : Bool). firstBy word f t ws (cond c (f w) d)) k
 
 -- a search through all words, repeated ones too, is the search through those that were new
-pub once : {A : Type 0} (f : PlacedName → A) (t : List ℕ) (ws vs : List PlacedName) (d : A) → firstBy word f t (addAll (λ (w : PlacedName). w .text) ws vs) d ≡ firstBy word f t (ws ++ vs) d
+pub once : {A : Type 0} (f : PlacedName → A) (t : List ℕ) (ws vs : List PlacedName) (d : A)
+    → firstBy word f t (addAll (λ (w : PlacedName). w .text) ws vs) d ≡ firstBy word f t (ws ++ vs) d
 unfolding addAll
 once f t ws [] d = ap (λ (l : List PlacedName). firstBy word f t l d) (sym (append-nil ws))
 once f t ws (v ∷ vs) d =
-    once f t (addNew (λ (w : PlacedName). w .text) ws v) vs d ∙ by-append f t (addNew (λ (w : PlacedName). w .text) ws v) vs d ∙ add-new f t ws v (firstBy word f t vs d) ∙ sym (by-append f t ws (v ∷ vs) d)
+    once f t (addNew (λ (w : PlacedName). w .text) ws v) vs d ∙ by-append f t (addNew (λ (w : PlacedName). w .text) ws v) vs d
+    ∙ add-new f t ws v (firstBy word f t vs d) ∙ sym (by-append f t ws (v ∷ vs) d)

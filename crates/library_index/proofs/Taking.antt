@@ -15,7 +15,8 @@ use Rattle.library_index.specs.Names.{memb, newName, namesIn, Room, Adde
 use Rattle.library_index.proofs.First.{not-among, is-among}
 
 -- a new name is a name, and none of the words
-pub new-read : (s : List ℕ) (ws : List PlacedName) (at : ℕ) {w : PlacedName} {n : ℕ} → newName s ws at ≡ good w n → (nameAt s at ≡ good w n) × (memb (w .text) ws ≡ false)
+pub new-read : (s : List ℕ) (ws : List PlacedName) (at : ℕ) {w : PlacedName} {n : ℕ} → newName s ws at ≡ good w n
+    → (nameAt s at ≡ good w n) × (memb (w .text) ws ≡ false)
 unfolding newName
 new-read s ws at {w} {n} e = go (nameAt s at) refl e
   where

@@ -5,7 +5,8 @@ use library_form::Name;
 ghost use mathlib.Core.Path.{_≡_};
 ghost use Prim.Native.Nat.{_+_, _≤_, _<_};
 ghost use lib.ListN.{length, getD};
-ghost use Rattle.library_index.specs.Names.{buckets, rowWords, rowOf, firstOf, namesIn, hashOf, Indexed, Sought, Room, Added, Space, Taken, Puts, Stored, Cleared};
+ghost use Rattle.library_index.specs.Names.{buckets, rowWords, rowOf, firstOf, namesIn, hashOf, Indexed, Sought, Room, Added, Space, Taken, Puts, Stored};
+ghost use Rattle.library_index.specs.Names.{Cleared};
 
 // How many buckets there are.
 pub const BUCKETS: usize = 2048;

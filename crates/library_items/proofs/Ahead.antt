@@ -70,7 +70,8 @@ pub record Ahead (q : ℕ → Ans Items) (s before : List ℕ) (n : ℕ) (whole 
   pub kept : length tab ≡ length before
   pub room : Room s tab (r .items) (r .at)
 
-module _ {q : ℕ → Ans Items} {s before : List ℕ} {n : ℕ} {whole : Ans Items} {tab : List ℕ} {r : Reach} {left : ℕ} (a : Ahead q s before n whole tab r left) where
+module _ {q : ℕ → Ans Items} {s before : List ℕ} {n : ℕ} {whole : Ans Items} {tab : List ℕ} {r : Reach} {left : ℕ}
+    (a : Ahead q s before n whole tab r left) where
   next : 0 < left → andThen (q (r .at)) (λ m. each q (left - 1) m) ≡ good (a .more) (a .end)
   unfolding each
   next h = let e : left ≡ suc (left - 1) = omega arith in sym (ap (λ k. each q k (r .at)) e) ∙ a .coming

@@ -12,7 +12,7 @@ use Rattle.library_form.specs.declared.Number.the-variants.{Value, Wrong}
 use Rattle.library_image.specs.Library.{Library}
 use Rattle.library_image.specs.Image.{mostSets, countAt, imageAt}
 use Rattle.library_image.proofs.ImageLaws.{accepted}
-use Rattle.library_read.specs.Reading.{onAns}
+use Rattle.library_lists.specs.Lists.{onAns}
 use Rattle.library_items.specs.Items.{itemsOf, libraryOf, itemsAt}
 use Rattle.library_items.specs.Table.{tableWords, itemsIn, eachCounted, setRead, setsRead, valueOr, Reads, Room, Itemized}
 use Rattle.library_items.specs.declared.Reach.{Reach}
@@ -37,7 +37,8 @@ module _ (s : List ℕ) (i : Reads (imageAt s)) where
   unfolding setsRead eachCounted
   no-sets v e k = counted-there 0 mostSets s 0 v _ e k sets-reads
 
-  pub sets-begun : (tab : List ℕ) (v : Number) {count : ℕ} {c : ImageCursor} → v ≡ Value count c → numberSeen v ≡ countAt 0 mostSets s 0 → tableWords ≤ length tab
+  pub sets-begun : (tab : List ℕ) (v : Number) {count : ℕ} {c : ImageCursor} → v ≡ Value count c → numberSeen v ≡ countAt 0 mostSets s 0
+      → tableWords ≤ length tab
       → Ahead (setRead s) s tab 0 (setsRead s 0) tab (record { items = 0; at = c .at }) count
   unfolding setsRead
   sets-begun tab v e k h = counted-begun 0 mostSets s 0 v e k (setRead s) tab 0 (empty-room tab h) sets-reads

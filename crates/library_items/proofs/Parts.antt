@@ -11,9 +11,11 @@ use Rattle.library_form.specs.declared.Number.the-variants.{Value, Wrong}
 use Rattle.library_image.specs.Image.{mostModules, mostNames, leastRevisions, mostRevisions, countAt}
 use Rattle.library_image.proofs.Steps.{count-good}
 use Rattle.library_items.specs.Items.{moduleKind, submoduleKind, augmentingKind, deviationKind, importOnlyKind, firstSubKind, laterSubKind}
-use Rattle.library_items.specs.Table.{Items, andThen, each, eachCounted, nameRead, listRead, listsRead, revisionsRead, entryRead, entriesRead, setRead, Reads, Room, Gained}
+use Rattle.library_items.specs.Table.{Items, andThen, each, eachCounted, nameRead, listRead, listsRead, revisionsRead, entryRead, entriesRead, setRead}
+use Rattle.library_items.specs.Table.{Reads, Room, Gained}
 use Rattle.library_items.specs.declared.Reach.{Reach}
-use Rattle.library_items.proofs.Ahead.{first-reads, second-reads, gained-both, Ahead, ahead-done, each-begun, counted-there, counted-room, counted-behind, counted-begun}
+use Rattle.library_items.proofs.Ahead.{first-reads, second-reads, gained-both, Ahead, ahead-done, each-begun, counted-there, counted-room}
+use Rattle.library_items.proofs.Ahead.{counted-behind, counted-begun}
 
 -- ---- a list
 
@@ -107,7 +109,8 @@ module _ (s tab : List ℕ) (n at : ℕ) (importOnly : Bool) where
       pub revisions-read : Reads (revisionsRead s (r₁ .at))
       revisions-read = second-reads _ (revisionsRead s) g import-reads
 
-      pub import-taken : {t₂ : List ℕ} {r₂ : Reach} → Gained s t₁ (r₁ .items) (revisionsRead s (r₁ .at)) r₂ t₂ → Gained s tab n (entryRead importOnly s at) r₂ t₂
+      pub import-taken : {t₂ : List ℕ} {r₂ : Reach} → Gained s t₁ (r₁ .items) (revisionsRead s (r₁ .at)) r₂ t₂
+          → Gained s tab n (entryRead importOnly s at) r₂ t₂
       import-taken h = rw by-import (gained-both _ (revisionsRead s) g h import-reads)
 
   module _ (d : importOnly ≡ false) (r : Reads (entryRead importOnly s at)) where
@@ -133,7 +136,8 @@ module _ (s tab : List ℕ) (n at : ℕ) (importOnly : Bool) (v : Number) where
   unfolding entriesRead eachCounted
   no-entries e k r = counted-there 0 mostModules s at v _ e k r
 
-  pub entries-begun : {count : ℕ} {c : ImageCursor} → v ≡ Value count c → numberSeen v ≡ countAt 0 mostModules s at → Room s tab n at → Reads (entriesRead importOnly s at)
+  pub entries-begun : {count : ℕ} {c : ImageCursor} → v ≡ Value count c → numberSeen v ≡ countAt 0 mostModules s at → Room s tab n at
+      → Reads (entriesRead importOnly s at)
       → Ahead (entryRead importOnly s) s tab n (entriesRead importOnly s at) tab (record { items = n; at = c .at }) count
   unfolding entriesRead
   entries-begun e k m r = counted-begun 0 mostModules s at v e k (entryRead importOnly s) tab n m r

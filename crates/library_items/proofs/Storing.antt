@@ -25,7 +25,8 @@ itemBy place word = record { kind = word % 8; place = place; size = word / 8 }
 
 -- ---- `get_item` and `put_item`
 
-pub item-got : (tab : List ℕ) (i : ℕ) → record { kind = getD tab (i * 2 + 1) 0 % 8; place = getD tab (i * 2) 0; size = getD tab (i * 2 + 1) 0 / 8 } ≡ itemIn tab i
+pub item-got : (tab : List ℕ) (i : ℕ) → record { kind = getD tab (i * 2 + 1) 0 % 8; place = getD tab (i * 2) 0; size = getD tab (i * 2 + 1) 0 / 8 }
+    ≡ itemIn tab i
 unfolding itemIn
 item-got tab i = refl
 
@@ -103,7 +104,8 @@ module _ (s tab : List ℕ) (n kind at : ℕ) (r : Name) where
         let x : Item = record { kind = kind; place = place; size = size } in
         let fit : ItemFits s x = record { kind = k; some = w .some; few = w .few; inside = w .inside } in
         record {
-          items = rw (w .read) (rw add-one (ap₂ (λ (xs : Items) (x : Item). xs ++ (itemWord s x ∷ [])) (items-same s tab after n (q .others) n (omega arith)) (q .own)));
+          items = rw (w .read) (rw add-one (ap₂ (λ (xs : Items) (x : Item). xs ++ (itemWord s x ∷ [])) (items-same s tab after n (q .others) n (omega arith))
+              (q .own)));
           at = rw (w .read);
           kept = q .kept;
           room = record {

@@ -8,11 +8,14 @@ use native.Mathlib.Omega.{arith}
 use Rattle.library_form.specs.Form.{Ans, good, PlacedName, nameAt, many}
 use Rattle.library_index.specs.Names.{newName}
 use Rattle.library_image.specs.Library.{Module, ImportOnly, Library}
-use Rattle.library_image.specs.Image.{mostSets, mostModules, mostNames, leastRevisions, mostRevisions, Reader, countAt, counted, anyWord, newWord, moduleAt, revisionAt, importOnlyAt, setAt, libraryAt}
+use Rattle.library_image.specs.Image.{mostSets, mostModules, mostNames, leastRevisions, mostRevisions, Reader, countAt, counted, anyWord, newWord, moduleAt}
+use Rattle.library_image.specs.Image.{revisionAt, importOnlyAt, setAt, libraryAt}
 use Rattle.library_image.proofs.Steps.{on-good, bind-good, carry, count-good}
 use Rattle.library_index.proofs.Taking.{new-read}
-use Rattle.library_items.specs.Items.{item, moduleItems, revisionItems, importItems, setItems, itemsOf, moduleKind, submoduleKind, augmentingKind, deviationKind, importOnlyKind, firstSubKind, laterSubKind}
-use Rattle.library_items.specs.Table.{Items, andThen, each, eachCounted, nameRead, listRead, listsRead, revisionsRead, entryRead, entriesRead, setRead, setsRead}
+use Rattle.library_items.specs.Items.{item, moduleItems, revisionItems, importItems, setItems, itemsOf, moduleKind, submoduleKind, augmentingKind}
+use Rattle.library_items.specs.Items.{deviationKind, importOnlyKind, firstSubKind, laterSubKind}
+use Rattle.library_items.specs.Table.{Items, andThen, each, eachCounted, nameRead, listRead, listsRead, revisionsRead, entryRead, entriesRead, setRead}
+use Rattle.library_items.specs.Table.{setsRead}
 
 -- ---- one behind another, and counted lists
 
@@ -60,7 +63,8 @@ unfolding nameRead
 name-told s k at e = bind-good _ e refl
 
 -- a list of names that are read alone, or differ
-module _ (p : Reader PlacedName) (plain : (s : List ℕ) (seen : List PlacedName) (at : ℕ) (w : PlacedName) (n : ℕ) → p s seen at ≡ good w n → nameAt s at ≡ good w n) (s : List ℕ) (k : ℕ) where
+module _ (p : Reader PlacedName) (plain : (s : List ℕ) (seen : List PlacedName) (at : ℕ) (w : PlacedName) (n : ℕ) → p s seen at ≡ good w n
+    → nameAt s at ≡ good w n) (s : List ℕ) (k : ℕ) where
   list-told : (at : ℕ) {l : List PlacedName} {n : ℕ} → counted 0 mostNames p s at ≡ good l n → listRead k s at ≡ good (map (item k) l) n
   unfolding listRead
   list-told at {l} {n} e =
@@ -95,12 +99,14 @@ revisions-told s at {l} {n} e =
     on-good (countAt leastRevisions mostRevisions s at) _ e (λ c m e₁ e₂.
     bind-good _ e₁ (go c m (count-good s leastRevisions mostRevisions at e₁ .enough) e₂))
   where
-    go : (c m : ℕ) → 1 ≤ c → many (revisionAt s) c [] m ≡ good l n → andThen (listRead firstSubKind s m) (λ k. each (listRead laterSubKind s) (c - 1) k) ≡ good (revisionItems l) n
+    go : (c m : ℕ) → 1 ≤ c → many (revisionAt s) c [] m ≡ good l n → andThen (listRead firstSubKind s m) (λ k. each (listRead laterSubKind s) (c - 1) k)
+        ≡ good (revisionItems l) n
     go (suc k) m h e =
         let z : suc k - 1 ≡ k = omega arith in
         on-good (revisionAt s [] m) _ e (λ a j e₁ e₂.
         let i = many-told revisionAt s (listRead laterSubKind s) (map (item laterSubKind)) (revision-told s laterSubKind) k (a ∷ []) j e₂ in
-        then-good (λ x. each (listRead laterSubKind s) (suc k - 1) x) (revision-told s firstSubKind [] m a j e₁) (ap (λ d. each (listRead laterSubKind s) d j) z ∙ i .told)
+        then-good (λ x. each (listRead laterSubKind s) (suc k - 1) x) (revision-told s firstSubKind [] m a j e₁)
+        (ap (λ d. each (listRead laterSubKind s) d j) z ∙ i .told)
         ∙ ap (λ x. good (revisionItems x) n) (sym (i .joined)))
 
 import-told : (s : List ℕ) → Tells importOnlyAt s (entryRead true s) importItems

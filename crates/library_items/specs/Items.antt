@@ -5,7 +5,7 @@ use mathlib.Core.List.{List, [], _∷_, _++_, map, flatMap}
 use Rattle.library_form.specs.Form.{PlacedName}
 use Rattle.library_image.specs.Library.{ModuleOf, ImportOnlyOf, SetOf, LibraryOf, Library}
 use Rattle.library_image.specs.Image.{imageAt}
-use Rattle.library_read.specs.Reading.{onAns}
+use Rattle.library_lists.specs.Lists.{onAns}
 
 -- ---- what a name is
 

@@ -8,8 +8,9 @@ use mathlib.Core.List.{List, [], _∷_, _++_}
 use lib.ListN.{length, getD}
 use Rattle.library_form.specs.Form.{Ans, good, bind, PlacedName, wordAt, nameAt}
 use Rattle.library_image.specs.Image.{mostImage, mostSets, mostModules, mostNames, leastRevisions, mostRevisions, countAt}
-use Rattle.library_read.specs.Reading.{onAns}
-use Rattle.library_items.specs.Items.{ItemOf, item, moduleKind, submoduleKind, augmentingKind, deviationKind, importOnlyKind, firstSubKind, laterSubKind, mostKind, itemsAt}
+use Rattle.library_lists.specs.Lists.{onAns}
+use Rattle.library_items.specs.Items.{ItemOf, item, moduleKind, submoduleKind, augmentingKind, deviationKind, importOnlyKind, firstSubKind, laterSubKind}
+use Rattle.library_items.specs.Items.{mostKind, itemsAt}
 use Rattle.library_items.specs.declared.Item.{Item}
 use Rattle.library_items.specs.declared.Reach.{Reach}
 

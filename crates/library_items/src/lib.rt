@@ -7,7 +7,8 @@ ghost use Prim.Native.Nat.{_+_, _*_, _≤_, _<_};
 ghost use lib.ListN.{length};
 ghost use Rattle.library_image.specs.Image.{imageAt};
 ghost use Rattle.library_items.specs.Items.{mostKind};
-ghost use Rattle.library_items.specs.Table.{tableWords, itemIn, nameRead, listRead, listsRead, revisionsRead, entryRead, entriesRead, setRead, Reads, Puts, Laid, Room, Gained, Itemized};
+ghost use Rattle.library_items.specs.Table.{tableWords, itemIn, nameRead, listRead, listsRead, revisionsRead, entryRead, entriesRead, setRead, Reads};
+ghost use Rattle.library_items.specs.Table.{Puts, Laid, Room, Gained, Itemized};
 
 // What a name is.
 pub const MODULE: usize = 0;
@@ -89,7 +90,7 @@ fn take_list(s: &[u8], tab: &mut [u32], n: usize, kind: usize, at: usize) -> Rea
     requires { ⌜ Room (now s) (now tab) n at × (kind < mostKind) × Reads (listRead kind (now s) at) ⌝ }
     ensures { λ r. ⌜ Gained (now (s .entry)) (now (tab .entry)) n (listRead kind (now (s .entry)) at) r (now (tab .exit)) ⌝ }
 {
-    let Number::Value(count, next) = library_read::read_count(s, at, 0, library_read::MOST_NAMES)
+    let Number::Value(count, next) = library_lists::read_count(s, at, 0, library_lists::MOST_NAMES)
     else {
         return Reach { items: n, at: at };
     };
@@ -120,11 +121,11 @@ fn take_revisions(s: &[u8], tab: &mut [u32], n: usize, at: usize) -> Reach
     requires { ⌜ Room (now s) (now tab) n at × Reads (revisionsRead (now s) at) ⌝ }
     ensures { λ r. ⌜ Gained (now (s .entry)) (now (tab .entry)) n (revisionsRead (now (s .entry)) at) r (now (tab .exit)) ⌝ }
 {
-    let Number::Value(count, next) = library_read::read_count(
+    let Number::Value(count, next) = library_lists::read_count(
         s,
         at,
-        library_read::LEAST_REVISIONS,
-        library_read::MOST_REVISIONS,
+        library_lists::LEAST_REVISIONS,
+        library_lists::MOST_REVISIONS,
     ) else {
         return Reach { items: n, at: at };
     };
@@ -155,8 +156,12 @@ fn take_entries(s: &[u8], tab: &mut [u32], import_only: bool, n: usize, at: usiz
     requires { ⌜ Room (now s) (now tab) n at × Reads (entriesRead «import_only» (now s) at) ⌝ }
     ensures { λ r. ⌜ Gained (now (s .entry)) (now (tab .entry)) n (entriesRead «import_only» (now (s .entry)) at) r (now (tab .exit)) ⌝ }
 {
-    let Number::Value(count, next) = library_read::read_count(s, at, 0, library_read::MOST_MODULES)
-    else {
+    let Number::Value(count, next) = library_lists::read_count(
+        s,
+        at,
+        0,
+        library_lists::MOST_MODULES,
+    ) else {
         return Reach { items: n, at: at };
     };
     let mut reach = Reach {
@@ -185,7 +190,7 @@ pub fn list_items(s: &[u8], tab: &mut [u32]) -> usize
     requires { ⌜ (tableWords ≤ length (now tab)) × Reads (imageAt (now s)) ⌝ }
     ensures { λ r. ⌜ Itemized (now (s .entry)) r (now (tab .exit)) × (length (now (tab .exit)) ≡ length (now (tab .entry))) ⌝ }
 {
-    let Number::Value(count, next) = library_read::read_count(s, 0, 0, library_read::MOST_SETS)
+    let Number::Value(count, next) = library_lists::read_count(s, 0, 0, library_lists::MOST_SETS)
     else {
         return 0;
     };

@@ -3,29 +3,31 @@
 -- Assumes nothing.
 use mathlib.Core.Path.{_≡_, refl, sym, ap, _∙_}
 use mathlib.Core.List.{List, [], _∷_, _++_, map, map-append}
-use mathlib.Core.Bool.{Bool, true, false, cond}
+use mathlib.Core.Bool.{Bool, true, false}
 use Prim.Native.Nat.{ℕ, zero, suc, _+_, _^_, _≤_, _<_}
 use native.Mathlib.Omega.{arith}
 use lib.ListN.{length}
 use mir.Syntax.{w64}
 use mir.Val.{Fits}
-use Rattle.library_form.specs.Form.{Ans, good, bad, bind, PlacedName, wordAt, numberSeen, nameAt, nameSeen, many}
+use Rattle.library_form.specs.Form.{Ans, good, bad, bind, PlacedName, wordAt, numberSeen, nameSeen, many}
 use Rattle.library_form.specs.declared.ImageCursor.{ImageCursor}
 use Rattle.library_form.specs.declared.Number.{Number}
 use Rattle.library_form.specs.declared.Number.the-variants.{Value, Wrong as WrongNumber}
 use Rattle.library_form.specs.declared.Name.{Name}
 use Rattle.library_form.specs.declared.Name.the-variants.{Bytes, Wrong as WrongName}
-use Rattle.library_form.proofs.Bounds.{name-end, name-place}
+use Rattle.library_form.proofs.Bounds.{name-end}
 use Rattle.library_index.proofs.Taking.{new-read, new-place}
 use Rattle.library_index.specs.Names.{newName, namesIn, Indexed, Cleared, Space, Taken}
 use Rattle.library_index.proofs.Insert.{none-yet}
 use Rattle.library_image.specs.Library.{Module, ImportOnly}
-use Rattle.library_image.specs.Image.{mostModules, mostNames, leastRevisions, mostRevisions, Reader, countAt, counted, anyWord, revisionAt, moduleAt, importOnlyAt}
+use Rattle.library_image.specs.Image.{mostModules, mostNames, leastRevisions, mostRevisions, Reader, countAt, counted, anyWord, revisionAt, moduleAt}
+use Rattle.library_image.specs.Image.{importOnlyAt}
 use Rattle.library_image.proofs.Steps.{count-good}
-use Rattle.library_read.specs.Reading.{done, readSeen, listAt, restAt, entryAt, entriesAt, Entered, EntryTaken, Roomy, ReadAs}
-use Rattle.library_read.specs.declared.Read.{Read}
-use Rattle.library_read.specs.declared.Read.the-variants.{End, Wrong}
-use Rattle.library_read.proofs.Counting.{Going, going, further, no-count, list-stopped, list-read}
+use Rattle.library_read.specs.Reading.{entryAt, entriesAt, Entered, EntryTaken, Roomy, ReadAs}
+use Rattle.library_lists.specs.Lists.{done, readSeen, listAt, restAt}
+use Rattle.library_lists.specs.declared.Read.{Read}
+use Rattle.library_lists.specs.declared.Read.the-variants.{End, Wrong}
+use Rattle.library_lists.proofs.Counting.{Going, going, further, no-count, list-stopped, list-read}
 
 -- ---- a reading, of which a part is kept
 
@@ -38,15 +40,18 @@ done-read f (good a n) = refl
 done-read f (bad p) = refl
 
 -- two readers that agree so, agree so on counted lists
-module _ {A B : Type 0} (f : A → B) (p : Reader A) (q : Reader B) (s : List ℕ) (same : (seen : List A) (at : ℕ) → onRead f (p s seen at) ≡ q s (map f seen) at) where
+module _ {A B : Type 0} (f : A → B) (p : Reader A) (q : Reader B) (s : List ℕ)
+    (same : (seen : List A) (at : ℕ) → onRead f (p s seen at) ≡ q s (map f seen) at) where
   many-same : (k : ℕ) (seen : List A) (at : ℕ) → onRead (map f) (many (p s) k seen at) ≡ many (q s) k (map f seen) at
   unfolding many
   many-same zero seen at = refl
   many-same (suc k) seen at = go (p s seen at) (same seen at) (λ a n. many-same k (seen ++ (a ∷ [])) n)
     where
-      go : (r : Ans A) → onRead f r ≡ q s (map f seen) at → ((a : A) (n : ℕ) → onRead (map f) (many (p s) k (seen ++ (a ∷ [])) n) ≡ many (q s) k (map f (seen ++ (a ∷ []))) n)
+      go : (r : Ans A) → onRead f r ≡ q s (map f seen) at → ((a : A) (n : ℕ)
+          → onRead (map f) (many (p s) k (seen ++ (a ∷ [])) n) ≡ many (q s) k (map f (seen ++ (a ∷ []))) n)
           → onRead (map f) (bind r (λ a n. many (p s) k (seen ++ (a ∷ [])) n)) ≡ bind (q s (map f seen) at) (λ b n. many (q s) k (map f seen ++ (b ∷ [])) n)
-      go (good a n) e ih = ih a n ∙ ap (λ (bs : List B). many (q s) k bs n) (map-append f seen (a ∷ [])) ∙ ap (λ (r : Ans B). bind r (λ b n. many (q s) k (map f seen ++ (b ∷ [])) n)) e
+      go (good a n) e ih = ih a n ∙ ap (λ (bs : List B). many (q s) k bs n) (map-append f seen (a ∷ []))
+          ∙ ap (λ (r : Ans B). bind r (λ b n. many (q s) k (map f seen ++ (b ∷ [])) n)) e
       go (bad u) e ih = ap (λ (r : Ans B). bind r (λ b n. many (q s) k (map f seen ++ (b ∷ [])) n)) e
 
   counted-same : (least most at : ℕ) → done (counted least most p s at) ≡ done (counted least most q s at)
@@ -59,34 +64,42 @@ module _ {A B : Type 0} (f : A → B) (p : Reader A) (q : Reader B) (s : List �
 
 -- ---- modules and import-only modules
 
-module-entry : (s : List ℕ) (seen : List Module) (at : ℕ) → onRead (λ (m : Module). m .name) (moduleAt s seen at) ≡ entryAt false s (map (λ (m : Module). m .name) seen) at
+module-entry : (s : List ℕ) (seen : List Module) (at : ℕ) → onRead (λ (m : Module). m .name) (moduleAt s seen at)
+    ≡ entryAt false s (map (λ (m : Module). m .name) seen) at
 unfolding moduleAt entryAt restAt listAt
 module-entry s seen at = name (newName s (map (λ (m : Module). m .name) seen) at)
   where
     deviations : (w : PlacedName) (a b : List PlacedName) (r : Ans (List PlacedName))
-        → onRead (λ (m : Module). m .name) (bind r (λ c n. good (record { name = w; submodules = a; augmenting = b; deviations = c }) n)) ≡ bind (done r) (λ u m. good w m)
+        → onRead (λ (m : Module). m .name) (bind r (λ c n. good (record { name = w; submodules = a; augmenting = b; deviations = c }) n))
+        ≡ bind (done r) (λ u m. good w m)
     deviations w a b (good c n) = refl
     deviations w a b (bad p) = refl
 
     augmenting : (w : PlacedName) (a : List PlacedName) (r : Ans (List PlacedName))
-        → onRead (λ (m : Module). m .name) (bind r (λ b n. bind (counted 0 mostNames anyWord s n) (λ c n. good (record { name = w; submodules = a; augmenting = b; deviations = c }) n)))
+        → onRead (λ (m : Module). m .name) (bind r (λ b n. bind (counted 0 mostNames anyWord s n)
+        (λ c n. good (record { name = w; submodules = a; augmenting = b; deviations = c }) n)))
         ≡ bind (bind r (λ b n. done (counted 0 mostNames anyWord s n))) (λ u m. good w m)
     augmenting w a (good b n) = deviations w a b (counted 0 mostNames anyWord s n)
     augmenting w a (bad p) = refl
 
     submodules : (w : PlacedName) (r : Ans (List PlacedName))
-        → onRead (λ (m : Module). m .name) (bind r (λ a n. bind (counted 0 mostNames anyWord s n) (λ b n. bind (counted 0 mostNames anyWord s n) (λ c n. good (record { name = w; submodules = a; augmenting = b; deviations = c }) n))))
+        → onRead (λ (m : Module). m .name) (bind r (λ a n. bind (counted 0 mostNames anyWord s n)
+        (λ b n. bind (counted 0 mostNames anyWord s n) (λ c n. good (record { name = w; submodules = a; augmenting = b; deviations = c }) n))))
         ≡ bind (bind r (λ a n. bind (counted 0 mostNames anyWord s n) (λ b n. done (counted 0 mostNames anyWord s n)))) (λ u m. good w m)
     submodules w (good a n) = augmenting w a (counted 0 mostNames anyWord s n)
     submodules w (bad p) = refl
 
     name : (r : Ans PlacedName)
-        → onRead (λ (m : Module). m .name) (bind r (λ w n. bind (counted 0 mostNames anyWord s n) (λ a n. bind (counted 0 mostNames anyWord s n) (λ b n. bind (counted 0 mostNames anyWord s n) (λ c n. good (record { name = w; submodules = a; augmenting = b; deviations = c }) n)))))
-        ≡ bind r (λ w n. bind (bind (counted 0 mostNames anyWord s n) (λ a n. bind (counted 0 mostNames anyWord s n) (λ b n. done (counted 0 mostNames anyWord s n)))) (λ u m. good w m))
+        → onRead (λ (m : Module). m .name) (bind r (λ w n. bind (counted 0 mostNames anyWord s n)
+        (λ a n. bind (counted 0 mostNames anyWord s n) (λ b n. bind (counted 0 mostNames anyWord s n)
+        (λ c n. good (record { name = w; submodules = a; augmenting = b; deviations = c }) n)))))
+        ≡ bind r (λ w n. bind (bind (counted 0 mostNames anyWord s n) (λ a n. bind (counted 0 mostNames anyWord s n)
+        (λ b n. done (counted 0 mostNames anyWord s n)))) (λ u m. good w m))
     name (good w n) = submodules w (counted 0 mostNames anyWord s n)
     name (bad p) = refl
 
-import-only-entry : (s : List ℕ) (seen : List ImportOnly) (at : ℕ) → onRead (λ (m : ImportOnly). m .name) (importOnlyAt s seen at) ≡ entryAt true s (map (λ (m : ImportOnly). m .name) seen) at
+import-only-entry : (s : List ℕ) (seen : List ImportOnly) (at : ℕ) → onRead (λ (m : ImportOnly). m .name) (importOnlyAt s seen at)
+    ≡ entryAt true s (map (λ (m : ImportOnly). m .name) seen) at
 unfolding importOnlyAt entryAt restAt
 import-only-entry s seen at = name (newName s (map (λ (m : ImportOnly). m .name) seen) at)
   where
@@ -96,7 +109,8 @@ import-only-entry s seen at = name (newName s (map (λ (m : ImportOnly). m .name
     revisions w (bad p) = refl
 
     name : (r : Ans PlacedName)
-        → onRead (λ (m : ImportOnly). m .name) (bind r (λ w n. bind (counted leastRevisions mostRevisions revisionAt s n) (λ a n. good (record { name = w; revisions = a }) n)))
+        → onRead (λ (m : ImportOnly). m .name) (bind r (λ w n. bind (counted leastRevisions mostRevisions revisionAt s n)
+        (λ a n. good (record { name = w; revisions = a }) n)))
         ≡ bind r (λ w n. bind (done (counted leastRevisions mostRevisions revisionAt s n)) (λ u m. good w m))
     name (good w n) = revisions w (counted leastRevisions mostRevisions revisionAt s n)
     name (bad p) = refl
@@ -145,11 +159,13 @@ pub record Entering (importOnly : Bool) (s before tab : List ℕ) (count start i
   pub names : namesIn s tab i ≡ loop .seen
 
 module _ (importOnly : Bool) (s : List ℕ) where
-  pub no-entries : (q : Number) (tab : List ℕ) (at : ℕ) {p : ℕ} → q ≡ WrongNumber p → numberSeen q ≡ countAt 0 mostModules s at → ReadAs (Wrong at) (done (entriesAt importOnly s at)) tab tab
+  pub no-entries : (q : Number) (tab : List ℕ) (at : ℕ) {p : ℕ} → q ≡ WrongNumber p → numberSeen q ≡ countAt 0 mostModules s at
+      → ReadAs (Wrong at) (done (entriesAt importOnly s at)) tab tab
   unfolding entriesAt
   no-entries q tab at e f = record { answer = no-count 0 mostModules s at (entryAt importOnly) q e f; kept = refl }
 
-  pub entries-begun : (q : Number) (before tab : List ℕ) (at : ℕ) {count : ℕ} {c : ImageCursor} → q ≡ Value count c → numberSeen q ≡ countAt 0 mostModules s at → Cleared before tab → Roomy s before
+  pub entries-begun : (q : Number) (before tab : List ℕ) (at : ℕ) {count : ℕ} {c : ImageCursor} → q ≡ Value count c → numberSeen q ≡ countAt 0 mostModules s at
+      → Cleared before tab → Roomy s before
       → Entering importOnly s tab tab count (c .at) 0 (c .at)
   unfolding namesIn going
   entries-begun q before tab at {count} {c} e f k m = record {
@@ -170,7 +186,8 @@ module _ (importOnly : Bool) (s : List ℕ) where
       short = omega (arith, g .room .short);
     }
 
-    more : {n : ℕ} {after : List ℕ} → length after ≡ length tab → Entered importOnly s tab i here n after → i < count → Entering importOnly s before after count from (i + 1) n
+    more : {n : ℕ} {after : List ℕ} → length after ≡ length tab → Entered importOnly s tab i here n after → i < count
+        → Entering importOnly s before after count from (i + 1) n
     unfolding further
     more {n} l k h =
         let e : entryAt importOnly s (g .loop .seen) here ≡ good (k .word) n = rw (← g .names) (k .read) in
@@ -183,7 +200,8 @@ module _ (importOnly : Bool) (s : List ℕ) where
           names = k .names ∙ ap (λ (ws : List PlacedName). ws ++ (k .word ∷ [])) (g .names);
         }
 
-    pub entries-further : (r : Read) {n : ℕ} {after : List ℕ} → r ≡ End n → EntryTaken importOnly s tab i here r after → i < count → Entering importOnly s before after count from (i + 1) n
+    pub entries-further : (r : Read) {n : ℕ} {after : List ℕ} → r ≡ End n → EntryTaken importOnly s tab i here r after → i < count
+        → Entering importOnly s before after count from (i + 1) n
     entries-further r {n} {after} e a h = more (a .kept) (rw e at (a .answer)) h
 
   module _ (q : Number) (at : ℕ) {count : ℕ} {c : ImageCursor} (k : q ≡ Value count c) (l : numberSeen q ≡ countAt 0 mostModules s at)

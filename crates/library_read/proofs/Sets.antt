@@ -14,16 +14,18 @@ use Rattle.library_form.specs.declared.Number.{Number}
 use Rattle.library_form.specs.declared.Number.the-variants.{Value, Wrong as WrongNumber}
 use Rattle.library_image.specs.Library.{Module, ImportOnly, ModuleSet, Library}
 use Rattle.library_image.specs.Image.{mostImage, mostSets, mostModules, countAt, counted, moduleAt, importOnlyAt, setAt, libraryAt, imageAt}
-use Rattle.library_read.specs.Reading.{done, readSeen, entriesAt, Roomy, ReadAs}
-use Rattle.library_read.specs.declared.Read.{Read}
-use Rattle.library_read.specs.declared.Read.the-variants.{End, Wrong}
-use Rattle.library_read.proofs.Counting.{done-bad, bind-bad, Going, going, further-behind, no-count, list-stopped, list-read}
+use Rattle.library_read.specs.Reading.{entriesAt, Roomy, ReadAs}
+use Rattle.library_lists.specs.Lists.{done, readSeen}
+use Rattle.library_lists.specs.declared.Read.{Read}
+use Rattle.library_lists.specs.declared.Read.the-variants.{End, Wrong}
+use Rattle.library_lists.proofs.Counting.{done-bad, bind-bad, Going, going, further-behind, no-count, list-stopped, list-read}
 use Rattle.library_read.proofs.Entries.{modules-entries, import-only-entries}
 
 -- ---- the ways out of `read_set`
 
 -- one reading after another, of which both are kept
-both-behind : {A B C : Type 0} (f : A → B → C) (x : Ans A) (y : ℕ → Ans B) {n : ℕ} → good tt n ≡ done x → done (bind x (λ a k. bind (y k) (λ b m. good (f a b) m))) ≡ done (y n)
+both-behind : {A B C : Type 0} (f : A → B → C) (x : Ans A) (y : ℕ → Ans B) {n : ℕ} → good tt n ≡ done x
+    → done (bind x (λ a k. bind (y k) (λ b m. good (f a b) m))) ≡ done (y n)
 both-behind f (bad p) y e = let z : _≡_ {A = ℕ} 0 1 = cc in absurd (omega arith)
 both-behind {B = B} f (good a k) y {n} e = let z : k ≡ n = cc in go (y k) ∙ ap (λ (k : ℕ). done (y k)) z
   where
@@ -51,7 +53,8 @@ module _ (s : List ℕ) (at : ℕ) (r : Read) (tab after : List ℕ) (a : ReadAs
       let b : good tt n ≡ done (counted 0 mostModules moduleAt s at) = sym (ap readSeen e) ∙ modules in
       let set : List Module → List ImportOnly → ModuleSet = λ ms is. record { modules = ms; importOnly = is } in
       record {
-        answer = k .answer ∙ sym (import-only-entries s n) ∙ sym (both-behind set (counted 0 mostModules moduleAt s at) (counted 0 mostModules importOnlyAt s) b);
+        answer = k .answer ∙ sym (import-only-entries s n) ∙ sym (both-behind set (counted 0 mostModules moduleAt s at)
+            (counted 0 mostModules importOnlyAt s) b);
         kept = k .kept ∙ a .kept;
       }
 
@@ -68,7 +71,8 @@ module _ (s : List ℕ) where
   unfolding setAt
   alone seen at = refl
 
-  pub no-sets : (q : Number) (tab : List ℕ) {p : ℕ} → q ≡ WrongNumber p → numberSeen q ≡ countAt 0 mostSets s 0 → ReadAs (Wrong 0) (done (libraryAt s 0)) tab tab
+  pub no-sets : (q : Number) (tab : List ℕ) {p : ℕ} → q ≡ WrongNumber p → numberSeen q ≡ countAt 0 mostSets s 0
+      → ReadAs (Wrong 0) (done (libraryAt s 0)) tab tab
   unfolding libraryAt
   no-sets q tab e f = record { answer = no-count 0 mostSets s 0 setAt q e f; kept = refl }
 
@@ -118,7 +122,8 @@ module _ (s : List ℕ) where
         test l true = refl
         test l false = refl
 
-        go : (x : Ans Library) → good tt n ≡ done x → done (bind x (λ l m. cond (ltb m (length s)) (bad m) (good l m))) ≡ cond (ltb n (length s)) (bad n) (good tt n)
+        go : (x : Ans Library) → good tt n ≡ done x → done (bind x (λ l m. cond (ltb m (length s)) (bad m) (good l m)))
+            ≡ cond (ltb n (length s)) (bad n) (good tt n)
         go (good l m) h = let z : m ≡ n = cc in rw z (test l (ltb n (length s)))
         go (bad p) h = let z : _≡_ {A = ℕ} 0 1 = cc in absurd (omega arith)
 

@@ -8,7 +8,8 @@ use lib.ListN.{getD}
 use mir.Syntax.{w8}
 use mir.Val.{Fits}
 use Rattle.graph.specs.Nodes.{passOver}
-use Rattle.yanglib.specs.ToGraph.{Leaves, lengthsOf, graphed, AnswerFits}
+use Rattle.yanglib.specs.ToGraph.{Leaves, graphed, AnswerFits}
+use Rattle.graph_tables.specs.Lengths.{lengthsOf}
 use Rattle.yanglib.specs.declared.Graphed.{Graphed}
 use Rattle.yanglib.specs.declared.Graphed.the-variants.{Built, Refused}
 use Rattle.yanglib.proofs.Bounds.{answer-fits}
@@ -24,11 +25,13 @@ answer-words (Refused number entry a place) h = (omega (arith, h), omega (arith,
 
 -- ---- the call
 
-module _ (s b n e d f g l : List ℕ) {r : Graphed} {n₁ e₁ d₁ f₁ g₁ l₁ : List ℕ} (h : Leaves (graphed passOver s b (lengthsOf n e d f g l)) n e d f g l r n₁ e₁ d₁ f₁ g₁ l₁) where
+module _ (s b n e d f g l : List ℕ) {r : Graphed} {n₁ e₁ d₁ f₁ g₁ l₁ : List ℕ}
+    (h : Leaves (graphed passOver s b (lengthsOf n e d f g l)) n e d f g l r n₁ e₁ d₁ f₁ g₁ l₁) where
   pub graph-fits : ((k : ℕ) → Fits w8 (getD s k 0)) → GraphFits r
   graph-fits bytes =
       subst GraphFits (sym (h .answer))
-      (answer-words (graphed passOver s b (lengthsOf n e d f g l) .answer) (answer-fits passOver s b (λ k. omega (arith, bytes k .fits)) (lengthsOf n e d f g l)))
+      (answer-words (graphed passOver s b (lengthsOf n e d f g l) .answer)
+      (answer-fits passOver s b (λ k. omega (arith, bytes k .fits)) (lengthsOf n e d f g l)))
 
   -- the words are answered, and the first is returned
   pub graph-told : {w : List ℕ} → w ≡ graphWords r → Drawn (graphed passOver s b (lengthsOf n e d f g l)) n e d f g l (getD w 0 0) n₁ e₁ d₁ f₁ g₁ l₁ w

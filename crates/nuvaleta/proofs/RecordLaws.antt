@@ -76,7 +76,8 @@ module _ (s : List ℕ) (short : Bool) (d : List ℕ) {m : YangModuleMetadata} {
   unfolding metadata
   small = subst Small (sym (w .answer)) (lent-small s short (lentAt s short) refl)
 
-  pub described : {n : ℕ} {v a : List ℕ} → v ≡ recordWords (m .values) → a ≡ m .answer .number ∷ m .answer .keyword ∷ m .answer .at ∷ m .used ∷ [] → n ≡ m .answer .number
+  pub described : {n : ℕ} {v a : List ℕ} → v ≡ recordWords (m .values) → a ≡ m .answer .number ∷ m .answer .keyword ∷ m .answer .at ∷ m .used ∷ []
+      → n ≡ m .answer .number
       → Described (metadata s short) d n e v a
   described ve ae ne = record {
     stored = w .stored;

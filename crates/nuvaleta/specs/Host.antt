@@ -8,7 +8,8 @@ use mathlib.Core.List.{List, [], _∷_, _++_}
 use lib.ListN.{length}
 use Rattle.text_lent.specs.Padded.{padded}
 use Rattle.scan_page.specs.Page.{pageOf}
-use Rattle.yangparser.specs.Dependencies.{Scan, tooShort, pageShort, dependencies, parsedOf}
+use Rattle.yangparser.specs.Dependencies.{Scan, pageShort, dependencies, parsedOf}
+use Rattle.scan_rows.specs.Short.{tooShort}
 use Rattle.yangparser.specs.Promises.{Leaves}
 use Rattle.nuvaleta.specs.Words.{numberOf, answerWords}
 

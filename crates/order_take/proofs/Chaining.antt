@@ -42,7 +42,8 @@ module _ (edges : List ℕ) (i : ℕ) (heads links waits : List ℕ) (r : Rows e
     headed-more = record {
       room = length-set heads from (i + 1) ∙ g .headed .room;
       heads-of = λ u. ⊎-elim
-          (λ q. ap (λ (k : ℕ). getD (set heads from (i + 1)) k 0) q ∙ getD-set-same heads from (i + 1) 0 from-in ∙ sym (last-here (λ (r : Row). r .from) edges u i (sym (q ∙ e))))
+          (λ q. ap (λ (k : ℕ). getD (set heads from (i + 1)) k 0) q ∙ getD-set-same heads from (i + 1) 0 from-in
+          ∙ sym (last-here (λ (r : Row). r .from) edges u i (sym (q ∙ e))))
           (λ d. getD-set-other heads from u (i + 1) 0 d ∙ g .headed .heads-of u ∙ sym (last-else (λ (r : Row). r .from) edges u i (λ q. d (sym (e ∙ q)))))
           (decide u from);
     }

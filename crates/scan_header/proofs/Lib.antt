@@ -2,4 +2,3 @@ pub mod ReadLaws
 pub mod RefusalLaws
 pub mod SaidLaws
 pub mod StatementLaws
-pub mod TagLaws

@@ -9,62 +9,19 @@ use lib.Dec.{eqb}
 use lib.ListN.{getD}
 use borrow.Author.Tests.{eq-eqb, ne-eqb}
 use Rattle.text.specs.Due.{dueAt}
-use Rattle.text.specs.Keyword.{matchAt, orMatch}
 use Rattle.text.specs.Scan.{gapEnd}
-use Rattle.text.specs.Words.{moduleWord, submoduleWord, belongsToWord, namespaceWord, prefixWord, yangVersionWord, revisionWord, containerWord, listWord, leafWord, groupingWord, typedefWord, identityWord, augmentWord, rpcWord, notificationWord}
 use Rattle.text.specs.declared.Cursor.{Cursor}
 use Rattle.text.specs.declared.Due.{Due}
 use Rattle.text.specs.declared.Due.the-variants.{After as AfterDue, Not as NotDue}
-use Rattle.text.specs.declared.Match.{Match}
-use Rattle.text.specs.declared.Match.the-variants.{After, Not}
 use Rattle.text.specs.declared.Refusal.{Refusal}
 use Rattle.text_skip.specs.Skip.{skipRefusal}
-use Rattle.text_skip.specs.Statement.{statementAt}
+use Rattle.text_statement.specs.Statement.{statementAt}
 use Rattle.text_skip.specs.declared.How.{How}
 use Rattle.text_skip.specs.declared.Skipped.{Skipped}
 use Rattle.text_skip.specs.declared.Skipped.the-variants.{Past, Refused as RefusedSkip}
 use Rattle.text_skip.proofs.SkipLaws.{skip-refusal-is}
-use Rattle.scan_header.specs.Tag.{laterDataAt, dataAt, lastTag, orTag, laterTagAt, tagAt}
 use Rattle.scan_header.specs.Header.{dueFor, pastOf, pastStatement, afterRevision, afterValue, passed}
 use Rattle.scan_header.specs.declared.Heard.the-variants.{Passed, Refused}
-use Rattle.scan_header.specs.declared.Tag.{Tag}
-use Rattle.scan_header.specs.declared.Tag.the-variants.{Statement, Last}
-
--- ---- keywords
-
-module _ {m : Match} where
-  pub last-after : (c : Cursor) → m ≡ After c → Last c ≡ lastTag m
-  unfolding lastTag
-  last-after c h = sym (ap lastTag h)
-
-  module _ (k : ℕ) (t : Tag) {n : Match} (e : m ≡ n) where
-    pub tag-after : (c : Cursor) → m ≡ After c → Statement k c ≡ orTag k n t
-    unfolding orTag
-    tag-after c h = sym (ap (λ z. orTag k z t) (sym e ∙ h))
-
-    pub tag-not : m ≡ Not → t ≡ orTag k n t
-    unfolding orTag
-    tag-not h = sym (ap (λ z. orTag k z t) (sym e ∙ h))
-
--- each word before those after it
-module _ (s : List ℕ) (at : ℕ) where
-  pub later-data-is : {n r a i t : Match} → n ≡ matchAt s at notificationWord → r ≡ orMatch (matchAt s at rpcWord) n → a ≡ orMatch (matchAt s at augmentWord) r
-      → i ≡ orMatch (matchAt s at identityWord) a → t ≡ orMatch (matchAt s at typedefWord) i → t ≡ laterDataAt s at
-  later-data-is ne re ae ie te = te ∙ ap (orMatch _) (ie ∙ ap (orMatch _) (ae ∙ ap (orMatch _) (re ∙ ap (orMatch _) ne)))
-
-  pub data-is : {t g l k c : Match} → t ≡ laterDataAt s at → g ≡ orMatch (matchAt s at groupingWord) t → l ≡ orMatch (matchAt s at leafWord) g
-      → k ≡ orMatch (matchAt s at listWord) l → c ≡ orMatch (matchAt s at containerWord) k → c ≡ dataAt s at
-  unfolding dataAt
-  data-is te ge le ke ce = ce ∙ ap (orMatch _) (ke ∙ ap (orMatch _) (le ∙ ap (orMatch _) (ge ∙ ap (orMatch _) te)))
-
-  pub later-tag-is : {d : Match} {l r v p : Tag} → d ≡ dataAt s at → l ≡ lastTag d → r ≡ orTag 7 (matchAt s at revisionWord) l
-      → v ≡ orTag 6 (matchAt s at yangVersionWord) r → p ≡ orTag 5 (matchAt s at prefixWord) v → p ≡ laterTagAt s at
-  later-tag-is de le re ve pe = pe ∙ ap (orTag 5 _) (ve ∙ ap (orTag 6 _) (re ∙ ap (orTag 7 _) (le ∙ ap lastTag de)))
-
-  pub tag-is : {l n b k m : Tag} → l ≡ laterTagAt s at → n ≡ orTag 4 (matchAt s at namespaceWord) l → b ≡ orTag 3 (matchAt s at belongsToWord) n
-      → k ≡ orTag 2 (matchAt s at submoduleWord) b → m ≡ orTag 1 (matchAt s at moduleWord) k → m ≡ tagAt s at
-  unfolding tagAt
-  tag-is le ne be ke me = me ∙ ap (orTag 1 _) (ke ∙ ap (orTag 2 _) (be ∙ ap (orTag 3 _) (ne ∙ ap (orTag 4 _) le)))
 
 -- ---- what follows a value
 

@@ -16,18 +16,19 @@ use Rattle.text.proofs.Here.{by-test}
 use Rattle.text_value.specs.Argument.{argumentOf, argumentAt}
 use Rattle.text_value.specs.Value.{Val, value, none, valueAt}
 use Rattle.text_skip.specs.Skip.{tokenAt, skippedAt}
-use Rattle.text_skip.specs.Statement.{statementAt}
+use Rattle.text_statement.specs.Statement.{statementAt}
 use Rattle.text_skip.specs.declared.Skipped.{Skipped}
 use Rattle.text_skip.specs.declared.Skipped.the-variants.{Past, Refused as RefusedSkip}
 use Rattle.text_skip.proofs.PassLaws.{skipped-refused}
 use Rattle.text_skip.proofs.SkipLaws.{token-refused}
-use Rattle.text_skip.proofs.StatementLaws.{statement-refused}
-use Rattle.scan_header.specs.Header.{laterPrefix, pastOf, pastStatement, dueFor, afterRevision, afterValue, passed, kept, withRest, fieldAt, afterSkipped, statementSaid, tagSaid, saidHere, saidAt}
-use Rattle.scan_header.specs.Tag.{tagAt}
+use Rattle.text_statement.proofs.StatementLaws.{statement-refused}
+use Rattle.scan_header.specs.Header.{laterPrefix, pastOf, pastStatement, dueFor, afterRevision, afterValue, passed, kept, withRest, fieldAt, afterSkipped}
+use Rattle.scan_header.specs.Header.{statementSaid, tagSaid, saidHere, saidAt}
+use Rattle.scan_tag.specs.Tag.{tagAt}
 use Rattle.scan_header.specs.declared.Heard.{Heard}
 use Rattle.scan_header.specs.declared.Heard.the-variants.{Value, Passed, Done, Refused}
-use Rattle.scan_header.specs.declared.Tag.{Tag}
-use Rattle.scan_header.specs.declared.Tag.the-variants.{Statement, Last, Other}
+use Rattle.scan_tag.specs.declared.Tag.{Tag}
+use Rattle.scan_tag.specs.declared.Tag.the-variants.{Statement, Last, Other}
 
 -- ---- a byte that is due, and what follows a value
 

@@ -23,21 +23,22 @@ use Rattle.text_value.specs.declared.Argument.{Argument}
 use Rattle.text_value.specs.declared.Argument.the-variants.{Read, Refused as NoArgument}
 use Rattle.text_value.proofs.ArgumentLaws.{argument-far, argument-refused}
 use Rattle.text_skip.specs.Skip.{tokenAt, skippedAt}
-use Rattle.text_skip.specs.Statement.{statementAt}
+use Rattle.text_statement.specs.Statement.{statementAt}
 use Rattle.text_skip.specs.declared.Skipped.{Skipped}
 use Rattle.text_skip.specs.declared.Skipped.the-variants.{Past, Refused as RefusedSkip}
 use Rattle.text_skip.proofs.PassLaws.{skipped-far, skipped-refused}
 use Rattle.text_skip.proofs.SkipLaws.{token-far, token-refused}
-use Rattle.text_skip.proofs.StatementLaws.{statement-far, statement-refused}
+use Rattle.text_statement.proofs.StatementLaws.{statement-far, statement-refused}
 use Rattle.scan_rows.specs.Span.{held}
 use Rattle.scan_rows.specs.declared.Span.{Span}
-use Rattle.scan_header.specs.Header.{laterPrefix, pastOf, pastStatement, dueFor, afterRevision, afterValue, Said, said, passed, kept, withRest, fieldAt, afterSkipped, statementSaid, tagSaid, saidHere, saidAt}
-use Rattle.scan_header.specs.Tag.{tagAt}
+use Rattle.scan_header.specs.Header.{laterPrefix, pastOf, pastStatement, dueFor, afterRevision, afterValue, Said, said, passed, kept, withRest, fieldAt}
+use Rattle.scan_header.specs.Header.{afterSkipped, statementSaid, tagSaid, saidHere, saidAt}
+use Rattle.scan_tag.specs.Tag.{tagAt}
 use Rattle.scan_header.specs.declared.Heard.{Heard}
 use Rattle.scan_header.specs.declared.Heard.the-variants.{Value, Passed, Done, Refused}
-use Rattle.scan_header.specs.declared.Tag.{Tag}
-use Rattle.scan_header.specs.declared.Tag.the-variants.{Statement, Last, Other}
-use Rattle.scan_header.proofs.TagLaws.{tag-far, tag-last-far}
+use Rattle.scan_tag.specs.declared.Tag.{Tag}
+use Rattle.scan_tag.specs.declared.Tag.the-variants.{Statement, Last, Other}
+use Rattle.scan_tag.proofs.TagLaws.{tag-far, tag-last-far}
 
 -- what holds of both ways holds of the one taken
 by-cond : {A : Type 0} (P : A → Type 0) (t : Bool) (x y : A) → (t ≡ true → P x) → (t ≡ false → P y) → P (cond t x y)

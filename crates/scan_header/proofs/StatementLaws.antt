@@ -26,13 +26,14 @@ use Rattle.text_skip.specs.declared.Skipped.the-variants.{Past, Refused as Refu
 use Rattle.text_skip.proofs.SkipLaws.{skip-refusal-is}
 use Rattle.scan_rows.specs.Span.{held}
 use Rattle.scan_rows.specs.declared.Span.{Span}
-use Rattle.scan_header.specs.Tag.{tagAt}
-use Rattle.scan_header.specs.Header.{pastOf, pastStatement, afterValue, passed, kept, withRest, fieldAt, afterSkipped, laterPrefix, statementSaid, tagSaid, saidHere, saidAt}
+use Rattle.scan_tag.specs.Tag.{tagAt}
+use Rattle.scan_header.specs.Header.{pastOf, pastStatement, afterValue, passed, kept, withRest, fieldAt, afterSkipped, laterPrefix, statementSaid}
+use Rattle.scan_header.specs.Header.{tagSaid, saidHere, saidAt}
 use Rattle.scan_header.specs.declared.Heard.{Heard}
 use Rattle.scan_header.specs.declared.Heard.the-variants.{Value, Done, Refused}
-use Rattle.scan_header.specs.declared.Tag.{Tag}
-use Rattle.scan_header.specs.declared.Tag.the-variants.{Statement, Last, Other}
-use Rattle.scan_header.proofs.TagLaws.{tag-far}
+use Rattle.scan_tag.specs.declared.Tag.{Tag}
+use Rattle.scan_tag.specs.declared.Tag.the-variants.{Statement, Last, Other}
+use Rattle.scan_tag.proofs.TagLaws.{tag-far}
 
 -- ---- a keyword with its value; d: the store at entry, e: at exit
 

@@ -17,15 +17,15 @@ use Rattle.text_value.specs.Value.{valueAt, valueBytes}
 use Rattle.text_value.specs.declared.Argument.{Argument}
 use Rattle.text_value.specs.declared.Argument.the-variants.{Read, Refused as NoArgument}
 use Rattle.text_skip.specs.Skip.{tokenAt, skippedAt}
-use Rattle.text_skip.specs.Statement.{statementAt}
+use Rattle.text_statement.specs.Statement.{statementAt}
 use Rattle.text_skip.specs.declared.Skipped.{Skipped}
 use Rattle.text_skip.specs.declared.Skipped.the-variants.{Past, Refused as RefusedSkip}
 use Rattle.scan_rows.specs.Span.{held}
-use Rattle.scan_header.specs.Tag.{tagAt}
+use Rattle.scan_tag.specs.Tag.{tagAt}
 use Rattle.scan_header.specs.declared.Heard.{Heard}
 use Rattle.scan_header.specs.declared.Heard.the-variants.{Value, Passed, Done, Refused}
-use Rattle.scan_header.specs.declared.Tag.{Tag}
-use Rattle.scan_header.specs.declared.Tag.the-variants.{Statement, Last, Other}
+use Rattle.scan_tag.specs.declared.Tag.{Tag}
+use Rattle.scan_tag.specs.declared.Tag.the-variants.{Statement, Last, Other}
 
 -- ---- what follows a value; k: the keyword, at: the place after the value
 

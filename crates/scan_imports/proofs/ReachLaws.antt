@@ -28,21 +28,21 @@ use Rattle.text_value.proofs.ArgumentLaws.{argument-far, argument-refused, line
 use Rattle.scan_rows.specs.Span.{held}
 use Rattle.scan_rows.specs.declared.YangImport.{YangImport}
 use Rattle.scan_rows.specs.declared.YangInclude.{YangInclude}
-use Rattle.scan_imports.specs.Left.{Left, nothing}
-use Rattle.scan_imports.specs.Block.{insideAt, Stored, afterInside, blockTurn, blockFrom, begun, blockAt}
+use Rattle.scan_block.specs.Left.{Left, nothing}
+use Rattle.scan_block.specs.Block.{insideAt, Stored, afterInside, blockTurn, blockFrom, begun, blockAt}
 use Rattle.scan_imports.specs.Statement.{ofBody, importOf, withName, afterName, importAt, includeOf, plainOf, blockOf, openOrPlain, afterValue, includeAt}
-use Rattle.scan_imports.specs.declared.Block.{Block}
-use Rattle.scan_imports.specs.declared.Block.the-variants.{Whole, Broken}
-use Rattle.scan_imports.specs.declared.Body.{Body}
-use Rattle.scan_imports.specs.declared.Inside.{Inside}
-use Rattle.scan_imports.specs.declared.Inside.the-variants.{On, Closed, Refused}
+use Rattle.scan_block.specs.declared.Block.{Block}
+use Rattle.scan_block.specs.declared.Block.the-variants.{Whole, Broken}
+use Rattle.scan_block.specs.declared.Body.{Body}
+use Rattle.scan_block.specs.declared.Inside.{Inside}
+use Rattle.scan_block.specs.declared.Inside.the-variants.{On, Closed, Refused}
 use Rattle.scan_imports.specs.declared.ParsedImport.{ParsedImport}
 use Rattle.scan_imports.specs.declared.ParsedImport.the-variants.{Import, NoImport}
 use Rattle.scan_imports.specs.declared.ParsedInclude.{ParsedInclude}
 use Rattle.scan_imports.specs.declared.ParsedInclude.the-variants.{Include, NoInclude}
-use Rattle.scan_imports.proofs.BlockLaws.{turn-far, block-falls}
-use Rattle.scan_imports.proofs.FarLaws.{Forth, Went, inside-went, bytes-fit}
-use Rattle.scan_imports.proofs.Spans.{Lies, MayLie, Sound, lies-held, lies-more, may-more, may-lies, sound-begun}
+use Rattle.scan_block.proofs.BlockLaws.{turn-far, block-falls}
+use Rattle.scan_block.proofs.FarLaws.{Forth, Went, inside-went, bytes-fit}
+use Rattle.scan_block.proofs.Spans.{Lies, MayLie, Sound, lies-held, lies-more, may-more, may-lies, sound-begun}
 
 -- ---- a block
 
@@ -112,7 +112,8 @@ ImportSaid s at u bs (Import c n i) =
 ImportSaid s at u bs (NoImport r) = (length bs ≤ length s - at) × (at ≤ length s → r .at ≤ length s)
 
 -- bs: the name's bytes, n: the store's place behind it; cs: those of the block
-module _ (s : List ℕ) (at u : ℕ) (bs : List ℕ) (c : Cursor) (n : ℕ) (far : at + length bs < c .at) (in-text : c .at ≤ length s) (count : n ≡ u + length bs) where
+module _ (s : List ℕ) (at u : ℕ) (bs : List ℕ) (c : Cursor) (n : ℕ) (far : at + length bs < c .at) (in-text : c .at ≤ length s)
+    (count : n ≡ u + length bs) where
   body-said : (cs : List ℕ) (y : Body) → BlockSaid s (c .at) n cs (Whole y) → ImportSaid s at u (bs ++ cs) (ofBody (held u (n - u)) y)
   unfolding ofBody
   body-said cs y d =
@@ -170,7 +171,8 @@ IncludeSaid s at u bs (Include c n i) =
 IncludeSaid s at u bs (NoInclude r) = (length bs ≤ length s - at) × (at ≤ length s → r .at ≤ length s)
 
 -- bs: the name's bytes, n: the store's place behind it
-module _ (s : List ℕ) (at u : ℕ) (bs : List ℕ) (c : Cursor) (n : ℕ) (far : at + length bs ≤ c .at) (in-text : c .at ≤ length s) (count : n ≡ u + length bs) where
+module _ (s : List ℕ) (at u : ℕ) (bs : List ℕ) (c : Cursor) (n : ℕ) (far : at + length bs ≤ c .at) (in-text : c .at ≤ length s)
+    (count : n ≡ u + length bs) where
   -- the block from a place behind c; cs: its bytes
   open-said : (from : ℕ) (cs : List ℕ) (b : Block) → c .at < from → from ≤ length s → BlockSaid s from n cs b
       → IncludeSaid s at u (bs ++ cs) (includeOf (held u (n - u)) b)
@@ -193,7 +195,8 @@ module _ (s : List ℕ) (at u : ℕ) (bs : List ℕ) (c : Cursor) (n : ℕ) (far
       (omega (arith, f .0), f .1, count, lies-held u u n (omega arith) (omega arith), inl refl, omega arith)
   plain-said (Not r) h = (omega arith, λ i. due-refused-within s (c .at) 59 9 r in-text h .1)
 
-  either-said : IncludeSaid s at u (openOrPlain s (gapEnd s (c .at)) n (held u (n - u)) bs .bytes) (openOrPlain s (gapEnd s (c .at)) n (held u (n - u)) bs .answer)
+  either-said : IncludeSaid s at u (openOrPlain s (gapEnd s (c .at)) n (held u (n - u)) bs .bytes)
+      (openOrPlain s (gapEnd s (c .at)) n (held u (n - u)) bs .answer)
   unfolding openOrPlain blockOf dueAt
   either-said =
       let g = gapEnd s (c .at) in

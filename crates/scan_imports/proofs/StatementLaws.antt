@@ -23,16 +23,16 @@ use Rattle.text_value.proofs.ArgumentLaws.{refusal-is, argument-far, argument-r
 use Rattle.text_value.proofs.JoinLaws.{sets-twice}
 use Rattle.scan_rows.specs.Span.{held, missing}
 use Rattle.scan_rows.specs.declared.Span.{Span}
-use Rattle.scan_imports.specs.Block.{blockRefusal, blockAt}
+use Rattle.scan_block.specs.Block.{blockRefusal, blockAt}
 use Rattle.scan_imports.specs.Statement.{ofBody, importOf, withName, afterName, importAt, includeOf, plainOf, blockOf, openOrPlain, afterValue, includeAt}
-use Rattle.scan_imports.specs.declared.Block.{Block}
-use Rattle.scan_imports.specs.declared.Block.the-variants.{Whole, Broken}
-use Rattle.scan_imports.specs.declared.Body.{Body}
+use Rattle.scan_block.specs.declared.Block.{Block}
+use Rattle.scan_block.specs.declared.Block.the-variants.{Whole, Broken}
+use Rattle.scan_block.specs.declared.Body.{Body}
 use Rattle.scan_imports.specs.declared.ParsedImport.{ParsedImport}
 use Rattle.scan_imports.specs.declared.ParsedImport.the-variants.{Import, NoImport}
 use Rattle.scan_imports.specs.declared.ParsedInclude.{ParsedInclude}
 use Rattle.scan_imports.specs.declared.ParsedInclude.the-variants.{Include, NoInclude}
-use Rattle.scan_imports.proofs.InsideLaws.{Leaves, leaves}
+use Rattle.scan_block.proofs.InsideLaws.{Leaves, leaves}
 
 pub broken-is : {b : Block} {r q : Refusal} → b ≡ Broken r → q ≡ blockRefusal b → q ≡ r
 unfolding blockRefusal

@@ -1,3 +1,1 @@
-pub mod Block
-pub mod Left
 pub mod Statement

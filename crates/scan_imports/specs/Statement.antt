@@ -15,12 +15,12 @@ use Rattle.text_value.specs.Value.{valueAt, valueBytes}
 use Rattle.text_value.specs.Argument.{argumentAt, lineAt}
 use Rattle.text_value.specs.declared.Argument.{Argument}
 use Rattle.text_value.specs.declared.Argument.the-variants.{Read as ReadValue, Refused as RefusedValue}
-use Rattle.scan_imports.specs.Block.{blockAt}
-use Rattle.scan_imports.specs.Left.{Left}
+use Rattle.scan_block.specs.Block.{blockAt}
+use Rattle.scan_block.specs.Left.{Left}
 use Rattle.scan_rows.specs.Span.{held, missing}
-use Rattle.scan_imports.specs.declared.Block.{Block}
-use Rattle.scan_imports.specs.declared.Block.the-variants.{Whole, Broken}
-use Rattle.scan_imports.specs.declared.Body.{Body}
+use Rattle.scan_block.specs.declared.Block.{Block}
+use Rattle.scan_block.specs.declared.Block.the-variants.{Whole, Broken}
+use Rattle.scan_block.specs.declared.Body.{Body}
 use Rattle.scan_imports.specs.declared.ParsedImport.{ParsedImport}
 use Rattle.scan_imports.specs.declared.ParsedImport.the-variants.{Import, NoImport}
 use Rattle.scan_imports.specs.declared.ParsedInclude.{ParsedInclude}

@@ -61,7 +61,8 @@ module _ {classes s d : List ℕ} (c : Cleared classes s d) {r : YangModuleMetad
 
 -- ---- the entry; d: what was lent, e: the same cleared
 
-module _ (s d : List ℕ) {e : List ℕ} (ee : e ≡ zeros (length d)) {short : Bool} (se : short ≡ ltb (length e) (length s)) {lent : Lent} (le : lent ≡ lentAt s short) where
+module _ (s d : List ℕ) {e : List ℕ} (ee : e ≡ zeros (length d)) {short : Bool} (se : short ≡ ltb (length e) (length s)) {lent : Lent}
+    (le : lent ≡ lentAt s short) where
   as-long : length e ≡ length d
   as-long = ap length ee ∙ length-replicate {A = ℕ} (length d) 0
 

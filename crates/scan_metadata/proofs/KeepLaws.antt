@@ -33,7 +33,8 @@ module _ (vs : List Span) (n at : ℕ) where
   unfolding endedWith
   ended-good h e = rw h (ap (λ r. record { values = vs; answer = r; used = n }) e)
 
-  pub ended-nameless : getD vs 0 missing .present ≡ false → {m : YangModuleMetadata} → m ≡ refusedWith (record { number = 9; keyword = 0; at = at }) → m ≡ endedWith vs n at
+  pub ended-nameless : getD vs 0 missing .present ≡ false → {m : YangModuleMetadata} → m ≡ refusedWith (record { number = 9; keyword = 0; at = at })
+      → m ≡ endedWith vs n at
   unfolding endedWith
   ended-nameless h e = rw h e
 

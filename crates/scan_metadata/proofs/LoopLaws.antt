@@ -22,18 +22,21 @@ use Rattle.scan_header.specs.Header.{saidAt}
 use Rattle.scan_header.specs.declared.Heard.{Heard}
 use Rattle.scan_header.specs.declared.Heard.the-variants.{Value, Passed, Done, Refused}
 use Rattle.scan_header.proofs.SaidLaws.{said-value, said-passed, said-done, said-room}
-use Rattle.scan_metadata.specs.Metadata.{Metadata, nothing, told, firstOf, valuesOf, noValues, Reading, Scan, bad, ended, scanFrom, scanned, refusedWith, answerOf, storedOf}
+use Rattle.scan_metadata.specs.Metadata.{Metadata, nothing, told, firstOf, valuesOf, noValues, Reading, Scan, bad, ended, scanFrom, scanned, refusedWith}
+use Rattle.scan_metadata.specs.Metadata.{answerOf, storedOf}
 use Rattle.scan_metadata.specs.Promises.{Parses}
 use Rattle.scan_metadata.specs.Values.{keptIn, endedWith}
 use Rattle.scan_metadata.specs.declared.YangModuleMetadata.{YangModuleMetadata}
-use Rattle.scan_metadata.proofs.ScanLaws.{Kept, each-more, within-new, value-new, Sound, sound-start, heard, sound-told, sound-passed, told-nearer, passed-nearer, scan-value, scan-passed, scan-done, scan-refused}
+use Rattle.scan_metadata.proofs.ScanLaws.{Kept, each-more, within-new, value-new, Sound, sound-start, heard, sound-told, sound-passed, told-nearer}
+use Rattle.scan_metadata.proofs.ScanLaws.{passed-nearer, scan-value, scan-passed, scan-done, scan-refused}
 use Rattle.scan_metadata.proofs.ValuesLaws.{values-prefix, kept-told, told-bytes, ended-is, stored-is}
 
 -- ---- the store; bs: the bytes read
 
 module _ (bs d : List ℕ) {e : List ℕ} (h : e ≡ sets d 0 bs) (room : length bs ≤ length d) where
   stored-newest : (rs : List Revision) → Each (Kept bs) rs → valueIn e (newest rs .span) ≡ newest rs .value
-  stored-newest rs k = newest-valued e rs (each-of (Kept bs) (λ r. valueIn e (r .span) ≡ r .value) (λ r q. value-stored bs d (r .span) (q .1) h room ∙ q .2) rs k)
+  stored-newest rs k = newest-valued e rs (each-of (Kept bs) (λ r. valueIn e (r .span) ≡ r .value)
+      (λ r q. value-stored bs d (r .span) (q .1) h room ∙ q .2) rs k)
 
 -- ---- the invariant; d: the store at entry, e: now
 

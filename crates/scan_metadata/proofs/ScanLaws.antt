@@ -25,7 +25,8 @@ use Rattle.scan_header.specs.Header.{Said, saidAt}
 use Rattle.scan_header.specs.declared.Heard.{Heard}
 use Rattle.scan_header.specs.declared.Heard.the-variants.{Value, Passed, Done, Refused}
 use Rattle.scan_header.proofs.SaidLaws.{said-value, said-passed, said-done, said-refused}
-use Rattle.scan_metadata.specs.Metadata.{Metadata, nothing, told, firstOf, valuesOf, Reading, Scan, good, bad, ended, afterHeard, metadataTurn, scanFrom, scanned}
+use Rattle.scan_metadata.specs.Metadata.{Metadata, nothing, told, firstOf, valuesOf, Reading, Scan, good, bad, ended, afterHeard, metadataTurn, scanFrom}
+use Rattle.scan_metadata.specs.Metadata.{scanned}
 use Rattle.scan_metadata.proofs.ValuesLaws.{told-bytes}
 
 -- ---- where the values lie
@@ -75,7 +76,14 @@ placed-told m k x bs e p =
     let c = more (m .prefix) (p .prefix) in
     let d = more (m .parent) (p .parent) in
     by-test (eqb k 7)
-    (λ t. rw t (record { name = a; namespace = b; prefix = c; parent = d; revisions = each-snoc (Kept (m .bytes ++ bs)) (m .revisions) (record { span = x; value = bs }) rs (kept-new (m .bytes) bs x e) }))
+    (λ t. rw t (record {
+      name = a;
+      namespace = b;
+      prefix = c;
+      parent = d;
+      revisions = each-snoc (Kept (m .bytes ++ bs)) (m .revisions)
+          (record { span = x; value = bs }) rs (kept-new (m .bytes) bs x e);
+    }))
     (λ t. by-test (eqb k 3) (λ u. rw (t, u) (record { name = a; namespace = b; prefix = c; parent = new; revisions = rs }))
     (λ u. by-test (eqb k 4) (λ v. rw (t, u, v) (record { name = a; namespace = new; prefix = c; parent = d; revisions = rs }))
     (λ v. by-test (eqb k 5) (λ w. rw (t, u, v, w) (record { name = a; namespace = b; prefix = new; parent = d; revisions = rs }))
@@ -202,7 +210,8 @@ module _ (s : List ℕ) (N : Refusal → Type 0) where
   Ends (good m) = Placed m × (length (m .bytes) ≤ length s) × (m .name .present ≡ true)
   Ends (bad r bs) = (r .at ≤ length s) × (length bs ≤ length s) × N r
 
-  ended-ends : (m : Metadata) (at : ℕ) → Placed m → length (m .bytes) ≤ length s → at ≤ length s → N (record { number = 9; keyword = 0; at = at }) → Ends (ended m at)
+  ended-ends : (m : Metadata) (at : ℕ) → Placed m → length (m .bytes) ≤ length s → at ≤ length s → N (record { number = 9; keyword = 0; at = at })
+      → Ends (ended m at)
   unfolding ended
   ended-ends m at p l k n = of (m .name .present) refl
     where
@@ -247,7 +256,8 @@ module _ (s : List ℕ) where
   pub scan-placed : (m : Metadata) → scanned s ≡ good m → Placed m
   scan-placed m h = any-ends (good m) h .0
 
-  pub scan-good : (m : Metadata) → scanned s ≡ good m → Each (Within (length (m .bytes))) (valuesOf m) × (length (m .bytes) ≤ length s) × (m .name .present ≡ true)
+  pub scan-good : (m : Metadata) → scanned s ≡ good m → Each (Within (length (m .bytes))) (valuesOf m) × (length (m .bytes) ≤ length s)
+      × (m .name .present ≡ true)
   scan-good m h = let w = any-ends (good m) h in (placed-within m (w .0), w .1, w .2)
 
   pub scan-bad : (r : Refusal) (bs : List ℕ) → scanned s ≡ bad r bs → (r .at ≤ length s) × (length bs ≤ length s)

@@ -41,7 +41,15 @@ nothing = record { name = missing; namespace = missing; prefix = missing; parent
 unfoldable pub told : Metadata → ℕ → Span → List ℕ → Metadata
 told m k x bs =
     cond (eqb k revisionKeyword)
-    (record { name = m .name; namespace = m .namespace; prefix = m .prefix; parent = m .parent; revisions = m .revisions ++ record { span = x; value = bs } ∷ []; bytes = m .bytes ++ bs })
+    (record {
+      name = m .name;
+      namespace = m .namespace;
+      prefix = m .prefix;
+      parent = m .parent;
+      revisions = m .revisions ++ record { span = x; value = bs }
+          ∷ [];
+      bytes = m .bytes ++ bs;
+    })
     (cond (eqb k belongsToKeyword)
     (record { name = m .name; namespace = m .namespace; prefix = m .prefix; parent = x; revisions = m .revisions; bytes = m .bytes ++ bs })
     (cond (eqb k namespaceKeyword)

@@ -57,7 +57,8 @@ less-trans (x ∷ xs) (y ∷ ys) (z ∷ zs) h k =
     (λ b. less-lower x z xs zs (omega (arith, a, b)))
     (λ b. absurd (never (less-higher y z ys zs b) k))
     (λ b. less-equal x z xs zs (omega (arith, a, b)) (omega (arith, a, b))
-    ∙ less-trans xs ys zs (sym (less-equal x y xs ys (omega (arith, a)) (omega (arith, a))) ∙ h) (sym (less-equal y z ys zs (omega (arith, b)) (omega (arith, b))) ∙ k)))
+    ∙ less-trans xs ys zs (sym (less-equal x y xs ys (omega (arith, a)) (omega (arith, a))) ∙ h)
+    (sym (less-equal y z ys zs (omega (arith, b)) (omega (arith, b))) ∙ k)))
 
 pub less-asym : (xs ys : List ℕ) → less xs ys ≡ true → less ys xs ≡ false
 less-asym xs ys h = by-test (less ys xs) (λ t. absurd (never (less-irrefl xs) (less-trans xs ys xs h t))) (λ f. f)

@@ -70,7 +70,8 @@ pub newest-within : (n : ℕ) (rs : List Revision) → Each (λ r. Within n (r .
 newest-within n rs h = newest-keeps (λ r. Within n (r .span)) rs (omega arith) h
 
 -- its value lies in the store where its span says
-pub newest-valued : (store : List ℕ) (rs : List Revision) → Each (λ r. valueIn store (r .span) ≡ r .value) rs → valueIn store (newest rs .span) ≡ newest rs .value
+pub newest-valued : (store : List ℕ) (rs : List Revision) → Each (λ r. valueIn store (r .span) ≡ r .value) rs
+    → valueIn store (newest rs .span) ≡ newest rs .value
 unfolding valueIn
 newest-valued store rs h = newest-keeps (λ r. valueIn store (r .span) ≡ r .value) rs refl h
 

@@ -1,5 +1,5 @@
--- The page: rows read back are the rows that were read, values lie among the bytes that were stored, and what goes around them fits into the 6,944 bytes by which
--- the page is longer than the text.
+-- The page: rows read back are the rows that were read, values lie among the bytes that were stored, and what goes around them fits into the 6,944 bytes by
+-- which the page is longer than the text.
 -- Assumes nothing.
 use mathlib.Core.Path.{_≡_, refl, sym, ap, subst, _∙_}
 use mathlib.Core.Bool.{Bool, true, false}
@@ -18,16 +18,17 @@ use Rattle.scan_rows.specs.Rows.{ImportWithin, IncludeWithin}
 use Rattle.scan_rows.specs.Sizes.{importSizes, includeSizes}
 use Rattle.scan_rows.specs.declared.YangImport.{YangImport}
 use Rattle.scan_rows.specs.declared.YangInclude.{YangInclude}
-use Rattle.scan_imports.proofs.Spans.{may-end}
+use Rattle.scan_block.proofs.Spans.{may-end}
 use Rattle.scan_printed.specs.Printed.{printed, printedRows}
 use Rattle.scan_printed.proofs.Padded.{printed-more}
 use Rattle.scan_printed.proofs.Sizes.{printed-size}
-use Rattle.yangparser.specs.Dependencies.{Dependencies, none, importWordsOf, includeWordsOf, Scan, good, bad, tooShort, pageShort, dependencies, readOf, keptOf}
+use Rattle.yangparser.specs.Dependencies.{Dependencies, none, importWordsOf, includeWordsOf, Scan, good, bad, pageShort, dependencies, readOf, keptOf}
+use Rattle.scan_rows.specs.Short.{tooShort}
 use Rattle.yangparser.specs.Promises.{Leaves, Extracts}
 use Rattle.yangparser.specs.declared.Parsed.{Parsed}
 use Rattle.yangparser.specs.declared.Parsed.the-variants.{Good, Refused}
 use Rattle.yangparser.proofs.KeptLaws.{entry-good, parsed-good, parsed-refused, padded-imports, padded-includes}
-use Rattle.yangparser.proofs.ShortLaws.{long-enough}
+use Rattle.scan_rows.proofs.ShortLaws.{long-enough}
 use Rattle.scan_rows.proofs.Laws.{each-of}
 use Rattle.yangparser.proofs.Placed.{ImportIn, IncludeIn}
 use Rattle.yangparser.proofs.ScanLaws.{Sound, scan-sound}
@@ -68,7 +69,8 @@ include-within i l = (l .0 .2, may-end (l .1))
 
 module _ {s : List ℕ} (x : Dependencies) (k : Sound s x) where
   -- read back from what the scan left
-  page-is : (a b c : ℕ) → printedRows (padded a (x .bytes)) (padded b (importWordsOf x)) (length (x .imports)) (padded c (includeWordsOf x)) (length (x .includes))
+  page-is : (a b c : ℕ) → printedRows (padded a (x .bytes)) (padded b (importWordsOf x)) (length (x .imports)) (padded c (includeWordsOf x))
+      (length (x .includes))
       ≡ printed (x .bytes) (x .imports) (x .includes)
   unfolding padded
   page-is a b c =

@@ -7,7 +7,8 @@ use mathlib.Core.List.{List, []}
 use lib.ListN.{length}
 use Rattle.text_lent.specs.Padded.{padded}
 use Rattle.scan_printed.specs.Printed.{printed}
-use Rattle.yangparser.specs.Dependencies.{Scan, good, bad, tooShort, pageShort, dependencies}
+use Rattle.yangparser.specs.Dependencies.{Scan, good, bad, pageShort, dependencies}
+use Rattle.scan_rows.specs.Short.{tooShort}
 use Rattle.yangparser.specs.Promises.{Leaves}
 use Rattle.scan_page.specs.declared.Page.{Page}
 

@@ -77,7 +77,8 @@ module _ {A : Type 0} (row : ℕ → A) (size : ℕ) (line : A → List ℕ) (co
     -- i is the row there
     pub lines-more : r < count → {i : A} → i ≡ row (r * size) → Going d u all e n (line i ∷ linesFrom (r + 1))
     lines-more h {i} e = record {
-      is = said (ap (λ l. flatten (map line l)) (rows-more row size count r h ∙ ap (λ j. j ∷ rowsOf row size (count - (r + 1)) ((r + 1) * size)) (sym e))) (g .is);
+      is = said (ap (λ l. flatten (map line l)) (rows-more row size count r h ∙ ap (λ j. j ∷ rowsOf row size (count - (r + 1)) ((r + 1) * size)) (sym e)))
+          (g .is);
     }
 
     pub lines-done : count ≤ r → Wrote d u all e n

@@ -48,7 +48,8 @@ module _ (n at : ℕ) (d : List ℕ) where
       let p : at + 1 ≡ suc at = omega arith in
       rw (le-ltb n 10 g) (rw (lt-ltb n 100 h) (record { left = rw (e, f, p); next = refl }))
 
-  pub three-digits : 100 ≤ n → {a b c : ℕ} → a ≡ digit (n / 100) → b ≡ digit (n / 10 % 10) → c ≡ digit (n % 10) → Wrote d at (digits n) (set (set (set d at a) (at + 1) b) (at + 2) c) (at + 3)
+  pub three-digits : 100 ≤ n → {a b c : ℕ} → a ≡ digit (n / 100) → b ≡ digit (n / 10 % 10) → c ≡ digit (n % 10)
+      → Wrote d at (digits n) (set (set (set d at a) (at + 1) b) (at + 2) c) (at + 3)
   unfolding digits
   three-digits h e f g =
       let p : at + 1 ≡ suc at = omega arith in
@@ -63,7 +64,8 @@ module _ (d : List ℕ) (at : ℕ) where
   heading-begin word n = begin d at (word ∷ digits n ∷ headEnd ∷ [])
 
   pub import-begin : (store : List ℕ) (i : YangImport)
-      → Going d at (importLine store i) d at (bullet ∷ valueIn store (i .«module_name») ∷ prefixOpen ∷ valueIn store (i .prefix) ∷ prefixClose ∷ revision store (i .«revision_date») ∷ newline ∷ [])
+      → Going d at (importLine store i) d at (bullet ∷ valueIn store (i .«module_name») ∷ prefixOpen ∷ valueIn store (i .prefix) ∷ prefixClose
+      ∷ revision store (i .«revision_date») ∷ newline ∷ [])
   unfolding importLine
   import-begin store i = begin d at _
 
@@ -72,11 +74,13 @@ module _ (d : List ℕ) (at : ℕ) where
   unfolding includeLine
   include-begin store i = begin d at _
 
-  pub imports-begin : (store t : List ℕ) (n : ℕ) → Going d at (importLines store (importsIn t n)) d at (linesFrom (importAt t) importSize (importLine store) n 0)
+  pub imports-begin : (store t : List ℕ) (n : ℕ) → Going d at (importLines store (importsIn t n)) d at
+      (linesFrom (importAt t) importSize (importLine store) n 0)
   unfolding importLines importsIn
   imports-begin store t n = lines-begin (importAt t) importSize (importLine store) n d at
 
-  pub includes-begin : (store t : List ℕ) (n : ℕ) → Going d at (includeLines store (includesIn t n)) d at (linesFrom (includeAt t) includeSize (includeLine store) n 0)
+  pub includes-begin : (store t : List ℕ) (n : ℕ) → Going d at (includeLines store (includesIn t n)) d at
+      (linesFrom (includeAt t) includeSize (includeLine store) n 0)
   unfolding includeLines includesIn
   includes-begin store t n = lines-begin (includeAt t) includeSize (includeLine store) n d at
 

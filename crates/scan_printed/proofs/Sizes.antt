@@ -55,7 +55,8 @@ unfolding importLine sum
 import-size store i =
     omega (
       arith,
-      flatten-length (bullet ∷ valueIn store (i .«module_name») ∷ prefixOpen ∷ valueIn store (i .prefix) ∷ prefixClose ∷ revision store (i .«revision_date») ∷ newline ∷ []),
+      flatten-length (bullet ∷ valueIn store (i .«module_name») ∷ prefixOpen ∷ valueIn store (i .prefix) ∷ prefixClose ∷ revision store (i .«revision_date»)
+          ∷ newline ∷ []),
       value-size store (i .«module_name»),
       value-size store (i .prefix),
       revision-size store (i .«revision_date»),

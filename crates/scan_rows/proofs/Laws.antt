@@ -44,10 +44,12 @@ module _ {A : Type 0} (words : A → List ℕ) where
     table-length (i ∷ is) = length-append (words i) (table words is) ∙ omega (arith, long i, table-length is, suc-mul (length is) size)
 
     -- the next row behind the rows that stand there
-    pub table-step : (is : List A) (i : A) (t e f : List ℕ) → e ≡ sets t 0 (table words is) → f ≡ sets e (length is * size) (words i) → f ≡ sets t 0 (table words (is ++ (i ∷ [])))
+    pub table-step : (is : List A) (i : A) (t e f : List ℕ) → e ≡ sets t 0 (table words is) → f ≡ sets e (length is * size) (words i)
+        → f ≡ sets t 0 (table words (is ++ (i ∷ [])))
     table-step is i t e f p q =
         let n : length is * size ≡ 0 + length (table words is) = omega (arith, table-length is) in
-        q ∙ ap (λ l. sets l (length is * size) (words i)) p ∙ ap (λ k. sets (sets t 0 (table words is)) k (words i)) n ∙ sym (sets-append t 0 (table words is) (words i)) ∙ ap (sets t 0) (sym (table-snoc is i))
+        q ∙ ap (λ l. sets l (length is * size) (words i)) p ∙ ap (λ k. sets (sets t 0 (table words is)) k (words i)) n
+        ∙ sym (sets-append t 0 (table words is) (words i)) ∙ ap (sets t 0) (sym (table-snoc is i))
 
 -- rows as they are read, one after the other
 module _ {A : Type 0} (row : ℕ → A) (size : ℕ) where
@@ -97,10 +99,12 @@ pub includes-length : (is : List YangInclude) → length (includeTable is) ≡ l
 unfolding includeTable
 includes-length is = table-length includeWords includeSize include-words is
 
-pub imports-step : (is : List YangImport) (i : YangImport) (t e f : List ℕ) → e ≡ sets t 0 (importTable is) → f ≡ sets e (length is * importSize) (importWords i) → f ≡ sets t 0 (importTable (is ++ (i ∷ [])))
+pub imports-step : (is : List YangImport) (i : YangImport) (t e f : List ℕ) → e ≡ sets t 0 (importTable is)
+    → f ≡ sets e (length is * importSize) (importWords i) → f ≡ sets t 0 (importTable (is ++ (i ∷ [])))
 unfolding importTable
 imports-step is i t e f p q = table-step importWords importSize import-words is i t e f p q
 
-pub includes-step : (is : List YangInclude) (i : YangInclude) (t e f : List ℕ) → e ≡ sets t 0 (includeTable is) → f ≡ sets e (length is * includeSize) (includeWords i) → f ≡ sets t 0 (includeTable (is ++ (i ∷ [])))
+pub includes-step : (is : List YangInclude) (i : YangInclude) (t e f : List ℕ) → e ≡ sets t 0 (includeTable is)
+    → f ≡ sets e (length is * includeSize) (includeWords i) → f ≡ sets t 0 (includeTable (is ++ (i ∷ [])))
 unfolding includeTable
 includes-step is i t e f p q = table-step includeWords includeSize include-words is i t e f p q

@@ -1,3 +1,4 @@
 pub mod Laws
 pub mod Reading
+pub mod ShortLaws
 pub mod Values

@@ -12,7 +12,8 @@ use lib.Seq.{sets, sets-eq, getD-append-add}
 use borrow.Author.Tests.{eq-eqb, ne-eqb}
 use Rattle.text.proofs.Here.{by-test}
 use Rattle.scan_rows.specs.Span.{held, missing, markOf}
-use Rattle.scan_rows.specs.Rows.{importSize, includeSize, importWords, includeWords, Plain, PlainImport, PlainInclude, Each, table, importTable, includeTable, spanAt, markedAt, importAt, includeAt, rowsOf, importsIn, includesIn}
+use Rattle.scan_rows.specs.Rows.{importSize, includeSize, importWords, includeWords, Plain, PlainImport, PlainInclude, Each, table, importTable}
+use Rattle.scan_rows.specs.Rows.{includeTable, spanAt, markedAt, importAt, includeAt, rowsOf, importsIn, includesIn}
 use Rattle.scan_rows.specs.declared.Span.{Span}
 use Rattle.scan_rows.specs.declared.YangImport.{YangImport}
 use Rattle.scan_rows.specs.declared.YangInclude.{YangInclude}
@@ -91,11 +92,17 @@ module _ {A : Type 0} (words : A → List ℕ) (size : ℕ) (row : List ℕ → 
   unfolding rowsOf table Each
   rows-behind xs [] zs h = refl
   rows-behind xs (i ∷ is) zs h =
-      let here : xs ++ (words i ++ table words is ++ zs) ≡ xs ++ (words i ++ (table words is ++ zs)) = ap (λ l. xs ++ l) (append-assoc (words i) (table words is) zs) in
-      let next : xs ++ (words i ++ table words is ++ zs) ≡ xs ++ words i ++ (table words is ++ zs) = here ∙ sym (append-assoc xs (words i) (table words is ++ zs)) in
+      let here : xs ++ (words i ++ table words is ++ zs) ≡ xs ++ (words i ++ (table words is ++ zs)) = ap (λ l. xs ++ l)
+      (append-assoc (words i) (table words is) zs) in
+      let next : xs ++ (words i ++ table words is ++ zs) ≡ xs ++ words i ++ (table words is ++ zs) = here
+      ∙ sym (append-assoc xs (words i) (table words is ++ zs)) in
       let on : length xs + size ≡ length (xs ++ words i) = omega (arith, length-append xs (words i), long i) in
-      let first : row (xs ++ (words i ++ (table words is ++ zs))) (length xs) ≡ i = moved (xs ++ (words i ++ (table words is ++ zs))) (words i ++ (table words is ++ zs)) (length xs) (λ k. getD-append-add xs (words i ++ (table words is ++ zs)) k 0) ∙ back i (table words is ++ zs) (h .0) in
-      let rest : rowsOf (row (xs ++ (words i ++ table words is ++ zs))) size (length is) (length xs + size) ≡ is = ap (λ l. rowsOf (row l) size (length is) (length xs + size)) next ∙ ap (rowsOf (row (xs ++ words i ++ (table words is ++ zs))) size (length is)) on ∙ rows-behind (xs ++ words i) is zs (h .1) in
+      let first : row (xs ++ (words i ++ (table words is ++ zs))) (length xs)
+      ≡ i = moved (xs ++ (words i ++ (table words is ++ zs))) (words i ++ (table words is ++ zs)) (length xs)
+      (λ k. getD-append-add xs (words i ++ (table words is ++ zs)) k 0) ∙ back i (table words is ++ zs) (h .0) in
+      let rest : rowsOf (row (xs ++ (words i ++ table words is ++ zs))) size (length is) (length xs + size)
+      ≡ is = ap (λ l. rowsOf (row l) size (length is) (length xs + size)) next
+      ∙ ap (rowsOf (row (xs ++ words i ++ (table words is ++ zs))) size (length is)) on ∙ rows-behind (xs ++ words i) is zs (h .1) in
       ap (λ l. row l (length xs) ∷ rowsOf (row (xs ++ (words i ++ table words is ++ zs))) size (length is) (length xs + size)) here
       ∙ ap (λ j. j ∷ rowsOf (row (xs ++ (words i ++ table words is ++ zs))) size (length is) (length xs + size)) first
       ∙ ap (λ l. i ∷ l) rest
@@ -117,12 +124,14 @@ pub includes-back : (is : List YangInclude) (zs : List ℕ) → Each PlainInclud
 unfolding includesIn includeTable
 includes-back is zs h = rows-back includeWords includeSize includeAt PlainInclude include-words include-moved include-back is zs h
 
-pub imports-written : (is : List YangImport) (t : List ℕ) → Each PlainImport is → length is * importSize ≤ length t → importsIn (sets t 0 (importTable is)) (length is) ≡ is
+pub imports-written : (is : List YangImport) (t : List ℕ) → Each PlainImport is → length is * importSize ≤ length t
+    → importsIn (sets t 0 (importTable is)) (length is) ≡ is
 imports-written is t h room =
     ap (λ l. importsIn l (length is)) (sets-front t (importTable is) (omega (arith, imports-length is)))
     ∙ imports-back is (drop (0 + length (importTable is)) t) h
 
-pub includes-written : (is : List YangInclude) (t : List ℕ) → Each PlainInclude is → length is * includeSize ≤ length t → includesIn (sets t 0 (includeTable is)) (length is) ≡ is
+pub includes-written : (is : List YangInclude) (t : List ℕ) → Each PlainInclude is → length is * includeSize ≤ length t
+    → includesIn (sets t 0 (includeTable is)) (length is) ≡ is
 includes-written is t h room =
     ap (λ l. includesIn l (length is)) (sets-front t (includeTable is) (omega (arith, includes-length is)))
     ∙ includes-back is (drop (0 + length (includeTable is)) t) h

@@ -40,5 +40,6 @@ value-more bytes zs x h =
     ap (take (x .size)) from ∙ take-append-le (x .size) (drop (x .start) bytes) zs (omega (arith, h, length-drop (x .start) bytes))
 
 -- and in a store that begins with them
-pub value-stored : (bytes d : List ℕ) {e : List ℕ} (x : Span) → Within (length bytes) x → e ≡ sets d 0 bytes → length bytes ≤ length d → valueIn e x ≡ valueIn bytes x
+pub value-stored : (bytes d : List ℕ) {e : List ℕ} (x : Span) → Within (length bytes) x → e ≡ sets d 0 bytes → length bytes ≤ length d
+    → valueIn e x ≡ valueIn bytes x
 value-stored bytes d x lies h room = ap (λ l. valueIn l x) (h ∙ sets-eq bytes d 0 (omega arith)) ∙ value-more bytes (drop (0 + length bytes) d) x lies

@@ -1,3 +1,4 @@
 pub mod Rows
+pub mod Short
 pub mod Sizes
 pub mod Span

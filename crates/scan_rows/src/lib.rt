@@ -4,7 +4,9 @@ ghost use Prim.Native.Nat.{min, _+_, _*_, _≤_, _<_};
 ghost use lib.ListN.{length};
 ghost use lib.Seq.{sets};
 ghost use Rattle.scan_rows.specs.Span.{held, missing, markOf, valueIn};
-ghost use Rattle.scan_rows.specs.Rows.{importSize, includeSize, mostRows, importWords, includeWords, FitsImport, FitsInclude, spanAt, markedAt, importAt, includeAt};
+ghost use Rattle.scan_rows.specs.Rows.{importSize, includeSize, mostRows, importWords, includeWords, FitsImport, FitsInclude, spanAt, markedAt, importAt};
+ghost use Rattle.scan_rows.specs.Rows.{includeAt};
+ghost use Rattle.scan_rows.specs.Short.{tooShort};
 
 // How many words a row has, and how many rows a table has at the most.
 pub const IMPORT_SIZE: usize = 7;
@@ -167,4 +169,20 @@ pub fn value_in(store: &[u8], x: Span) -> &[u8]
     let size = least(x.size, store.len() - from);
     let to = from + size;
     &store[from..to]
+}
+
+// Whether the store or a table is too short for a text, or something else that was lent is (`short`).
+pub fn too_short(short: bool, text: usize, store: usize, imports: usize, includes: usize) -> bool
+    ensures { λ r. ⌜ r ≡ tooShort short text store imports includes ⌝ }
+{
+    if short {
+        return true;
+    }
+    if store < text {
+        return true;
+    }
+    if imports < MOST_ROWS * IMPORT_SIZE {
+        return true;
+    }
+    includes < MOST_ROWS * INCLUDE_SIZE
 }

@@ -69,5 +69,6 @@ examples =
     ∷ []
 
 right : T (all examples)
-unfolding examples all holds sameBool isPast isRefused dueAt dueHere dueNumber keywordAt startsIdent endsKeyword same part gapEnd gapTurn afterWhite commentEnd blockEnd closing pairAt runEnd span inRun inIdent classOf turns
+unfolding examples all holds sameBool isPast isRefused dueAt dueHere dueNumber keywordAt startsIdent endsKeyword same part gapEnd gapTurn afterWhite commentEnd
+    blockEnd closing pairAt runEnd span inRun inIdent classOf turns
 right = tt

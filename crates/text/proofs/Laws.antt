@@ -307,7 +307,8 @@ stop-done s a r e =
 
 pub gap-twice : (s : List ℕ) (i : ℕ) → gapEnd s (gapEnd s i) ≡ gapEnd s i
 gap-twice s i =
-    let all = turns-rule (gapTurn s) 0 (λ k. length s - k) (gap-falls s) (λ a r. gapEnd s r ≡ r) (stop-done s) (λ a b r e h. h) (suc (length s)) i (omega arith) in
+    let all = turns-rule (gapTurn s) 0 (λ k. length s - k) (gap-falls s) (λ a r. gapEnd s r ≡ r) (stop-done s) (λ a b r e h. h) (suc (length s)) i
+    (omega arith) in
     ap (gapEnd s) (gap-is s i) ∙ all ∙ sym (gap-is s i)
 
 -- at the end there is none

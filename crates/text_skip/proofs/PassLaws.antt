@@ -17,8 +17,8 @@ use Rattle.text_value.specs.Str.{Str, whole, cut, closedBy, strAt, bytesOf}
 use Rattle.text_value.specs.Value.{isQuote, startsName, More, added, ends, broken, addedBy, moreAt, moreBytes, valueAt, placeOf}
 use Rattle.text_value.specs.declared.Close.{Close}
 use Rattle.text_value.specs.declared.Close.the-variants.{At, Open}
-use Rattle.text_value.proofs.JoinLaws.{more-size, joined-on, joined-stop, joined-broken, value-string, value-cut, value-name, value-none, place-size}
-use Rattle.text_value.proofs.JoinLaws.{closed-on, closed-stop, closed-broken, closed-string, closed-cut, closed-name}
+use Rattle.text_value.proofs.JoinLaws.{more-size, joined-on, joined-stop, joined-broken, value-string, value-cut, value-name, value-none, place-size, closed-on}
+use Rattle.text_value.proofs.JoinLaws.{closed-stop, closed-broken, closed-string, closed-cut, closed-name}
 use Rattle.text_value.proofs.ValueLaws.{more-plain, more-bare, more-string}
 use Rattle.text_skip.specs.Skip.{brokeOff, pastWhole, pastText, howClosed, closedToken, tokenHere, tokenAt, tailOf, addedAt, skippedAt}
 use Rattle.text_skip.specs.declared.How.{How}

@@ -1,14 +1,12 @@
-// Skipping: a token, a value, and a statement. A token's string closes by the rules of a value; a statement's string has a rule of its own.
+// What every skip answers, and skipping a token and a value. A token's string closes by the rules of a value.
 use text::Cursor;
 use text::Refusal;
 use text::Run;
 use text_value::Close;
 ghost use mathlib.Core.Path.{_≡_};
-ghost use Prim.Native.Nat.{_≤_};
 ghost use Rattle.text.specs.Class.{classTable};
 ghost use Rattle.text_value.specs.Value.{moreAt};
 ghost use Rattle.text_skip.specs.Skip.{brokeOff, skipRefusal, tokenAt, tailOf, addedAt, skippedAt};
-ghost use Rattle.text_skip.specs.Statement.{closes, quotedEnd, atSemicolon, atClose, partAt, statementAt};
 
 // How what was skipped ended. A token or a value: whole. A statement: by its semicolon, by its block, or before a closing brace that is not
 // its own. Or the text's end ended it: a string never closed, or the statement went on.
@@ -150,113 +148,4 @@ fn skip_string(here: Cursor, classes: &[u8; 128], s: &[u8]) -> Tail
         return Tail::More(next);
     }
     Tail::Last(Skipped::Past(quote, How::Whole))
-}
-
-// Skips a statement.
-pub fn skip_statement(here: Cursor, classes: &[u8; 128], s: &[u8]) -> Skipped
-    requires { ⌜ now classes ≡ classTable ⌝ }
-    ensures { λ r. ⌜ r ≡ statementAt (now (s .entry)) (here .at) ⌝ }
-{
-    let mut at = here.at;
-    let mut depth: usize = 0;
-    loop {
-        let from = Cursor { at };
-        let place = from.skip_whitespace_and_comments(classes, s);
-        match skip_part(place, s, depth) {
-            Part::On { next, depth: d } => {
-                at = next.at;
-                depth = d;
-            }
-            Part::Stop(end) => {
-                return end;
-            }
-        }
-    }
-}
-
-// A part of a statement was passed, and the depth after it; or the statement ended.
-pub enum Part {
-    On { next: Cursor, depth: usize },
-    Stop(Skipped),
-}
-
-// The part of a statement that stands here, at a depth: each brace that opened took a byte.
-fn skip_part(here: Cursor, s: &[u8], depth: usize) -> Part
-    requires { ⌜ depth ≤ here .at ⌝ }
-    ensures { λ r. ⌜ r ≡ partAt (now (s .entry)) (here .at) depth ⌝ }
-{
-    let at = here.at;
-    if s.len() <= at {
-        return Part::Stop(Skipped::Past(here, How::Text));
-    }
-    let after = at + 1;
-    let next = Cursor { at: after };
-    let b = s[at];
-    match b {
-        b'"' | b'\'' => {
-            let end = quoted_end(s, after, b);
-            Part::On {
-                next: Cursor { at: end },
-                depth,
-            }
-        }
-        b';' => at_semicolon(next, depth),
-        b'{' => {
-            let inner = depth + 1;
-            Part::On { next, depth: inner }
-        }
-        b'}' => at_close(here, next, depth),
-        _ => Part::On { next, depth },
-    }
-}
-
-// After a semicolon: at depth 0 it ends the statement.
-fn at_semicolon(next: Cursor, depth: usize) -> Part
-    ensures { λ r. ⌜ r ≡ atSemicolon (next .at) depth ⌝ }
-{
-    if depth == 0 {
-        return Part::Stop(Skipped::Past(next, How::Semicolon));
-    }
-    Part::On { next, depth }
-}
-
-// At a closing brace, and after it: at depth 0 it is another's, at depth 1 it ends the statement.
-fn at_close(here: Cursor, next: Cursor, depth: usize) -> Part
-    ensures { λ r. ⌜ r ≡ atClose (here .at) (next .at) depth ⌝ }
-{
-    if depth == 0 {
-        return Part::Stop(Skipped::Past(here, How::Before));
-    }
-    if depth == 1 {
-        return Part::Stop(Skipped::Past(next, How::Block));
-    }
-    let outer = depth - 1;
-    Part::On { next, depth: outer }
-}
-
-// The place after the string whose bytes start at a place, in quotes q.
-fn quoted_end(s: &[u8], at: usize, q: u8) -> usize
-    ensures { λ r. ⌜ r ≡ quotedEnd (now (s .entry)) at q ⌝ }
-{
-    let mut i = at;
-    let mut before = q;
-    while i < s.len() {
-        let b = s[i];
-        if closes(q, before, b) {
-            return i + 1;
-        }
-        before = b;
-        i += 1;
-    }
-    i
-}
-
-// Whether the byte b closes a string in quotes q, where the byte before it is p.
-fn closes(q: u8, p: u8, b: u8) -> bool
-    ensures { λ r. ⌜ r ≡ closes q p b ⌝ }
-{
-    if b == q {
-        return p != b'\\';
-    }
-    false
 }

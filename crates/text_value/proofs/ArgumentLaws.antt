@@ -34,7 +34,8 @@ read-of u (none at) c n h = (cc, cc)
 
 -- v: what reading the value answered
 module _ (s : List ℕ) (at u k : ℕ) {v : Value} (ve : v ≡ valueAnswer u (valueAt s at)) where
-  pub argument-missing : (c : Cursor) → v ≡ Missing c → {e : Cursor} → e .at ≡ valueEnd v → argumentAt s at u k ≡ Refused (record { number = 4; keyword = k; at = e .at })
+  pub argument-missing : (c : Cursor) → v ≡ Missing c → {e : Cursor} → e .at ≡ valueEnd v
+      → argumentAt s at u k ≡ Refused (record { number = 4; keyword = k; at = e .at })
   unfolding argumentAt argumentOf valueEnd
   argument-missing c m {e} q =
       let p : c .at ≡ e .at = sym (q ∙ ap valueEnd m) in
@@ -126,7 +127,8 @@ pub line-far : (s : List ℕ) (at u k b : ℕ) (c : Cursor) (n : ℕ) → b < 25
 unfolding lineAt
 line-far s at u k b c n small h = line-of s at u k b (argumentAt s at u k) c n small refl h
 
-pub line-room : (s : List ℕ) (at u k b l : ℕ) (c : Cursor) (n : ℕ) → b < 256 → lineAt s at u k b ≡ Read c n → u + (length s - at) ≤ l → n + (length s - c .at) ≤ l
+pub line-room : (s : List ℕ) (at u k b l : ℕ) (c : Cursor) (n : ℕ) → b < 256 → lineAt s at u k b ≡ Read c n → u + (length s - at) ≤ l
+    → n + (length s - c .at) ≤ l
 line-room s at u k b l c n small h r = let f = line-far s at u k b c n small h in omega arith
 
 due-not : (n : ℕ) (d : Due) (r : Refusal) → afterDue n d ≡ Refused r → d ≡ Not r

@@ -13,7 +13,8 @@ use Rattle.text.specs.Scan.{inIdent, inRun, span, runEnd, pairAt, closing, bloc
 use Rattle.text.specs.Turns.{turns}
 use Rattle.text_value.specs.Argument.{argumentOf, argumentAt, afterDue, afterArgument, lineAt}
 use Rattle.text_value.specs.Str.{escaped, escapes, strEnd, strBytes, closedBy, strAt}
-use Rattle.text_value.specs.Value.{isQuote, startsName, More, added, ends, broken, addedBy, afterPlus, afterGap, moreAt, addTo, joinTurn, joinedWith, joined, ofString, valueHere, valueAt, Val, value, none}
+use Rattle.text_value.specs.Value.{isQuote, startsName, More, added, ends, broken, addedBy, afterPlus, afterGap, moreAt, addTo, joinTurn, joinedWith}
+use Rattle.text_value.specs.Value.{joined, ofString, valueHere, valueAt, Val, value, none}
 use Rattle.text_value.specs.declared.Argument.{Argument}
 use Rattle.text_value.specs.declared.Argument.the-variants.{Read, Refused}
 
@@ -95,5 +96,7 @@ examples =
     ∷ []
 
 right : T (all examples)
-unfolding examples all holds sameVal sameMore isRead isRefused lineAt afterArgument afterDue argumentAt argumentOf dueAt dueHere dueNumber same valueAt valueHere ofString joined joinedWith joinTurn addTo moreAt afterGap afterPlus addedBy isQuote startsName strAt closedBy strBytes strEnd escaped escapes part gapEnd gapTurn afterWhite commentEnd blockEnd closing pairAt runEnd span inRun inIdent classOf turns
+unfolding examples all holds sameVal sameMore isRead isRefused lineAt afterArgument afterDue argumentAt argumentOf dueAt dueHere dueNumber same valueAt
+    valueHere ofString joined joinedWith joinTurn addTo moreAt afterGap afterPlus addedBy isQuote startsName strAt closedBy strBytes strEnd escaped escapes
+    part gapEnd gapTurn afterWhite commentEnd blockEnd closing pairAt runEnd span inRun inIdent classOf turns
 right = tt

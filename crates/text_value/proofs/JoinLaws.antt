@@ -19,7 +19,9 @@ use Rattle.text.proofs.Turns.{turns-stop, turns-on, turns-rule}
 use Rattle.text.proofs.Here.{by-test, here, never}
 use Rattle.text.proofs.Laws.{in-name, gap-from, gap-within, run-more, run-from, run-within}
 use Rattle.text_value.specs.Str.{Str, whole, cut, strEnd, strBytes, strAt, closedBy, escapes, answerOf, bytesOf}
-use Rattle.text_value.specs.Value.{isQuote, More, added, ends, broken, addedBy, moreAt, Bytes, addTo, joinTurn, joinedWith, joined, moreAnswer, moreBytes, joinAnswer, Val, value, none, ofString, nameAt, valueHere, valueAt, startsName, closedMore, closedTurn, closedFrom, closedString, closedHere, closedAt, valueAnswer, valueEnd, placeOf}
+use Rattle.text_value.specs.Value.{isQuote, More, added, ends, broken, addedBy, moreAt, Bytes, addTo, joinTurn, joinedWith, joined, moreAnswer, moreBytes}
+use Rattle.text_value.specs.Value.{joinAnswer, Val, value, none, ofString, nameAt, valueHere, valueAt, startsName, closedMore, closedTurn, closedFrom}
+use Rattle.text_value.specs.Value.{closedString, closedHere, closedAt, valueAnswer, valueEnd, placeOf}
 use Rattle.text.specs.declared.Cursor.{Cursor}
 use Rattle.text.proofs.Writing.{sets-append}
 use Rattle.text_value.specs.declared.Joined.{Joined}
@@ -82,7 +84,13 @@ more-size s at cs e h =
     let w = gapEnd s (g + 1) in
     by-test (eqb (getD s g 256) 43)
     (λ p. by-test (isQuote (getD s w 256))
-    (λ q. omega (arith, whole-size s w cs e (added-is s (strAt s w) cs e (sym (more-string s at refl refl (eqb-true _ _ p) refl refl refl q) ∙ h)), gap-from s at, gap-from s (g + 1)))
+    (λ q. omega (
+      arith,
+      whole-size s w cs e (added-is s (strAt s w) cs e (sym (more-string s at refl refl (eqb-true _ _ p) refl refl refl q) ∙ h)),
+      gap-from s
+          at,
+      gap-from s (g + 1),
+    ))
     (λ q. absurd (ends-not (more-bare s at refl refl (eqb-true _ _ p) refl refl refl q) h)))
     (λ p. absurd (ends-not (more-plain s at refl refl (eqb-false _ _ p)) h))
 
@@ -350,7 +358,16 @@ value-size s at bs e h =
     (λ n. let i = name-here s g refl refl n in
     let r = runEnd Name s g in
     let m = value-is bs (part s g r) e r h (value-name s at refl refl refl q refl n refl) in
-    omega (arith, m .1, ap length (m .0), part-length s g r (run-from Name s g) (run-within Name s g (omega arith)), gap-from s at, run-from Name s g, run-within Name s g (omega arith)))
+    omega (
+      arith,
+      m .1,
+      ap length (m .0),
+      part-length s g r (run-from Name s g)
+          (run-within Name s g (omega arith)),
+      gap-from s at,
+      run-from Name s g,
+      run-within Name s g (omega arith),
+    ))
     (λ n. absurd (none-not (value-none s at refl refl refl q refl n) h)))
   where
     by-str : (t : Str) → strAt s (gapEnd s at) ≡ t → isQuote (getD s (gapEnd s at) 256) ≡ true → (at + length bs ≤ e) × (e ≤ length s)
@@ -413,7 +430,8 @@ none-size s at k l h =
 
 -- ---- where a value ends, whatever it stores
 
-any-stop : (s : List ℕ) (a : Bytes) (m : More) (r : Bytes) → moreAt s (a .end) ≡ m → addTo (a .bytes) m ≡ stop r → (cs : List ℕ) → joinedWith s cs (a .end) .end ≡ r .end
+any-stop : (s : List ℕ) (a : Bytes) (m : More) (r : Bytes) → moreAt s (a .end) ≡ m → addTo (a .bytes) m ≡ stop r → (cs : List ℕ)
+    → joinedWith s cs (a .end) .end ≡ r .end
 unfolding addTo
 any-stop s a (added ds e) r k h cs = let z : _≡_ {A = ℕ} 0 1 = cc in absurd (omega arith)
 any-stop s a (ends e) r k h cs = let n : e ≡ r .end = cc in ap (λ b. b .end) (join-stop s cs (a .end) e k) ∙ n

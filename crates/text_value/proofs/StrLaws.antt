@@ -32,7 +32,8 @@ unfolding among
 among-last b s i h = rw (rest-or s i 0 h) (or-none (eqb (getD s i 0) b))
 
 pub among-eight : (b : ℕ) (s : List ℕ) (i : ℕ) → i + 8 ≤ length s
-    → (eqb (getD s i 0) b || (eqb (getD s (i + 1) 0) b || (eqb (getD s (i + 2) 0) b || (eqb (getD s (i + 3) 0) b || (eqb (getD s (i + 4) 0) b || (eqb (getD s (i + 5) 0) b || (eqb (getD s (i + 6) 0) b || eqb (getD s (i + 7) 0) b)))))))
+    → (eqb (getD s i 0) b || (eqb (getD s (i + 1) 0) b || (eqb (getD s (i + 2) 0) b
+    || (eqb (getD s (i + 3) 0) b || (eqb (getD s (i + 4) 0) b || (eqb (getD s (i + 5) 0) b || (eqb (getD s (i + 6) 0) b || eqb (getD s (i + 7) 0) b)))))))
     ≡ among b (take 8 (drop i s))
 among-eight b s i h =
     sym (rw (

@@ -12,7 +12,8 @@ ghost use Rattle.text.specs.Bytes.{theEnd};
 ghost use Rattle.text.specs.Class.{classTable};
 ghost use Rattle.text.specs.Keyword.{part};
 ghost use Rattle.text_value.specs.Str.{among, escaped, escapes, strEnd, strBytes, strAt, answerOf, bytesOf};
-ghost use Rattle.text_value.specs.Value.{isQuote, startsName, nameAt, moreAt, moreAnswer, moreBytes, joined, joinAnswer, valueAt, valueAnswer, valueBytes, valueEnd};
+ghost use Rattle.text_value.specs.Value.{isQuote, startsName, nameAt, moreAt, moreAnswer, moreBytes, joined, joinAnswer, valueAt, valueAnswer};
+ghost use Rattle.text_value.specs.Value.{valueBytes, valueEnd};
 ghost use Rattle.text_value.specs.Argument.{argumentRefusal, argumentAt, lineAt};
 
 // A value: the cursor after it and the store's next place; or none stands here, and the cursor there.

@@ -21,20 +21,22 @@ use Rattle.library_image.specs.ImageWriter.{EachOf, FormedSet}
 use Rattle.library_image.proofs.ImageLaws.{image-formed}
 use Rattle.library_find.specs.Find.{firstModule, findModule}
 use Rattle.library_find.proofs.FindBounds.{module-in}
-use Rattle.library_read.specs.Reading.{onAns}
+use Rattle.library_lists.specs.Lists.{onAns}
 use Rattle.library_bundle.specs.Bundle.{Text, bundleBroken, bundleAt, lookIn, lookUp}
 use Rattle.library_bundle.specs.Reading.{longestText}
 use Rattle.library_bundle.proofs.LookBounds.{broken-in, stands-in}
 use Rattle.graph.specs.Nodes.{Mode, nodesOf}
 use Rattle.text.specs.Refusal.{noRefusal}
 use Rattle.graph.specs.Graph.{ScanAnswer, Text as Words, refusing, Entry, moduleEntry, importEntry, setEntries, entries, Graph, graph, fault, graphOf}
-use Rattle.graph.specs.Meaning.{FirstAt, Fault, entry-missing, include-missing, scan-refused, import-unknown, listed-unknown, include-unknown, include-no-node, too-deep, Cause, names, by-fault, edges}
+use Rattle.graph.specs.Meaning.{FirstAt, Fault, entry-missing, include-missing, scan-refused, import-unknown, listed-unknown, include-unknown, include-no-node}
+use Rattle.graph.specs.Meaning.{too-deep, Cause, names, by-fault, edges}
 use Rattle.graph.proofs.Demand.{demand3}
 use Rattle.library_items.specs.Table.{Reads}
 use Rattle.graph.specs.Limits.{mostEdges, mostNodes}
 use Rattle.graph_nodes.specs.Adding.{plainAt, wordsAt}
 use Rattle.graph_texts.specs.Texts.{scanSeen, scanText, lookText, textOf}
-use Rattle.yanglib.specs.ToGraph.{lentTooShort, Lengths, tooShort, Result, refusal, resultOf, onRead, graphed, AnswerFits}
+use Rattle.yanglib.specs.ToGraph.{lentTooShort, Result, refusal, resultOf, onRead, graphed, AnswerFits}
+use Rattle.graph_tables.specs.Lengths.{Lengths, tooShort}
 use Rattle.yanglib.proofs.Outcome.{image-here}
 
 -- ---- where an image and a bundle are wrong
@@ -76,7 +78,15 @@ text-low b v a e = go (lookUp b v) refl e
 
 set-few : (before : List PlainSet) (x : PlainSet) → FormedSet before x → length (setEntries x) ≤ 1024
 set-few before x f =
-    omega (arith, length-append (map moduleEntry (x .modules)) (map importEntry (x .importOnly)), length-map (x .modules) moduleEntry, length-map (x .importOnly) importEntry, f .modules .few, f .importOnly .few)
+    omega (
+      arith,
+      length-append (map moduleEntry (x .modules)) (map importEntry (x .importOnly)),
+      length-map (x .modules) moduleEntry,
+      length-map
+          (x .importOnly) importEntry,
+      f .modules .few,
+      f .importOnly .few,
+    )
 
 sets-few : (before l : List PlainSet) → EachOf FormedSet before l → length (entries l) ≤ length l * 1024
 unfolding EachOf flatMap
@@ -149,6 +159,7 @@ answer-fits mode s b bytes k = image (imageAt s) refl
     bundle h (bad p) e = (omega arith, omega arith, bundle-low b p e)
 
     image : (x : Ans Library) → imageAt s ≡ x
-        → AnswerFits (onRead x (refusal imageBroken 0 noRefusal) (onRead (bundleAt b) (refusal bundleBroken 0 noRefusal) (cond (tooShort (longestText b) k) (refusal lentTooShort 0 noRefusal 0) tail)) .answer)
+        → AnswerFits (onRead x (refusal imageBroken 0 noRefusal) (onRead (bundleAt b) (refusal bundleBroken 0 noRefusal)
+        (cond (tooShort (longestText b) k) (refusal lentTooShort 0 noRefusal 0) tail)) .answer)
     image (good l n) e = bundle (record { value = l; end = n; read = e }) (bundleAt b) refl
     image (bad p) e = (omega arith, omega arith, omega (arith, image-low s p e))

@@ -10,7 +10,7 @@ use Rattle.library_form.specs.Form.{PlacedName}
 use Rattle.library_form.specs.Writer.{AllBytes}
 use Rattle.library_image.specs.Library.{Name, plainName, plain}
 use Rattle.library_image.specs.Image.{imageAt}
-use Rattle.library_read.specs.Reading.{onAns}
+use Rattle.library_lists.specs.Lists.{onAns}
 use Rattle.library_items.specs.Items.{libraryOf, itemsAt}
 use Rattle.library_items.specs.Table.{Reads}
 use Rattle.graph.specs.Nodes.{Mode, nodesOf}
@@ -25,7 +25,7 @@ use Rattle.graph.proofs.Drawing.{drawing}
 use Rattle.graph.specs.Limits.{mostEdges, mostNodes}
 use Rattle.graph_nodes.specs.Adding.{plainAt, wordsAt}
 use Rattle.graph_texts.specs.Texts.{textOf}
-use Rattle.graph_walk.specs.Walk.{worldOf}
+use Rattle.graph_visit.specs.Visit.{worldOf}
 use Rattle.graph_entries.specs.Entries.{drawItems}
 use Rattle.yanglib.specs.ToGraph.{Result, refusal, resultOf}
 use Rattle.yanglib.specs.declared.Graphed.the-variants.{Built}
@@ -84,6 +84,7 @@ module _ (mode : Mode) (s b : List ℕ) (reads : Reads (imageAt s)) (bytes : All
       go (ltb mostNodes (length (nodesOf mode (plainAt s))))
       ∙ ap (λ n. cond (ltb mostNodes n) (refusal tooManyNodes 0 noRefusal 0) (drawingResult (wordsAt mode s) items)) (nodes-long mode s)
     where
-      go : (t : Bool) → resultOf (wordsAt mode s) (cond t (fault tooManyNodes 0 noRefusal) walked) ≡ cond t (refusal tooManyNodes 0 noRefusal 0) (drawingResult (wordsAt mode s) items)
+      go : (t : Bool) → resultOf (wordsAt mode s) (cond t (fault tooManyNodes 0 noRefusal) walked)
+          ≡ cond t (refusal tooManyNodes 0 noRefusal 0) (drawingResult (wordsAt mode s) items)
       go true = refl
       go false = walk-result walked refl ∙ ap (drawingResult (wordsAt mode s)) walk-drawn

@@ -21,10 +21,10 @@ use Rattle.library_bundle.specs.Bundle.{Text, bundleBroken, bundleAt}
 use Rattle.library_bundle.specs.Reading.{counted, openedSeen, Held, OpenedAs, longestText}
 use Rattle.library_bundle.specs.declared.Opened.{Opened}
 use Rattle.library_bundle.specs.declared.Opened.the-variants.{Wrong as WrongBundle}
-use Rattle.library_read.specs.Reading.{done, readSeen}
-use Rattle.library_read.specs.declared.Read.{Read}
-use Rattle.library_read.specs.declared.Read.the-variants.{End, Wrong}
-use Rattle.library_read.proofs.Counting.{done-bad}
+use Rattle.library_lists.specs.Lists.{done, readSeen}
+use Rattle.library_lists.specs.declared.Read.{Read}
+use Rattle.library_lists.specs.declared.Read.the-variants.{End, Wrong}
+use Rattle.library_lists.proofs.Counting.{done-bad}
 use Rattle.library_items.specs.Items.{itemsAt}
 use Rattle.library_items.specs.Table.{Reads}
 use Rattle.graph.specs.Nodes.{Mode, nodesOf}
@@ -38,8 +38,9 @@ use Rattle.graph_nodes.specs.Adding.{plainAt, wordsAt, namesHeld, Holding}
 use Rattle.graph_nodes.proofs.Looking.{held-names}
 use Rattle.graph_texts.specs.Texts.{textOf}
 use Rattle.graph_entries.specs.Entries.{drawItems, drawnSeen}
-use Rattle.yanglib.specs.NodeTable.{Puts, Named}
-use Rattle.yanglib.specs.ToGraph.{lentTooShort, Lengths, tooShort, Result, refusal, resultOf, onRead, graphed, nodeWords}
+use Rattle.graph_tables.specs.Tables.{Puts, Named, nodeWords}
+use Rattle.yanglib.specs.ToGraph.{lentTooShort, Result, refusal, resultOf, onRead, graphed}
+use Rattle.graph_tables.specs.Lengths.{Lengths, tooShort}
 use Rattle.graph_entries.specs.declared.Drawn.{Drawn}
 use Rattle.graph_entries.specs.declared.Drawn.the-variants.{Built as DrawnBuilt, Refused as DrawnRefused}
 use Rattle.yanglib.specs.declared.Graphed.the-variants.{Built}

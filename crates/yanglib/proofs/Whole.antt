@@ -1,110 +1,61 @@
--- From the walk of all items to the whole call: tables that are zero at first hold no edge; at the end they hold the words of the result, which the laws
--- of Ways name; a refusal leaves them zero, and scratch is cleared whatever came of it.
+-- From the drawing of the edges to the whole call: at the end the tables hold the words of the result, which the laws of Ways name; a refusal leaves them
+-- zero, and scratch is cleared whatever came of it.
 -- Assumes nothing.
 use Prim.Native.Nat.{ℕ, _≤_, _<_}
 use mathlib.Core.Path.{_≡_, refl, sym, ap, ap₂, _∙_, subst}
 use mathlib.Core.Bool.{Bool, true, false}
 use mathlib.Core.List.{List, []}
 use native.Mathlib.Omega.{arith}
-use lib.ListN.{length, getD, length-replicate}
+use lib.ListN.{length, length-replicate}
 use Rattle.text.specs.declared.Refusal.{Refusal}
 use Rattle.text_lent.specs.Padded.{zeros, padded}
 use Rattle.text_lent.proofs.Clears.{padded-none}
-use Rattle.text_lent.proofs.Zeros.{zeros-zero}
 use Rattle.library_form.specs.Writer.{AllBytes}
-use Rattle.library_image.specs.Library.{Name}
 use Rattle.library_image.specs.Image.{imageAt}
 use Rattle.library_image.proofs.ImageLaws.{accepted}
 use Rattle.library_bundle.specs.Reading.{OpenedAs, longestText}
 use Rattle.library_bundle.specs.declared.Opened.{Opened}
 use Rattle.library_bundle.specs.declared.Opened.the-variants.{Wrong as WrongBundle, Texts}
-use Rattle.library_read.specs.Reading.{done, readSeen}
-use Rattle.library_read.specs.declared.Read.{Read}
-use Rattle.library_read.specs.declared.Read.the-variants.{End, Wrong}
-use Rattle.library_items.specs.Items.{itemsAt}
+use Rattle.library_lists.specs.Lists.{done, readSeen}
+use Rattle.library_lists.specs.declared.Read.{Read}
+use Rattle.library_lists.specs.declared.Read.the-variants.{End, Wrong}
 use Rattle.library_items.specs.Table.{Itemized}
 use Rattle.graph.specs.Nodes.{Mode}
 use Rattle.text.specs.Refusal.{noRefusal}
-use Rattle.graph_edges.specs.Edges.{rowsIn, Filed}
-use Rattle.graph_edges.proofs.Chains.{empty-filed}
 use Rattle.graph.specs.Limits.{mostNodes}
 use Rattle.graph_nodes.specs.Adding.{wordsAt, namesHeld, Holding, Constructed}
-use Rattle.graph_nodes.specs.Marks.{Marked}
 use Rattle.graph_nodes.specs.declared.Nodes.{Nodes}
 use Rattle.graph_nodes.specs.declared.Nodes.the-variants.{Count, TooMany}
 use Rattle.graph_nodes.proofs.Looking.{Bytes, as-held, held-entries}
-use Rattle.graph_walk.specs.Walk.{Ground, Tables}
-use Rattle.graph_walk.specs.declared.Sizes.{Sizes}
-use Rattle.graph_entries.specs.Entries.{Walks, drawnSeen}
-use Rattle.yanglib.specs.NodeTable.{Puts, Named}
-use Rattle.yanglib.specs.ToGraph.{Lengths, lengthsOf, tooShort, Result, refusal, graphed, nodeWords, rowWords, Leaves}
-use Rattle.yanglib.specs.Between.{BothRead, Prepared, Lent, LentNodes, Edged, drawResult, Holds}
+use Rattle.graph_tables.specs.Tables.{Puts, Named, nodeWords, rowWords}
+use Rattle.yanglib.specs.ToGraph.{Result, refusal, graphed, Leaves}
+use Rattle.graph_tables.specs.Lengths.{Lengths, lengthsOf, tooShort}
+use Rattle.graph_draw.specs.Draw.{BothRead, Prepared, Lent, Edged}
+use Rattle.graph_draw.proofs.Drawing.{no-rows}
+use Rattle.yanglib.specs.Between.{LentNodes, drawResult, Holds}
 use Rattle.graph_entries.specs.declared.Drawn.{Drawn}
 use Rattle.graph_entries.specs.declared.Drawn.the-variants.{Built as DrawnBuilt, Refused as DrawnRefused}
 use Rattle.yanglib.specs.declared.Graphed.{Graphed}
 use Rattle.yanglib.specs.declared.Graphed.the-variants.{Built, Refused}
-use Rattle.yanglib.proofs.Tables.{rows-table}
-use Rattle.yanglib.proofs.Short.{Enough, long-enough}
+use Rattle.graph_tables.proofs.Short.{Enough, long-enough}
 use Rattle.graph_entries.proofs.Going.{kept-same}
-use Rattle.yanglib.proofs.Ways.{image-reads, image-wrong, bundle-wrong, too-little, enough, Ready, too-many, draw-refused, draw-built, nodes-asked, nodes-laid}
+use Rattle.yanglib.proofs.Ways.{image-reads, image-wrong, bundle-wrong, too-little, enough, Ready, too-many, draw-refused, draw-built, nodes-asked}
+use Rattle.yanglib.proofs.Ways.{nodes-laid}
 
 no-nodes : (n : ℕ) → zeros n ≡ padded n (nodeWords [])
 unfolding nodeWords
 no-nodes n = padded-none n
 
-no-rows : (n : ℕ) → zeros n ≡ padded n (rowWords [])
-unfolding rowWords
-no-rows n = padded-none n
-
 all-bytes : (s : List ℕ) → Bytes s → AllBytes s
 all-bytes s b k = omega (arith, b k)
-
--- ---- `draw_edges`
-
-pub grounded : {s b btab ntab : List ℕ} {sizes : Sizes} {table : List ℕ} {count : ℕ} → Prepared s b btab ntab sizes table count → {marks : List ℕ}
-    → Marked s ntab (sizes .nodes) (itemsAt s) marks → Ground s b btab ntab marks sizes
-grounded p m = record { desk = record { reads = p .opened .reads; holding = p .holding; entries = p .entries; marked = m }; held = p .opened .held }
-
-pub no-marks : zeros 2048 ≡ zeros (length (zeros 2048))
-no-marks = ap zeros (sym (length-replicate {A = ℕ} 2048 0))
-
-pub no-edges : {b store imports includes levels edges : List ℕ} → Lent b store imports includes levels edges → Tables b store imports includes levels edges (zeros 16384) 8 0
-no-edges {edges = edges} g = record {
-  scan = g .scan;
-  levels-room = g .levels-room;
-  edges-so-far = empty-filed edges (zeros 16384) (record {
-    long = g .edges-room;
-    wide = let e : length (zeros 16384) ≡ 16384 = length-replicate {A = ℕ} 16384 0 in omega (arith, e);
-    no-edges = λ j. ap (λ (w : List ℕ). getD w j 0) (g .edges-zero) ∙ zeros-zero (length edges) j;
-    no-chains = λ j. zeros-zero 16384 j;
-  });
-}
-
-module _ {s b : List ℕ} {ns : List Name} {store imports includes levels edges chains : List ℕ} {r : Drawn} {store₁ imports₁ includes₁ levels₁ edges₁ chains₁ : List ℕ}
-    (g : Walks s b ns store imports includes levels edges chains r store₁ imports₁ includes₁ levels₁ edges₁ chains₁) where
-  pub edges-refused : {number entry : ℕ} {a : Refusal} → r ≡ DrawnRefused number entry a → {edges₂ : List ℕ} → edges₂ ≡ zeros (length edges₁)
-      → Edged s b ns store imports includes levels edges r store₁ imports₁ includes₁ levels₁ edges₂
-  edges-refused {number} {entry} {a} e {edges₂} z = record {
-    seen = ap (λ (q : Drawn). drawnSeen q edges₂) e ∙ sym (ap (λ (q : Drawn). drawnSeen q edges₁) e) ∙ g .seen;
-    table = rw e (z ∙ ap zeros (g .kept-edges) ∙ no-rows (length edges));
-    kept = g .kept;
-  }
-
-  pub edges-built : {m : ℕ} → r ≡ DrawnBuilt m → Edged s b ns store imports includes levels edges (DrawnBuilt m) store₁ imports₁ includes₁ levels₁ edges₁
-  edges-built {m} e =
-      let h : Filed edges₁ chains₁ m = rw e at (g .filed) in
-      record {
-        seen = sym (ap (λ (q : Drawn). drawnSeen q edges₁) e) ∙ g .seen;
-        table = rows-table edges₁ chains₁ m h ∙ ap (λ (k : ℕ). padded k (rowWords (rowsIn m edges₁))) (g .kept-edges);
-        kept = g .kept;
-      }
 
 -- ---- `draw`
 
 pub image-short : {s b btab : List ℕ} {texts : ℕ} → BothRead s b btab texts → length s ≤ 65536
 image-short {s} p = accepted s (p .reads .read) .short
 
-module _ {mode : Mode} {s b btab : List ℕ} {texts : ℕ} (p : BothRead s b btab texts) {tab : List ℕ} {r : Nodes} {ntab : List ℕ} (c : Constructed mode s tab r ntab) where
+module _ {mode : Mode} {s b btab : List ℕ} {texts : ℕ} (p : BothRead s b btab texts) {tab : List ℕ} {r : Nodes} {ntab : List ℕ}
+    (c : Constructed mode s tab r ntab) where
   pub nodes-held : {n : ℕ} → r ≡ Count n → Holding s ntab n (wordsAt mode s)
   nodes-held e = rw e at (c .answer)
 
@@ -162,7 +113,8 @@ pub both-read : (s b tab : List ℕ) (texts : ℕ) {r : Read} {j : ℕ} {o : Ope
     → BothRead s b tab texts
 both-read s b tab texts {r} e q h f = record { reads = image-reads s r e q; held = h .held texts f }
 
-pub lent : (b store imports includes levels edges : List ℕ) (longest : ℕ) (k : Lengths) {short : Bool} → longest ≡ longestText b → short ≡ tooShort longest k → short ≡ false
+pub lent : (b store imports includes levels edges : List ℕ) (longest : ℕ) (k : Lengths) {short : Bool} → longest ≡ longestText b → short ≡ tooShort longest k
+    → short ≡ false
     → k .store ≡ length store → k .imports ≡ length imports → k .includes ≡ length includes → k .levels ≡ length levels → k .edges ≡ length edges
     → edges ≡ zeros (length edges) → Lent b store imports includes levels edges
 lent b store imports includes levels edges longest k l t u d f g v e z =
@@ -195,19 +147,23 @@ module _ (mode : Mode) (s b nodes edges store imports includes levels : List ℕ
       → Holds (graphed mode s b k) nodes edges store imports includes levels (Refused 20 0 a p) nodes edges store imports includes levels
   no-image {r} e q z = refusing z (image-wrong mode s b k r e q)
 
-  pub no-bundle : {r : Read} {j : ℕ} {o : Opened} {tab : List ℕ} {p : ℕ} {a : Refusal} → r ≡ End j → readSeen r ≡ done (imageAt s) → OpenedAs b o tab → o ≡ WrongBundle p → a ≡ noRefusal
+  pub no-bundle : {r : Read} {j : ℕ} {o : Opened} {tab : List ℕ} {p : ℕ} {a : Refusal} → r ≡ End j → readSeen r ≡ done (imageAt s) → OpenedAs b o tab
+      → o ≡ WrongBundle p → a ≡ noRefusal
       → Holds (graphed mode s b k) nodes edges store imports includes levels (Refused 21 0 a p) nodes edges store imports includes levels
   no-bundle {r} {o = o} {tab = tab} e q h f z = refusing z (bundle-wrong mode s b k (image-reads s r e q) o tab f h)
 
-  pub not-enough : {tab : List ℕ} {texts : ℕ} {longest : ℕ} {short : Bool} {a : Refusal} → BothRead s b tab texts → longest ≡ longestText b → short ≡ tooShort longest k → short ≡ true → a ≡ noRefusal
+  pub not-enough : {tab : List ℕ} {texts : ℕ} {longest : ℕ} {short : Bool} {a : Refusal} → BothRead s b tab texts → longest ≡ longestText b
+      → short ≡ tooShort longest k → short ≡ true → a ≡ noRefusal
       → Holds (graphed mode s b k) nodes edges store imports includes levels (Refused 22 0 a 0) nodes edges store imports includes levels
   not-enough {tab} {texts} o l t u z = refusing z (too-little mode s b k (o .reads) tab texts (o .held) l t u)
 
-  pub all-held : {tab : List ℕ} {texts : ℕ} {longest : ℕ} {short : Bool} → BothRead s b tab texts → longest ≡ longestText b → short ≡ tooShort longest k → short ≡ false
+  pub all-held : {tab : List ℕ} {texts : ℕ} {longest : ℕ} {short : Bool} → BothRead s b tab texts → longest ≡ longestText b → short ≡ tooShort longest k
+      → short ≡ false
       → {y : Graphed} {n₁ e₁ d₁ f₁ g₁ l₁ : List ℕ} → Holds (drawResult mode s b) nodes edges store imports includes levels y n₁ e₁ d₁ f₁ g₁ l₁
       → Holds (graphed mode s b k) nodes edges store imports includes levels y n₁ e₁ d₁ f₁ g₁ l₁
   all-held {tab} {texts} o l t u {y} {n₁} {e₁} {d₁} {f₁} {g₁} {l₁} w =
-      subst (λ (x : Result). Holds x nodes edges store imports includes levels y n₁ e₁ d₁ f₁ g₁ l₁) (sym (enough mode s b k (o .reads) tab texts (o .held) l t u)) w
+      subst (λ (x : Result). Holds x nodes edges store imports includes levels y n₁ e₁ d₁ f₁ g₁ l₁)
+      (sym (enough mode s b k (o .reads) tab texts (o .held) l t u)) w
 
 -- ---- `to_graph`
 

@@ -1,3 +1,2 @@
 pub mod Between
-pub mod NodeTable
 pub mod ToGraph

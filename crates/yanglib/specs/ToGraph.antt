@@ -2,12 +2,11 @@
 -- name's first byte, length), edge table, 16,384 words (from, to), in order of adding; rest zero. A refusal leaves all tables and counts zero. Scratch:
 -- a value store as long as the longest text, one pair of scan tables, 2,304 words; zero after every call.
 -- Assumes nothing.
-use Prim.Native.Nat.{ℕ, _*_, _≤_}
+use Prim.Native.Nat.{ℕ, _≤_}
 use mathlib.Core.Path.{_≡_}
-use mathlib.Core.Bool.{Bool, cond, _||_}
-use mathlib.Core.List.{List, [], _∷_, map}
+use mathlib.Core.Bool.{cond}
+use mathlib.Core.List.{List, [], map}
 use lib.ListN.{length}
-use lib.Dec.{ltb}
 use Rattle.text.specs.declared.Refusal.{Refusal}
 use Rattle.text_lent.specs.Padded.{zeros, padded}
 use Rattle.library_form.specs.Form.{Ans, good, bad, PlacedName}
@@ -20,38 +19,15 @@ use Rattle.graph.specs.Graph.{Graph, graph, fault, graphOf}
 use Rattle.graph.specs.Numbers.{Row, rowOf}
 use Rattle.graph.specs.Limits.{mostEdges, mostNodes}
 use Rattle.graph_nodes.specs.Adding.{plainAt, wordsAt}
-use Rattle.scan_rows.specs.Rows.{mostRows, importSize, includeSize}
-use Rattle.graph_edges.specs.Edges.{edgeTable}
 use Rattle.graph_texts.specs.Texts.{textOf}
-use Rattle.graph_entries.specs.Entries.{allLevels}
+use Rattle.graph_tables.specs.Lengths.{Lengths, lengthsOf, tooShort}
+use Rattle.graph_tables.specs.Tables.{nodeWords, rowWords}
 use Rattle.yanglib.specs.declared.Graphed.{Graphed}
 use Rattle.yanglib.specs.declared.Graphed.the-variants.{Built, Refused}
 
 -- a table or scratch too short
 abbrev pub lentTooShort : ℕ
 lentTooShort = 22
-
--- the lengths lent: node table, edge table, value store, import table, include table, levels
-pub record Lengths : Type 0 where
-  pub nodes : ℕ
-  pub edges : ℕ
-  pub store : ℕ
-  pub imports : ℕ
-  pub includes : ℕ
-  pub levels : ℕ
-
-abbrev pub lengthsOf : List ℕ → List ℕ → List ℕ → List ℕ → List ℕ → List ℕ → Lengths
-lengthsOf n e d f g l =
-    record { nodes = length n; edges = length e; store = length d; imports = length f; includes = length g; levels = length l }
-
--- two words a node, place and length of its name
-abbrev pub nodeTable : ℕ
-nodeTable = mostNodes * 2
-
-unfoldable pub tooShort : (longest : ℕ) → Lengths → Bool
-tooShort longest k =
-    ltb (k .nodes) nodeTable || ltb (k .edges) edgeTable || ltb (k .store) longest
-    || ltb (k .imports) (mostRows * importSize) || ltb (k .includes) (mostRows * includeSize) || ltb (k .levels) allLevels
 
 -- ---- the answer, the nodes and the edges
 
@@ -88,14 +64,6 @@ AnswerFits (Built n m) = (n ≤ 1024) × (m ≤ 8192)
 AnswerFits (Refused number entry a place) = (entry ≤ 65536) × (a .at ≤ 16777216) × (place ≤ 16777216)
 
 -- ---- the tables
-
-unfoldable pub nodeWords : List PlacedName → List ℕ
-nodeWords [] = []
-nodeWords (w ∷ ws) = w .place ∷ w .size ∷ nodeWords ws
-
-unfoldable pub rowWords : List Row → List ℕ
-rowWords [] = []
-rowWords (r ∷ rs) = r .from ∷ r .to ∷ rowWords rs
 
 -- what a call answers and leaves: n, e, d, f, g, l are the tables and scratch at entry, n₁ .. l₁ at exit
 pub record Leaves (x : Result) (n e d f g l : List ℕ) (r : Graphed) (n₁ e₁ d₁ f₁ g₁ l₁ : List ℕ) : Type 0 where

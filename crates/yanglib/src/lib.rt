@@ -1,123 +1,29 @@
-// The graph of a library: construct_nodes is crate graph_nodes, the walk of one text crate graph_walk, that of the entries crate graph_entries; here is the
-// call that a host makes.
+// The graph of a library: construct_nodes is crate graph_nodes, the walk of one text crate graph_walk, that of the entries crate graph_entries, the edges of
+// them all crate graph_draw; here is the call that a host makes.
 use graph_entries::Drawn;
 use graph_nodes::Nodes;
-use graph_walk::Sizes;
+use graph_visit::Sizes;
 use library_bundle::Opened;
-use library_read::Read;
+use library_lists::Read;
 use text::Refusal;
 ghost use mathlib.Core.Path.{_≡_};
 ghost use lib.ListN.{length};
 ghost use Rattle.text_lent.specs.Padded.{zeros};
 ghost use Rattle.graph.specs.Nodes.{passOver};
-ghost use Rattle.graph_nodes.specs.Adding.{namesHeld};
-ghost use Rattle.yanglib.specs.ToGraph.{tooShort, lengthsOf, graphed, Graphs};
-ghost use Rattle.yanglib.specs.NodeTable.{Puts, Named};
-ghost use Rattle.yanglib.specs.Between.{BothRead, Prepared, Lent, LentNodes, Edged, drawResult, Holds};
+ghost use Rattle.yanglib.specs.ToGraph.{graphed, Graphs};
+ghost use Rattle.graph_tables.specs.Lengths.{lengthsOf};
+ghost use Rattle.graph_draw.specs.Draw.{BothRead, Lent};
+ghost use Rattle.yanglib.specs.Between.{LentNodes, drawResult, Holds};
 
 // The refusals of this layer.
 pub const LENT_TOO_SHORT: u32 = 22;
 
 pub const TOO_MANY_NODES: u32 = 30;
 
-// How many words of levels are lent: nine levels.
-pub const LEVELS: usize = 2304;
-
 // How many nodes and edges there are; or a refusal's number, entry, scan answer and place.
 pub enum Graphed {
     Built(usize, usize),
     Refused(u32, usize, Refusal, usize),
-}
-
-// Whether a table or scratch is too short.
-fn too_short(
-    longest: usize,
-    nodes: usize,
-    edges: usize,
-    store: usize,
-    imports: usize,
-    includes: usize,
-    levels: usize,
-) -> bool
-    ensures { λ r. ⌜ r ≡ tooShort longest
-        (record { nodes = nodes; edges = edges; store = store; imports = imports; includes = includes; levels = levels }) ⌝ }
-{
-    if nodes < 2 * graph::MOST_NODES {
-        return true;
-    }
-    if edges < graph_edges::EDGE_TABLE {
-        return true;
-    }
-    if store < longest {
-        return true;
-    }
-    if imports < scan_rows::MOST_ROWS * scan_rows::IMPORT_SIZE {
-        return true;
-    }
-    if includes < scan_rows::MOST_ROWS * scan_rows::INCLUDE_SIZE {
-        return true;
-    }
-    levels < LEVELS
-}
-
-// Lays place and length of each node's name into the node table, which is zero.
-fn put_nodes(ntab: &[u32], n: usize, nodes: &mut [u32])
-    requires { ⌜ Puts (now ntab) n (now nodes) ⌝ }
-    ensures { λ r. ⌜ Named (now (ntab .entry)) n (now (nodes .entry)) (now (nodes .exit)) ⌝ }
-{
-    let mut i = 0;
-    while i < n {
-        nodes[i * 2] = library_index::place_of(ntab, i) as u32;
-        nodes[i * 2 + 1] = library_index::length_of(ntab, i) as u32;
-        i += 1;
-    }
-}
-
-// The edges of all entries; a refusal leaves none.
-fn draw_edges(
-    image: &[u8],
-    bundle: &[u8],
-    btab: &[u32],
-    ntab: &[u32],
-    sizes: Sizes,
-    table: &[u32],
-    count: usize,
-    edges: &mut [u32],
-    store: &mut [u8],
-    imports: &mut [u32],
-    includes: &mut [u32],
-    levels: &mut [u32],
-) -> Drawn
-    requires { ⌜ Prepared (now image) (now bundle) (now btab) (now ntab) sizes (now table) count
-        × Lent (now bundle) (now store) (now imports) (now includes) (now levels) (now edges) ⌝ }
-    ensures { λ r. ⌜ Edged (now (image .entry)) (now (bundle .entry)) (namesHeld (now (image .entry)) (now (ntab .entry)) (sizes .nodes))
-        (now (store .entry)) (now (imports .entry)) (now (includes .entry)) (now (levels .entry)) (now (edges .entry)) r
-        (now (store .exit)) (now (imports .exit)) (now (includes .exit)) (now (levels .exit)) (now (edges .exit)) ⌝ }
-{
-    let mut marks: [u32; graph_nodes::MARK_TABLE] = [0; graph_nodes::MARK_TABLE];
-    graph_nodes::mark_nodes(image, table, count, ntab, sizes.nodes, &mut marks);
-    let mut chains: [u16; graph_edges::CHAIN_TABLE] = [0; graph_edges::CHAIN_TABLE];
-    let drawn = graph_entries::walk_items(
-        image,
-        bundle,
-        btab,
-        ntab,
-        &marks,
-        sizes,
-        table,
-        count,
-        store,
-        imports,
-        includes,
-        levels,
-        edges,
-        &mut chains,
-    );
-    let Drawn::Built(m) = drawn else {
-        text_lent::clear_words(edges);
-        return drawn;
-    };
-    Drawn::Built(m)
 }
 
 // The graph of an image and a bundle that are well formed, with enough lent, over tables that are zero.
@@ -147,7 +53,7 @@ fn draw(
         return Graphed::Refused(TOO_MANY_NODES, 0, text::no_refusal(), 0);
     };
     let sizes = Sizes { texts, nodes: n };
-    match draw_edges(
+    match graph_draw::draw_edges(
         image,
         bundle,
         btab,
@@ -163,7 +69,7 @@ fn draw(
     ) {
         Drawn::Refused(number, entry, why) => Graphed::Refused(number, entry, why, 0),
         Drawn::Built(m) => {
-            put_nodes(&ntab, n, nodes);
+            graph_tables::put_nodes(&ntab, n, nodes);
             Graphed::Built(n, m)
         }
     }
@@ -200,7 +106,7 @@ fn read_and_draw(
         ),
         Opened::Texts(texts) => {
             let longest = library_bundle::longest(bundle, &btab, texts);
-            if too_short(
+            if graph_tables::too_short(
                 longest,
                 nodes.len(),
                 edges.len(),

@@ -22,8 +22,9 @@ use Rattle.scan_imports.specs.declared.ParsedImport.the-variants.{Import as Rea
 use Rattle.scan_imports.specs.declared.ParsedInclude.{ParsedInclude}
 use Rattle.scan_imports.specs.declared.ParsedInclude.the-variants.{Include as ReadInclude, NoInclude}
 use Rattle.scan_imports.proofs.ReachLaws.{import-room, import-lies, include-room, include-lies}
-use Rattle.scan_imports.proofs.Spans.{MayLie, Lies, may-end}
-use Rattle.yangparser.specs.Dependencies.{Dependencies, none, importWordsOf, includeWordsOf, Step, adding, importStep, includeStep, full, unlessFull, importHere, includeHere}
+use Rattle.scan_block.proofs.Spans.{MayLie, Lies, may-end}
+use Rattle.yangparser.specs.Dependencies.{Dependencies, none, importWordsOf, includeWordsOf, Step, adding, importStep, includeStep, full, unlessFull}
+use Rattle.yangparser.specs.Dependencies.{importHere, includeHere}
 use Rattle.yangparser.specs.Promises.{Adds, AddsImport, AddsInclude}
 use Rattle.yangparser.specs.declared.Next.{Next}
 use Rattle.yangparser.specs.declared.Next.the-variants.{On, Stop}

@@ -14,11 +14,13 @@ use Rattle.text_lent.specs.declared.Lent.the-variants.{Fit, Unfit}
 use Rattle.text_lent.proofs.Clears.{written-zero, padded-none}
 use Rattle.text_lent.proofs.LentLaws.{fit-said}
 use Rattle.scan_rows.specs.Rows.{importSize, includeSize, mostRows, importTable, includeTable, table}
-use Rattle.yangparser.specs.Dependencies.{Dependencies, none, importWordsOf, includeWordsOf, Scan, good, bad, scanned, tooShort, ifFit, dependencies, parsedOf, readOf, keptOf}
+use Rattle.yangparser.specs.Dependencies.{Dependencies, none, importWordsOf, includeWordsOf, Scan, good, bad, scanned, ifFit, dependencies, parsedOf}
+use Rattle.yangparser.specs.Dependencies.{readOf, keptOf}
+use Rattle.scan_rows.specs.Short.{tooShort}
 use Rattle.yangparser.specs.Promises.{Holds, Parses, Leaves, lentScan, Scans, Extracts}
 use Rattle.yangparser.specs.declared.Parsed.{Parsed}
 use Rattle.yangparser.specs.declared.Parsed.the-variants.{Good, Refused}
-use Rattle.yangparser.proofs.ShortLaws.{long-enough}
+use Rattle.scan_rows.proofs.ShortLaws.{long-enough}
 use Rattle.yangparser.proofs.LoopLaws.{import-words-count, include-words-count}
 use Rattle.yangparser.proofs.ScanLaws.{Sound, scan-sound}
 use Rattle.yangparser.proofs.KeptLaws.{parsed-good, entry-good}

@@ -12,15 +12,19 @@ use Rattle.text.specs.Scan.{inIdent, inRun, span, runEnd, pairAt, closing, bloc
 use Rattle.text.specs.Turns.{turns}
 use Rattle.text_value.specs.Argument.{argumentOf, argumentAt, afterDue, afterArgument, lineAt}
 use Rattle.text_value.specs.Str.{escaped, escapes, strEnd, strBytes, closedBy, strAt}
-use Rattle.text_value.specs.Value.{isQuote, startsName, addedBy, afterPlus, afterGap, moreAt, addTo, joinTurn, joinedWith, joined as joinedValue, ofString, valueHere, valueAt, valueBytes}
+use Rattle.text_value.specs.Value.{isQuote, startsName, addedBy, afterPlus, afterGap, moreAt, addTo, joinTurn, joinedWith, joined as joinedValue, ofString}
+use Rattle.text_value.specs.Value.{valueHere, valueAt, valueBytes}
 use Rattle.text_skip.specs.Skip.{closedToken, tokenHere, tokenAt}
-use Rattle.text_skip.specs.Statement.{closes, quotedLen, quotedEnd, atSemicolon, atClose, partOf, partAt, ofPart, statementTurn, statementFrom, statementAt}
+use Rattle.text_statement.specs.Statement.{closes, quotedLen, quotedEnd, atSemicolon, atClose, partOf, partAt, ofPart, statementTurn, statementFrom}
+use Rattle.text_statement.specs.Statement.{statementAt}
 use Rattle.text_lent.specs.Lent.{lentAt}
 use Rattle.scan_rows.specs.Rows.{importWords, includeWords, table, importTable, includeTable}
-use Rattle.scan_imports.specs.Block.{orLine, lineKind, kept, withValue, withSkipped, afterKind, insideHere, insideAt, afterInside, blockTurn, blockFrom, blockAt}
+use Rattle.scan_block.specs.Block.{orLine, lineKind, kept, withValue, withSkipped, afterKind, insideHere, insideAt, afterInside, blockTurn, blockFrom, blockAt}
 use Rattle.scan_imports.specs.Statement.{ofBody, importOf, withName, afterName, importAt, includeOf, plainOf, blockOf, openOrPlain, afterValue, includeAt}
-use Rattle.yangparser.specs.Dependencies.{importWordsOf, includeWordsOf, joined, importStep, includeStep, unlessFull, importHere, includeHere, movedTo, afterToken, headStep, stepHere, stepAt, Scan, good, bad, afterStep, scanTurn, scanFrom, scanned, ifFit, dependencies}
-use Rattle.yangparser.specs.Head.{lastAt, orHead, headAt}
+use Rattle.yangparser.specs.Dependencies.{importWordsOf, includeWordsOf, joined, importStep, includeStep, unlessFull, importHere, includeHere, movedTo}
+use Rattle.yangparser.specs.Dependencies.{afterToken, headStep, stepHere, stepAt, Scan, good, bad, afterStep, scanTurn, scanFrom, scanned, ifFit}
+use Rattle.yangparser.specs.Dependencies.{dependencies}
+use Rattle.scan_head.specs.Head.{lastAt, orHead, headAt}
 
 -- a text, whether too little was lent, and what comes of it
 data Example : Type 0 where
@@ -38,7 +42,9 @@ all : List Example → Bool
 all [] = true
 all (x ∷ xs) = holds x && all xs
 
--- the texts: import a b | import "a | import a{x | include a} | "\\" include a; | 1include a; | a:include b; | include/**/a; | contact x; include a; | include a; reference x; import b | import a{prefix "";} | import a{prefix p;prefix q;} | import "a"+{prefix p;revision-date r;} include b{revision-date s;} | byte 200, too little lent | a blank and byte 200
+-- the texts: import a b | import "a | import a{x | include a} | "\\" include a; | 1include a; | a:include b; | include/**/a; | contact x; include a; |
+-- include a; reference x; import b | import a{prefix "";} | import a{prefix p;prefix q;} | import "a"+{prefix p;revision-date r;} include b{revision-date
+-- s;} | byte 200, too little lent | a blank and byte 200
 examples : List Example
 examples =
     example (105 ∷ 109 ∷ 112 ∷ 111 ∷ 114 ∷ 116 ∷ 32 ∷ 97 ∷ 32 ∷ 98 ∷ []) false (5 ∷ 8 ∷ 9 ∷ [])
@@ -50,14 +56,27 @@ examples =
     ∷ example (97 ∷ 58 ∷ 105 ∷ 110 ∷ 99 ∷ 108 ∷ 117 ∷ 100 ∷ 101 ∷ 32 ∷ 98 ∷ 59 ∷ []) false (0 ∷ 0 ∷ 0 ∷ [])
     ∷ example (105 ∷ 110 ∷ 99 ∷ 108 ∷ 117 ∷ 100 ∷ 101 ∷ 47 ∷ 42 ∷ 42 ∷ 47 ∷ 97 ∷ 59 ∷ []) false (0 ∷ 0 ∷ 0 ∷ [])
     ∷ example (99 ∷ 111 ∷ 110 ∷ 116 ∷ 97 ∷ 99 ∷ 116 ∷ 32 ∷ 120 ∷ 59 ∷ 32 ∷ 105 ∷ 110 ∷ 99 ∷ 108 ∷ 117 ∷ 100 ∷ 101 ∷ 32 ∷ 97 ∷ 59 ∷ []) false (0 ∷ 0 ∷ 0 ∷ [])
-    ∷ example (105 ∷ 110 ∷ 99 ∷ 108 ∷ 117 ∷ 100 ∷ 101 ∷ 32 ∷ 97 ∷ 59 ∷ 32 ∷ 114 ∷ 101 ∷ 102 ∷ 101 ∷ 114 ∷ 101 ∷ 110 ∷ 99 ∷ 101 ∷ 32 ∷ 120 ∷ 59 ∷ 32 ∷ 105 ∷ 109 ∷ 112 ∷ 111 ∷ 114 ∷ 116 ∷ 32 ∷ 98 ∷ []) false (0 ∷ 0 ∷ 1 ∷ 0 ∷ 1 ∷ 0 ∷ 0 ∷ 0 ∷ 97 ∷ [])
-    ∷ example (105 ∷ 109 ∷ 112 ∷ 111 ∷ 114 ∷ 116 ∷ 32 ∷ 97 ∷ 123 ∷ 112 ∷ 114 ∷ 101 ∷ 102 ∷ 105 ∷ 120 ∷ 32 ∷ 34 ∷ 34 ∷ 59 ∷ 125 ∷ []) false (0 ∷ 1 ∷ 0 ∷ 0 ∷ 1 ∷ 1 ∷ 0 ∷ 0 ∷ 0 ∷ 0 ∷ 97 ∷ [])
-    ∷ example (105 ∷ 109 ∷ 112 ∷ 111 ∷ 114 ∷ 116 ∷ 32 ∷ 97 ∷ 123 ∷ 112 ∷ 114 ∷ 101 ∷ 102 ∷ 105 ∷ 120 ∷ 32 ∷ 112 ∷ 59 ∷ 112 ∷ 114 ∷ 101 ∷ 102 ∷ 105 ∷ 120 ∷ 32 ∷ 113 ∷ 59 ∷ 125 ∷ []) false (0 ∷ 1 ∷ 0 ∷ 0 ∷ 1 ∷ 2 ∷ 1 ∷ 0 ∷ 0 ∷ 0 ∷ 97 ∷ 112 ∷ 113 ∷ [])
-    ∷ example (105 ∷ 109 ∷ 112 ∷ 111 ∷ 114 ∷ 116 ∷ 32 ∷ 34 ∷ 97 ∷ 34 ∷ 43 ∷ 123 ∷ 112 ∷ 114 ∷ 101 ∷ 102 ∷ 105 ∷ 120 ∷ 32 ∷ 112 ∷ 59 ∷ 114 ∷ 101 ∷ 118 ∷ 105 ∷ 115 ∷ 105 ∷ 111 ∷ 110 ∷ 45 ∷ 100 ∷ 97 ∷ 116 ∷ 101 ∷ 32 ∷ 114 ∷ 59 ∷ 125 ∷ 32 ∷ 105 ∷ 110 ∷ 99 ∷ 108 ∷ 117 ∷ 100 ∷ 101 ∷ 32 ∷ 98 ∷ 123 ∷ 114 ∷ 101 ∷ 118 ∷ 105 ∷ 115 ∷ 105 ∷ 111 ∷ 110 ∷ 45 ∷ 100 ∷ 97 ∷ 116 ∷ 101 ∷ 32 ∷ 115 ∷ 59 ∷ 125 ∷ []) false (0 ∷ 1 ∷ 1 ∷ 0 ∷ 1 ∷ 1 ∷ 1 ∷ 1 ∷ 2 ∷ 1 ∷ 3 ∷ 1 ∷ 1 ∷ 4 ∷ 1 ∷ 97 ∷ 112 ∷ 114 ∷ 98 ∷ 115 ∷ [])
+    ∷ example (105 ∷ 110 ∷ 99 ∷ 108 ∷ 117 ∷ 100 ∷ 101 ∷ 32 ∷ 97 ∷ 59 ∷ 32 ∷ 114 ∷ 101 ∷ 102 ∷ 101 ∷ 114 ∷ 101 ∷ 110 ∷ 99 ∷ 101 ∷ 32 ∷ 120 ∷ 59 ∷ 32 ∷ 105 ∷ 109
+    ∷ 112 ∷ 111 ∷ 114 ∷ 116 ∷ 32 ∷ 98 ∷ []) false (0 ∷ 0 ∷ 1 ∷ 0 ∷ 1 ∷ 0 ∷ 0 ∷ 0 ∷ 97 ∷ [])
+    ∷ example (105 ∷ 109 ∷ 112 ∷ 111 ∷ 114 ∷ 116 ∷ 32 ∷ 97 ∷ 123 ∷ 112 ∷ 114 ∷ 101 ∷ 102 ∷ 105 ∷ 120 ∷ 32 ∷ 34 ∷ 34 ∷ 59 ∷ 125 ∷ []) false
+    (0 ∷ 1 ∷ 0 ∷ 0 ∷ 1 ∷ 1 ∷ 0 ∷ 0 ∷ 0 ∷ 0 ∷ 97 ∷ [])
+    ∷ example (105 ∷ 109 ∷ 112 ∷ 111 ∷ 114 ∷ 116 ∷ 32 ∷ 97 ∷ 123 ∷ 112 ∷ 114 ∷ 101 ∷ 102 ∷ 105 ∷ 120 ∷ 32 ∷ 112 ∷ 59 ∷ 112 ∷ 114 ∷ 101 ∷ 102 ∷ 105 ∷ 120 ∷ 32
+    ∷ 113 ∷ 59 ∷ 125 ∷ []) false (0 ∷ 1 ∷ 0 ∷ 0 ∷ 1 ∷ 2 ∷ 1 ∷ 0 ∷ 0 ∷ 0 ∷ 97 ∷ 112 ∷ 113 ∷ [])
+    ∷ example (105 ∷ 109 ∷ 112 ∷ 111 ∷ 114 ∷ 116 ∷ 32 ∷ 34 ∷ 97 ∷ 34 ∷ 43 ∷ 123 ∷ 112 ∷ 114 ∷ 101 ∷ 102 ∷ 105 ∷ 120 ∷ 32 ∷ 112 ∷ 59 ∷ 114 ∷ 101 ∷ 118 ∷ 105
+    ∷ 115 ∷ 105 ∷ 111 ∷ 110 ∷ 45 ∷ 100 ∷ 97 ∷ 116 ∷ 101 ∷ 32 ∷ 114 ∷ 59 ∷ 125 ∷ 32 ∷ 105 ∷ 110 ∷ 99 ∷ 108 ∷ 117 ∷ 100 ∷ 101 ∷ 32 ∷ 98 ∷ 123 ∷ 114 ∷ 101
+    ∷ 118 ∷ 105 ∷ 115 ∷ 105 ∷ 111 ∷ 110 ∷ 45 ∷ 100 ∷ 97 ∷ 116 ∷ 101 ∷ 32 ∷ 115 ∷ 59 ∷ 125 ∷ []) false
+    (0 ∷ 1 ∷ 1 ∷ 0 ∷ 1 ∷ 1 ∷ 1 ∷ 1 ∷ 2 ∷ 1 ∷ 3 ∷ 1 ∷ 1 ∷ 4 ∷ 1 ∷ 97 ∷ 112 ∷ 114 ∷ 98 ∷ 115 ∷ [])
     ∷ example (200 ∷ []) true (2 ∷ 0 ∷ 0 ∷ [])
     ∷ example (32 ∷ 200 ∷ []) false (3 ∷ 0 ∷ 1 ∷ [])
     ∷ []
 
 right : T (all examples)
-unfolding examples all holds outcome importWordsOf includeWordsOf joined importStep includeStep unlessFull importHere includeHere movedTo afterToken headStep stepHere stepAt afterStep scanTurn scanFrom scanned lentAt ifFit dependencies orMatch lastAt orHead headAt importWords includeWords table importTable includeTable orLine lineKind withValue kept withSkipped afterKind insideHere insideAt afterInside blockTurn blockFrom blockAt ofBody importOf withName afterName importAt includeOf plainOf blockOf openOrPlain afterValue includeAt argumentOf argumentAt afterDue afterArgument lineAt escaped escapes strEnd strBytes closedBy strAt isQuote startsName addedBy afterPlus afterGap moreAt addTo joinTurn joinedWith joinedValue ofString valueHere valueAt valueBytes closedToken tokenHere tokenAt closes quotedLen quotedEnd atSemicolon atClose partOf partAt ofPart statementTurn statementFrom statementAt dueNumber dueHere dueAt startsIdent endsKeyword same part keywordAt matchAt gapEnd gapTurn afterWhite commentEnd blockEnd closing pairAt runEnd span inRun inIdent classOf turns
+unfolding examples all holds outcome importWordsOf includeWordsOf joined importStep includeStep unlessFull importHere includeHere movedTo afterToken headStep
+    stepHere stepAt afterStep scanTurn scanFrom scanned lentAt ifFit dependencies orMatch lastAt orHead headAt importWords includeWords table importTable
+    includeTable orLine lineKind withValue kept withSkipped afterKind insideHere insideAt afterInside blockTurn blockFrom blockAt ofBody importOf withName
+    afterName importAt includeOf plainOf blockOf openOrPlain afterValue includeAt argumentOf argumentAt afterDue afterArgument lineAt escaped escapes strEnd
+    strBytes closedBy strAt isQuote startsName addedBy afterPlus afterGap moreAt addTo joinTurn joinedWith joinedValue ofString valueHere valueAt valueBytes
+    closedToken tokenHere tokenAt closes quotedLen quotedEnd atSemicolon atClose partOf partAt ofPart statementTurn statementFrom statementAt dueNumber dueHere
+    dueAt startsIdent endsKeyword same part keywordAt matchAt gapEnd gapTurn afterWhite commentEnd blockEnd closing pairAt runEnd span inRun inIdent classOf
+    turns
 right = tt

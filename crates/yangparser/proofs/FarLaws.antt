@@ -22,17 +22,18 @@ use Rattle.scan_imports.specs.declared.ParsedImport.the-variants.{Import as Rea
 use Rattle.scan_imports.specs.declared.ParsedInclude.{ParsedInclude}
 use Rattle.scan_imports.specs.declared.ParsedInclude.the-variants.{Include as ReadInclude, NoInclude}
 use Rattle.scan_imports.proofs.ReachLaws.{ImportSaid, import-said, IncludeSaid, include-said}
-use Rattle.yangparser.specs.Dependencies.{Dependencies, none, Step, importStep, includeStep, full, unlessFull, importHere, includeHere, movedTo, afterToken, headStep, stepAt}
-use Rattle.yangparser.specs.Head.{headAt}
+use Rattle.yangparser.specs.Dependencies.{Dependencies, none, Step, importStep, includeStep, full, unlessFull, importHere, includeHere, movedTo}
+use Rattle.yangparser.specs.Dependencies.{afterToken, headStep, stepAt}
+use Rattle.scan_head.specs.Head.{headAt}
 use Rattle.yangparser.specs.declared.Next.{Next}
 use Rattle.yangparser.specs.declared.Next.the-variants.{On, Done, Stop}
 use Rattle.yangparser.specs.declared.Sofar.{Sofar}
-use Rattle.yangparser.specs.declared.Head.{Head}
-use Rattle.yangparser.specs.declared.Head.the-variants.{Import, Include, Last, Other}
+use Rattle.scan_head.specs.declared.Head.{Head}
+use Rattle.scan_head.specs.declared.Head.the-variants.{Import, Include, Last, Other}
 use Rattle.yangparser.proofs.AddLaws.{full-is, room-is}
 use Rattle.yangparser.proofs.Placed.{import-more, include-more, Placed, placed-bytes, placed-import, placed-include}
 use Rattle.yangparser.proofs.StepLaws.{step-past, step-head}
-use Rattle.yangparser.proofs.HeadLaws.{head-import-far, head-include-far}
+use Rattle.scan_head.proofs.HeadLaws.{head-import-far, head-include-far}
 
 -- from far, with a added
 abbrev pub Went : List ℕ → Sofar → Dependencies → Next → Type 0
@@ -60,7 +61,8 @@ said-none s far r w = record {
 }
 
 -- bytes of a refused statement
-said-bytes : (s : List ℕ) (far : Sofar) (r : Next) (bs : List ℕ) → Went s far (record { imports = []; includes = []; bytes = bs }) r → length bs ≤ length s - far .at
+said-bytes : (s : List ℕ) (far : Sofar) (r : Next) (bs : List ℕ) → Went s far (record { imports = []; includes = []; bytes = bs }) r
+    → length bs ≤ length s - far .at
     → Said s far (record { answer = r; adds = record { imports = []; includes = []; bytes = bs } })
 said-bytes s far r bs w h = record {
   went = w;

@@ -35,7 +35,8 @@ module _ (s : List ℕ) where
       let l = fit-said s short (k .0) in
       (k .1, l .0, l .1)
 
-  fit-within : (x : Lent) → ((q : Refusal) → x ≡ Unfit q → q .at ≤ length s) → (r : Refusal) (d : Dependencies) → ifFit x (scanned s) ≡ bad r d → r .at ≤ length s
+  fit-within : (x : Lent) → ((q : Refusal) → x ≡ Unfit q → q .at ≤ length s) → (r : Refusal) (d : Dependencies) → ifFit x (scanned s) ≡ bad r d
+      → r .at ≤ length s
   unfolding ifFit
   fit-within Fit w r d h = scan-refusal s r d h
   fit-within (Unfit q) w r d h = let k : q .at ≡ r .at = cc in omega (arith, w q refl)

@@ -10,7 +10,8 @@ use Rattle.text.specs.declared.Refusal.{Refusal}
 use Rattle.text_value.proofs.JoinLaws.{sets-twice}
 use Rattle.scan_rows.specs.Rows.{importSize, includeSize, table, importTable, includeTable, importWords, includeWords}
 use Rattle.scan_rows.proofs.Laws.{imports-length, includes-length}
-use Rattle.yangparser.specs.Dependencies.{Dependencies, none, joined, importWordsOf, includeWordsOf, stepAt, Scanning, Scan, good, bad, scanFrom, start, scanned, parsedOf, readOf}
+use Rattle.yangparser.specs.Dependencies.{Dependencies, none, joined, importWordsOf, includeWordsOf, stepAt, Scanning, Scan, good, bad, scanFrom, start}
+use Rattle.yangparser.specs.Dependencies.{scanned, parsedOf, readOf}
 use Rattle.yangparser.specs.Promises.{Steps, Holds, Parses}
 use Rattle.yangparser.specs.declared.Next.{Next}
 use Rattle.yangparser.specs.declared.Next.the-variants.{On, Done, Stop}
@@ -64,8 +65,12 @@ module _ {s d t u : List ℕ} where
     pub read-long : (length e ≡ length d) × (length f ≡ length t) × (length g ≡ length u)
     read-long =
         let h = j .holds in
-        let x = j .read in
-        (ap length (h .stored) ∙ length-sets d 0 (x .bytes), ap length (h .imports) ∙ length-sets t 0 (importWordsOf x), ap length (h .includes) ∙ length-sets u 0 (includeWordsOf x))
+        let x = j .read in (
+          ap length (h .stored) ∙ length-sets d 0 (x .bytes),
+          ap length (h .imports) ∙ length-sets t 0 (importWordsOf x),
+          ap length (h .includes)
+              ∙ length-sets u 0 (includeWordsOf x),
+        )
 
     pub read-room : far .used + (length s - far .at) ≤ length s
     read-room = j .stands .room
@@ -108,7 +113,8 @@ module _ {s d t u : List ℕ} where
           }
 
       -- x: the scan from here
-      read-ends : (x : Scan) → scanFrom s (record { far = far; read = j .read }) ≡ x → {p : Parsed} → p ≡ parsedOf x → Holds (readOf x) d t u e′ f′ g′ → Parses (scanned s) d t u p e′ f′ g′
+      read-ends : (x : Scan) → scanFrom s (record { far = far; read = j .read }) ≡ x → {p : Parsed} → p ≡ parsedOf x → Holds (readOf x) d t u e′ f′ g′
+          → Parses (scanned s) d t u p e′ f′ g′
       read-ends x q a h =
           let k : scanned s ≡ x = sym (j .same) ∙ q in
           record { answer = a ∙ ap parsedOf (sym k); holds = subst (λ y. Holds (readOf y) d t u e′ f′ g′) (sym k) h }
@@ -121,8 +127,10 @@ module _ {s d t u : List ℕ} where
           let y = stepAt s far .adds in
           let c = j .stands in
           let n : y ≡ none = step-ends s far k in
-          let i : far .imports ≡ length (x .imports ++ y .imports) = omega (arith, c .imports, length-append (x .imports) (y .imports), ap (λ z. length (z .imports)) n) in
-          let l : far .includes ≡ length (x .includes ++ y .includes) = omega (arith, c .includes, length-append (x .includes) (y .includes), ap (λ z. length (z .includes)) n) in
+          let i : far .imports ≡ length (x .imports ++ y .imports) = omega
+          (arith, c .imports, length-append (x .imports) (y .imports), ap (λ z. length (z .imports)) n) in
+          let l : far .includes ≡ length (x .includes ++ y .includes) = omega
+          (arith, c .includes, length-append (x .includes) (y .includes), ap (λ z. length (z .includes)) n) in
           let b : far .used ≡ length (x .bytes ++ y .bytes) = omega (arith, c .used, length-append (x .bytes) (y .bytes), ap (λ z. length (z .bytes)) n) in
           read-ends (good (joined x y)) (scan-done s (record { far = far; read = x }) k) (good-is i l b) read-holds
 

@@ -14,7 +14,7 @@ use Rattle.scan_rows.specs.Span.{held, missing}
 use Rattle.scan_rows.specs.declared.Span.{Span}
 use Rattle.scan_rows.specs.declared.YangImport.{YangImport}
 use Rattle.scan_rows.specs.declared.YangInclude.{YangInclude}
-use Rattle.scan_imports.proofs.Spans.{Lies, MayLie, lies-more, may-more}
+use Rattle.scan_block.proofs.Spans.{Lies, MayLie, lies-more, may-more}
 use Rattle.yangparser.specs.Dependencies.{Dependencies, joined}
 
 -- ---- lists of any kind

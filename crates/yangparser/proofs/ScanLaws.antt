@@ -11,7 +11,8 @@ use Rattle.text.specs.declared.Refusal.{Refusal}
 use Rattle.text.proofs.Turns.{turns-stop, turns-on, turns-rule}
 use Rattle.scan_rows.proofs.Laws.{each-of}
 use Rattle.scan_rows.specs.Rows.{mostRows, PlainImport, PlainInclude, Each}
-use Rattle.yangparser.specs.Dependencies.{Dependencies, none, joined, Step, stepAt, Scanning, Scan, good, bad, afterStep, scanTurn, scanFrom, start, scanned, readOf}
+use Rattle.yangparser.specs.Dependencies.{Dependencies, none, joined, Step, stepAt, Scanning, Scan, good, bad, afterStep, scanTurn, scanFrom, start}
+use Rattle.yangparser.specs.Dependencies.{scanned, readOf}
 use Rattle.yangparser.specs.declared.Next.{Next}
 use Rattle.yangparser.specs.declared.Next.the-variants.{On, Done, Stop}
 use Rattle.yangparser.specs.declared.Sofar.{Sofar}
@@ -54,8 +55,20 @@ module _ (s : List ℕ) (g : Scanning) (f : Stands s g) (x : Step) (said : Said 
       = subst (λ n. Placed m n (x .adds)) to (subst (λ u. Placed u (g .far .used + length (x .adds .bytes)) (x .adds)) (f .used) (said .placed)) in
       record {
         short = omega (arith, l, f .used, f .room, said .fits);
-        few-imports = omega (arith, length-append (g .read .imports) (x .adds .imports), f .imports, said .few-imports (omega (arith, f .imports, f .sound .few-imports)));
-        few-includes = omega (arith, length-append (g .read .includes) (x .adds .includes), f .includes, said .few-includes (omega (arith, f .includes, f .sound .few-includes)));
+        few-imports = omega (
+          arith,
+          length-append (g .read .imports) (x .adds .imports),
+          f .imports,
+          said .few-imports
+              (omega (arith, f .imports, f .sound .few-imports)),
+        );
+        few-includes = omega (
+          arith,
+          length-append (g .read .includes) (x .adds .includes),
+          f .includes,
+          said .few-includes
+              (omega (arith, f .includes, f .sound .few-includes)),
+        );
         placed = placed-joined 0 m (length (g .read .bytes ++ x .adds .bytes)) (g .read) (x .adds) (f .sound .placed) behind;
       }
 
@@ -99,7 +112,8 @@ scan-falls s a b h =
 
 -- from g with the step x
 module _ (s : List ℕ) (g : Scanning) where
-  pub scan-on : (n : Sofar) → stepAt s (g .far) .answer ≡ On n → scanFrom s g ≡ scanFrom s (record { far = n; read = joined (g .read) (stepAt s (g .far) .adds) })
+  pub scan-on : (n : Sofar) → stepAt s (g .far) .answer ≡ On n → scanFrom s g
+      ≡ scanFrom s (record { far = n; read = joined (g .read) (stepAt s (g .far) .adds) })
   unfolding scanFrom scanTurn afterStep
   scan-on n h =
       turns-on (scanTurn s) (good none) (λ b. length s - b .far .at) (scan-falls s)
@@ -145,7 +159,8 @@ from-said s g =
           stop-within s (a .far) (x .adds) d (x .answer) r (f .inside) (said .went) h,
         )
 
-    goes : (s : List ℕ) (a b : Scanning) (r : Scan) → scanTurn s a ≡ on b → (Stands s b → Sound s (readOf r) × Within s r) → Stands s a → Sound s (readOf r) × Within s r
+    goes : (s : List ℕ) (a b : Scanning) (r : Scan) → scanTurn s a ≡ on b → (Stands s b → Sound s (readOf r) × Within s r) → Stands s a
+        → Sound s (readOf r) × Within s r
     goes s a b r h k f =
         let x = stepAt s (a .far) in
         let n = on-next (joined (a .read) (x .adds)) (x .answer) b h in

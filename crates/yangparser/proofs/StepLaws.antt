@@ -24,16 +24,17 @@ use Rattle.scan_imports.specs.declared.ParsedImport.{ParsedImport}
 use Rattle.scan_imports.specs.declared.ParsedImport.the-variants.{Import as ReadImport, NoImport}
 use Rattle.scan_imports.specs.declared.ParsedInclude.{ParsedInclude}
 use Rattle.scan_imports.specs.declared.ParsedInclude.the-variants.{Include as ReadInclude, NoInclude}
-use Rattle.yangparser.specs.Dependencies.{Dependencies, none, importWordsOf, includeWordsOf, Step, importStep, includeStep, unlessFull, importHere, includeHere, movedTo, afterToken, headStep, stepHere, stepAt}
+use Rattle.yangparser.specs.Dependencies.{Dependencies, none, importWordsOf, includeWordsOf, Step, importStep, includeStep, unlessFull, importHere}
+use Rattle.yangparser.specs.Dependencies.{includeHere, movedTo, afterToken, headStep, stepHere, stepAt}
 use Rattle.yangparser.specs.Promises.{AddsImport, AddsInclude, Steps}
-use Rattle.yangparser.specs.Head.{headAt}
+use Rattle.scan_head.specs.Head.{headAt}
 use Rattle.yangparser.specs.declared.Next.{Next}
 use Rattle.yangparser.specs.declared.Next.the-variants.{On, Done, Stop}
 use Rattle.yangparser.specs.declared.Sofar.{Sofar}
-use Rattle.yangparser.specs.declared.Head.{Head}
-use Rattle.yangparser.specs.declared.Head.the-variants.{Import, Include, Last, Other}
+use Rattle.scan_head.specs.declared.Head.{Head}
+use Rattle.scan_head.specs.declared.Head.the-variants.{Import, Include, Last, Other}
 use Rattle.yangparser.proofs.AddLaws.{full-is, room-is}
-use Rattle.yangparser.proofs.HeadLaws.{head-import-far, head-include-far}
+use Rattle.scan_head.proofs.HeadLaws.{head-import-far, head-include-far}
 
 -- ---- rows of one kind only
 
@@ -110,7 +111,8 @@ module _ (s : List ℕ) (far : Sofar) {d t u : List ℕ} where
             includes = ap (λ l. sets u (far .includes * includeSize) (includeTable l)) (sym (import-only s far (c .at)));
           })
 
-      pub steps-include : (c : Cursor) → w ≡ Include c → {r : Next} {e f : List ℕ} → AddsInclude s far (c .at) d u r e f → Steps (stepAt s far) far d t u r e t f
+      pub steps-include : (c : Cursor) → w ≡ Include c → {r : Next} {e f : List ℕ} → AddsInclude s far (c .at) d u r e f
+          → Steps (stepAt s far) far d t u r e t f
       unfolding headStep importWordsOf importTable table
       steps-include c q a =
           steps-is (step-head s far ge in-text we q)

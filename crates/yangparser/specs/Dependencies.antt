@@ -1,7 +1,7 @@
 -- Dependencies: the imports and includes of a text. 10: a 257th import or include, at the cursor after its keyword. 4 to 10 come in reading order.
 -- Assumes nothing.
-use Prim.Native.Nat.{ℕ, suc, _+_, _*_}
-use mathlib.Core.Bool.{Bool, cond, _||_}
+use Prim.Native.Nat.{ℕ, suc, _+_}
+use mathlib.Core.Bool.{Bool, cond}
 use mathlib.Core.List.{List, [], _∷_, _++_}
 use lib.Dec.{leb, ltb}
 use lib.ListN.{length}
@@ -15,7 +15,7 @@ use Rattle.text_skip.specs.declared.Skipped.the-variants.{Past, Refused as Refu
 use Rattle.text_lent.specs.Lent.{lentAt}
 use Rattle.text_lent.specs.declared.Lent.{Lent}
 use Rattle.text_lent.specs.declared.Lent.the-variants.{Fit, Unfit}
-use Rattle.scan_rows.specs.Rows.{importSize, includeSize, mostRows, importTable, includeTable}
+use Rattle.scan_rows.specs.Rows.{mostRows, importTable, includeTable}
 use Rattle.scan_rows.specs.declared.YangImport.{YangImport}
 use Rattle.scan_rows.specs.declared.YangInclude.{YangInclude}
 use Rattle.scan_imports.specs.Statement.{importAt, includeAt}
@@ -23,14 +23,14 @@ use Rattle.scan_imports.specs.declared.ParsedImport.{ParsedImport}
 use Rattle.scan_imports.specs.declared.ParsedImport.the-variants.{Import as ReadImport, NoImport}
 use Rattle.scan_imports.specs.declared.ParsedInclude.{ParsedInclude}
 use Rattle.scan_imports.specs.declared.ParsedInclude.the-variants.{Include as ReadInclude, NoInclude}
-use Rattle.yangparser.specs.Head.{headAt}
+use Rattle.scan_head.specs.Head.{headAt}
 use Rattle.yangparser.specs.declared.Next.{Next}
 use Rattle.yangparser.specs.declared.Next.the-variants.{On, Done, Stop}
 use Rattle.yangparser.specs.declared.Parsed.{Parsed}
 use Rattle.yangparser.specs.declared.Parsed.the-variants.{Good, Refused}
 use Rattle.yangparser.specs.declared.Sofar.{Sofar}
-use Rattle.yangparser.specs.declared.Head.{Head}
-use Rattle.yangparser.specs.declared.Head.the-variants.{Import, Include, Last, Other}
+use Rattle.scan_head.specs.declared.Head.{Head}
+use Rattle.scan_head.specs.declared.Head.the-variants.{Import, Include, Last, Other}
 
 -- the number of this layer
 abbrev pub tooMany : ℕ
@@ -150,12 +150,7 @@ scanned s = scanFrom s (record { far = start; read = none })
 
 -- ---- with the checks that come first
 
--- the lengths lent: store, import table, include table; and the page of the printed form
--- text: the text's length; short: whether something else that was lent is too short
-unfoldable pub tooShort : Bool → ℕ → ℕ → ℕ → ℕ → Bool
-tooShort short text store imports includes =
-    short || ltb store text || ltb imports (mostRows * importSize) || ltb includes (mostRows * includeSize)
-
+-- text: the text's length; page: that of the page of the printed form
 unfoldable pub pageShort : ℕ → ℕ → Bool
 pageShort text page = ltb page (text + pageMore)
 

@@ -8,7 +8,9 @@ use lib.ListN.{length}
 use lib.Seq.{sets}
 use Rattle.text_lent.specs.Padded.{padded}
 use Rattle.scan_rows.specs.Rows.{importSize, includeSize}
-use Rattle.yangparser.specs.Dependencies.{Dependencies, importWordsOf, includeWordsOf, Step, importHere, includeHere, Scan, tooShort, dependencies, parsedOf, readOf, keptOf}
+use Rattle.yangparser.specs.Dependencies.{Dependencies, importWordsOf, includeWordsOf, Step, importHere, includeHere, Scan, dependencies, parsedOf}
+use Rattle.yangparser.specs.Dependencies.{readOf, keptOf}
+use Rattle.scan_rows.specs.Short.{tooShort}
 use Rattle.yangparser.specs.declared.Next.{Next}
 use Rattle.yangparser.specs.declared.Parsed.{Parsed}
 use Rattle.yangparser.specs.declared.Sofar.{Sofar}

@@ -1,8 +1,8 @@
 // The dependency scan: import and include statements, their values in the store that the caller lends, their rows in its tables.
+use scan_head::Head;
 use scan_imports::ParsedImport;
 use scan_imports::ParsedInclude;
 use text::Cursor;
-use text::Match;
 use text::Refusal;
 use text_lent::Lent;
 use text_skip::Skipped;
@@ -13,8 +13,7 @@ ghost use lib.ListN.{length};
 ghost use Rattle.text.specs.Class.{classTable};
 ghost use Rattle.text_skip.specs.Skip.{tokenAt};
 ghost use Rattle.scan_rows.specs.Rows.{importSize, includeSize, mostRows};
-ghost use Rattle.yangparser.specs.Head.{lastAt, headAt};
-ghost use Rattle.yangparser.specs.Dependencies.{tooShort, full, afterToken, stepAt, scanned};
+ghost use Rattle.yangparser.specs.Dependencies.{full, afterToken, stepAt, scanned};
 ghost use Rattle.yangparser.specs.Promises.{AddsImport, AddsInclude, Steps, Parses, Scans, Extracts};
 
 // The refusal of this layer.
@@ -85,28 +84,12 @@ pub fn scan_over(
         (now (store .exit)) (now (imports .exit)) (now (includes .exit)) ⌝ }
 {
     let classes = text::classes();
-    let unfit = too_short(short, s.len(), store.len(), imports.len(), includes.len());
+    let unfit = scan_rows::too_short(short, s.len(), store.len(), imports.len(), includes.len());
     let lent = text_lent::check_lent(&classes, s, unfit);
     match lent {
         Lent::Fit => parse(&classes, s, store, imports, includes),
         Lent::Unfit(r) => Parsed::Refused(r),
     }
-}
-
-// Whether the store or a table is too short for a text.
-fn too_short(short: bool, text: usize, store: usize, imports: usize, includes: usize) -> bool
-    ensures { λ r. ⌜ r ≡ tooShort short text store imports includes ⌝ }
-{
-    if short {
-        return true;
-    }
-    if store < text {
-        return true;
-    }
-    if imports < scan_rows::MOST_ROWS * scan_rows::IMPORT_SIZE {
-        return true;
-    }
-    includes < scan_rows::MOST_ROWS * scan_rows::INCLUDE_SIZE
 }
 
 // Where the scan stands, the store's next place, and the rows so far.
@@ -183,7 +166,7 @@ fn parse_next(
     if s.len() <= at {
         return Next::Done;
     }
-    let head = read_head(here, classes, s);
+    let head = scan_head::read_head(here, classes, s);
     match head {
         Head::Import(c) => add_import(far, c, classes, s, store, imports),
         Head::Include(c) => add_include(far, c, classes, s, store, includes),
@@ -207,66 +190,6 @@ fn skip_token(far: Sofar, here: Cursor, classes: &[u8; 128], s: &[u8]) -> Next
         imports: far.imports,
         includes: far.includes,
     })
-}
-
-// The keyword that stands at a place: import, include, one of the four after which nothing is imported or included, or none of these.
-pub enum Head {
-    Import(Cursor),
-    Include(Cursor),
-    Last(Cursor),
-    Other,
-}
-
-// No keyword is tried where no identifier begins.
-fn read_head(here: Cursor, classes: &[u8; 128], s: &[u8]) -> Head
-    requires { ⌜ now classes ≡ classTable ⌝ }
-    ensures { λ r. ⌜ r ≡ headAt (now (s .entry)) (here .at) ⌝ }
-{
-    let at = here.at;
-    let b = text::peek_char(s, at);
-    if text::starts_ident(classes, b) {
-        return try_heads(here, classes, s);
-    }
-    Head::Other
-}
-
-fn try_heads(here: Cursor, classes: &[u8; 128], s: &[u8]) -> Head
-    requires { ⌜ now classes ≡ classTable ⌝ }
-    ensures { λ r. ⌜ r ≡ headAt (now (s .entry)) (here .at) ⌝ }
-{
-    let import = here.match_keyword(classes, s, b"import");
-    if let Match::After(c) = import {
-        return Head::Import(c);
-    }
-    let include = here.match_keyword(classes, s, b"include");
-    if let Match::After(c) = include {
-        return Head::Include(c);
-    }
-    let last = match_last(here, classes, s);
-    if let Match::After(c) = last {
-        return Head::Last(c);
-    }
-    Head::Other
-}
-
-// Past one of the four keywords that end the scan.
-fn match_last(here: Cursor, classes: &[u8; 128], s: &[u8]) -> Match
-    requires { ⌜ now classes ≡ classTable ⌝ }
-    ensures { λ r. ⌜ r ≡ lastAt (now (s .entry)) (here .at) ⌝ }
-{
-    let organization = here.match_keyword(classes, s, b"organization");
-    if let Match::After(_) = organization {
-        return organization;
-    }
-    let contact = here.match_keyword(classes, s, b"contact");
-    if let Match::After(_) = contact {
-        return contact;
-    }
-    let description = here.match_keyword(classes, s, b"description");
-    if let Match::After(_) = description {
-        return description;
-    }
-    here.match_keyword(classes, s, b"reference")
 }
 
 // The answer to a row too many: a refusal behind its keyword.

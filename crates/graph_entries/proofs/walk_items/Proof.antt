@@ -9,12 +9,14 @@ use Rattle.graph_entries.proofs.walk_items.Statement.{statement}
 use Rattle.graph_entries.proofs.walk_items.Tie as tie
 
 abbrev Inv-loop : tie.InvT-loop
-Inv-loop image bundle btab ntab marks sizes table items store₀ imports₀ includes₀ levels₀ edges₀ chains₀ n total₀ entry₀ v₀ i₀ store imports includes levels edges chains total entry v i =
+Inv-loop image bundle btab ntab marks sizes table items store₀ imports₀ includes₀ levels₀ edges₀ chains₀ n total₀ entry₀ v₀ i₀ store imports includes levels
+    edges chains total entry v i =
     Going image bundle (namesHeld image ntab (sizes .nodes)) (sizes .nodes) table items store₀ imports₀ includes₀ levels₀ edges₀ chains₀
     store imports includes levels edges chains total entry (v .0) i
 
 abbrev μ-loop : tie.MeasureT-loop
-μ-loop image bundle btab ntab marks sizes table items store₀ imports₀ includes₀ levels₀ edges₀ chains₀ n total₀ entry₀ v₀ i₀ store imports includes levels edges chains total entry v i =
+μ-loop image bundle btab ntab marks sizes table items store₀ imports₀ includes₀ levels₀ edges₀ chains₀ n total₀ entry₀ v₀ i₀ store imports includes levels
+    edges chains total entry v i =
     items - i
 
 loop-holds : tie.Need-loop-holds Inv-loop μ-loop
@@ -49,8 +51,12 @@ walk-item-requires c κs =
     let get-item1 = next-node1 .before .before in
     let loop-test1 = get-item1 .before in
     let loop1 = loop-test1 .before in
-    let start = loop1 .before .before .before .before .before .before .before .before .before .before .before .before .before .before in
-    (start .pre .0, loop1 .loop .inv .tables, placed (loop1 .loop .inv) (loop-test1 .loop-test .taken) (get-item1 .get-item .ensures) (next-node1 .next-node .ensures .0) (next-node1 .next-node .ensures .1))
+    let start = loop1 .before .before .before .before .before .before .before .before .before .before .before .before .before .before in (
+      start .pre .0,
+      loop1 .loop .inv .tables,
+      placed (loop1 .loop .inv) (loop-test1 .loop-test .taken) (get-item1 .get-item .ensures)
+          (next-node1 .next-node .ensures .0) (next-node1 .next-node .ensures .1),
+    )
 
 same-length : tie.Need-same-length Inv-loop μ-loop
 same-length c =
@@ -97,11 +103,15 @@ returns c =
     let get-item1 = next-entry1 .before in
     let loop-test1 = get-item1 .before in
     let loop1 = loop-test1 .before in
-    sent-out (loop1 .loop .inv) (loop-test1 .loop-test .taken) (get-item1 .get-item .ensures) (next-node1 .next-node .ensures .0) (next-node1 .next-node .ensures .1) (next-entry1 .next-entry .ensures) (walk-item1 .walk-item .ensures .0) (walk-item1 .walk-item .ensures .1) (number1 .number .given .1)
+    sent-out (loop1 .loop .inv) (loop-test1 .loop-test .taken) (get-item1 .get-item .ensures) (next-node1 .next-node .ensures .0)
+    (next-node1 .next-node .ensures .1) (next-entry1 .next-entry .ensures) (walk-item1 .walk-item .ensures .0) (walk-item1 .walk-item .ensures .1)
+    (number1 .number .given .1)
 
 add-i : tie.Need-add-i Inv-loop μ-loop
 add-i c =
-    let loop-test1 = c .before .before .before .before .before .before .before .before .before .before .before .before .before .before .before .before .before .before .before .before .before .before .before .before .before in
+    let loop-test1 =
+    c .before .before .before .before .before .before .before .before .before .before .before .before .before .before .before .before .before .before
+    .before .before .before .before .before .before .before in
     let loop1 = loop-test1 .before in
     record { fits = omega (arith, loop-test1 .loop-test .taken, loop1 .loop .inv .listed .few) }
 
@@ -114,7 +124,9 @@ loop-again c =
     let get-item1 = next-entry1 .before in
     let loop-test1 = get-item1 .before in
     let loop1 = loop-test1 .before in
-    going-on (loop1 .loop .inv) (loop-test1 .loop-test .taken) (get-item1 .get-item .ensures) (next-node1 .next-node .ensures .0) (next-node1 .next-node .ensures .1) (next-entry1 .next-entry .ensures) (walk-item1 .walk-item .ensures .0) (walk-item1 .walk-item .ensures .1) (m1 .m .given .1)
+    going-on (loop1 .loop .inv) (loop-test1 .loop-test .taken) (get-item1 .get-item .ensures) (next-node1 .next-node .ensures .0)
+    (next-node1 .next-node .ensures .1) (next-entry1 .next-entry .ensures) (walk-item1 .walk-item .ensures .0) (walk-item1 .walk-item .ensures .1)
+    (m1 .m .given .1)
 
 returns-2 : tie.Need-returns-2 Inv-loop μ-loop
 returns-2 c =

@@ -34,7 +34,15 @@ mul-levels c =
     let loop-test1 = c .before .before .before .before in
     let loop1 = loop-test1 .before in
     let start = loop1 .before .before .before .before .before .before .before in
-    record { fits = omega (arith, level-in _ _ _ _ _ _ _ _ _ _ (loop1 .loop .inv) (loop-test1 .loop-test .taken), loop1 .loop .inv .long, start .good .1 .1 .1 .1 .1 .1 .1 .0 .1) }
+    record {
+      fits = omega (
+        arith,
+        level-in _ _ _ _ _ _ _ _ _ _ (loop1 .loop .inv)
+            (loop-test1 .loop-test .taken),
+        loop1 .loop .inv .long,
+        start .good .1 .1 .1 .1 .1 .1 .1 .0 .1,
+      );
+    }
 
 slice-write-levels : tie.Need-slice-write-levels Inv-loop μ-loop
 slice-write-levels c = search level-in

@@ -10,12 +10,13 @@ use Rattle.graph_nodes.specs.Adding.{namesHeld}
 use Rattle.graph_link.proofs.Single.{node-low}
 use Rattle.text.proofs.no_refusal.Reads as no-refusal-reads
 use Rattle.graph_link.proofs.step.Reads as step-reads
-use Rattle.graph_walk.specs.Walk.{codesHere}
-use Rattle.graph_walk.proofs.Walking.{Walking, Long, as-long, visit-room, kept-up, not-visited, begun, in-level, word-node, kept-out, ended, halted, some-left, child-low, child-room, sent-up, went-on, kept-sent, longer}
+use Rattle.graph_visit.specs.Visit.{codesHere}
+use Rattle.graph_walk.proofs.Walking.{Walking, Long, as-long, visit-room, kept-up, not-visited, begun, in-level, word-node, kept-out, ended, halted}
+use Rattle.graph_walk.proofs.Walking.{some-left, child-low, child-room, sent-up, went-on, kept-sent, longer}
 use Rattle.graph_walk.proofs.walk.Reads as walk
 use Rattle.graph_walk.proofs.walk.Kinds as walk-kinds
 use Rattle.graph_walk.proofs.+walk.Lts-walk as walk-lts
-use Rattle.graph_walk.proofs.visit.Reads as visit-reads
+use Rattle.graph_visit.proofs.visit.Reads as visit-reads
 use Rattle.graph_walk.proofs.+walk.{statement}
 use Rattle.graph_walk.proofs.+walk.Tie.{close}
 
@@ -30,27 +31,42 @@ abbrev walk-below : ℕ → In 11 walk-kinds.ps
 walk-below t = and 11 walk-kinds.ps (falls 11 walk-kinds.ps _<_ μ-walk t) walk.Pre
 
 abbrev walk-Inv-loop : walk-lts.InvT-loop
-walk-Inv-loop image bundle btab ntab marks sizes store₀ imports₀ includes₀ levels₀ edges₀ chains₀ left v base k linked total₀ i₀ store imports includes levels edges chains total i =
-    Walking (codesHere image bundle (namesHeld image ntab (sizes .nodes))) (sizes .nodes) left (v .0) base k levels₀ edges₀ chains₀ linked levels edges chains total i
+walk-Inv-loop image bundle btab ntab marks sizes store₀ imports₀ includes₀ levels₀ edges₀ chains₀ left v base k linked total₀ i₀ store imports includes levels
+    edges chains total i =
+    Walking (codesHere image bundle (namesHeld image ntab (sizes .nodes))) (sizes .nodes) left
+    (v .0) base k levels₀ edges₀ chains₀ linked levels edges chains total i
     × Long store₀ imports₀ includes₀ store imports includes
 
 abbrev walk-μ-loop : walk-lts.MeasureT-loop
-walk-μ-loop image bundle btab ntab marks sizes store₀ imports₀ includes₀ levels₀ edges₀ chains₀ left v base k linked total₀ i₀ store imports includes levels edges chains total i =
+walk-μ-loop image bundle btab ntab marks sizes store₀ imports₀ includes₀ levels₀ edges₀ chains₀ left v base k linked total₀ i₀ store imports includes levels
+    edges chains total i =
     k - i
 
 abbrev callees : ℕ → walk-lts.Claims
-callees t = (visit-reads.Asked, visit-reads.Learnt, step-reads.Asked, step-reads.Learnt, no-refusal-reads.Asked, no-refusal-reads.Learnt, walk-below t, walk.Post)
+callees t = (
+  visit-reads.Asked,
+  visit-reads.Learnt,
+  step-reads.Asked,
+  step-reads.Learnt,
+  no-refusal-reads.Asked,
+  no-refusal-reads.Learnt,
+  walk-below t,
+  walk.Post,
+)
 
 visit-requires : (t : ℕ) → walk-lts.Need-visit-requires (callees t) (walk-at t) walk.Post walk-Inv-loop walk-μ-loop
 visit-requires t c κs =
-    let start = c .before .before .before .before .before .before .before .before .before .before .before .before .before .before .before .before .before .before in
+    let start =
+    c .before .before .before .before .before .before .before .before .before .before .before .before .before .before .before .before .before .before in
     (start .pre .1 .0, visit-room (start .pre .1 .1), start .pre .1 .2)
 
 loop-holds : (t : ℕ) → walk-lts.Need-loop-holds (callees t) (walk-at t) walk.Post walk-Inv-loop walk-μ-loop
 loop-holds t c =
     let visited2-at = c .before in
     let visit1 = visited2-at .before .before .before .before .before .before .before .before .before .before .before .before .before .before in
-    let start = visit1 .before .before .before .before .before .before .before .before .before .before .before .before .before .before .before .before .before .before .before in
+    let start =
+    visit1 .before .before .before .before .before .before .before .before .before .before .before .before .before .before .before .before .before
+    .before .before in
     (begun (visit1 .visit .ensures .0) (visited2-at .visited2 .given .1) (start .pre .1 .1) (visit1 .visit .ensures .1), as-long _ _ _)
 
 add-step : (t : ℕ) → walk-lts.Need-add-step (callees t) (walk-at t) walk.Post walk-Inv-loop walk-μ-loop
@@ -58,23 +74,87 @@ add-step t c =
     let loop-test1 = c in
     let loop1 = loop-test1 .before in
     let visit1 = loop1 .before .before .before .before .before .before .before .before .before .before .before .before .before .before .before .before in
-    let start = visit1 .before .before .before .before .before .before .before .before .before .before .before .before .before .before .before .before .before .before .before in
-    record { fits = omega (arith, in-level (loop1 .loop .inv .0) (loop-test1 .loop-test .taken), loop1 .loop .inv .0 .long, visit1 .visit .ensures .1 .levels-long, start .good .1 .1 .1 .1 .1 .1 .1 .1 .1 .0 .0) }
+    let start =
+    visit1 .before .before .before .before .before .before .before .before .before .before .before .before .before .before .before .before .before
+    .before .before in
+    record {
+      fits = omega (
+        arith,
+        in-level (loop1 .loop .inv .0) (loop-test1 .loop-test .taken),
+        loop1 .loop .inv .0 .long,
+        visit1 .visit .ensures .1 .levels-long,
+        start .good .1 .1 .1 .1 .1 .1 .1 .1 .1 .0 .0,
+      );
+    }
 
 mul-step : (t : ℕ) → walk-lts.Need-mul-step (callees t) (walk-at t) walk.Post walk-Inv-loop walk-μ-loop
 mul-step t c =
     let loop-test1 = c in
     let loop1 = loop-test1 .before in
     let visit1 = loop1 .before .before .before .before .before .before .before .before .before .before .before .before .before .before .before .before in
-    let start = visit1 .before .before .before .before .before .before .before .before .before .before .before .before .before .before .before .before .before .before .before in
-    record { fits = omega (arith, in-level (loop1 .loop .inv .0) (loop-test1 .loop-test .taken), loop1 .loop .inv .0 .long, visit1 .visit .ensures .1 .levels-long, start .good .1 .1 .1 .1 .1 .1 .1 .1 .1 .0 .1) }
+    let start =
+    visit1 .before .before .before .before .before .before .before .before .before .before .before .before .before .before .before .before .before
+    .before .before in
+    record {
+      fits = omega (
+        arith,
+        in-level (loop1 .loop .inv .0) (loop-test1 .loop-test .taken),
+        loop1 .loop .inv .0 .long,
+        visit1 .visit .ensures .1 .levels-long,
+        start .good .1 .1 .1 .1 .1 .1 .1 .1 .1 .0 .1,
+      );
+    }
 
 step-requires : (t : ℕ) → walk-lts.Need-step-requires (callees t) (walk-at t) walk.Post walk-Inv-loop walk-μ-loop
 step-requires t c κs =
     let loop-test1 = c .before .before .before in
     let loop1 = loop-test1 .before in
-    let start = loop1 .before .before .before .before .before .before .before .before .before .before .before .before .before .before .before .before .before .before .before .before .before .before .before .before .before .before .before .before .before .before .before .before .before .before .before in
-    (loop1 .loop .inv .0 .filed, word-node (loop1 .loop .inv .0) (start .pre .1 .0 .desk) (loop-test1 .loop-test .taken), node-low _ _ _ _ (start .pre .1 .0 .desk) _ (start .pre .1 .2))
+    let start =
+    loop1 .before .before .before .before .before .before .before .before .before .before .before .before .before .before .before .before .before
+    .before .before .before .before .before .before .before .before .before .before .before .before .before .before .before .before .before .before in (
+      loop1 .loop .inv .0 .filed,
+      word-node (loop1 .loop .inv .0) (start .pre .1 .0 .desk) (loop-test1 .loop-test .taken),
+      node-low _ _ _ _
+          (start .pre .1 .0 .desk) _ (start .pre .1 .2),
+    )
+
+same-length : (t : ℕ) → walk-lts.Need-same-length (callees t) (walk-at t) walk.Post walk-Inv-loop walk-μ-loop
+same-length t c =
+    let loop1 = c .before .before .before .before .before .before .before .before .before .before .before .before .before in
+    let visit1 = loop1 .before .before .before .before .before .before .before .before .before .before .before .before .before .before .before .before in
+    loop1 .loop .inv .1 .store-long ∙ visit1 .visit .ensures .1 .store-long
+
+same-length-2 : (t : ℕ) → walk-lts.Need-same-length-2 (callees t) (walk-at t) walk.Post walk-Inv-loop walk-μ-loop
+same-length-2 t c =
+    let loop1 = c .before .before .before .before .before .before .before .before .before .before .before .before .before in
+    let visit1 = loop1 .before .before .before .before .before .before .before .before .before .before .before .before .before .before .before .before in
+    loop1 .loop .inv .1 .imports-long ∙ visit1 .visit .ensures .1 .imports-long
+
+same-length-3 : (t : ℕ) → walk-lts.Need-same-length-3 (callees t) (walk-at t) walk.Post walk-Inv-loop walk-μ-loop
+same-length-3 t c =
+    let loop1 = c .before .before .before .before .before .before .before .before .before .before .before .before .before in
+    let visit1 = loop1 .before .before .before .before .before .before .before .before .before .before .before .before .before .before .before .before in
+    loop1 .loop .inv .1 .includes-long ∙ visit1 .visit .ensures .1 .includes-long
+
+same-length-4 : (t : ℕ) → walk-lts.Need-same-length-4 (callees t) (walk-at t) walk.Post walk-Inv-loop walk-μ-loop
+same-length-4 t c =
+    let loop1 = c .before .before .before .before .before .before .before .before .before .before .before .before .before in
+    let visit1 = loop1 .before .before .before .before .before .before .before .before .before .before .before .before .before .before .before .before in
+    loop1 .loop .inv .0 .long ∙ visit1 .visit .ensures .1 .levels-long
+
+same-length-5 : (t : ℕ) → walk-lts.Need-same-length-5 (callees t) (walk-at t) walk.Post walk-Inv-loop walk-μ-loop
+same-length-5 t c =
+    let step1 = c .before .before .before .before .before .before .before .before in
+    let loop1 = step1 .before .before .before .before .before in
+    let visit1 = loop1 .before .before .before .before .before .before .before .before .before .before .before .before .before .before .before .before in
+    step1 .step .ensures .kept-edges ∙ loop1 .loop .inv .0 .long-edges ∙ visit1 .visit .ensures .0 .kept-edges
+
+same-length-6 : (t : ℕ) → walk-lts.Need-same-length-6 (callees t) (walk-at t) walk.Post walk-Inv-loop walk-μ-loop
+same-length-6 t c =
+    let step1 = c .before .before .before .before .before .before .before .before in
+    let loop1 = step1 .before .before .before .before .before in
+    let visit1 = loop1 .before .before .before .before .before .before .before .before .before .before .before .before .before .before .before .before in
+    step1 .step .ensures .kept-chains ∙ loop1 .loop .inv .0 .long-chains ∙ visit1 .visit .ensures .0 .kept-chains
 
 returns : (t : ℕ) → walk-lts.Need-returns (callees t) (walk-at t) walk.Post walk-Inv-loop walk-μ-loop
 returns t c =
@@ -84,8 +164,11 @@ returns t c =
     let loop-test1 = step1 .before .before .before .before in
     let loop1 = loop-test1 .before in
     let visited2-at = loop1 .before .before in
-    let visit1 = visited2-at .before .before .before .before .before .before .before .before .before .before .before .before .before .before in
-    (halted (loop1 .loop .inv .0) (visit1 .visit .ensures .0) (visited2-at .visited2 .given .1) (step1 .step .ensures) (loop-test1 .loop-test .taken) (number1 .number .given .1) (no-refusal1 .no-refusal .ensures), kept-out (loop1 .loop .inv .0) (visit1 .visit .ensures .1) (loop1 .loop .inv .1))
+    let visit1 = visited2-at .before .before .before .before .before .before .before .before .before .before .before .before .before .before in (
+      halted (loop1 .loop .inv .0) (visit1 .visit .ensures .0) (visited2-at .visited2 .given .1) (step1 .step .ensures) (loop-test1 .loop-test .taken)
+          (number1 .number .given .1) (no-refusal1 .no-refusal .ensures),
+      kept-out (loop1 .loop .inv .0) (visit1 .visit .ensures .1) (loop1 .loop .inv .1),
+    )
 
 sub-rest : (t : ℕ) → walk-lts.Need-sub-rest (callees t) (walk-at t) walk.Post walk-Inv-loop walk-μ-loop
 sub-rest t c =
@@ -102,34 +185,52 @@ walk-requires t c κs =
     let loop-test1 = step1 .before .before .before .before in
     let loop1 = loop-test1 .before in
     let visit1 = loop1 .before .before .before .before .before .before .before .before .before .before .before .before .before .before .before .before in
-    let start = visit1 .before .before .before .before .before .before .before .before .before .before .before .before .before .before .before .before .before .before .before in
-    (omega (arith, start .pre .0, some-left (loop1 .loop .inv .0) (step1 .step .ensures) (loop-test1 .loop-test .taken) (u1 .u .given .1)), (start .pre .1 .0, child-room (loop1 .loop .inv .0) (step1 .step .ensures) (loop-test1 .loop-test .taken) (u1 .u .given .1) (start .pre .1 .1) (visit1 .visit .ensures .1) (loop1 .loop .inv .1), child-low (loop1 .loop .inv .0) (step1 .step .ensures) (loop-test1 .loop-test .taken) (u1 .u .given .1)))
+    let start =
+    visit1 .before .before .before .before .before .before .before .before .before .before .before .before .before .before .before .before .before
+    .before .before in (
+      omega (arith, start .pre .0, some-left (loop1 .loop .inv .0) (step1 .step .ensures) (loop-test1 .loop-test .taken) (u1 .u .given .1)),
+      (
+        start .pre .1 .0,
+        child-room (loop1 .loop .inv .0) (step1 .step .ensures) (loop-test1 .loop-test .taken) (u1 .u .given .1) (start .pre .1 .1)
+            (visit1 .visit .ensures .1) (loop1 .loop .inv .1),
+        child-low (loop1 .loop .inv .0) (step1 .step .ensures) (loop-test1 .loop-test .taken)
+            (u1 .u .given .1),
+      ),
+    )
 
 same-length-7 : (t : ℕ) → walk-lts.Need-same-length-7 (callees t) (walk-at t) walk.Post walk-Inv-loop walk-μ-loop
 same-length-7 t c =
     let walk1 = c .before .before .before .before .before .before .before .before .before .before .before .before .before .before in
-    let loop1 = walk1 .before .before .before .before .before .before .before .before .before .before .before .before .before .before .before .before .before .before .before in
+    let loop1 =
+    walk1 .before .before .before .before .before .before .before .before .before .before .before .before .before .before .before .before .before
+    .before .before in
     let visit1 = loop1 .before .before .before .before .before .before .before .before .before .before .before .before .before .before .before .before in
     walk1 .walk .ensures .1 .store-long ∙ loop1 .loop .inv .1 .store-long ∙ visit1 .visit .ensures .1 .store-long
 
 same-length-8 : (t : ℕ) → walk-lts.Need-same-length-8 (callees t) (walk-at t) walk.Post walk-Inv-loop walk-μ-loop
 same-length-8 t c =
     let walk1 = c .before .before .before .before .before .before .before .before .before .before .before .before .before .before in
-    let loop1 = walk1 .before .before .before .before .before .before .before .before .before .before .before .before .before .before .before .before .before .before .before in
+    let loop1 =
+    walk1 .before .before .before .before .before .before .before .before .before .before .before .before .before .before .before .before .before
+    .before .before in
     let visit1 = loop1 .before .before .before .before .before .before .before .before .before .before .before .before .before .before .before .before in
     walk1 .walk .ensures .1 .imports-long ∙ loop1 .loop .inv .1 .imports-long ∙ visit1 .visit .ensures .1 .imports-long
 
 same-length-9 : (t : ℕ) → walk-lts.Need-same-length-9 (callees t) (walk-at t) walk.Post walk-Inv-loop walk-μ-loop
 same-length-9 t c =
     let walk1 = c .before .before .before .before .before .before .before .before .before .before .before .before .before .before in
-    let loop1 = walk1 .before .before .before .before .before .before .before .before .before .before .before .before .before .before .before .before .before .before .before in
+    let loop1 =
+    walk1 .before .before .before .before .before .before .before .before .before .before .before .before .before .before .before .before .before
+    .before .before in
     let visit1 = loop1 .before .before .before .before .before .before .before .before .before .before .before .before .before .before .before .before in
     walk1 .walk .ensures .1 .includes-long ∙ loop1 .loop .inv .1 .includes-long ∙ visit1 .visit .ensures .1 .includes-long
 
 same-length-10 : (t : ℕ) → walk-lts.Need-same-length-10 (callees t) (walk-at t) walk.Post walk-Inv-loop walk-μ-loop
 same-length-10 t c =
     let walk1 = c .before .before .before .before .before .before .before .before .before .before .before .before .before .before in
-    let loop1 = walk1 .before .before .before .before .before .before .before .before .before .before .before .before .before .before .before .before .before .before .before in
+    let loop1 =
+    walk1 .before .before .before .before .before .before .before .before .before .before .before .before .before .before .before .before .before
+    .before .before in
     let visit1 = loop1 .before .before .before .before .before .before .before .before .before .before .before .before .before .before .before .before in
     walk1 .walk .ensures .1 .levels-long ∙ loop1 .loop .inv .0 .long ∙ visit1 .visit .ensures .1 .levels-long
 
@@ -158,18 +259,27 @@ returns-2 t c =
     let loop-test1 = step1 .before .before .before .before in
     let loop1 = loop-test1 .before in
     let visited2-at = loop1 .before .before in
-    let visit1 = visited2-at .before .before .before .before .before .before .before .before .before .before .before .before .before .before in
-    (sent-up (loop1 .loop .inv .0) (step1 .step .ensures) (loop-test1 .loop-test .taken) (u1 .u .given .1) (walk1 .walk .ensures .0) (visit1 .visit .ensures .0) (visited2-at .visited2 .given .1) (enum-told1 .enum-told .given .1), kept-sent (loop1 .loop .inv .0) (step1 .step .ensures) (loop-test1 .loop-test .taken) (u1 .u .given .1) (walk1 .walk .ensures .0) (walk1 .walk .ensures .1) (visit1 .visit .ensures .1) (loop1 .loop .inv .1))
+    let visit1 = visited2-at .before .before .before .before .before .before .before .before .before .before .before .before .before .before in (
+      sent-up (loop1 .loop .inv .0) (step1 .step .ensures) (loop-test1 .loop-test .taken) (u1 .u .given .1) (walk1 .walk .ensures .0)
+          (visit1 .visit .ensures .0) (visited2-at .visited2 .given .1) (enum-told1 .enum-told .given .1),
+      kept-sent (loop1 .loop .inv .0) (step1 .step .ensures)
+          (loop-test1 .loop-test .taken) (u1 .u .given .1) (walk1 .walk .ensures .0) (walk1 .walk .ensures .1) (visit1 .visit .ensures .1)
+          (loop1 .loop .inv .1),
+    )
 
 add-i : (t : ℕ) → walk-lts.Need-add-i (callees t) (walk-at t) walk.Post walk-Inv-loop walk-μ-loop
 add-i t c =
-    let loop-test1 = c .before .before .before .before .before .before .before .before .before .before .before .before .before .before .before .before .before .before .before .before .before .before .before .before .before .before .before .before .before .before .before .before .before in
+    let loop-test1 =
+    c .before .before .before .before .before .before .before .before .before .before .before .before .before .before .before .before .before .before
+    .before .before .before .before .before .before .before .before .before .before .before .before .before .before .before in
     let loop1 = loop-test1 .before in
     record { fits = omega (arith, loop1 .loop .inv .0 .few, loop-test1 .loop-test .taken) }
 
 loop-less : (t : ℕ) → walk-lts.Need-loop-less (callees t) (walk-at t) walk.Post walk-Inv-loop walk-μ-loop
 loop-less t c =
-    let loop-test1 = c .before .before .before .before .before .before .before .before .before .before .before .before .before .before .before .before .before .before .before .before .before .before .before .before .before .before .before .before .before .before .before .before .before in
+    let loop-test1 =
+    c .before .before .before .before .before .before .before .before .before .before .before .before .before .before .before .before .before .before
+    .before .before .before .before .before .before .before .before .before .before .before .before .before .before .before in
     omega (arith, loop-test1 .loop-test .taken)
 
 loop-again : (t : ℕ) → walk-lts.Need-loop-again (callees t) (walk-at t) walk.Post walk-Inv-loop walk-μ-loop
@@ -179,8 +289,41 @@ loop-again t c =
     let u1 = walk1 .before .before .before .before .before .before .before .before in
     let step1 = u1 .before .before .before .before .before .before in
     let loop-test1 = step1 .before .before .before .before in
-    let loop1 = loop-test1 .before in
-    (went-on (loop1 .loop .inv .0) (step1 .step .ensures) (loop-test1 .loop-test .taken) (u1 .u .given .1) (walk1 .walk .ensures .0) (walk1 .walk .ensures .1) (below1 .below .given .1), longer (loop1 .loop .inv .1) (walk1 .walk .ensures .1))
+    let loop1 = loop-test1 .before in (
+      went-on (loop1 .loop .inv .0) (step1 .step .ensures) (loop-test1 .loop-test .taken) (u1 .u .given .1) (walk1 .walk .ensures .0) (walk1 .walk .ensures .1)
+          (below1 .below .given .1),
+      longer (loop1 .loop .inv .1) (walk1 .walk .ensures .1),
+    )
+
+same-length-13 : (t : ℕ) → walk-lts.Need-same-length-13 (callees t) (walk-at t) walk.Post walk-Inv-loop walk-μ-loop
+same-length-13 t c =
+    let visit1 = c .before .before .before .before .before .before .before .before .before .before .before .before .before .before .before in
+    visit1 .visit .ensures .1 .store-long
+
+same-length-14 : (t : ℕ) → walk-lts.Need-same-length-14 (callees t) (walk-at t) walk.Post walk-Inv-loop walk-μ-loop
+same-length-14 t c =
+    let visit1 = c .before .before .before .before .before .before .before .before .before .before .before .before .before .before .before in
+    visit1 .visit .ensures .1 .imports-long
+
+same-length-15 : (t : ℕ) → walk-lts.Need-same-length-15 (callees t) (walk-at t) walk.Post walk-Inv-loop walk-μ-loop
+same-length-15 t c =
+    let visit1 = c .before .before .before .before .before .before .before .before .before .before .before .before .before .before .before in
+    visit1 .visit .ensures .1 .includes-long
+
+same-length-16 : (t : ℕ) → walk-lts.Need-same-length-16 (callees t) (walk-at t) walk.Post walk-Inv-loop walk-μ-loop
+same-length-16 t c =
+    let visit1 = c .before .before .before .before .before .before .before .before .before .before .before .before .before .before .before in
+    visit1 .visit .ensures .1 .levels-long
+
+same-length-17 : (t : ℕ) → walk-lts.Need-same-length-17 (callees t) (walk-at t) walk.Post walk-Inv-loop walk-μ-loop
+same-length-17 t c =
+    let visit1 = c .before .before .before .before .before .before .before .before .before .before .before .before .before .before .before in
+    visit1 .visit .ensures .0 .kept-edges
+
+same-length-18 : (t : ℕ) → walk-lts.Need-same-length-18 (callees t) (walk-at t) walk.Post walk-Inv-loop walk-μ-loop
+same-length-18 t c =
+    let visit1 = c .before .before .before .before .before .before .before .before .before .before .before .before .before .before .before in
+    visit1 .visit .ensures .0 .kept-chains
 
 returns-3 : (t : ℕ) → walk-lts.Need-returns-3 (callees t) (walk-at t) walk.Post walk-Inv-loop walk-μ-loop
 returns-3 t c =
@@ -188,13 +331,52 @@ returns-3 t c =
     let visit1 = visited1 .before .before .before .before .before .before .before .before .before .before .before .before .before .before in
     (not-visited _ (visit1 .visit .ensures .0) _ _ (visited1 .visited .given .1), kept-up _ (visit1 .visit .ensures .1))
 
+same-length-19 : (t : ℕ) → walk-lts.Need-same-length-19 (callees t) (walk-at t) walk.Post walk-Inv-loop walk-μ-loop
+same-length-19 t c =
+    let loop1 = c .before in
+    let visit1 = loop1 .before .before .before .before .before .before .before .before .before .before .before .before .before .before .before .before in
+    loop1 .loop .inv .1 .store-long ∙ visit1 .visit .ensures .1 .store-long
+
+same-length-20 : (t : ℕ) → walk-lts.Need-same-length-20 (callees t) (walk-at t) walk.Post walk-Inv-loop walk-μ-loop
+same-length-20 t c =
+    let loop1 = c .before in
+    let visit1 = loop1 .before .before .before .before .before .before .before .before .before .before .before .before .before .before .before .before in
+    loop1 .loop .inv .1 .imports-long ∙ visit1 .visit .ensures .1 .imports-long
+
+same-length-21 : (t : ℕ) → walk-lts.Need-same-length-21 (callees t) (walk-at t) walk.Post walk-Inv-loop walk-μ-loop
+same-length-21 t c =
+    let loop1 = c .before in
+    let visit1 = loop1 .before .before .before .before .before .before .before .before .before .before .before .before .before .before .before .before in
+    loop1 .loop .inv .1 .includes-long ∙ visit1 .visit .ensures .1 .includes-long
+
+same-length-22 : (t : ℕ) → walk-lts.Need-same-length-22 (callees t) (walk-at t) walk.Post walk-Inv-loop walk-μ-loop
+same-length-22 t c =
+    let loop1 = c .before in
+    let visit1 = loop1 .before .before .before .before .before .before .before .before .before .before .before .before .before .before .before .before in
+    loop1 .loop .inv .0 .long ∙ visit1 .visit .ensures .1 .levels-long
+
+same-length-23 : (t : ℕ) → walk-lts.Need-same-length-23 (callees t) (walk-at t) walk.Post walk-Inv-loop walk-μ-loop
+same-length-23 t c =
+    let loop1 = c .before in
+    let visit1 = loop1 .before .before .before .before .before .before .before .before .before .before .before .before .before .before .before .before in
+    loop1 .loop .inv .0 .long-edges ∙ visit1 .visit .ensures .0 .kept-edges
+
+same-length-24 : (t : ℕ) → walk-lts.Need-same-length-24 (callees t) (walk-at t) walk.Post walk-Inv-loop walk-μ-loop
+same-length-24 t c =
+    let loop1 = c .before in
+    let visit1 = loop1 .before .before .before .before .before .before .before .before .before .before .before .before .before .before .before .before in
+    loop1 .loop .inv .0 .long-chains ∙ visit1 .visit .ensures .0 .kept-chains
+
 returns-4 : (t : ℕ) → walk-lts.Need-returns-4 (callees t) (walk-at t) walk.Post walk-Inv-loop walk-μ-loop
 returns-4 t c =
     let loop-test1 = c in
     let loop1 = loop-test1 .before in
     let visited2-at = loop1 .before .before in
-    let visit1 = visited2-at .before .before .before .before .before .before .before .before .before .before .before .before .before .before in
-    (ended (loop1 .loop .inv .0) (visit1 .visit .ensures .0) (visited2-at .visited2 .given .1) (loop-test1 .loop-test .left), kept-out (loop1 .loop .inv .0) (visit1 .visit .ensures .1) (loop1 .loop .inv .1))
+    let visit1 = visited2-at .before .before .before .before .before .before .before .before .before .before .before .before .before .before in (
+      ended (loop1 .loop .inv .0) (visit1 .visit .ensures .0) (visited2-at .visited2 .given .1) (loop-test1 .loop-test .left),
+      kept-out (loop1 .loop .inv .0)
+          (visit1 .visit .ensures .1) (loop1 .loop .inv .1),
+    )
 
 pub +walk-spec : {M : Type 1} → statement M
 +walk-spec = close μ-walk λ t. walk-lts.spec (callees t)
@@ -213,12 +395,12 @@ pub +walk-spec : {M : Type 1} → statement M
     (step-requires t)
     (λ c. search needs)
     (λ c κs. search needs)
-    (λ c. search needs)
-    (λ c. search needs)
-    (λ c. search needs)
-    (λ c. search needs)
-    (λ c. search needs)
-    (λ c. search needs)
+    (same-length t)
+    (same-length-2 t)
+    (same-length-3 t)
+    (same-length-4 t)
+    (same-length-5 t)
+    (same-length-6 t)
     (returns t)
     (λ c. search needs)
     (sub-rest t)
@@ -235,17 +417,17 @@ pub +walk-spec : {M : Type 1} → statement M
     (add-i t)
     (loop-less t)
     (loop-again t)
-    (λ c. search needs)
-    (λ c. search needs)
-    (λ c. search needs)
-    (λ c. search needs)
-    (λ c. search needs)
-    (λ c. search needs)
+    (same-length-13 t)
+    (same-length-14 t)
+    (same-length-15 t)
+    (same-length-16 t)
+    (same-length-17 t)
+    (same-length-18 t)
     (returns-3 t)
-    (λ c. search needs)
-    (λ c. search needs)
-    (λ c. search needs)
-    (λ c. search needs)
-    (λ c. search needs)
-    (λ c. search needs)
+    (same-length-19 t)
+    (same-length-20 t)
+    (same-length-21 t)
+    (same-length-22 t)
+    (same-length-23 t)
+    (same-length-24 t)
     (returns-4 t)

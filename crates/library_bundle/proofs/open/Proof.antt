@@ -46,7 +46,8 @@ returns-6 c =
     let few = loop .before .before .before .before .before in
     let count = few .before .before in
     let number = count .before .before in
-    opened _ (number .before .if1 .left) _ (count .count .given .1) (number .number .ensures) (few .if2 .left) (loop .loop .inv) (c .before .loop-test .left) (c .if3 .left)
+    opened _ (number .before .if1 .left) _ (count .count .given .1) (number .number .ensures) (few .if2 .left) (loop .loop .inv) (c .before .loop-test .left)
+    (c .if3 .left)
 
 pub open-spec : {M : Type 1} → statement M
 open-spec =

@@ -9,7 +9,8 @@ use Rattle.library_items.proofs.take_revisions.Statement.{statement}
 use Rattle.library_items.proofs.take_revisions.Tie as tie
 
 abbrev Inv-loop : tie.InvT-loop
-Inv-loop s tab₀ n at count reach₀ left₀ tab reach left = Ahead (listRead laterSubKind s) s tab₀ (reach₀ .items) (each (listRead laterSubKind s) left₀ (reach₀ .at)) tab reach left
+Inv-loop s tab₀ n at count reach₀ left₀ tab reach left = Ahead (listRead laterSubKind s) s tab₀ (reach₀ .items)
+    (each (listRead laterSubKind s) left₀ (reach₀ .at)) tab reach left
 
 abbrev μ-loop : tie.MeasureT-loop
 μ-loop s tab₀ n at count reach₀ left₀ tab reach left = left

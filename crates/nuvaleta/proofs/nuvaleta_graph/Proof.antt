@@ -10,13 +10,15 @@ graph-words-requires c κs =
     let call = c .before .before .before .before .before .before .before .before .before .before .before .before in
     let known = call .before .before .before .before .before .before .before .before .before .before .before .before .before .before in
     let a = known .before .args in
-    graph-fits (a .image .now) (a .bundle .now) (a .nodes .now) (a .edges .now) (a .store .now) (a .imports .now) (a .includes .now) (a .levels .now) (call .to-graph .ensures) (known .shared-slice-known .given)
+    graph-fits (a .image .now) (a .bundle .now) (a .nodes .now) (a .edges .now) (a .store .now) (a .imports .now) (a .includes .now) (a .levels .now)
+    (call .to-graph .ensures) (known .shared-slice-known .given)
 
 returns : tie.Need-returns
 returns c =
     let call = c .before .before .before .before .before .before .before .before .before .before .before .before .before in
     let a = call .before .before .before .before .before .before .before .before .before .before .before .before .before .before .before .args in
-    graph-told (a .image .now) (a .bundle .now) (a .nodes .now) (a .edges .now) (a .store .now) (a .imports .now) (a .includes .now) (a .levels .now) (call .to-graph .ensures) (c .graph-words .ensures)
+    graph-told (a .image .now) (a .bundle .now) (a .nodes .now) (a .edges .now) (a .store .now) (a .imports .now) (a .includes .now) (a .levels .now)
+    (call .to-graph .ensures) (c .graph-words .ensures)
 
 pub nuvaleta-graph-spec : {M : Type 1} → statement M
 nuvaleta-graph-spec =

@@ -17,7 +17,8 @@ returns c =
     let made = end .before .before .before in
     let start = made .before .before .before .before .before in
     ring-written _ _ _ _ _ _ _ (made .make-trail .kept .1 .1 .1 .1 .1 .0) (made .make-trail .ensures) (end .behind .ensures) (low .lowest-place .ensures)
-    (start .args .order .now) (start .pre .1) (cleared _ _ (start .pre .2) (start .pre .4) (clear .clear-words .ensures)) (first .copy .ensures) (c .before .before .copy2 .ensures)
+    (start .args .order .now) (start .pre .1) (cleared _ _ (start .pre .2) (start .pre .4) (clear .clear-words .ensures)) (first .copy .ensures)
+    (c .before .before .copy2 .ensures)
 
 pub write-ring-spec : {M : Type 1} → statement M
 write-ring-spec =

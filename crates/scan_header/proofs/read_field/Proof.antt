@@ -13,8 +13,11 @@ returns c =
     let at-read = c .before .before .before .before .before in
     let a = at-read .before .before .before .before .args in
     let v = at-read .read-value in
-    let k = c .before .enum-told .given in
-    (field-refused (a .s .now) (a .here .at) (a .keyword) (a .used) (v .ensures .0) (k .0 .0) (k .1) (c .argument-refusal .ensures), field-stored (a .s .now) (a .here .at) (a .keyword) (a .used) (a .store .now) (v .ensures .1))
+    let k = c .before .enum-told .given in (
+      field-refused (a .s .now) (a .here .at) (a .keyword) (a .used) (v .ensures .0) (k .0 .0) (k .1) (c .argument-refusal .ensures),
+      field-stored (a .s .now)
+          (a .here .at) (a .keyword) (a .used) (a .store .now) (v .ensures .1),
+    )
 
 returns-2 : tie.Need-returns-2
 returns-2 c =
@@ -25,8 +28,11 @@ returns-2 c =
     let a = at-read .before .before .before .before .args in
     let v = at-read .read-value in
     let k = got .got .given in
-    let d = told .enum-told2 .given in
-    (field-other (a .s .now) (a .here .at) (a .keyword) (a .used) (v .ensures .0) (k .0 .0) (k .0 .1 .0) (k .1) (at-due .after-value .ensures) (d .0 .0) (d .1) (c .refusal-of .ensures), field-stored (a .s .now) (a .here .at) (a .keyword) (a .used) (a .store .now) (v .ensures .1))
+    let d = told .enum-told2 .given in (
+      field-other (a .s .now) (a .here .at) (a .keyword) (a .used) (v .ensures .0) (k .0 .0) (k .0 .1 .0) (k .1) (at-due .after-value .ensures) (d .0 .0) (d .1)
+          (c .refusal-of .ensures),
+      field-stored (a .s .now) (a .here .at) (a .keyword) (a .used) (a .store .now) (v .ensures .1),
+    )
 
 sub-size : tie.Need-sub-size
 sub-size c =
@@ -46,8 +52,11 @@ returns-3 c =
     let a = at-read .before .before .before .before .args in
     let v = at-read .read-value in
     let k = got .got .given in
-    let d = due .due .given in
-    (field-read (a .s .now) (a .here .at) (a .keyword) (a .used) (v .ensures .0) (k .0 .0) (k .0 .1 .0) (k .1) (at-due .after-value .ensures) (d .0 .0) (d .1) (c .held .ensures), field-stored (a .s .now) (a .here .at) (a .keyword) (a .used) (a .store .now) (v .ensures .1))
+    let d = due .due .given in (
+      field-read (a .s .now) (a .here .at) (a .keyword) (a .used) (v .ensures .0) (k .0 .0) (k .0 .1 .0) (k .1) (at-due .after-value .ensures) (d .0 .0) (d .1)
+          (c .held .ensures),
+      field-stored (a .s .now) (a .here .at) (a .keyword) (a .used) (a .store .now) (v .ensures .1),
+    )
 
 pub read-field-spec : {M : Type 1} → statement M
 read-field-spec =

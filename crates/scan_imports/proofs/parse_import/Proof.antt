@@ -2,7 +2,7 @@
 -- Assumes nothing.
 use native.Mathlib.Omega.{arith}
 use lib.ListN.{length}
-use Rattle.scan_imports.proofs.InsideLaws.{line-grows, room-left}
+use Rattle.scan_block.proofs.InsideLaws.{line-grows, room-left}
 use Rattle.scan_imports.proofs.StatementLaws.{import-refused, import-broken, import-whole}
 use borrow.Author.Needs.{needs}
 use Rattle.scan_imports.proofs.parse_import.Statement.{statement}
@@ -32,7 +32,8 @@ parse-block-requires c κs =
     let a = at-read .before .before .before .before .args in
     let k = named .name .given in
     let start = at-read .before .before .before .before in
-    let room = room-left (a .s .now) (a .here .at) (a .used) 8 123 (length (a .store .now)) (k .0 .0) (k .0 .1 .0) (omega arith) (at-read .read-argument .ensures .0) (k .1) (start .pre .1) in
+    let room = room-left (a .s .now) (a .here .at) (a .used) 8 123 (length (a .store .now)) (k .0 .0) (k .0 .1 .0) (omega arith)
+    (at-read .read-argument .ensures .0) (k .1) (start .pre .1) in
     (start .pre .0, omega (arith, room, at-read .read-argument .kept .1 .1 .1 .0))
 
 returns-2 : tie.Need-returns-2
@@ -45,7 +46,8 @@ returns-2 c =
     let k = named .name .given in
     let v = at-read .read-argument .ensures in
     let b = opened .enum-told2 .given in
-    import-broken (a .s .now) (a .here .at) (a .used) (a .store .now) (v .0) (v .1) (k .0 .0) (k .0 .1 .0) (k .1) (at-block .parse-block .ensures) (b .0 .0) (b .1) (c .block-refusal .ensures)
+    import-broken (a .s .now) (a .here .at) (a .used) (a .store .now) (v .0) (v .1) (k .0 .0) (k .0 .1 .0) (k .1) (at-block .parse-block .ensures) (b .0 .0)
+    (b .1) (c .block-refusal .ensures)
 
 returns-3 : tie.Need-returns-3
 returns-3 c =
@@ -57,7 +59,8 @@ returns-3 c =
     let k = named .name .given in
     let v = at-read .read-argument .ensures in
     let b = opened .block .given in
-    import-whole (a .s .now) (a .here .at) (a .used) (a .store .now) (v .0) (v .1) (k .0 .0) (k .0 .1 .0) (k .1) (at-block .parse-block .ensures) (at-block .before .before .held .ensures) (b .0 .0) (b .1) (c .import-of .ensures)
+    import-whole (a .s .now) (a .here .at) (a .used) (a .store .now) (v .0) (v .1) (k .0 .0) (k .0 .1 .0) (k .1) (at-block .parse-block .ensures)
+    (at-block .before .before .held .ensures) (b .0 .0) (b .1) (c .import-of .ensures)
 
 pub parse-import-spec : {M : Type 1} → statement M
 parse-import-spec =

@@ -42,7 +42,8 @@ include-block-requires c κs =
     let k = named .name .given in
     let v = at-read .read-value .ensures in
     let start = at-read .before .before .before .before in
-    let room = inner-room (a .s .now) (a .here .at) (a .used) 9 (length (a .store .now)) (k .0 .0) (k .0 .1 .0) (v .0) (k .1) (at-gap .skip-whitespace-and-comments .ensures) (start .pre .1) in
+    let room = inner-room (a .s .now) (a .here .at) (a .used) 9 (length (a .store .now)) (k .0 .0) (k .0 .1 .0) (v .0) (k .1)
+    (at-gap .skip-whitespace-and-comments .ensures) (start .pre .1) in
     (start .pre .0, omega (arith, room, at-read .read-value .kept .1 .1 .1 .0))
 
 returns-2 : tie.Need-returns-2
@@ -55,7 +56,8 @@ returns-2 c =
     let k = named .name .given in
     let v = at-read .read-value .ensures in
     let b = c .before .before .include-block .ensures in
-    include-open (a .s .now) (a .here .at) (a .used) (a .store .now) (v .0) (v .1) (k .0 .0) (k .0 .1 .0) (k .1) (at-gap .before .held .ensures) (at-gap .skip-whitespace-and-comments .ensures) (at-peek .peek-char .ensures) (c .before .before .before .before .if1 .taken) (b .0) (b .1)
+    include-open (a .s .now) (a .here .at) (a .used) (a .store .now) (v .0) (v .1) (k .0 .0) (k .0 .1 .0) (k .1) (at-gap .before .held .ensures)
+    (at-gap .skip-whitespace-and-comments .ensures) (at-peek .peek-char .ensures) (c .before .before .before .before .if1 .taken) (b .0) (b .1)
 
 returns-3 : tie.Need-returns-3
 returns-3 c =
@@ -67,7 +69,9 @@ returns-3 c =
     let k = named .name .given in
     let v = at-read .read-value .ensures in
     let t = c .before .enum-told2 .given in
-    include-other (a .s .now) (a .here .at) (a .used) (a .store .now) (v .0) (v .1) (k .0 .0) (k .0 .1 .0) (k .1) (at-gap .before .held .ensures) (at-gap .skip-whitespace-and-comments .ensures) (at-peek .peek-char .ensures) (c .before .before .before .before .if1 .left) (c .before .before .before .expect-char .ensures) (t .0 .0) (t .1) (c .refusal-of .ensures)
+    include-other (a .s .now) (a .here .at) (a .used) (a .store .now) (v .0) (v .1) (k .0 .0) (k .0 .1 .0) (k .1) (at-gap .before .held .ensures)
+    (at-gap .skip-whitespace-and-comments .ensures) (at-peek .peek-char .ensures) (c .before .before .before .before .if1 .left)
+    (c .before .before .before .expect-char .ensures) (t .0 .0) (t .1) (c .refusal-of .ensures)
 
 returns-4 : tie.Need-returns-4
 returns-4 c =
@@ -79,7 +83,9 @@ returns-4 c =
     let k = named .name .given in
     let v = at-read .read-value .ensures in
     let t = c .before .before .due .given in
-    include-plain (a .s .now) (a .here .at) (a .used) (a .store .now) (v .0) (v .1) (k .0 .0) (k .0 .1 .0) (k .1) (at-gap .before .held .ensures) (at-gap .skip-whitespace-and-comments .ensures) (at-peek .peek-char .ensures) (c .before .before .before .before .before .if1 .left) (c .before .before .before .before .expect-char .ensures) (t .0 .0) (t .1) (c .missing .ensures)
+    include-plain (a .s .now) (a .here .at) (a .used) (a .store .now) (v .0) (v .1) (k .0 .0) (k .0 .1 .0) (k .1) (at-gap .before .held .ensures)
+    (at-gap .skip-whitespace-and-comments .ensures) (at-peek .peek-char .ensures) (c .before .before .before .before .before .if1 .left)
+    (c .before .before .before .before .expect-char .ensures) (t .0 .0) (t .1) (c .missing .ensures)
 
 pub parse-include-spec : {M : Type 1} → statement M
 parse-include-spec =

@@ -13,7 +13,8 @@ parse-cleared-requires c κs =
     let classes = check .before .before in
     let clear = classes .before .before .before in
     let a = clear .before .before .before .before .args in
-    entry-cleared (a .s .now) (a .store .now) (clear .clear-bytes .ensures) refl (check .check-lent .ensures) (told .enum-told .given .1) (classes .classes .ensures)
+    entry-cleared (a .s .now) (a .store .now) (clear .clear-bytes .ensures) refl (check .check-lent .ensures) (told .enum-told .given .1)
+    (classes .classes .ensures)
 
 returns : tie.Need-returns
 returns c =
@@ -21,7 +22,8 @@ returns c =
     let check = told .before .before in
     let clear = check .before .before .before .before .before in
     let a = clear .before .before .before .before .args in
-    entry-scanned (a .s .now) (a .store .now) (clear .clear-bytes .ensures) refl (check .check-lent .ensures) (told .enum-told .given .1) (c .before .before .parse-cleared .ensures)
+    entry-scanned (a .s .now) (a .store .now) (clear .clear-bytes .ensures) refl (check .check-lent .ensures) (told .enum-told .given .1)
+    (c .before .before .parse-cleared .ensures)
 
 returns-2 : tie.Need-returns-2
 returns-2 c =

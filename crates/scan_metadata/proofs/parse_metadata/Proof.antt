@@ -4,7 +4,8 @@ use mathlib.Core.Path.{refl, _∙_}
 use Prim.Native.Nat.{_-_}
 use lib.ListN.{length}
 use borrow.Author.Needs.{needs}
-use Rattle.scan_metadata.proofs.LoopLaws.{Sofar, loop-begin, loop-room, loop-long, loop-value, loop-value-nearer, loop-passed, loop-passed-nearer, loop-done, loop-refused}
+use Rattle.scan_metadata.proofs.LoopLaws.{Sofar, loop-begin, loop-room, loop-long, loop-value, loop-value-nearer, loop-passed, loop-passed-nearer}
+use Rattle.scan_metadata.proofs.LoopLaws.{loop-done, loop-refused}
 use Rattle.scan_metadata.proofs.parse_metadata.Statement.{statement}
 use Rattle.scan_metadata.proofs.parse_metadata.Tie as tie
 

@@ -62,7 +62,8 @@ loop-again c =
     let else1 = else2 .before .before .before in
     let at-loop = else1 .before .before in
     let args = at-loop .before .args in
-    less-more (args .a .now) (args .b .now) (at-loop .loop .i) (else1 .before .loop-test .taken) (else1 .if1 .left) (else2 .if2 .left) (c .if3 .left) ∙ at-loop .loop .inv
+    less-more (args .a .now) (args .b .now) (at-loop .loop .i) (else1 .before .loop-test .taken) (else1 .if1 .left) (else2 .if2 .left) (c .if3 .left)
+    ∙ at-loop .loop .inv
 
 returns-4 : tie.Need-returns-4 Inv-loop μ-loop
 returns-4 c =

@@ -8,31 +8,46 @@ use Rattle.scan_printed.proofs.put_count.Statement.{statement}
 use Rattle.scan_printed.proofs.put_count.Tie as tie
 
 slice-write-page : tie.Need-slice-write-page
-slice-write-page c = let start = c .before .before .before in omega (arith, one-room (start .args .n) (start .args .at) (start .args .page .now) (c .before .if1 .taken) (start .pre .1))
+slice-write-page c = let start = c .before .before .before in omega (
+  arith,
+  one-room (start .args .n) (start .args .at) (start .args .page .now)
+      (c .before .if1 .taken) (start .pre .1),
+)
 
 returns : tie.Need-returns
 returns c = let a = c .before .before .before .args in one-digit (a .n) (a .at) (a .page .now) (c .before .if1 .taken) (c .digit-of .ensures)
 
 slice-write-page-2 : tie.Need-slice-write-page-2
-slice-write-page-2 c = let start = c .before .before .before .before in omega (arith, two-room (start .args .n) (start .args .at) (start .args .page .now) (c .before .before .if1 .left) (c .before .if2 .taken) (start .pre .1))
+slice-write-page-2 c = let start = c .before .before .before .before in omega
+    (arith, two-room (start .args .n) (start .args .at) (start .args .page .now) (c .before .before .if1 .left) (c .before .if2 .taken) (start .pre .1))
 
 slice-write-page-3 : tie.Need-slice-write-page-3
-slice-write-page-3 c = let start = c .before .before .before .before .before in simp length-set (omega (arith, two-room (start .args .n) (start .args .at) (start .args .page .now) (c .before .before .before .if1 .left) (c .before .before .if2 .taken) (start .pre .1)))
+slice-write-page-3 c = let start = c .before .before .before .before .before in simp length-set
+    (omega (
+      arith,
+      two-room (start .args .n) (start .args .at) (start .args .page .now) (c .before .before .before .if1 .left) (c .before .before .if2 .taken)
+          (start .pre .1),
+    ))
 
 returns-2 : tie.Need-returns-2
-returns-2 c = let a = c .before .before .before .before .before .args in two-digits (a .n) (a .at) (a .page .now) (c .before .before .before .if1 .left) (c .before .before .if2 .taken) (c .before .digit-of2 .ensures) (c .digit-of3 .ensures)
+returns-2 c = let a = c .before .before .before .before .before .args in two-digits (a .n) (a .at) (a .page .now) (c .before .before .before .if1 .left)
+    (c .before .before .if2 .taken) (c .before .digit-of2 .ensures) (c .digit-of3 .ensures)
 
 slice-write-page-4 : tie.Need-slice-write-page-4
-slice-write-page-4 c = let start = c .before .before .before .before in omega (arith, three-room (start .args .n) (start .args .at) (start .args .page .now) (c .before .if2 .left) (start .pre .1))
+slice-write-page-4 c = let start = c .before .before .before .before in omega
+    (arith, three-room (start .args .n) (start .args .at) (start .args .page .now) (c .before .if2 .left) (start .pre .1))
 
 slice-write-page-5 : tie.Need-slice-write-page-5
-slice-write-page-5 c = let start = c .before .before .before .before .before in simp length-set (omega (arith, three-room (start .args .n) (start .args .at) (start .args .page .now) (c .before .before .if2 .left) (start .pre .1)))
+slice-write-page-5 c = let start = c .before .before .before .before .before in simp length-set
+    (omega (arith, three-room (start .args .n) (start .args .at) (start .args .page .now) (c .before .before .if2 .left) (start .pre .1)))
 
 slice-write-page-6 : tie.Need-slice-write-page-6
-slice-write-page-6 c = let start = c .before .before .before .before .before .before in simp length-set (omega (arith, three-room (start .args .n) (start .args .at) (start .args .page .now) (c .before .before .before .if2 .left) (start .pre .1)))
+slice-write-page-6 c = let start = c .before .before .before .before .before .before in simp length-set
+    (omega (arith, three-room (start .args .n) (start .args .at) (start .args .page .now) (c .before .before .before .if2 .left) (start .pre .1)))
 
 returns-3 : tie.Need-returns-3
-returns-3 c = let a = c .before .before .before .before .before .before .args in three-digits (a .n) (a .at) (a .page .now) (c .before .before .before .if2 .left) (c .before .before .digit-of4 .ensures) (c .before .digit-of5 .ensures) (c .digit-of6 .ensures)
+returns-3 c = let a = c .before .before .before .before .before .before .args in three-digits (a .n) (a .at) (a .page .now)
+    (c .before .before .before .if2 .left) (c .before .before .digit-of4 .ensures) (c .before .digit-of5 .ensures) (c .digit-of6 .ensures)
 
 pub put-count-spec : {M : Type 1} → statement M
 put-count-spec =

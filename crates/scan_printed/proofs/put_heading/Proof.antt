@@ -32,7 +32,8 @@ returns c =
     let count = c .before .before .before .before .before .before .before in
     let word = count .before .before .before .before in
     let a = word .before .before .before .before .args in
-    ended (puts (puts (puts (heading-begin (a .page .now) (a .at) (a .word .now) (a .n)) (word .put .ensures)) (count .put-count .ensures)) (c .before .before .put2 .ensures))
+    ended (puts (puts (puts (heading-begin (a .page .now) (a .at) (a .word .now) (a .n)) (word .put .ensures)) (count .put-count .ensures))
+    (c .before .before .put2 .ensures))
 
 pub put-heading-spec : {M : Type 1} → statement M
 put-heading-spec =

@@ -23,7 +23,8 @@ returns : tie.Need-returns
 returns c =
     let name = c .before .before .before .before .before .before in
     let a = name .before .before .before .before .before .args in
-    ended (puts-two (puts-two (include-begin (a .page .now) (a .at) (a .store .now) (a .i)) (name .put-value .ensures)) (c .before .before .put-line-end .ensures))
+    ended (puts-two (puts-two (include-begin (a .page .now) (a .at) (a .store .now) (a .i)) (name .put-value .ensures))
+    (c .before .before .put-line-end .ensures))
 
 pub put-include-line-spec : {M : Type 1} → statement M
 put-include-line-spec =

@@ -23,7 +23,8 @@ returns : tie.Need-returns
 returns c =
     let value = c .before .before .before .before .before .before .before in
     let a = value .before .before .before .before .before .before .args in
-    ended (puts (puts (end-there (a .store .now) (a .x) (a .page .now) (a .at) (value .before .before .before .if1 .taken)) (value .put-value .ensures)) (c .before .before .put .ensures))
+    ended (puts (puts (end-there (a .store .now) (a .x) (a .page .now) (a .at) (value .before .before .before .if1 .taken)) (value .put-value .ensures))
+    (c .before .before .put .ensures))
 
 put-requires-2 : tie.Need-put-requires-2
 put-requires-2 c κs =
@@ -34,7 +35,8 @@ put-requires-2 c κs =
 returns-2 : tie.Need-returns-2
 returns-2 c =
     let a = c .before .before .before .before .before .before .before .before .args in
-    ended (puts (end-none (a .store .now) (a .x) (a .page .now) (a .at) (c .before .before .before .before .before .if1 .left)) (c .before .before .put2 .ensures))
+    ended (puts (end-none (a .store .now) (a .x) (a .page .now) (a .at) (c .before .before .before .before .before .if1 .left))
+    (c .before .before .put2 .ensures))
 
 pub put-line-end-spec : {M : Type 1} → statement M
 put-line-end-spec =

@@ -33,7 +33,8 @@ loop-less c = omega arith
 loop-again : tie.Need-loop-again Inv-loop μ-loop
 loop-again c =
     let at-loop = c .before .before .before in
-    largest-more (at-loop .before .before .args .s .now) (at-loop .loop .i) (at-loop .loop .most) (c .before .before .loop-test .taken) (c .larger .ensures) ∙ at-loop .loop .inv
+    largest-more (at-loop .before .before .args .s .now) (at-loop .loop .i) (at-loop .loop .most) (c .before .before .loop-test .taken) (c .larger .ensures)
+    ∙ at-loop .loop .inv
 
 returns : tie.Need-returns Inv-loop μ-loop
 returns c =

@@ -26,7 +26,8 @@ returns : tie.Need-returns Inv-loop μ-loop
 returns c =
     let at-loop = c .before .before .before .before in
     let a = at-loop .before .before .args in
-    sym (run-stop (a .k) (a .s .now) (at-loop .loop .i) (c .before .before .before .loop-test .taken) (c .before .before .peek-char .ensures) (c .before .in-run .ensures) (c .if1 .left)) ∙ at-loop .loop .inv
+    sym (run-stop (a .k) (a .s .now) (at-loop .loop .i) (c .before .before .before .loop-test .taken) (c .before .before .peek-char .ensures)
+    (c .before .in-run .ensures) (c .if1 .left)) ∙ at-loop .loop .inv
 
 add-i : tie.Need-add-i Inv-loop μ-loop
 add-i c = omega arith
@@ -38,7 +39,8 @@ loop-again : tie.Need-loop-again Inv-loop μ-loop
 loop-again c =
     let at-loop = c .before .before .before .before in
     let a = at-loop .before .before .args in
-    sym (run-more (a .k) (a .s .now) (at-loop .loop .i) (c .before .before .before .loop-test .taken) (c .before .before .peek-char .ensures) (c .before .in-run .ensures) (c .if1 .taken)) ∙ at-loop .loop .inv
+    sym (run-more (a .k) (a .s .now) (at-loop .loop .i) (c .before .before .before .loop-test .taken) (c .before .before .peek-char .ensures)
+    (c .before .in-run .ensures) (c .if1 .taken)) ∙ at-loop .loop .inv
 
 returns-2 : tie.Need-returns-2 Inv-loop μ-loop
 returns-2 c =

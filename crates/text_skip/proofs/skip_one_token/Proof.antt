@@ -17,7 +17,8 @@ returns-2 c =
     let peek = quote .before in
     let if1 = peek .before in
     let a = if1 .before .before .args in
-    sym (token-cut (a .s .now) (a .here .at) (if1 .if1 .left) (peek .peek-char .ensures) (quote .is-quote .ensures) (if2 .if2 .taken) (close .close-of .ensures) (c .enum-told .given .1))
+    sym (token-cut (a .s .now) (a .here .at) (if1 .if1 .left) (peek .peek-char .ensures) (quote .is-quote .ensures) (if2 .if2 .taken)
+    (close .close-of .ensures) (c .enum-told .given .1))
 
 returns-3 : tie.Need-returns-3
 returns-3 c =
@@ -28,7 +29,8 @@ returns-3 c =
     let peek = quote .before in
     let if1 = peek .before in
     let a = if1 .before .before .args in
-    sym (token-closed (a .s .now) (a .here .at) (if1 .if1 .left) (peek .peek-char .ensures) (quote .is-quote .ensures) (if2 .if2 .taken) (close .close-of .ensures) (known .end .given .0 .0) (known .end .given .1))
+    sym (token-closed (a .s .now) (a .here .at) (if1 .if1 .left) (peek .peek-char .ensures) (quote .is-quote .ensures) (if2 .if2 .taken)
+    (close .close-of .ensures) (known .end .given .0 .0) (known .end .given .1))
 
 returns-4 : tie.Need-returns-4
 returns-4 c =
@@ -39,7 +41,8 @@ returns-4 c =
     let peek = quote .before in
     let if1 = peek .before in
     let a = if1 .before .before .args in
-    sym (token-name (a .s .now) (a .here .at) (if1 .if1 .left) (peek .peek-char .ensures) (quote .is-quote .ensures) (if2 .if2 .left) (starts .starts-ident .ensures) (if3 .if3 .taken) (c .run-end .ensures))
+    sym (token-name (a .s .now) (a .here .at) (if1 .if1 .left) (peek .peek-char .ensures) (quote .is-quote .ensures) (if2 .if2 .left)
+    (starts .starts-ident .ensures) (if3 .if3 .taken) (c .run-end .ensures))
 
 returns-5 : tie.Need-returns-5
 returns-5 c =
@@ -49,7 +52,8 @@ returns-5 c =
     let peek = quote .before in
     let if1 = peek .before in
     let a = if1 .before .before .args in
-    sym (token-byte (a .s .now) (a .here .at) (if1 .if1 .left) (peek .peek-char .ensures) (quote .is-quote .ensures) (if2 .if2 .left) (starts .starts-ident .ensures) (c .if3 .left))
+    sym (token-byte (a .s .now) (a .here .at) (if1 .if1 .left) (peek .peek-char .ensures) (quote .is-quote .ensures) (if2 .if2 .left)
+    (starts .starts-ident .ensures) (c .if3 .left))
 
 pub skip-one-token-spec : {M : Type 1} → statement M
 skip-one-token-spec =

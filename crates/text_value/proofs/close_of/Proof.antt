@@ -51,7 +51,8 @@ loop-again c =
     let at-loop = c .before .before .before .before .before .before in
     let a = at-loop .before .before .before .args in
     c .plain-end2 .ensures .1
-    ∙ sym (end-escape (a .q) (a .s .now) (at-loop .loop .i) (c .before .before .before .before .before .loop-test .taken) (c .before .before .before .if1 .left) (c .before .before .escapes .ensures) (c .before .if2 .taken))
+    ∙ sym (end-escape (a .q) (a .s .now) (at-loop .loop .i) (c .before .before .before .before .before .loop-test .taken)
+    (c .before .before .before .if1 .left) (c .before .before .escapes .ensures) (c .before .if2 .taken))
     ∙ at-loop .loop .inv
 
 add-i : tie.Need-add-i Inv-loop μ-loop
@@ -64,7 +65,8 @@ loop-again-2 : tie.Need-loop-again-2 Inv-loop μ-loop
 loop-again-2 c =
     let at-loop = c .before .before .before .before .before in
     let a = at-loop .before .before .before .args in
-    sym (end-more (a .q) (a .s .now) (at-loop .loop .i) (c .before .before .before .before .loop-test .taken) refl (c .before .before .if1 .left) (sym (c .if2 .left) ∙ c .before .escapes .ensures))
+    sym (end-more (a .q) (a .s .now) (at-loop .loop .i) (c .before .before .before .before .loop-test .taken) refl (c .before .before .if1 .left)
+    (sym (c .if2 .left) ∙ c .before .escapes .ensures))
     ∙ at-loop .loop .inv
 
 returns-2 : tie.Need-returns-2 Inv-loop μ-loop

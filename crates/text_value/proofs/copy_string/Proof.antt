@@ -42,8 +42,11 @@ loop-less c = omega arith
 loop-again : tie.Need-loop-again Inv-loop μ-loop
 loop-again c =
     let at-loop = c .before .before .before .before in
-    let a = at-loop .before .before .before .args in
-    (simp length-set (omega arith), put (bytes-skip (a .q) (a .s .now) (at-loop .loop .i) (c .before .before .before .loop-test .taken) (c .before .if1 .taken) (c .escaped .ensures)) (at-loop .loop .inv .1))
+    let a = at-loop .before .before .before .args in (
+      simp length-set (omega arith),
+      put (bytes-skip (a .q) (a .s .now) (at-loop .loop .i) (c .before .before .before .loop-test .taken) (c .before .if1 .taken)
+          (c .escaped .ensures)) (at-loop .loop .inv .1),
+    )
 
 same-length : tie.Need-same-length Inv-loop μ-loop
 same-length c = c .before .before .before .before .loop .inv .1 .long
@@ -67,8 +70,11 @@ loop-less-2 c = omega arith
 loop-again-2 : tie.Need-loop-again-2 Inv-loop μ-loop
 loop-again-2 c =
     let at-loop = c .before .before .before .before .before .before in
-    let a = at-loop .before .before .before .args in
-    (omega arith, said (bytes-escape (a .q) (a .s .now) (at-loop .loop .i) (c .before .before .before .before .before .loop-test .taken) (c .before .before .before .if1 .left) (c .before .before .if2 .left) (c .before .escapes .ensures) (c .if3 .taken)) (at-loop .loop .inv .1))
+    let a = at-loop .before .before .before .args in (
+      omega arith,
+      said (bytes-escape (a .q) (a .s .now) (at-loop .loop .i) (c .before .before .before .before .before .loop-test .taken)
+          (c .before .before .before .if1 .left) (c .before .before .if2 .left) (c .before .escapes .ensures) (c .if3 .taken)) (at-loop .loop .inv .1),
+    )
 
 slice-write-store-2 : tie.Need-slice-write-store-2 Inv-loop μ-loop
 slice-write-store-2 c = omega arith
@@ -85,8 +91,11 @@ loop-less-3 c = omega arith
 loop-again-3 : tie.Need-loop-again-3 Inv-loop μ-loop
 loop-again-3 c =
     let at-loop = c .before .before .before .before .before .before in
-    let a = at-loop .before .before .before .args in
-    (simp length-set (omega arith), put (bytes-more (a .q) (a .s .now) (at-loop .loop .i) (c .before .before .before .before .before .loop-test .taken) (c .before .before .before .if1 .left) (c .before .before .if2 .left) (c .before .escapes .ensures) (c .if3 .left)) (at-loop .loop .inv .1))
+    let a = at-loop .before .before .before .args in (
+      simp length-set (omega arith),
+      put (bytes-more (a .q) (a .s .now) (at-loop .loop .i) (c .before .before .before .before .before .loop-test .taken)
+          (c .before .before .before .if1 .left) (c .before .before .if2 .left) (c .before .escapes .ensures) (c .if3 .left)) (at-loop .loop .inv .1),
+    )
 
 same-length-2 : tie.Need-same-length-2 Inv-loop μ-loop
 same-length-2 c = c .before .loop .inv .1 .long

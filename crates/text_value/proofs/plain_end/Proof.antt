@@ -47,7 +47,8 @@ loop-again c =
     let a = at-loop .before .before .before .args in
     let i = at-loop .loop .i in (
       omega arith,
-      sym (end-plain (a .q) (a .s .now) 8 i (omega arith) (sym (c .before .before .before .among .ensures) ∙ c .before .before .if2 .left) (sym (c .before .among2 .ensures) ∙ c .if3 .left))
+      sym (end-plain (a .q) (a .s .now) 8 i (omega arith) (sym (c .before .before .before .among .ensures) ∙ c .before .before .if2 .left)
+          (sym (c .before .among2 .ensures) ∙ c .if3 .left))
           ∙ at-loop .loop .inv .1,
     )
 

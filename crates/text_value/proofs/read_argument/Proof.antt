@@ -23,8 +23,11 @@ returns-2 c =
     let a = at-read .before .before .before .before .args in
     let v = at-read .read-value in
     let k = got .got .given in
-    let d = told .enum-told2 .given in
-    (sym (line-other (a .s .now) (a .here .at) (a .used) (a .keyword) (a .b) (v .ensures .0) (k .0 .0) (k .0 .1 .0) (k .1) (at-due .expect-char .ensures) (d .0 .0) (d .1) (c .refusal-of .ensures)), v .ensures .1)
+    let d = told .enum-told2 .given in (
+      sym (line-other (a .s .now) (a .here .at) (a .used) (a .keyword) (a .b) (v .ensures .0) (k .0 .0) (k .0 .1 .0) (k .1) (at-due .expect-char .ensures)
+          (d .0 .0) (d .1) (c .refusal-of .ensures)),
+      v .ensures .1,
+    )
 
 returns-3 : tie.Need-returns-3
 returns-3 c =
@@ -35,8 +38,11 @@ returns-3 c =
     let a = at-read .before .before .before .before .args in
     let v = at-read .read-value in
     let k = got .got .given in
-    let d = due .due .given in
-    (sym (line-read (a .s .now) (a .here .at) (a .used) (a .keyword) (a .b) (v .ensures .0) (k .0 .0) (k .0 .1 .0) (k .1) (at-due .expect-char .ensures) (d .0 .0) (d .1)), v .ensures .1)
+    let d = due .due .given in (
+      sym (line-read (a .s .now) (a .here .at) (a .used) (a .keyword) (a .b) (v .ensures .0) (k .0 .0) (k .0 .1 .0) (k .1) (at-due .expect-char .ensures)
+          (d .0 .0) (d .1)),
+      v .ensures .1,
+    )
 
 pub read-argument-spec : {M : Type 1} → statement M
 read-argument-spec =

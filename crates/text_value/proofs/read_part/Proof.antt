@@ -45,9 +45,13 @@ returns-2 c =
     let gap = peek .before in
     let a = gap .before .before .before .args in
     let read = at-read .read-quoted-string in (
-      sym (more-cut (a .s .now) (a .here .at) (gap .skip-whitespace-and-comments .ensures) (peek .peek-char .ensures) (if1 .if1 .left) (gap2 .skip-whitespace-and-comments2 .ensures) (peek2 .peek-char2 .ensures) (quote .is-quote .ensures) (if2 .if2 .taken) (a .used) (read .ensures .0) (c .enum-told .given .1)),
+      sym (more-cut (a .s .now) (a .here .at) (gap .skip-whitespace-and-comments .ensures) (peek .peek-char .ensures) (if1 .if1 .left)
+          (gap2 .skip-whitespace-and-comments2 .ensures) (peek2 .peek-char2 .ensures) (quote .is-quote .ensures) (if2 .if2 .taken) (a .used) (read .ensures .0)
+          (c .enum-told .given .1)),
       read .ensures .1
-          ∙ sym (ap (sets (a .store .now) (a .used)) (more-stored (a .s .now) (a .here .at) (gap .skip-whitespace-and-comments .ensures) (peek .peek-char .ensures) (if1 .if1 .left) (gap2 .skip-whitespace-and-comments2 .ensures) (peek2 .peek-char2 .ensures) (quote .is-quote .ensures) (if2 .if2 .taken) (a .used) (read .ensures .0))),
+          ∙ sym (ap (sets (a .store .now) (a .used)) (more-stored (a .s .now) (a .here .at) (gap .skip-whitespace-and-comments .ensures)
+          (peek .peek-char .ensures) (if1 .if1 .left) (gap2 .skip-whitespace-and-comments2 .ensures) (peek2 .peek-char2 .ensures)
+          (quote .is-quote .ensures) (if2 .if2 .taken) (a .used) (read .ensures .0))),
     )
 
 returns-3 : tie.Need-returns-3
@@ -64,9 +68,13 @@ returns-3 c =
     let a = gap .before .before .before .args in
     let got = known .next .given in
     let read = at-read .read-quoted-string in (
-      sym (more-added (a .s .now) (a .here .at) (gap .skip-whitespace-and-comments .ensures) (peek .peek-char .ensures) (if1 .if1 .left) (gap2 .skip-whitespace-and-comments2 .ensures) (peek2 .peek-char2 .ensures) (quote .is-quote .ensures) (if2 .if2 .taken) (a .used) (read .ensures .0) (got .0 .0) (got .0 .1 .0) (got .1)),
+      sym (more-added (a .s .now) (a .here .at) (gap .skip-whitespace-and-comments .ensures) (peek .peek-char .ensures) (if1 .if1 .left)
+          (gap2 .skip-whitespace-and-comments2 .ensures) (peek2 .peek-char2 .ensures) (quote .is-quote .ensures) (if2 .if2 .taken) (a .used) (read .ensures .0)
+          (got .0 .0) (got .0 .1 .0) (got .1)),
       read .ensures .1
-          ∙ sym (ap (sets (a .store .now) (a .used)) (more-stored (a .s .now) (a .here .at) (gap .skip-whitespace-and-comments .ensures) (peek .peek-char .ensures) (if1 .if1 .left) (gap2 .skip-whitespace-and-comments2 .ensures) (peek2 .peek-char2 .ensures) (quote .is-quote .ensures) (if2 .if2 .taken) (a .used) (read .ensures .0))),
+          ∙ sym (ap (sets (a .store .now) (a .used)) (more-stored (a .s .now) (a .here .at) (gap .skip-whitespace-and-comments .ensures)
+          (peek .peek-char .ensures) (if1 .if1 .left) (gap2 .skip-whitespace-and-comments2 .ensures) (peek2 .peek-char2 .ensures)
+          (quote .is-quote .ensures) (if2 .if2 .taken) (a .used) (read .ensures .0))),
     )
 
 returns-4 : tie.Need-returns-4
@@ -79,7 +87,8 @@ returns-4 c =
     let peek = if1 .before in
     let gap = peek .before in
     let a = gap .before .before .before .args in
-    let e = more-bare (a .s .now) (a .here .at) (gap .skip-whitespace-and-comments .ensures) (peek .peek-char .ensures) (if1 .if1 .left) (gap2 .skip-whitespace-and-comments2 .ensures) (peek2 .peek-char2 .ensures) (quote .is-quote .ensures) (c .if2 .left) in
+    let e = more-bare (a .s .now) (a .here .at) (gap .skip-whitespace-and-comments .ensures) (peek .peek-char .ensures) (if1 .if1 .left)
+    (gap2 .skip-whitespace-and-comments2 .ensures) (peek2 .peek-char2 .ensures) (quote .is-quote .ensures) (c .if2 .left) in
     (sym (ap (moreAnswer (a .used)) e), sym (ap (λ t. sets (a .store .now) (a .used) (moreBytes t)) e))
 
 pub read-part-spec : {M : Type 1} → statement M

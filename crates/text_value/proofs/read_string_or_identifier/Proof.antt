@@ -65,7 +65,8 @@ returns-2 c =
     let str = strAt (a .s .now) (g .result .at) in
     let m = closed-answer (a .used) str (got .0 .0) (got .0 .1 .0) (sym (read .ensures .0) ∙ got .1) in
     let j = joined (a .s .now) (got .0 .0 .at) in
-    let e = value-string (a .s .now) (a .here .at) (g .ensures) (peek .peek-char .ensures) (quote .is-quote .ensures) (if1 .if1 .taken) (bytesOf str) (got .0 .0 .at) (m .0) in (
+    let e = value-string (a .s .now) (a .here .at) (g .ensures) (peek .peek-char .ensures) (quote .is-quote .ensures) (if1 .if1 .taken) (bytesOf str)
+    (got .0 .0 .at) (m .0) in (
       read-joined (a .used) (got .0 .1 .0) (bytesOf str) j (all .result) (all .ensures .0) (m .1) ∙ sym (ap (valueAnswer (a .used)) e),
       sets-twice (a .store .now) (read .last .1 .1 .0) (all .last .1 .1 .1 .0) (a .used) (got .0 .1 .0) (bytesOf str) (j .bytes)
           (read .ensures .1) (m .1) (all .ensures .1)
@@ -87,7 +88,8 @@ returns-3 c =
     let gap = peek .before in
     let a = gap .before .before .before .args in
     let name = at-name .read-identifier in
-    let e = value-other (a .s .now) (a .here .at) (gap .skip-whitespace-and-comments .ensures) (peek .peek-char .ensures) (quote .is-quote .ensures) (if1 .if1 .left) in (
+    let e = value-other (a .s .now) (a .here .at) (gap .skip-whitespace-and-comments .ensures) (peek .peek-char .ensures) (quote .is-quote .ensures)
+    (if1 .if1 .left) in (
       name .ensures .0 ∙ sym (ap (valueAnswer (a .used)) e),
       name .ensures .1 ∙ sym (ap (λ v. sets (a .store .now) (a .used) (valueBytes v)) e),
     )

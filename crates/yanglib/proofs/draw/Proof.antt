@@ -21,9 +21,11 @@ returns c =
     let no-refusal1 = c in
     let enum-told1 = no-refusal1 .before in
     let construct-nodes1 = enum-told1 .before .before .before in
-    let shared-slice-known1 = construct-nodes1 .before .before .before .before .before .before .before .before .before .before .before .before .before .before in
+    let shared-slice-known1 = construct-nodes1 .before .before .before .before .before .before .before .before .before .before .before .before .before .before
+    in
     let start = shared-slice-known1 .before in
-    nodes-many (start .pre .0) (construct-nodes1 .construct-nodes .ensures) (shared-slice-known1 .shared-slice-known .given) (start .pre .1) (start .pre .2) (enum-told1 .enum-told .given .1) (no-refusal1 .no-refusal .ensures)
+    nodes-many (start .pre .0) (construct-nodes1 .construct-nodes .ensures) (shared-slice-known1 .shared-slice-known .given) (start .pre .1) (start .pre .2)
+    (enum-told1 .enum-told .given .1) (no-refusal1 .no-refusal .ensures)
 
 draw-edges-requires : tie.Need-draw-edges-requires
 draw-edges-requires c κs =
@@ -31,17 +33,22 @@ draw-edges-requires c κs =
     let construct-nodes1 = n1 .before .before .before in
     let list-items1 = construct-nodes1 .before .before .before .before in
     let shared-slice-known1 = list-items1 .before .before .before .before .before .before .before .before .before .before in
-    let start = shared-slice-known1 .before in
-    (prepared (start .pre .0) (construct-nodes1 .construct-nodes .ensures) (shared-slice-known1 .shared-slice-known .given) (n1 .n .given .1) (list-items1 .list-items .ensures .0), start .pre .1)
+    let start = shared-slice-known1 .before in (
+      prepared (start .pre .0) (construct-nodes1 .construct-nodes .ensures) (shared-slice-known1 .shared-slice-known .given) (n1 .n .given .1)
+          (list-items1 .list-items .ensures .0),
+      start .pre .1,
+    )
 
 put-nodes-requires : tie.Need-put-nodes-requires
 put-nodes-requires c κs =
     let draw-edges1 = c .before .before .before .before .before .before .before .before .before .before .before .before .before .before .before in
     let n1 = draw-edges1 .before .before .before .before .before .before .before .before .before in
     let construct-nodes1 = n1 .before .before .before in
-    let shared-slice-known1 = construct-nodes1 .before .before .before .before .before .before .before .before .before .before .before .before .before .before in
+    let shared-slice-known1 = construct-nodes1 .before .before .before .before .before .before .before .before .before .before .before .before .before .before
+    in
     let start = shared-slice-known1 .before in
-    nodes-room (start .pre .0) (construct-nodes1 .construct-nodes .ensures) (shared-slice-known1 .shared-slice-known .given) (start .pre .1) (start .pre .2) (n1 .n .given .1) (draw-edges1 .draw-edges .ensures)
+    nodes-room (start .pre .0) (construct-nodes1 .construct-nodes .ensures) (shared-slice-known1 .shared-slice-known .given) (start .pre .1) (start .pre .2)
+    (n1 .n .given .1) (draw-edges1 .draw-edges .ensures)
 
 returns-2 : tie.Need-returns-2
 returns-2 c =
@@ -49,9 +56,11 @@ returns-2 c =
     let draw-edges1 = number1 .before .before .before .before .before .before .before .before .before .before .before .before in
     let n1 = draw-edges1 .before .before .before .before .before .before .before .before .before in
     let construct-nodes1 = n1 .before .before .before in
-    let shared-slice-known1 = construct-nodes1 .before .before .before .before .before .before .before .before .before .before .before .before .before .before in
+    let shared-slice-known1 = construct-nodes1 .before .before .before .before .before .before .before .before .before .before .before .before .before .before
+    in
     let start = shared-slice-known1 .before in
-    held-refused (start .pre .0) (construct-nodes1 .construct-nodes .ensures) (shared-slice-known1 .shared-slice-known .given) (start .pre .1) (start .pre .2) (n1 .n .given .1) (draw-edges1 .draw-edges .ensures) (number1 .number .given .1)
+    held-refused (start .pre .0) (construct-nodes1 .construct-nodes .ensures) (shared-slice-known1 .shared-slice-known .given) (start .pre .1) (start .pre .2)
+    (n1 .n .given .1) (draw-edges1 .draw-edges .ensures) (number1 .number .given .1)
 
 returns-3 : tie.Need-returns-3
 returns-3 c =
@@ -60,9 +69,11 @@ returns-3 c =
     let draw-edges1 = m1 .before .before .before .before .before .before .before .before .before .before .before .before in
     let n1 = draw-edges1 .before .before .before .before .before .before .before .before .before in
     let construct-nodes1 = n1 .before .before .before in
-    let shared-slice-known1 = construct-nodes1 .before .before .before .before .before .before .before .before .before .before .before .before .before .before in
+    let shared-slice-known1 = construct-nodes1 .before .before .before .before .before .before .before .before .before .before .before .before .before .before
+    in
     let start = shared-slice-known1 .before in
-    held-built (start .pre .0) (construct-nodes1 .construct-nodes .ensures) (shared-slice-known1 .shared-slice-known .given) (start .pre .1) (start .pre .2) (n1 .n .given .1) (draw-edges1 .draw-edges .ensures) (m1 .m .given .1) (put-nodes1 .put-nodes .ensures)
+    held-built (start .pre .0) (construct-nodes1 .construct-nodes .ensures) (shared-slice-known1 .shared-slice-known .given) (start .pre .1) (start .pre .2)
+    (n1 .n .given .1) (draw-edges1 .draw-edges .ensures) (m1 .m .given .1) (put-nodes1 .put-nodes .ensures)
 
 pub draw-spec : {M : Type 1} → statement M
 draw-spec =

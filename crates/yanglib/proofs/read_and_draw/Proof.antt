@@ -13,7 +13,8 @@ returns c =
     let read1 = no-refusal1 .before .before in
     let read-image1 = read1 .before .before in
     let start = read-image1 .before .before .before .before .before .before .before .before .before in
-    no-image passOver _ _ _ _ _ _ _ _ (start .pre .0) (start .pre .1) (read1 .read .given .1) (read-image1 .read-image .ensures) (no-refusal1 .no-refusal .ensures)
+    no-image passOver _ _ _ _ _ _ _ _ (start .pre .0) (start .pre .1) (read1 .read .given .1) (read-image1 .read-image .ensures)
+    (no-refusal1 .no-refusal .ensures)
 
 longest-requires : tie.Need-longest-requires
 longest-requires c κs =
@@ -32,7 +33,9 @@ returns-2 c =
     let enum-told1 = open1 .before .before in
     let read-image1 = enum-told1 .before .before in
     let start = read-image1 .before .before .before .before .before .before .before .before .before in
-    not-enough passOver _ _ _ _ _ _ _ _ (start .pre .0) (start .pre .1) (both-read _ _ _ _ (enum-told1 .enum-told .given .1) (read-image1 .read-image .ensures) (open1 .«open» .ensures) (texts1 .texts .given .1)) (longest1 .longest .ensures) (too-short1 .too-short .ensures) (if1-at .if1 .taken) (no-refusal3-at .no-refusal3 .ensures)
+    not-enough passOver _ _ _ _ _ _ _ _ (start .pre .0) (start .pre .1) (both-read _ _ _ _ (enum-told1 .enum-told .given .1) (read-image1 .read-image .ensures)
+    (open1 .«open» .ensures) (texts1 .texts .given .1)) (longest1 .longest .ensures) (too-short1 .too-short .ensures) (if1-at .if1 .taken)
+    (no-refusal3-at .no-refusal3 .ensures)
 
 draw-requires : tie.Need-draw-requires
 draw-requires c κs =
@@ -43,8 +46,13 @@ draw-requires c κs =
     let open1 = texts1 .before .before .before in
     let enum-told1 = open1 .before .before in
     let read-image1 = enum-told1 .before .before in
-    let start = read-image1 .before .before .before .before .before .before .before .before .before in
-    ((both-read _ _ _ _ (enum-told1 .enum-told .given .1) (read-image1 .read-image .ensures) (open1 .«open» .ensures) (texts1 .texts .given .1)), lent _ _ _ _ _ _ _ _ (longest1 .longest .ensures) (too-short1 .too-short .ensures) (if1-at .if1 .left) refl refl refl refl refl (start .pre .1), lent-nodes _ _ _ (too-short1 .too-short .ensures) (if1-at .if1 .left) refl (start .pre .0))
+    let start = read-image1 .before .before .before .before .before .before .before .before .before in (
+      (both-read _ _ _ _ (enum-told1 .enum-told .given .1) (read-image1 .read-image .ensures) (open1 .«open» .ensures) (texts1 .texts .given .1)),
+      lent _ _ _ _
+          _ _ _ _ (longest1 .longest .ensures) (too-short1 .too-short .ensures) (if1-at .if1 .left) refl refl refl refl refl (start .pre .1),
+      lent-nodes _ _ _
+          (too-short1 .too-short .ensures) (if1-at .if1 .left) refl (start .pre .0),
+    )
 
 returns-3 : tie.Need-returns-3
 returns-3 c =
@@ -54,7 +62,8 @@ returns-3 c =
     let enum-told1 = open1 .before .before in
     let read-image1 = enum-told1 .before .before in
     let start = read-image1 .before .before .before .before .before .before .before .before .before in
-    no-bundle passOver _ _ _ _ _ _ _ _ (start .pre .0) (start .pre .1) (enum-told1 .enum-told .given .1) (read-image1 .read-image .ensures) (open1 .«open» .ensures) (p1 .p .given .1) (no-refusal2-at .no-refusal2 .ensures)
+    no-bundle passOver _ _ _ _ _ _ _ _ (start .pre .0) (start .pre .1) (enum-told1 .enum-told .given .1) (read-image1 .read-image .ensures)
+    (open1 .«open» .ensures) (p1 .p .given .1) (no-refusal2-at .no-refusal2 .ensures)
 
 returns-4 : tie.Need-returns-4
 returns-4 c =
@@ -67,7 +76,9 @@ returns-4 c =
     let enum-told1 = open1 .before .before in
     let read-image1 = enum-told1 .before .before in
     let start = read-image1 .before .before .before .before .before .before .before .before .before in
-    all-held passOver _ _ _ _ _ _ _ _ (start .pre .0) (start .pre .1) (both-read _ _ _ _ (enum-told1 .enum-told .given .1) (read-image1 .read-image .ensures) (open1 .«open» .ensures) (texts1 .texts .given .1)) (longest1 .longest .ensures) (too-short1 .too-short .ensures) (if1-at .if1 .left) (draw1 .draw .ensures)
+    all-held passOver _ _ _ _ _ _ _ _ (start .pre .0) (start .pre .1) (both-read _ _ _ _ (enum-told1 .enum-told .given .1) (read-image1 .read-image .ensures)
+    (open1 .«open» .ensures) (texts1 .texts .given .1)) (longest1 .longest .ensures) (too-short1 .too-short .ensures) (if1-at .if1 .left)
+    (draw1 .draw .ensures)
 
 pub read-and-draw-spec : {M : Type 1} → statement M
 read-and-draw-spec =

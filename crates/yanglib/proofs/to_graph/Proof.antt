@@ -22,7 +22,9 @@ returns c =
     let read-and-draw1 = clear-bytes1 .before .before .before .before .before .before .before .before .before .before .before .before .before .before in
     let clear-words2-at = read-and-draw1 .before .before .before .before .before .before .before .before .before in
     let clear-words1 = clear-words2-at .before .before .before .before in
-    all-left passOver _ _ _ _ _ _ _ _ _ _ (clear-words1 .clear-words .ensures) (clear-words2-at .clear-words2 .ensures) (read-and-draw1 .read-and-draw .ensures) (clear-bytes1 .clear-bytes .ensures) (clear-words3-at .clear-words3 .ensures) (clear-words4-at .clear-words4 .ensures) (clear-words5-at .clear-words5 .ensures)
+    all-left passOver _ _ _ _ _ _ _ _ _ _ (clear-words1 .clear-words .ensures) (clear-words2-at .clear-words2 .ensures)
+    (read-and-draw1 .read-and-draw .ensures) (clear-bytes1 .clear-bytes .ensures) (clear-words3-at .clear-words3 .ensures)
+    (clear-words4-at .clear-words4 .ensures) (clear-words5-at .clear-words5 .ensures)
 
 pub to-graph-spec : {M : Type 1} → statement M
 to-graph-spec =

@@ -26,7 +26,8 @@ returns-2 c =
     let peek = if1 .before in
     let gap = peek .before in
     let a = gap .before .before .args in
-    sym (due-end (a .s .now) (a .self .at) (a .b) (a .keyword) (gap .skip-whitespace-and-comments .ensures) (peek .peek-char .ensures) (if1 .if1 .left) (c .if2 .taken))
+    sym (due-end (a .s .now) (a .self .at) (a .b) (a .keyword) (gap .skip-whitespace-and-comments .ensures) (peek .peek-char .ensures) (if1 .if1 .left)
+    (c .if2 .taken))
 
 returns-3 : tie.Need-returns-3
 returns-3 c =
@@ -34,7 +35,8 @@ returns-3 c =
     let peek = if1 .before in
     let gap = peek .before in
     let a = gap .before .before .args in
-    sym (due-other (a .s .now) (a .self .at) (a .b) (a .keyword) (gap .skip-whitespace-and-comments .ensures) (peek .peek-char .ensures) (if1 .if1 .left) (c .if2 .left))
+    sym (due-other (a .s .now) (a .self .at) (a .b) (a .keyword) (gap .skip-whitespace-and-comments .ensures) (peek .peek-char .ensures) (if1 .if1 .left)
+    (c .if2 .left))
 
 pub expect-char-spec : {M : Type 1} → statement M
 expect-char-spec = tie.close (tie.spec (λ c κs. search needs) (λ c κs. search needs) add-end returns returns-2 returns-3)

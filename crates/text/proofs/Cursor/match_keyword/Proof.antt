@@ -23,7 +23,8 @@ returns c =
     let begins = if1 .before in
     let start = begins .before .before .before in
     let a = start .args in
-    sym (match-after (a .s .now) (a .self .at) (a .word .now) (start .pre .1) (begins .begins .ensures) (if1 .if1 .taken) (peek .peek-char .ensures) (ends .ends-keyword .ensures) (c .if2 .taken))
+    sym (match-after (a .s .now) (a .self .at) (a .word .now) (start .pre .1) (begins .begins .ensures) (if1 .if1 .taken) (peek .peek-char .ensures)
+    (ends .ends-keyword .ensures) (c .if2 .taken))
 
 returns-2 : tie.Need-returns-2
 returns-2 c =
@@ -33,7 +34,8 @@ returns-2 c =
     let begins = if1 .before in
     let start = begins .before .before .before in
     let a = start .args in
-    sym (match-longer (a .s .now) (a .self .at) (a .word .now) (start .pre .1) (begins .begins .ensures) (if1 .if1 .taken) (peek .peek-char .ensures) (ends .ends-keyword .ensures) (c .if2 .left))
+    sym (match-longer (a .s .now) (a .self .at) (a .word .now) (start .pre .1) (begins .begins .ensures) (if1 .if1 .taken) (peek .peek-char .ensures)
+    (ends .ends-keyword .ensures) (c .if2 .left))
 
 returns-3 : tie.Need-returns-3
 returns-3 c =

@@ -22,7 +22,8 @@ loop-holds c = refl
 returns : tie.Need-returns Inv-loop μ-loop
 returns c =
     let at-loop = c .before .before .before in
-    sym (gap-stop (at-loop .before .before .args .s .now) (at-loop .loop .at) (c .before .before .run-end .ensures) (c .before .comment-end .ensures) (c .if1 .taken)) ∙ at-loop .loop .inv
+    sym (gap-stop (at-loop .before .before .args .s .now) (at-loop .loop .at) (c .before .before .run-end .ensures) (c .before .comment-end .ensures)
+    (c .if1 .taken)) ∙ at-loop .loop .inv
 
 loop-less : tie.Need-loop-less Inv-loop μ-loop
 loop-less c =
@@ -32,7 +33,8 @@ loop-less c =
 loop-again : tie.Need-loop-again Inv-loop μ-loop
 loop-again c =
     let at-loop = c .before .before .before in
-    sym (gap-more (at-loop .before .before .args .s .now) (at-loop .loop .at) (c .before .before .run-end .ensures) (c .before .comment-end .ensures) (c .if1 .left)) ∙ at-loop .loop .inv
+    sym (gap-more (at-loop .before .before .args .s .now) (at-loop .loop .at) (c .before .before .run-end .ensures) (c .before .comment-end .ensures)
+    (c .if1 .left)) ∙ at-loop .loop .inv
 
 pub skip-whitespace-and-comments-spec : {M : Type 1} → statement M
 skip-whitespace-and-comments-spec = tie.close (tie.spec Inv-loop μ-loop loop-holds (λ c κs. search needs) (λ c κs. search needs) returns loop-less loop-again)

@@ -1,0 +1,3 @@
+pub mod Looking
+pub mod OfKind
+pub mod Setting

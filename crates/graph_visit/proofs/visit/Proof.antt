@@ -1,0 +1,92 @@
+-- `graph_visit::visit`. Each way out is one law of Visiting.
+-- Assumes nothing.
+use borrow.Author.Needs.{needs}
+use Rattle.graph_visit.proofs.Visiting.{text-missing, text-refused, import-refused, called, import-rows, include-rows, kept-levels, kept-above}
+use Rattle.graph_visit.proofs.visit.Statement.{statement}
+use Rattle.graph_visit.proofs.visit.Tie as tie
+
+link-imports-requires : tie.Need-link-imports-requires
+link-imports-requires c κs =
+    let m1 = c .before .before .before .before .before in
+    let read-text1 = m1 .before .before .before .before .before .before .before .before in
+    let start =
+    read-text1 .before .before .before .before .before .before .before .before .before .before .before .before .before .before .before .before .before
+    .before in (
+      start .pre .0 .desk,
+      import-rows _ _ _ _ _ _ _ _ (read-text1 .read-text .ensures) _ _ _ (m1 .m .given .1)
+          (start .pre .1 .scan),
+      start .pre .1 .edges-so-far,
+      start .pre .2,
+    )
+
+save-includes-requires : tie.Need-save-includes-requires
+save-includes-requires c κs =
+    let m1 = c .before .before .before .before .before .before .before .before .before .before .before .before .before .before .before .before in
+    let read-text1 = m1 .before .before .before .before .before .before .before .before in
+    let start =
+    read-text1 .before .before .before .before .before .before .before .before .before .before .before .before .before .before .before .before .before
+    .before in (
+      start .pre .0 .desk,
+      include-rows _ _ _ _ _ _ _ _ (read-text1 .read-text .ensures) _ _ _ _ _ (m1 .m .given .1) (start .pre .1 .scan)
+          (start .pre .1 .level-room),
+    )
+
+returns : tie.Need-returns
+returns c = (search text-missing, search kept-levels)
+
+returns-2 : tie.Need-returns-2
+returns-2 c = (search text-refused, search kept-levels)
+
+returns-3 : tie.Need-returns-3
+returns-3 c = (search import-refused, search kept-levels)
+
+returns-4 : tie.Need-returns-4
+returns-4 c =
+    let save-includes1 = c .before .before in
+    let total1 = save-includes1 .before .before .before .before .before in
+    let link-imports1 = total1 .before .before .before .before .before .before in
+    let m1 = link-imports1 .before .before .before .before .before .before in
+    let read-text1 = m1 .before .before .before .before .before .before .before .before in
+    let name-of1 = read-text1 .before .before .before .before in (
+      called _ _ _ _ _ (name-of1 .name-of .ensures) _ _ _ _ _ _ _ (read-text1 .read-text .ensures) _ _ _ _ _ _ _ _ (m1 .m .given .1) _ _ _
+          (link-imports1 .link-imports .ensures) _ _ _ (save-includes1 .save-includes .ensures) (total1 .total .given .1),
+      kept-above _ _ _ _ _ _ _ _
+          (read-text1 .read-text .ensures) _ _ _ _ _ _ (save-includes1 .save-includes .ensures),
+    )
+
+pub visit-spec : {M : Type 1} → statement M
+visit-spec =
+    tie.close
+    (tie.spec
+    (λ c. search needs)
+    (λ c κs. search needs)
+    (λ c κs. search needs)
+    (λ c. search needs)
+    (λ c κs. search needs)
+    (λ c. search needs)
+    (λ c. search needs)
+    link-imports-requires
+    (λ c. search needs)
+    (λ c. search needs)
+    save-includes-requires
+    (λ c. search needs)
+    (λ c. search needs)
+    (λ c. search needs)
+    returns
+    (λ c. search needs)
+    (λ c. search needs)
+    (λ c. search needs)
+    returns-2
+    (λ c. search needs)
+    (λ c. search needs)
+    (λ c. search needs)
+    (λ c. search needs)
+    (λ c. search needs)
+    returns-3
+    (λ c. search needs)
+    (λ c. search needs)
+    (λ c. search needs)
+    (λ c. search needs)
+    (λ c. search needs)
+    (λ c. search needs)
+    returns-4)

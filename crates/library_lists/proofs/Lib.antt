@@ -1,0 +1,3 @@
+pub mod Counting
+pub mod Rests
+pub mod Words

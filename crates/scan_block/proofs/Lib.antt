@@ -1,0 +1,4 @@
+pub mod BlockLaws
+pub mod FarLaws
+pub mod InsideLaws
+pub mod Spans
