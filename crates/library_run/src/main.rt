@@ -1,6 +1,6 @@
 // Replays recorded finds of the Rust, and answers a few questions that document 01 calls easy to get wrong.
 use library_form::LookUp;
-use replay::Run;
+use replay::Tally;
 
 fn is_word(n: usize, word: u32) -> bool {
     n == word as usize
@@ -48,7 +48,7 @@ fn record_agrees(data: &[u8], at: usize) -> bool {
 }
 
 // One record more, if there is one. It has three fields.
-fn step(data: &[u8], run: Run) -> Run {
+fn step(data: &[u8], run: Tally) -> Tally {
     let at = run.at;
     if data.len() <= at {
         return run;
@@ -57,7 +57,7 @@ fn step(data: &[u8], run: Run) -> Run {
 }
 
 // All records of a file. A record takes a byte at least.
-fn replay_all(data: &[u8]) -> Run {
+fn replay_all(data: &[u8]) -> Tally {
     let mut run = replay::start();
     for _ in 0..data.len() {
         run = step(data, run);

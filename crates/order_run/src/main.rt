@@ -1,7 +1,7 @@
 // Replays recorded orders and checks of a plain implementation, and answers a few questions that are easy to get wrong.
 use order::Checked;
 use order::Ordered;
-use replay::Run;
+use replay::Tally;
 
 // How many words a table of a record has at the most.
 const ROOM: usize = 256;
@@ -89,7 +89,7 @@ fn record_agrees(data: &[u8], at: usize) -> bool {
 }
 
 // One record more, if there is one. It has three fields.
-fn step(data: &[u8], run: Run) -> Run {
+fn step(data: &[u8], run: Tally) -> Tally {
     let at = run.at;
     if data.len() <= at {
         return run;
@@ -98,7 +98,7 @@ fn step(data: &[u8], run: Run) -> Run {
 }
 
 // All records of a file. A record takes a byte at least.
-fn replay_all(data: &[u8]) -> Run {
+fn replay_all(data: &[u8]) -> Tally {
     let mut run = replay::start();
     for _ in 0..data.len() {
         run = step(data, run);

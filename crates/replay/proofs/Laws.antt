@@ -95,6 +95,7 @@ pub word-out : (f : List ℕ) (at : ℕ) → length f < at + 4 → 0 ≡ wordAt 
 unfolding wordAt
 word-out f at h = sym (simp (lt-leb (at + 4) (length f) h))
 
-pub word-in : (f : List ℕ) (at : ℕ) → at + 4 ≤ length f → {a b c e : ℕ} → a ≡ byteAt f at → b ≡ byteAt f (at + 1) → c ≡ byteAt f (at + 2) → e ≡ byteAt f (at + 3) → a + b * 256 + (c + e * 256) * 65536 ≡ wordAt f at
+pub word-in : (f : List ℕ) (at : ℕ) → at + 4 ≤ length f → {a b c e : ℕ} → a ≡ byteAt f at → b ≡ byteAt f (at + 1) → c ≡ byteAt f (at + 2)
+    → e ≡ byteAt f (at + 3) → a + b * 256 + (c + e * 256) * 65536 ≡ wordAt f at
 unfolding wordAt fourBytes
 word-in f at h ae be ce ee = sym (simp (le-leb (at + 4) (length f) h, sym ae, sym be, sym ce, sym ee))

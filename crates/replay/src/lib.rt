@@ -5,7 +5,9 @@ ghost use mathlib.Core.Path.{_≡_};
 ghost use mathlib.Core.Bool.{cond};
 ghost use Prim.Native.Nat.{_+_, _%_, _<_, _≤_};
 ghost use Rattle.io.specs.Counts.{Counts};
+ghost use lib.ListN.{take};
 ghost use Rattle.replay.specs.Fields.{byteAt, lengthAt, missingAt, onBy, behind, fieldAt, wordAt, toldAs};
+ghost use Rattle.replay.specs.Records.{numberToldAs, refusalToldAs, wordsToldAs, behindAll, begun, passed};
 
 const MISSING: u32 = 65535;
 
@@ -98,7 +100,10 @@ pub fn told(recorded: u32, is: u32) -> bool
     recorded == is
 }
 
-fn number_told(recorded: u32, is: u32) -> bool {
+// Whether a number is the recorded one.
+fn number_told(recorded: u32, is: u32) -> bool
+    ensures { λ r. ⌜ r ≡ numberToldAs recorded is ⌝ }
+{
     if recorded == FIVE_OR_SIX {
         if is == text::OTHER_BYTE {
             return true;
@@ -111,6 +116,7 @@ fn number_told(recorded: u32, is: u32) -> bool {
 // Whether a refusal is the recorded one: number, keyword and position, from a place on.
 pub fn refusal_agrees(answer: &[u8], at: usize, r: Refusal) -> bool
     requires { ⌜ at ≤ 4 ⌝ }
+    ensures { λ a. ⌜ a ≡ refusalToldAs (now (answer .entry)) at r ⌝ }
 {
     if !number_told(word(answer, at), r.number) {
         return false;
@@ -123,7 +129,9 @@ pub fn refusal_agrees(answer: &[u8], at: usize, r: Refusal) -> bool
 }
 
 // The first n words of a table, or all where there are fewer.
-pub fn first_words(t: &[u32], n: usize) -> &[u32] {
+pub fn first_words(t: &[u32], n: usize) -> &[u32]
+    ensures { λ r. ⌜ now r ≡ take n (now (t .entry)) ⌝ }
+{
     if t.len() < n {
         return t;
     }
@@ -134,6 +142,7 @@ pub fn first_words(t: &[u32], n: usize) -> &[u32] {
 // Whether words of a table are those that are recorded from a place on: each, or each second one and so on, by the step.
 pub fn words_agree(f: &[u8], first: usize, table: &[u32], step: usize) -> bool
     requires { ⌜ 0 < step ⌝ }
+    ensures { λ r. ⌜ r ≡ wordsToldAs (now (f .entry)) first (now (table .entry)) step ⌝ }
 {
     let mut at = first;
     let mut i: usize = 0;
@@ -144,14 +153,16 @@ pub fn words_agree(f: &[u8], first: usize, table: &[u32], step: usize) -> bool
         if table.len() - i <= step {
             return true;
         }
-        at = std::num::wrapping_add_usize(at, 4);
+        at = on_by(f, at, 4);
         i += step;
     }
     true
 }
 
 // The place behind so many fields.
-pub fn after_fields(d: &[u8], at: usize, count: u64) -> usize {
+pub fn after_fields(d: &[u8], at: usize, count: u64) -> usize
+    ensures { λ r. ⌜ r ≡ behindAll count (now (d .entry)) at ⌝ }
+{
     let mut next = at;
     let mut left = count;
     while 0 < left {
@@ -162,30 +173,38 @@ pub fn after_fields(d: &[u8], at: usize, count: u64) -> usize {
 }
 
 // A run over the records of a file: the place of the next one, how many there were, and how many of them are answered otherwise.
-pub struct Run {
+pub struct Tally {
     pub at: usize,
     pub records: u64,
     pub different: u64,
 }
 
-pub fn start() -> Run {
-    Run {
+pub fn start() -> Tally
+    ensures { λ r. ⌜ r ≡ begun ⌝ }
+{
+    Tally {
         at: 0,
         records: 0,
         different: 0,
     }
 }
 
-impl Run {
+impl Tally {
     // One record more, which agrees or not, and the place behind it.
-    pub fn past(self, agrees: bool, behind: usize) -> Run {
+    pub fn past(self, agrees: bool, next: usize) -> Tally
+        ensures { λ r. ⌜ r ≡ passed self agrees next ⌝ }
+    {
         let records = std::num::wrapping_add_u64(self.records, 1);
-        let mut different = self.different;
-        if !agrees {
-            different = std::num::wrapping_add_u64(different, 1);
+        if agrees {
+            return Tally {
+                at: next,
+                records,
+                different: self.different,
+            };
         }
-        Run {
-            at: behind,
+        let different = std::num::wrapping_add_u64(self.different, 1);
+        Tally {
+            at: next,
             records,
             different,
         }
@@ -202,7 +221,7 @@ impl Run {
 }
 
 // The same of a file, by its name.
-pub fn say_file(name: &[u8], run: Run) {
+pub fn say_file(name: &[u8], run: Tally) {
     io::write_all(STDOUT_FILENO, name);
     io::write_all(STDOUT_FILENO, b": ");
     run.say(b"");

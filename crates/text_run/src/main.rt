@@ -1,5 +1,5 @@
 // Replays recorded answers of the Rust for single values, statements and tokens, and runs the traps of document 01.
-use replay::Run;
+use replay::Tally;
 use text::Cursor;
 use text::Match;
 use text_skip::Skipped;
@@ -103,7 +103,7 @@ fn tokens_from(classes: &[u8; 128], s: &[u8]) -> Cursor
     match belongs {
         Match::After(_) => {
             let rest = Cursor { at: 21 };
-            let skipped = text_skip::skip_statement(rest, classes, s);
+            let skipped = text_statement::skip_statement(rest, classes, s);
             let Skipped::Past(next, _) = skipped else {
                 return opened;
             };
@@ -150,7 +150,7 @@ fn behind_record(data: &[u8], at: usize) -> usize {
 }
 
 // One record more, if there is one.
-fn step(data: &[u8], values: bool, run: Run) -> Run {
+fn step(data: &[u8], values: bool, run: Tally) -> Tally {
     let at = run.at;
     if data.len() <= at {
         return run;
@@ -159,7 +159,7 @@ fn step(data: &[u8], values: bool, run: Run) -> Run {
 }
 
 // All records of a file. A record takes a byte at least.
-fn replay_all(data: &[u8], values: bool) -> Run {
+fn replay_all(data: &[u8], values: bool) -> Tally {
     let mut run = replay::start();
     for _ in 0..data.len() {
         run = step(data, values, run);
@@ -178,7 +178,7 @@ fn replay_file(name: &[u8], values: bool) {
 fn statement_ends(s: &[u8], at: usize) -> bool {
     let classes = text::classes();
     let start = Cursor { at: 0 };
-    let skipped = text_skip::skip_statement(start, &classes, s);
+    let skipped = text_statement::skip_statement(start, &classes, s);
     let Skipped::Past(next, _) = skipped else {
         return false;
     };

@@ -1,5 +1,5 @@
 // Replays recorded graphs of the Rust: nodes, edges in order, or which refusal.
-use replay::Run;
+use replay::Tally;
 use text::Refusal;
 use yanglib::Graphed;
 
@@ -83,7 +83,7 @@ fn record_agrees(data: &[u8], at: usize) -> bool {
 }
 
 // One record more, if there is one. It has five fields.
-fn step(data: &[u8], run: Run) -> Run {
+fn step(data: &[u8], run: Tally) -> Tally {
     let at = run.at;
     if data.len() <= at {
         return run;
@@ -92,7 +92,7 @@ fn step(data: &[u8], run: Run) -> Run {
 }
 
 // All records of a file. A record takes a byte at least.
-fn replay_all(data: &[u8]) -> Run {
+fn replay_all(data: &[u8]) -> Tally {
     let mut run = replay::start();
     for _ in 0..data.len() {
         run = step(data, run);

@@ -1,5 +1,5 @@
 // Replays recorded answers of the Rust for whole texts: dependencies and their printed form, and metadata.
-use replay::Run;
+use replay::Tally;
 use scan_page::Page;
 use scan_rows::Span;
 use yangparser::Parsed;
@@ -221,7 +221,7 @@ fn behind(kind: Kind, data: &[u8], at: usize) -> usize {
 }
 
 // One record more, if there is one.
-fn step(kind: Kind, data: &[u8], run: Run) -> Run {
+fn step(kind: Kind, data: &[u8], run: Tally) -> Tally {
     let at = run.at;
     if data.len() <= at {
         return run;
@@ -230,7 +230,7 @@ fn step(kind: Kind, data: &[u8], run: Run) -> Run {
 }
 
 // All records of a file. A record takes a byte at least.
-fn replay_all(kind: Kind, data: &[u8]) -> Run {
+fn replay_all(kind: Kind, data: &[u8]) -> Tally {
     let mut run = replay::start();
     for _ in 0..data.len() {
         run = step(kind, data, run);

@@ -14,7 +14,8 @@ returns-2 : tie.Need-returns-2
 returns-2 c =
     let start = c .before .before .before .before .before .before in
     let missing = c .before .before .before in
-    behind-there (start .args .d .now) (start .args .at) (missing .before .on-by .ensures) (missing .missing .ensures) (c .before .before .if1 .left) (c .before .length-at .ensures .0) (c .on-by2 .ensures)
+    behind-there (start .args .d .now) (start .args .at) (missing .before .on-by .ensures) (missing .missing .ensures) (c .before .before .if1 .left)
+    (c .before .length-at .ensures .0) (c .on-by2 .ensures)
 
 pub after-spec : {M : Type 1} → statement M
 after-spec =

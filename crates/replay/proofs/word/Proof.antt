@@ -16,7 +16,8 @@ returns-3 : tie.Need-returns-3
 returns-3 c =
     let low = c .before .before in
     let start = low .before .before .before .before .before in
-    word-in (start .args .f .now) (start .args .at) (omega arith) (low .before .byte .ensures .0) (low .byte2 .ensures .0) (c .before .byte3 .ensures .0) (c .byte4 .ensures .0)
+    word-in (start .args .f .now) (start .args .at) (omega arith) (low .before .byte .ensures .0) (low .byte2 .ensures .0) (c .before .byte3 .ensures .0)
+    (c .byte4 .ensures .0)
 
 pub word-spec : {M : Type 1} → statement M
 word-spec =
