@@ -1,13 +1,16 @@
 #!/bin/sh
-# check.sh: the host's quick checks: the archive from C, installed too, and under attack; the packing of images and bundles, the Rust crate and its command,
-# the examples, the README's snippets and the picture of the crates; then the port beside plain readings and beside the original Rust. What needs the NetGauze
-# source, or a newer Rust, is skipped where that is not at hand, and says so.
+# check.sh [alone | over]: the host's quick checks. `alone`: those that need no archive, so that they can run beside the proofs: the documents, the picture of
+# the crates, how an archive is made, the packing of images and bundles, and the recorded answers of the original Rust. `over`: the archive from C, installed
+# too, and under attack, the Rust crate and its command, the examples, the README's snippets; the port beside plain readings and beside the original. With no
+# word, both. What needs the NetGauze source, or a newer Rust, is skipped where that is not at hand, and says so.
 set -eu
 here=$(cd "$(dirname "$0")" && pwd)
 cd "$here/.."
+which=${1:-both}
 compare=$here/compare/build/release/compare
 minor=$(rustc --version 2>/dev/null | sed -n 's/^rustc 1\.\([0-9]*\)\..*/\1/p')
 command -v cargo >/dev/null || minor=0
+minor=${minor:-0}
 work=$(mktemp -d)
 parts=
 # shellcheck disable=SC2086
@@ -29,55 +32,54 @@ both() {
     [ -z "$failed" ] || { echo "host: failed:$failed" >&2; exit 1; }
 }
 
-# What is skipped; the last line of all.
-skip() { echo "host: SKIPPED, $1: $2" >"$work/skipped"; }
+skip() { echo "host: SKIPPED, $1: $2"; }
 
-from_c_and_rust() {
-    "$here/archive/test.sh"
-    archive=$("$here/archive/archive.sh" nuvaleta)
-    "$here/c/test.sh" "$archive"
-    "$here/attack/test.sh" "$archive"
-    rust=rust
-    [ "${minor:-0}" -ge 63 ] || rust=
-    # shellcheck disable=SC2086
-    "$here/example/test.sh" README.md c $rust
-    [ -n "$rust" ] || return 0
-    "$here/rust/test.sh"
-    "$here/rust/test_all.py"
-    "$here/../examples/test.sh"
+# The oracle, from the original Rust. 1: it cannot be built here.
+judged() {
+    rest="the oracle, the recorded answers and the comparison"
+    [ "$minor" -ge 88 ] || { skip "no Rust of 1.88 or newer" "$rest"; return 1; }
+    status=0
+    "$here/oracle/build.sh" || status=$?
+    [ "$status" != 3 ] || { skip "no NetGauze source" "$rest with the original"; return 1; }
+    [ "$status" = 0 ] || exit "$status"
 }
 
-packed_and_judged() {
+alone() {
     "$here/readme/reading.py" README.md
     "$here/readme/named.py"
     "$here/architecture/test.sh"
+    "$here/archive/test.sh"
     "$here/pack/test.py"
-    rest="the oracle, the recorded answers and the comparison"
-    [ "${minor:-0}" -ge 63 ] || { skip "no Rust of 1.63 or newer" "the Rust crate and the command, $rest"; return 0; }
-    [ "$minor" -ge 88 ] || { skip "no Rust of 1.88 or newer" "$rest"; return 0; }
-    status=0
-    "$here/oracle/build.sh" || status=$?
-    [ "$status" != 3 ] || { skip "no NetGauze source" "$rest with the original"; return 0; }
-    [ "$status" = 0 ] || exit "$status"
+    judged || return 0
     "$here/oracle/test.py"
     "$here/vectors/build.sh"
     "$here/vectors/build/release/vectors" verify "$here/../crates"
 }
 
-# These ask the original nothing.
-plainly_compared() {
+from_c_and_rust() {
+    "$here/c/test.sh" "$archive"
+    "$here/attack/test.sh" "$archive"
+    rust=rust
+    [ "$minor" -ge 63 ] || rust=
+    # shellcheck disable=SC2086
+    "$here/example/test.sh" README.md c $rust
+    [ -n "$rust" ] || { skip "no Rust of 1.63 or newer" "the Rust crate and the command"; return 0; }
+    "$here/rust/test.sh"
+    "$here/rust/test_all.py"
+    "$here/../examples/test.sh"
+}
+
+# The first three ask the original nothing.
+compared() {
+    [ "$minor" -ge 88 ] || { skip "no Rust of 1.88 or newer" "the comparison"; return 0; }
+    "$here/compare/build.sh"
     "$compare" edges
     "$compare" changes 3 24
     "$compare" orders 13 20000
-}
-
-texts_compared() {
+    judged || return 0
     "$compare" texts 7 10000
     # shellcheck disable=SC2086
     "$compare" files 3 3 $real
-}
-
-libraries_compared() {
     "$compare" finds 5 2000
     "$compare" graphs 9 2000
     yuma=$(dpkg -L libyuma-base | grep '/yuma/modules$')
@@ -87,13 +89,22 @@ libraries_compared() {
     "$compare" graph-of "$work/real.image" "$work/real.bundle"
 }
 
+over() {
+    archive=$("$here/archive/archive.sh" nuvaleta)
+    both from_c_and_rust compared
+}
+
 # All that two parts could both want to install, and the packages that the packing's tests look for.
 "$here/need" gcc g++ libc6-dev binutils make pkg-config python3 valgrind
 real=$("$here/vectors/real.sh")
-both from_c_and_rust packed_and_judged
-if [ "${minor:-0}" -ge 88 ]; then
-    "$here/compare/build.sh"
-    plainly_compared
-fi
-[ ! -e "$work/skipped" ] || { cat "$work/skipped"; exit 0; }
-both texts_compared libraries_compared
+case $which in
+alone | over) "$which" ;;
+both)
+    alone
+    over
+    ;;
+*)
+    echo "usage: host/check.sh [alone | over]" >&2
+    exit 2
+    ;;
+esac
