@@ -1,4 +1,5 @@
 //! The build script of host/rust: says where archive.sh puts the archive, and that a change of it is one of the crate, and so of all that is built on it.
+//! NUVALETA_ARCHIVE names the folder of another one: host/bench/beside times two builds.
 
 use std::path::Path;
 
@@ -9,6 +10,10 @@ fn main() {
     if processor != "x86_64" {
         folder.push(processor);
     }
+    if let Ok(other) = std::env::var("NUVALETA_ARCHIVE") {
+        folder = other.into();
+    }
+    println!("cargo:rerun-if-env-changed=NUVALETA_ARCHIVE");
     let archive = folder.join("libnuvaleta.a");
     if !archive.is_file() {
         println!("cargo:warning=no archive yet: host/build makes it");

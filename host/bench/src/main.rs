@@ -1,5 +1,5 @@
 //! bench IMAGE BUNDLE FILE..: the port beside the original Rust, on the same inputs in one run, as a table with what is to be known of it. The files
-//! are real modules; image and bundle hold the same.
+//! are real modules; image and bundle hold the same. With --port before them: the port's times alone, a line each, in nanoseconds (./beside compares them).
 
 #[path = "../../compare/src/port.rs"]
 #[allow(dead_code)]
@@ -21,16 +21,21 @@ mod table;
 mod timing;
 
 use table::{Group, grouped};
-use timing::{Row, measure};
+use timing::{Row, measure, measure_port};
 use vectors::form; // house.rs looks for it here
 
 const ROUNDS: usize = 20;
 const ROUNDS_OF_MANY: usize = 4;
+const ROUNDS_OF_PORT: usize = 2;
 
 fn main() {
-    let args: Vec<String> = std::env::args().skip(1).collect();
+    let mut args: Vec<String> = std::env::args().skip(1).collect();
+    let alone = args.first().is_some_and(|word| word == "--port");
+    if alone {
+        args.remove(0);
+    }
     let [image, bundle, files @ ..] = &args[..] else {
-        eprintln!("usage: bench IMAGE BUNDLE FILE..");
+        eprintln!("usage: bench [--port] IMAGE BUNDLE FILE..");
         std::process::exit(2);
     };
     let (dependencies, metadata) = (scans::for_dependencies(files), scans::for_metadata(files));
@@ -49,6 +54,10 @@ fn main() {
         Group { name: "order of registration", rows: orders.iter().map(order::ordering).chain([order::checking(&orders[0])]).collect() },
         Group { name: "reading alone (none in the Rust)", rows: scans::look_ups().chain(graphs.iter().map(graph::reading)).collect() },
     ];
+    if alone {
+        measure_port(groups.iter_mut().flat_map(|group| &mut group.rows), ROUNDS_OF_PORT);
+        return table::print_port(&groups);
+    }
     measure(groups.iter_mut().flat_map(|group| &mut group.rows), ROUNDS);
     // Only now, since an allocator may be slower with so much that comes and goes, and with threads; and of the two only the Rust needs one.
     fleet = routers::fleet();

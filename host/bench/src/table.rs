@@ -47,3 +47,10 @@ pub fn print(groups: &[Group]) {
         group.rows.iter().for_each(|row| println!("{}", line(row)));
     }
 }
+
+/// The port's times, in nanoseconds, a line each: group, row, time.
+pub fn print_port(groups: &[Group]) {
+    for group in groups {
+        group.rows.iter().for_each(|row| println!("{}\t{}\t{}", group.name, row.what, row.times.port));
+    }
+}

@@ -53,6 +53,14 @@ impl<'a> Row<'a> {
         self.runs = ((TURN / first) as usize).clamp(LEAST_RUNS, MOST_RUNS);
     }
 
+    fn plan_port(&mut self) {
+        self.runs = ((TURN / best(LEAST_RUNS, &mut self.port)) as usize).clamp(LEAST_RUNS, MOST_RUNS);
+    }
+
+    fn time_port(&mut self) {
+        self.times.port = self.times.port.min(best(self.runs, &mut self.port));
+    }
+
     fn take_turns(&mut self) {
         let rust = self.rust.as_mut().map(|run| best(self.runs, run));
         let port = best(self.runs, &mut self.port);
@@ -85,6 +93,15 @@ pub fn measure<'r, 'a: 'r>(rows: impl Iterator<Item = &'r mut Row<'a>>, rounds: 
     rows.iter_mut().for_each(|row| row.plan());
     for _ in 0..rounds {
         rows.iter_mut().for_each(|row| row.take_turns());
+    }
+}
+
+/// The port alone, for a time beside that of another build.
+pub fn measure_port<'r, 'a: 'r>(rows: impl Iterator<Item = &'r mut Row<'a>>, rounds: usize) {
+    let mut rows: Vec<&mut Row> = rows.collect();
+    rows.iter_mut().for_each(|row| row.plan_port());
+    for _ in 0..rounds {
+        rows.iter_mut().for_each(|row| row.time_port());
     }
 }
 
