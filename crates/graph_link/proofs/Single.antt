@@ -34,9 +34,6 @@ module _ (r : Included) (v : NodeIndex) (row : ℕ) (e : r ≡ Below v) (z : row
   code-low : IncludedNode r mostNodes → row < mostNodes
   code-low h = let k : v .0 < mostNodes = rw e at h in omega arith
 
-  pub code-cast : IncludedNode r mostNodes → Fits w32 row
-  code-cast h = record { fits = omega (arith, code-low h) }
-
   pub code-fits : IncludedNode r mostNodes → Fits w32 (row + 2)
   code-fits h = record { fits = omega (arith, code-low h) }
 

@@ -69,14 +69,6 @@ unfolding behind bytesFrom
 behind-from d at =
     by-test (missingAt d at) (λ t. rw t (omega arith)) (λ f. rw f (on-from d (onBy d at 2) (lengthAt d at) (on-within d at 2)))
 
--- a reader of fields comes nearer the end
-on-two : (d : List ℕ) (at : ℕ) → at < length d → at < onBy d at 2
-unfolding onBy
-on-two d at h = by-test (leb (at + 2) (length d)) (λ t. rw t (omega arith)) (λ f. rw f h)
-
-pub behind-on : (d : List ℕ) (at : ℕ) → at < length d → at < behind d at
-behind-on d at h = omega (arith, on-two d at h, behind-from d at)
-
 -- f and t: the two places
 module _ (d : List ℕ) (at : ℕ) {f t : ℕ} (fe : f ≡ onBy d at 2) (te : t ≡ behind d at) where
   pub field-order : f ≤ t

@@ -98,13 +98,3 @@ imports-length is = table-length importWords importSize import-words is
 pub includes-length : (is : List YangInclude) → length (includeTable is) ≡ length is * includeSize
 unfolding includeTable
 includes-length is = table-length includeWords includeSize include-words is
-
-pub imports-step : (is : List YangImport) (i : YangImport) (t e f : List ℕ) → e ≡ sets t 0 (importTable is)
-    → f ≡ sets e (length is * importSize) (importWords i) → f ≡ sets t 0 (importTable (is ++ (i ∷ [])))
-unfolding importTable
-imports-step is i t e f p q = table-step importWords importSize import-words is i t e f p q
-
-pub includes-step : (is : List YangInclude) (i : YangInclude) (t e f : List ℕ) → e ≡ sets t 0 (includeTable is)
-    → f ≡ sets e (length is * includeSize) (includeWords i) → f ≡ sets t 0 (includeTable (is ++ (i ∷ [])))
-unfolding includeTable
-includes-step is i t e f p q = table-step includeWords includeSize include-words is i t e f p q
