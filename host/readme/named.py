@@ -1,7 +1,8 @@
 #!/usr/bin/env python3
 """named.py: what the documents name is there. docs/ARCHITECTURE.md has the floors and crates of crates.txt, in its order. In README.md, CONTRIBUTING.md and
 docs/*.md, `crates/..` is a path; `CRATE/File` is a file of definitions (crates/CRATE/specs/File.antt) that has the names in backquotes behind it;
-`CRATE/proofs/File` is a file of laws; `CRATE/an_edit` is a must-fail edit. Notes of changes (docs/changes) tell of their own time and are not looked at."""
+`CRATE/proofs/File` is a file of laws; `CRATE/an_edit` is a must-fail edit. docs/PROMISES.md names every edit. Notes of changes (docs/changes) tell of their own
+time and are not looked at."""
 import re
 import sys
 from pathlib import Path
@@ -70,14 +71,24 @@ def faults_of(text, crates):
             yield f"{hit[0]}: there is no such edit"
 
 
+def unnamed_edits():
+    """Edits that docs/PROMISES.md does not name."""
+    text = (ROOT / "docs" / "PROMISES.md").read_text()
+    for edit in sorted(CRATES.glob("*/must-fail/*.edit")):
+        name = f"{edit.parts[-3]}/{edit.stem}"
+        if not re.search(rf"(?<![\w/]){name}(?!\w)", text):
+            yield f"PROMISES.md: {name} is not named"
+
+
 def main():
     crates = {name for _, names in listed_floors() for name in names}
     faults = [] if told_floors() == listed_floors() else ["docs/ARCHITECTURE.md: its table does not have the floors and crates of crates.txt, in their order"]
     for file in [ROOT / "README.md", ROOT / "CONTRIBUTING.md", *sorted((ROOT / "docs").glob("*.md"))]:
         faults += [f"{file.name}: {fault}" for fault in faults_of(file.read_text(), crates)]
+    faults += unnamed_edits()
     if faults:
-        sys.exit("\n".join(["named: the documents name what is not there:", *faults]))
-    print("named: crates, definitions, laws and edits that the documents name are there")
+        sys.exit("\n".join(["named: what the documents name, and what is there, differ:", *faults]))
+    print("named: crates, definitions, laws and edits that the documents name are there, and every edit is named")
 
 
 if __name__ == "__main__":
