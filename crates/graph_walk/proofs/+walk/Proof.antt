@@ -54,6 +54,25 @@ callees t = (
   walk.Post,
 )
 
+-- places that several answers go back to: visit from the loop's head, the start from visit; the loop's head from an include that is refused; the walk of its text
+-- from the refusal of that
+abbrev visit-of : (t : ℕ) → walk-lts.At-loop (callees t) (walk-at t) walk.Post walk-Inv-loop walk-μ-loop
+    → walk-lts.After-visit (callees t) (walk-at t) walk.Post walk-Inv-loop walk-μ-loop
+visit-of t c = c .before .before .before .before .before .before .before .before .before .before .before .before .before .before .before .before
+
+abbrev start-of : (t : ℕ) → walk-lts.After-visit (callees t) (walk-at t) walk.Post walk-Inv-loop walk-μ-loop
+    → walk-lts.Start (callees t) (walk-at t) walk.Post walk-Inv-loop walk-μ-loop
+start-of t c = c .before .before .before .before .before .before .before .before .before .before .before .before .before .before .before .before .before
+    .before .before
+
+abbrev halted-loop : (t : ℕ) → walk-lts.After-no-refusal (callees t) (walk-at t) walk.Post walk-Inv-loop walk-μ-loop
+    → walk-lts.At-loop (callees t) (walk-at t) walk.Post walk-Inv-loop walk-μ-loop
+halted-loop t c = c .before .before .before .before .before .before .before .before .before .before .before .before .before
+
+abbrev below-walk : (t : ℕ) → walk-lts.After-enum-told (callees t) (walk-at t) walk.Post walk-Inv-loop walk-μ-loop
+    → walk-lts.After-walk (callees t) (walk-at t) walk.Post walk-Inv-loop walk-μ-loop
+below-walk t c = c .before .before .before .before .before .before .before .before .before .before .before .before .before .before
+
 visit-requires : (t : ℕ) → walk-lts.Need-visit-requires (callees t) (walk-at t) walk.Post walk-Inv-loop walk-μ-loop
 visit-requires t c κs =
     let start =
@@ -64,19 +83,15 @@ loop-holds : (t : ℕ) → walk-lts.Need-loop-holds (callees t) (walk-at t) walk
 loop-holds t c =
     let visited2-at = c .before in
     let visit1 = visited2-at .before .before .before .before .before .before .before .before .before .before .before .before .before .before in
-    let start =
-    visit1 .before .before .before .before .before .before .before .before .before .before .before .before .before .before .before .before .before
-    .before .before in
+    let start = start-of t visit1 in
     (begun (visit1 .visit .ensures .0) (visited2-at .visited2 .given .1) (start .pre .1 .1) (visit1 .visit .ensures .1), as-long _ _ _)
 
 add-step : (t : ℕ) → walk-lts.Need-add-step (callees t) (walk-at t) walk.Post walk-Inv-loop walk-μ-loop
 add-step t c =
     let loop-test1 = c in
     let loop1 = loop-test1 .before in
-    let visit1 = loop1 .before .before .before .before .before .before .before .before .before .before .before .before .before .before .before .before in
-    let start =
-    visit1 .before .before .before .before .before .before .before .before .before .before .before .before .before .before .before .before .before
-    .before .before in
+    let visit1 = visit-of t loop1 in
+    let start = start-of t visit1 in
     record {
       fits = omega (
         arith,
@@ -91,10 +106,8 @@ mul-step : (t : ℕ) → walk-lts.Need-mul-step (callees t) (walk-at t) walk.Pos
 mul-step t c =
     let loop-test1 = c in
     let loop1 = loop-test1 .before in
-    let visit1 = loop1 .before .before .before .before .before .before .before .before .before .before .before .before .before .before .before .before in
-    let start =
-    visit1 .before .before .before .before .before .before .before .before .before .before .before .before .before .before .before .before .before
-    .before .before in
+    let visit1 = visit-of t loop1 in
+    let start = start-of t visit1 in
     record {
       fits = omega (
         arith,
@@ -109,52 +122,12 @@ step-requires : (t : ℕ) → walk-lts.Need-step-requires (callees t) (walk-at t
 step-requires t c κs =
     let loop-test1 = c .before .before .before in
     let loop1 = loop-test1 .before in
-    let start =
-    loop1 .before .before .before .before .before .before .before .before .before .before .before .before .before .before .before .before .before
-    .before .before .before .before .before .before .before .before .before .before .before .before .before .before .before .before .before .before in (
+    let start = start-of t (visit-of t loop1) in (
       loop1 .loop .inv .0 .filed,
       word-node (loop1 .loop .inv .0) (start .pre .1 .0 .desk) (loop-test1 .loop-test .taken),
       node-low _ _ _ _
           (start .pre .1 .0 .desk) _ (start .pre .1 .2),
     )
-
-same-length : (t : ℕ) → walk-lts.Need-same-length (callees t) (walk-at t) walk.Post walk-Inv-loop walk-μ-loop
-same-length t c =
-    let loop1 = c .before .before .before .before .before .before .before .before .before .before .before .before .before in
-    let visit1 = loop1 .before .before .before .before .before .before .before .before .before .before .before .before .before .before .before .before in
-    loop1 .loop .inv .1 .store-long ∙ visit1 .visit .ensures .1 .store-long
-
-same-length-2 : (t : ℕ) → walk-lts.Need-same-length-2 (callees t) (walk-at t) walk.Post walk-Inv-loop walk-μ-loop
-same-length-2 t c =
-    let loop1 = c .before .before .before .before .before .before .before .before .before .before .before .before .before in
-    let visit1 = loop1 .before .before .before .before .before .before .before .before .before .before .before .before .before .before .before .before in
-    loop1 .loop .inv .1 .imports-long ∙ visit1 .visit .ensures .1 .imports-long
-
-same-length-3 : (t : ℕ) → walk-lts.Need-same-length-3 (callees t) (walk-at t) walk.Post walk-Inv-loop walk-μ-loop
-same-length-3 t c =
-    let loop1 = c .before .before .before .before .before .before .before .before .before .before .before .before .before in
-    let visit1 = loop1 .before .before .before .before .before .before .before .before .before .before .before .before .before .before .before .before in
-    loop1 .loop .inv .1 .includes-long ∙ visit1 .visit .ensures .1 .includes-long
-
-same-length-4 : (t : ℕ) → walk-lts.Need-same-length-4 (callees t) (walk-at t) walk.Post walk-Inv-loop walk-μ-loop
-same-length-4 t c =
-    let loop1 = c .before .before .before .before .before .before .before .before .before .before .before .before .before in
-    let visit1 = loop1 .before .before .before .before .before .before .before .before .before .before .before .before .before .before .before .before in
-    loop1 .loop .inv .0 .long ∙ visit1 .visit .ensures .1 .levels-long
-
-same-length-5 : (t : ℕ) → walk-lts.Need-same-length-5 (callees t) (walk-at t) walk.Post walk-Inv-loop walk-μ-loop
-same-length-5 t c =
-    let step1 = c .before .before .before .before .before .before .before .before in
-    let loop1 = step1 .before .before .before .before .before in
-    let visit1 = loop1 .before .before .before .before .before .before .before .before .before .before .before .before .before .before .before .before in
-    step1 .step .ensures .kept-edges ∙ loop1 .loop .inv .0 .long-edges ∙ visit1 .visit .ensures .0 .kept-edges
-
-same-length-6 : (t : ℕ) → walk-lts.Need-same-length-6 (callees t) (walk-at t) walk.Post walk-Inv-loop walk-μ-loop
-same-length-6 t c =
-    let step1 = c .before .before .before .before .before .before .before .before in
-    let loop1 = step1 .before .before .before .before .before in
-    let visit1 = loop1 .before .before .before .before .before .before .before .before .before .before .before .before .before .before .before .before in
-    step1 .step .ensures .kept-chains ∙ loop1 .loop .inv .0 .long-chains ∙ visit1 .visit .ensures .0 .kept-chains
 
 returns : (t : ℕ) → walk-lts.Need-returns (callees t) (walk-at t) walk.Post walk-Inv-loop walk-μ-loop
 returns t c =
@@ -184,10 +157,8 @@ walk-requires t c κs =
     let step1 = u1 .before .before .before .before .before .before in
     let loop-test1 = step1 .before .before .before .before in
     let loop1 = loop-test1 .before in
-    let visit1 = loop1 .before .before .before .before .before .before .before .before .before .before .before .before .before .before .before .before in
-    let start =
-    visit1 .before .before .before .before .before .before .before .before .before .before .before .before .before .before .before .before .before
-    .before .before in (
+    let visit1 = visit-of t loop1 in
+    let start = start-of t visit1 in (
       omega (arith, start .pre .0, some-left (loop1 .loop .inv .0) (step1 .step .ensures) (loop-test1 .loop-test .taken) (u1 .u .given .1)),
       (
         start .pre .1 .0,
@@ -197,58 +168,6 @@ walk-requires t c κs =
             (u1 .u .given .1),
       ),
     )
-
-same-length-7 : (t : ℕ) → walk-lts.Need-same-length-7 (callees t) (walk-at t) walk.Post walk-Inv-loop walk-μ-loop
-same-length-7 t c =
-    let walk1 = c .before .before .before .before .before .before .before .before .before .before .before .before .before .before in
-    let loop1 =
-    walk1 .before .before .before .before .before .before .before .before .before .before .before .before .before .before .before .before .before
-    .before .before in
-    let visit1 = loop1 .before .before .before .before .before .before .before .before .before .before .before .before .before .before .before .before in
-    walk1 .walk .ensures .1 .store-long ∙ loop1 .loop .inv .1 .store-long ∙ visit1 .visit .ensures .1 .store-long
-
-same-length-8 : (t : ℕ) → walk-lts.Need-same-length-8 (callees t) (walk-at t) walk.Post walk-Inv-loop walk-μ-loop
-same-length-8 t c =
-    let walk1 = c .before .before .before .before .before .before .before .before .before .before .before .before .before .before in
-    let loop1 =
-    walk1 .before .before .before .before .before .before .before .before .before .before .before .before .before .before .before .before .before
-    .before .before in
-    let visit1 = loop1 .before .before .before .before .before .before .before .before .before .before .before .before .before .before .before .before in
-    walk1 .walk .ensures .1 .imports-long ∙ loop1 .loop .inv .1 .imports-long ∙ visit1 .visit .ensures .1 .imports-long
-
-same-length-9 : (t : ℕ) → walk-lts.Need-same-length-9 (callees t) (walk-at t) walk.Post walk-Inv-loop walk-μ-loop
-same-length-9 t c =
-    let walk1 = c .before .before .before .before .before .before .before .before .before .before .before .before .before .before in
-    let loop1 =
-    walk1 .before .before .before .before .before .before .before .before .before .before .before .before .before .before .before .before .before
-    .before .before in
-    let visit1 = loop1 .before .before .before .before .before .before .before .before .before .before .before .before .before .before .before .before in
-    walk1 .walk .ensures .1 .includes-long ∙ loop1 .loop .inv .1 .includes-long ∙ visit1 .visit .ensures .1 .includes-long
-
-same-length-10 : (t : ℕ) → walk-lts.Need-same-length-10 (callees t) (walk-at t) walk.Post walk-Inv-loop walk-μ-loop
-same-length-10 t c =
-    let walk1 = c .before .before .before .before .before .before .before .before .before .before .before .before .before .before in
-    let loop1 =
-    walk1 .before .before .before .before .before .before .before .before .before .before .before .before .before .before .before .before .before
-    .before .before in
-    let visit1 = loop1 .before .before .before .before .before .before .before .before .before .before .before .before .before .before .before .before in
-    walk1 .walk .ensures .1 .levels-long ∙ loop1 .loop .inv .0 .long ∙ visit1 .visit .ensures .1 .levels-long
-
-same-length-11 : (t : ℕ) → walk-lts.Need-same-length-11 (callees t) (walk-at t) walk.Post walk-Inv-loop walk-μ-loop
-same-length-11 t c =
-    let walk1 = c .before .before .before .before .before .before .before .before .before .before .before .before .before .before in
-    let step1 = walk1 .before .before .before .before .before .before .before .before .before .before .before .before .before .before in
-    let loop1 = step1 .before .before .before .before .before in
-    let visit1 = loop1 .before .before .before .before .before .before .before .before .before .before .before .before .before .before .before .before in
-    walk1 .walk .ensures .0 .kept-edges ∙ step1 .step .ensures .kept-edges ∙ loop1 .loop .inv .0 .long-edges ∙ visit1 .visit .ensures .0 .kept-edges
-
-same-length-12 : (t : ℕ) → walk-lts.Need-same-length-12 (callees t) (walk-at t) walk.Post walk-Inv-loop walk-μ-loop
-same-length-12 t c =
-    let walk1 = c .before .before .before .before .before .before .before .before .before .before .before .before .before .before in
-    let step1 = walk1 .before .before .before .before .before .before .before .before .before .before .before .before .before .before in
-    let loop1 = step1 .before .before .before .before .before in
-    let visit1 = loop1 .before .before .before .before .before .before .before .before .before .before .before .before .before .before .before .before in
-    walk1 .walk .ensures .0 .kept-chains ∙ step1 .step .ensures .kept-chains ∙ loop1 .loop .inv .0 .long-chains ∙ visit1 .visit .ensures .0 .kept-chains
 
 returns-2 : (t : ℕ) → walk-lts.Need-returns-2 (callees t) (walk-at t) walk.Post walk-Inv-loop walk-μ-loop
 returns-2 t c =
@@ -295,77 +214,11 @@ loop-again t c =
       longer (loop1 .loop .inv .1) (walk1 .walk .ensures .1),
     )
 
-same-length-13 : (t : ℕ) → walk-lts.Need-same-length-13 (callees t) (walk-at t) walk.Post walk-Inv-loop walk-μ-loop
-same-length-13 t c =
-    let visit1 = c .before .before .before .before .before .before .before .before .before .before .before .before .before .before .before in
-    visit1 .visit .ensures .1 .store-long
-
-same-length-14 : (t : ℕ) → walk-lts.Need-same-length-14 (callees t) (walk-at t) walk.Post walk-Inv-loop walk-μ-loop
-same-length-14 t c =
-    let visit1 = c .before .before .before .before .before .before .before .before .before .before .before .before .before .before .before in
-    visit1 .visit .ensures .1 .imports-long
-
-same-length-15 : (t : ℕ) → walk-lts.Need-same-length-15 (callees t) (walk-at t) walk.Post walk-Inv-loop walk-μ-loop
-same-length-15 t c =
-    let visit1 = c .before .before .before .before .before .before .before .before .before .before .before .before .before .before .before in
-    visit1 .visit .ensures .1 .includes-long
-
-same-length-16 : (t : ℕ) → walk-lts.Need-same-length-16 (callees t) (walk-at t) walk.Post walk-Inv-loop walk-μ-loop
-same-length-16 t c =
-    let visit1 = c .before .before .before .before .before .before .before .before .before .before .before .before .before .before .before in
-    visit1 .visit .ensures .1 .levels-long
-
-same-length-17 : (t : ℕ) → walk-lts.Need-same-length-17 (callees t) (walk-at t) walk.Post walk-Inv-loop walk-μ-loop
-same-length-17 t c =
-    let visit1 = c .before .before .before .before .before .before .before .before .before .before .before .before .before .before .before in
-    visit1 .visit .ensures .0 .kept-edges
-
-same-length-18 : (t : ℕ) → walk-lts.Need-same-length-18 (callees t) (walk-at t) walk.Post walk-Inv-loop walk-μ-loop
-same-length-18 t c =
-    let visit1 = c .before .before .before .before .before .before .before .before .before .before .before .before .before .before .before in
-    visit1 .visit .ensures .0 .kept-chains
-
 returns-3 : (t : ℕ) → walk-lts.Need-returns-3 (callees t) (walk-at t) walk.Post walk-Inv-loop walk-μ-loop
 returns-3 t c =
     let visited1 = c .before in
     let visit1 = visited1 .before .before .before .before .before .before .before .before .before .before .before .before .before .before in
     (not-visited _ (visit1 .visit .ensures .0) _ _ (visited1 .visited .given .1), kept-up _ (visit1 .visit .ensures .1))
-
-same-length-19 : (t : ℕ) → walk-lts.Need-same-length-19 (callees t) (walk-at t) walk.Post walk-Inv-loop walk-μ-loop
-same-length-19 t c =
-    let loop1 = c .before in
-    let visit1 = loop1 .before .before .before .before .before .before .before .before .before .before .before .before .before .before .before .before in
-    loop1 .loop .inv .1 .store-long ∙ visit1 .visit .ensures .1 .store-long
-
-same-length-20 : (t : ℕ) → walk-lts.Need-same-length-20 (callees t) (walk-at t) walk.Post walk-Inv-loop walk-μ-loop
-same-length-20 t c =
-    let loop1 = c .before in
-    let visit1 = loop1 .before .before .before .before .before .before .before .before .before .before .before .before .before .before .before .before in
-    loop1 .loop .inv .1 .imports-long ∙ visit1 .visit .ensures .1 .imports-long
-
-same-length-21 : (t : ℕ) → walk-lts.Need-same-length-21 (callees t) (walk-at t) walk.Post walk-Inv-loop walk-μ-loop
-same-length-21 t c =
-    let loop1 = c .before in
-    let visit1 = loop1 .before .before .before .before .before .before .before .before .before .before .before .before .before .before .before .before in
-    loop1 .loop .inv .1 .includes-long ∙ visit1 .visit .ensures .1 .includes-long
-
-same-length-22 : (t : ℕ) → walk-lts.Need-same-length-22 (callees t) (walk-at t) walk.Post walk-Inv-loop walk-μ-loop
-same-length-22 t c =
-    let loop1 = c .before in
-    let visit1 = loop1 .before .before .before .before .before .before .before .before .before .before .before .before .before .before .before .before in
-    loop1 .loop .inv .0 .long ∙ visit1 .visit .ensures .1 .levels-long
-
-same-length-23 : (t : ℕ) → walk-lts.Need-same-length-23 (callees t) (walk-at t) walk.Post walk-Inv-loop walk-μ-loop
-same-length-23 t c =
-    let loop1 = c .before in
-    let visit1 = loop1 .before .before .before .before .before .before .before .before .before .before .before .before .before .before .before .before in
-    loop1 .loop .inv .0 .long-edges ∙ visit1 .visit .ensures .0 .kept-edges
-
-same-length-24 : (t : ℕ) → walk-lts.Need-same-length-24 (callees t) (walk-at t) walk.Post walk-Inv-loop walk-μ-loop
-same-length-24 t c =
-    let loop1 = c .before in
-    let visit1 = loop1 .before .before .before .before .before .before .before .before .before .before .before .before .before .before .before .before in
-    loop1 .loop .inv .0 .long-chains ∙ visit1 .visit .ensures .0 .kept-chains
 
 returns-4 : (t : ℕ) → walk-lts.Need-returns-4 (callees t) (walk-at t) walk.Post walk-Inv-loop walk-μ-loop
 returns-4 t c =
@@ -395,39 +248,59 @@ pub +walk-spec : {M : Type 1} → statement M
     (step-requires t)
     (λ c. search needs)
     (λ c κs. search needs)
-    (same-length t)
-    (same-length-2 t)
-    (same-length-3 t)
-    (same-length-4 t)
-    (same-length-5 t)
-    (same-length-6 t)
+    (λ c. let loop1 = halted-loop t c in loop1 .loop .inv .1 .store-long ∙ visit-of t loop1 .visit .ensures .1 .store-long)
+    (λ c. let loop1 = halted-loop t c in loop1 .loop .inv .1 .imports-long ∙ visit-of t loop1 .visit .ensures .1 .imports-long)
+    (λ c. let loop1 = halted-loop t c in loop1 .loop .inv .1 .includes-long ∙ visit-of t loop1 .visit .ensures .1 .includes-long)
+    (λ c. let loop1 = halted-loop t c in loop1 .loop .inv .0 .long ∙ visit-of t loop1 .visit .ensures .1 .levels-long)
+    (λ c. let step1 = c .before .before .before .before .before .before .before .before in
+    let loop1 = halted-loop t c in step1 .step .ensures .kept-edges ∙ loop1 .loop .inv .0 .long-edges ∙ visit-of t loop1 .visit .ensures .0 .kept-edges)
+    (λ c. let step1 = c .before .before .before .before .before .before .before .before in
+    let loop1 = halted-loop t c in step1 .step .ensures .kept-chains ∙ loop1 .loop .inv .0 .long-chains ∙ visit-of t loop1 .visit .ensures .0 .kept-chains)
     (returns t)
     (λ c. search needs)
     (sub-rest t)
     (walk-requires t)
     (λ c. search needs)
     (λ c. search needs)
-    (same-length-7 t)
-    (same-length-8 t)
-    (same-length-9 t)
-    (same-length-10 t)
-    (same-length-11 t)
-    (same-length-12 t)
+    (λ c. let walk1 = below-walk t c in
+    let step1 = walk1 .before .before .before .before .before .before .before .before .before .before .before .before .before .before in
+    let loop1 = step1 .before .before .before .before .before in
+    walk1 .walk .ensures .1 .store-long ∙ loop1 .loop .inv .1 .store-long ∙ visit-of t loop1 .visit .ensures .1 .store-long)
+    (λ c. let walk1 = below-walk t c in
+    let step1 = walk1 .before .before .before .before .before .before .before .before .before .before .before .before .before .before in
+    let loop1 = step1 .before .before .before .before .before in
+    walk1 .walk .ensures .1 .imports-long ∙ loop1 .loop .inv .1 .imports-long ∙ visit-of t loop1 .visit .ensures .1 .imports-long)
+    (λ c. let walk1 = below-walk t c in
+    let step1 = walk1 .before .before .before .before .before .before .before .before .before .before .before .before .before .before in
+    let loop1 = step1 .before .before .before .before .before in
+    walk1 .walk .ensures .1 .includes-long ∙ loop1 .loop .inv .1 .includes-long ∙ visit-of t loop1 .visit .ensures .1 .includes-long)
+    (λ c. let walk1 = below-walk t c in
+    let step1 = walk1 .before .before .before .before .before .before .before .before .before .before .before .before .before .before in
+    let loop1 = step1 .before .before .before .before .before in
+    walk1 .walk .ensures .1 .levels-long ∙ loop1 .loop .inv .0 .long ∙ visit-of t loop1 .visit .ensures .1 .levels-long)
+    (λ c. let walk1 = below-walk t c in
+    let step1 = walk1 .before .before .before .before .before .before .before .before .before .before .before .before .before .before in
+    let loop1 = step1 .before .before .before .before .before in
+    walk1 .walk .ensures .0 .kept-edges ∙ step1 .step .ensures .kept-edges ∙ loop1 .loop .inv .0 .long-edges ∙ visit-of t loop1 .visit .ensures .0 .kept-edges)
+    (λ c. let walk1 = below-walk t c in
+    let step1 = walk1 .before .before .before .before .before .before .before .before .before .before .before .before .before .before in
+    let loop1 = step1 .before .before .before .before .before in
+    walk1 .walk .ensures .0 .kept-chains ∙ step1 .step .ensures .kept-chains ∙ loop1 .loop .inv .0 .long-chains ∙ visit-of t loop1 .visit .ensures .0 .kept-chains)
     (returns-2 t)
     (add-i t)
     (loop-less t)
     (loop-again t)
-    (same-length-13 t)
-    (same-length-14 t)
-    (same-length-15 t)
-    (same-length-16 t)
-    (same-length-17 t)
-    (same-length-18 t)
+    (λ c. c .before .before .before .before .before .before .before .before .before .before .before .before .before .before .before .visit .ensures .1 .store-long)
+    (λ c. c .before .before .before .before .before .before .before .before .before .before .before .before .before .before .before .visit .ensures .1 .imports-long)
+    (λ c. c .before .before .before .before .before .before .before .before .before .before .before .before .before .before .before .visit .ensures .1 .includes-long)
+    (λ c. c .before .before .before .before .before .before .before .before .before .before .before .before .before .before .before .visit .ensures .1 .levels-long)
+    (λ c. c .before .before .before .before .before .before .before .before .before .before .before .before .before .before .before .visit .ensures .0 .kept-edges)
+    (λ c. c .before .before .before .before .before .before .before .before .before .before .before .before .before .before .before .visit .ensures .0 .kept-chains)
     (returns-3 t)
-    (same-length-19 t)
-    (same-length-20 t)
-    (same-length-21 t)
-    (same-length-22 t)
-    (same-length-23 t)
-    (same-length-24 t)
+    (λ c. let loop1 = c .before in loop1 .loop .inv .1 .store-long ∙ visit-of t loop1 .visit .ensures .1 .store-long)
+    (λ c. let loop1 = c .before in loop1 .loop .inv .1 .imports-long ∙ visit-of t loop1 .visit .ensures .1 .imports-long)
+    (λ c. let loop1 = c .before in loop1 .loop .inv .1 .includes-long ∙ visit-of t loop1 .visit .ensures .1 .includes-long)
+    (λ c. let loop1 = c .before in loop1 .loop .inv .0 .long ∙ visit-of t loop1 .visit .ensures .1 .levels-long)
+    (λ c. let loop1 = c .before in loop1 .loop .inv .0 .long-edges ∙ visit-of t loop1 .visit .ensures .0 .kept-edges)
+    (λ c. let loop1 = c .before in loop1 .loop .inv .0 .long-chains ∙ visit-of t loop1 .visit .ensures .0 .kept-chains)
     (returns-4 t)
