@@ -97,13 +97,13 @@ pub room-left : (s : List ℕ) (at u k b m : ℕ) (c : Cursor) (n : ℕ) → b <
 room-left s at u k b m c n small e h r = line-room s at u k b m c n small (sym e ∙ h) r
 
 module _ (b : Body) (j at n : ℕ) (x : Span) where
-  pub kept-prefix : j ≡ 5 → record { at = at; used = n; prefix = x; revision = b .revision } ≡ kept b j at n x
+  pub kept-prefix : j ≡ 5 → {y : Span} → y ≡ b .revision → record { at = at; used = n; prefix = x; revision = y } ≡ kept b j at n x
   unfolding kept
-  kept-prefix h = rw h refl
+  kept-prefix h e = rw h (rw e refl)
 
-  pub kept-revision : (j ≡ 5 → ⊥) → record { at = at; used = n; prefix = b .prefix; revision = x } ≡ kept b j at n x
+  pub kept-revision : (j ≡ 5 → ⊥) → {y : Span} → y ≡ b .prefix → record { at = at; used = n; prefix = y; revision = x } ≡ kept b j at n x
   unfolding kept
-  kept-revision h = rw (ne-eqb j 5 h) refl
+  kept-revision h e = rw (ne-eqb j 5 h) (rw e refl)
 
 -- l: the line of the keyword j
 module _ (s : List ℕ) (at : ℕ) (b : Body) (j : ℕ) {l : Argument} (e : l ≡ lineAt s at (b .used) j 59) where

@@ -6,8 +6,9 @@ use mathlib.Core.List.{List}
 use Prim.Native.Nat.{ℕ, _+_, _<_, _≤_}
 use native.Mathlib.Omega.{arith}
 use lib.ListN.{length, getD, drop, length-drop}
-use lib.Dec.{leb}
-use borrow.Author.Tests.{le-leb, lt-leb, leb-true, leb-false}
+use lib.Dec.{eqb, leb}
+use borrow.Author.Tests.{le-leb, lt-leb, leb-true, leb-false, eqb-true}
+use Rattle.text.specs.Class.{classOf}
 use Rattle.text.specs.Keyword.{startsIdent}
 use Rattle.text.specs.Scan.{runEnd}
 use Rattle.text.specs.declared.Cursor.{Cursor}
@@ -37,10 +38,18 @@ pub token-past : (s : List ℕ) (at : ℕ) → length s ≤ at → tokenAt s at 
 unfolding tokenAt
 token-past s at h = rw (le-leb (length s) at h) refl
 
--- Each law takes what the calls on the way answered, in their order: b what stands here, t whether that is a quote, k where the string
--- closes, n whether a name begins so.
-module _ (s : List ℕ) (at : ℕ) (h : at < length s) {b : ℕ} {t : Bool} (be : b ≡ getD s at 256) (te : t ≡ isQuote b) where
-  module _ (y : t ≡ true) {k : Close} (ke : k ≡ strEnd (getD s at 0) false (drop (at + 1) s) (at + 1)) where
+-- no name begins with a quote
+no-quote : (b : ℕ) → startsIdent b ≡ true → isQuote b ≡ false
+unfolding isQuote startsIdent classOf
+no-quote b m =
+    by-test (eqb b 34)
+    (λ t. absurd (never (ap startsIdent (eqb-true b 34 t)) m))
+    (λ f. by-test (eqb b 39) (λ t. absurd (never (ap startsIdent (eqb-true b 39 t)) m)) (λ g. simp (f, g)))
+
+-- Each law takes what the calls on the way answered, in their order: b what stands here, n whether a name begins so, t whether that is a quote, k where the
+-- string closes.
+module _ (s : List ℕ) (at : ℕ) (h : at < length s) {b : ℕ} (be : b ≡ getD s at 256) where
+  module _ {t : Bool} (te : t ≡ isQuote b) (y : t ≡ true) {k : Close} (ke : k ≡ strEnd (getD s at 0) false (drop (at + 1) s) (at + 1)) where
     token-string : tokenAt s at ≡ closedToken s k
     unfolding tokenAt tokenHere
     token-string =
@@ -55,17 +64,16 @@ module _ (s : List ℕ) (at : ℕ) (h : at < length s) {b : ℕ} {t : Bool} (be 
     unfolding closedToken
     token-cut m = token-string ∙ ap (closedToken s) m
 
-  module _ (f : t ≡ false) {n : Bool} (ne : n ≡ startsIdent b) where
+  module _ {n : Bool} (ne : n ≡ startsIdent b) where
     pub token-name : n ≡ true → {e : ℕ} → e ≡ runEnd Name s at → tokenAt s at ≡ pastWhole e
     unfolding tokenAt tokenHere
     token-name m ee =
-        let q : isQuote (getD s at 256) ≡ false = cc in
         let r : startsIdent (getD s at 256) ≡ true = cc in
-        rw (lt-leb (length s) at h) (rw q (rw r (rw (← ee))))
+        rw (lt-leb (length s) at h) (rw (no-quote (getD s at 256) r) (rw r (rw (← ee))))
 
-    pub token-byte : n ≡ false → tokenAt s at ≡ pastWhole (at + 1)
+    pub token-byte : n ≡ false → {t : Bool} → t ≡ isQuote b → t ≡ false → tokenAt s at ≡ pastWhole (at + 1)
     unfolding tokenAt tokenHere
-    token-byte m =
+    token-byte m te f =
         let q : isQuote (getD s at 256) ≡ false = cc in
         let r : startsIdent (getD s at 256) ≡ false = cc in
         rw (lt-leb (length s) at h) (rw q (rw r))
@@ -101,10 +109,10 @@ token-tells s at =
         (λ q. by-close h (strEnd (getD s at 0) false (drop (at + 1) s) (at + 1)) refl q)
         (λ q. by-test (startsIdent (getD s at 256))
         (λ n. let e = in-name (getD s at 256) (starts-in (getD s at 256) n) in
-        rw (token-name s at h refl refl q refl n refl)
+        rw (token-name s at h refl refl n refl)
         (whole-tells s at (runEnd Name s at)
         (λ l. omega (arith, run-more Name s at h refl (sym e) refl, run-from Name s (at + 1), run-within Name s at (omega arith)))))
-        (λ n. rw (token-byte s at h refl refl q refl n) (whole-tells s at (at + 1) (λ l. omega arith))))
+        (λ n. rw (token-byte s at h refl refl n refl q) (whole-tells s at (at + 1) (λ l. omega arith))))
 
 pub token-far : (s : List ℕ) (at : ℕ) → at < length s → (c : Cursor) (h : How) → tokenAt s at ≡ Past c h → (at < c .at) × (c .at ≤ length s)
 token-far s at l c h e = let f = subst (TokenTells s at) e (token-tells s at) l in (f .0, f .1)

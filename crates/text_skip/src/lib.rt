@@ -47,7 +47,8 @@ pub fn skip_refusal(k: Skipped) -> Refusal
     }
 }
 
-// Skips a token: a whole string, a whole name that begins with a letter or _, or one byte. At the end nothing is skipped.
+// Skips a token: a whole string, a whole name that begins with a letter or _, or one byte. At the end nothing is skipped. The name is tried first: a scan has
+// just looked for an identifier here, and so that test is made once.
 pub fn skip_one_token(here: Cursor, classes: &[u8; 128], s: &[u8]) -> Skipped
     requires { ⌜ now classes ≡ classTable ⌝ }
     ensures { λ r. ⌜ r ≡ tokenAt (now (s .entry)) (here .at) ⌝ }
@@ -58,15 +59,15 @@ pub fn skip_one_token(here: Cursor, classes: &[u8; 128], s: &[u8]) -> Skipped
     }
     let b = text::peek_char(s, at);
     let after = at + 1;
+    if text::starts_ident(classes, b) {
+        let end = text::run_end(classes, Run::Name, s, at);
+        return Skipped::Past(Cursor { at: end }, How::Whole);
+    }
     if text_value::is_quote(b) {
         let q = s[at];
         let Close::At(end) = text_value::close_of(s, after, q) else {
             return Skipped::Past(Cursor { at: s.len() }, How::Text);
         };
-        return Skipped::Past(Cursor { at: end }, How::Whole);
-    }
-    if text::starts_ident(classes, b) {
-        let end = text::run_end(classes, Run::Name, s, at);
         return Skipped::Past(Cursor { at: end }, How::Whole);
     }
     Skipped::Past(Cursor { at: after }, How::Whole)

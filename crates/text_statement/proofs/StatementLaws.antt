@@ -70,7 +70,7 @@ quoted-within s at q h = omega (arith, quoted-most q q (drop at s), length-drop 
 
 -- ---- a part
 
-pub part-past : (s : List ℕ) (at d : ℕ) → length s ≤ at → partAt s at d ≡ Stop (Past (record { at = at }) Text)
+pub part-past : (s : List ℕ) (at d : ℕ) → length s ≤ at → partAt s at d ≡ Stop (record { at = at }) Text
 unfolding partAt
 part-past s at d h = rw (le-leb (length s) at h) refl
 
@@ -112,7 +112,7 @@ module _ (s : List ℕ) (at d : ℕ) (h : at < length s) where
         ne-eqb (getD s at 0) 125 k,
       )
 
-stop-not : {e : Skipped} {c : Cursor} {d : ℕ} {p : Part} → p ≡ Stop e → p ≡ On c d → ⊥
+stop-not : {e c : Cursor} {w : How} {d : ℕ} {p : Part} → p ≡ Stop e w → p ≡ On c d → ⊥
 stop-not e f = let z : _≡_ {A = ℕ} 0 1 = cc in omega arith
 
 on-is : {b c : Cursor} {d e : ℕ} {p : Part} → p ≡ On b d → p ≡ On c e → (b .at ≡ c .at) × (d ≡ e)
@@ -167,58 +167,56 @@ Stops s at (Past c Before) = (at < length s) × (c .at ≡ at) × (getD s at 256
 Stops s at (Past c Text) = (length s ≤ at) × (c .at ≡ at)
 Stops s at (Refused r) = ⊥
 
-on-not : {e : Skipped} {c : Cursor} {d : ℕ} {p : Part} → p ≡ On c d → p ≡ Stop e → ⊥
+on-not : {e c : Cursor} {w : How} {d : ℕ} {p : Part} → p ≡ On c d → p ≡ Stop e w → ⊥
 on-not e f = stop-not f e
 
-stop-is : {p : Part} {q e : Skipped} → p ≡ Stop q → p ≡ Stop e → q ≡ e
-stop-is h k = cc
+-- the answer is the one of which it is known
+stops-is : (s : List ℕ) (at : ℕ) (b e : Cursor) (v w : How) → _≡_ {A = Part} (Stop b v) (Stop e w) → Stops s at (Past b v) → Stops s at (Past e w)
+stops-is s at b e v w k t = let z : Past b v ≡ Past e w = cc in subst (Stops s at) z t
 
--- the answer e is q, of which it is known
-stops-is : (s : List ℕ) (at : ℕ) (q e : Skipped) → _≡_ {A = Part} (Stop q) (Stop e) → Stops s at q → Stops s at e
-stops-is s at q e k t = subst (Stops s at) (stop-is refl k) t
-
-semicolon-stops : (s : List ℕ) (at d : ℕ) (e : Skipped) → at < length s → atSemicolon (at + 1) d ≡ Stop e → Stops s at e
+semicolon-stops : (s : List ℕ) (at d : ℕ) (e : Cursor) (w : How) → at < length s → atSemicolon (at + 1) d ≡ Stop e w → Stops s at (Past e w)
 unfolding atSemicolon
-semicolon-stops s at d e l h =
+semicolon-stops s at d e w l h =
     by-test (eqb d 0)
-    (λ t. stops-is s at (Past (record { at = at + 1 }) Semicolon) e (rw t at h) (l, refl))
+    (λ t. stops-is s at (record { at = at + 1 }) e Semicolon w (rw t at h) (l, refl))
     (λ t. absurd (on-not refl (rw t at h)))
 
-close-stops : (s : List ℕ) (at d : ℕ) (e : Skipped) → at < length s → getD s at 256 ≡ 125 → atClose at (at + 1) d ≡ Stop e → Stops s at e
+close-stops : (s : List ℕ) (at d : ℕ) (e : Cursor) (w : How) → at < length s → getD s at 256 ≡ 125 → atClose at (at + 1) d ≡ Stop e w
+    → Stops s at (Past e w)
 unfolding atClose
-close-stops s at d e l b h =
+close-stops s at d e w l b h =
     by-test (eqb d 0)
-    (λ t. stops-is s at (Past (record { at = at }) Before) e (rw t at h) (l, refl, b))
+    (λ t. stops-is s at (record { at = at }) e Before w (rw t at h) (l, refl, b))
     (λ t. by-test (eqb d 1)
-    (λ u. stops-is s at (Past (record { at = at + 1 }) Block) e (rw u at (rw t at h)) (l, refl))
+    (λ u. stops-is s at (record { at = at + 1 }) e Block w (rw u at (rw t at h)) (l, refl))
     (λ u. absurd (on-not refl (rw u at (rw t at h)))))
 
-of-stops : (s : List ℕ) (at d b : ℕ) (e : Skipped) → at < length s → getD s at 256 ≡ b → partOf s at d b ≡ Stop e → Stops s at e
+of-stops : (s : List ℕ) (at d b : ℕ) (e : Cursor) (w : How) → at < length s → getD s at 256 ≡ b → partOf s at d b ≡ Stop e w → Stops s at (Past e w)
 unfolding partOf
-of-stops s at d b e l k h =
+of-stops s at d b e w l k h =
     by-test (isQuote b)
     (λ t. absurd (on-not refl (rw t at h)))
     (λ t. by-test (eqb b 59)
-    (λ u. semicolon-stops s at d e l (rw u at (rw t at h)))
+    (λ u. semicolon-stops s at d e w l (rw u at (rw t at h)))
     (λ u. by-test (eqb b 123)
     (λ v. absurd (on-not refl (rw v at (rw u at (rw t at h)))))
     (λ v. by-test (eqb b 125)
-    (λ w. close-stops s at d e l (k ∙ eqb-true b 125 w) (rw w at (rw v at (rw u at (rw t at h)))))
-    (λ w. absurd (on-not refl (rw w at (rw v at (rw u at (rw t at h)))))))))
+    (λ x. close-stops s at d e w l (k ∙ eqb-true b 125 x) (rw x at (rw v at (rw u at (rw t at h)))))
+    (λ x. absurd (on-not refl (rw x at (rw v at (rw u at (rw t at h)))))))))
 
-pub part-stops : (s : List ℕ) (at d : ℕ) (e : Skipped) → partAt s at d ≡ Stop e → Stops s at e
+pub part-stops : (s : List ℕ) (at d : ℕ) (e : Cursor) (w : How) → partAt s at d ≡ Stop e w → Stops s at (Past e w)
 unfolding partAt
-part-stops s at d e h =
+part-stops s at d e w h =
     by-test (leb (length s) at)
-    (λ t. stops-is s at (Past (record { at = at }) Text) e (rw t at h) (leb-true (length s) at t, refl))
-    (λ t. of-stops s at d (getD s at 256) e (leb-false (length s) at t) refl (rw t at h))
+    (λ t. stops-is s at (record { at = at }) e Text w (rw t at h) (leb-true (length s) at t, refl))
+    (λ t. of-stops s at d (getD s at 256) e w (leb-false (length s) at t) refl (rw t at h))
 
 -- ---- a statement
 
 of-on : (s : List ℕ) (g d : ℕ) (p : Part) (i : Inside) → partAt s g d ≡ p → ofPart p ≡ on i → (g < length s) × (g < i .at) × (i .at ≤ length s)
 unfolding ofPart
 of-on s g d (On c e) i q h = let k : c .at ≡ i .at = cc in omega (arith, part-far s g d e c q)
-of-on s g d (Stop e) i q h = let z : _≡_ {A = ℕ} 0 1 = cc in omega arith
+of-on s g d (Stop e w) i q h = let z : _≡_ {A = ℕ} 0 1 = cc in omega arith
 
 statement-falls : (s : List ℕ) (i j : Inside) → statementTurn s i ≡ on j → length s - j .at < length s - i .at
 unfolding statementTurn
@@ -236,11 +234,11 @@ module _ (s : List ℕ) (at d : ℕ) {g : ℕ} {p : Part} (ge : g ≡ gapEnd s a
   unfolding statementTurn
   turn-is = ap (λ i. ofPart (partAt s i d)) (sym ge) ∙ ap ofPart (sym pe)
 
-  pub statement-stop : (e : Skipped) → p ≡ Stop e → statementFrom s at d ≡ e
+  pub statement-stop : (e : Cursor) (w : How) → p ≡ Stop e w → statementFrom s at d ≡ Past e w
   unfolding statementFrom ofPart
-  statement-stop e h =
+  statement-stop e w h =
       turns-stop (statementTurn s) (Past (record { at = 0 }) Text) (λ i. length s - i .at) (statement-falls s)
-      (suc (length s)) (record { at = at; depth = d }) e (omega arith) (turn-is ∙ ap ofPart h)
+      (suc (length s)) (record { at = at; depth = d }) (Past e w) (omega arith) (turn-is ∙ ap ofPart h)
 
   module _ (c : Cursor) (e : ℕ) (h : p ≡ On c e) where
     far : (g < length s) × Far s g d c e
@@ -291,7 +289,7 @@ stops-tell s at (Refused r) t = t
 of-stop : (s : List ℕ) (g d : ℕ) (p : Part) (e : Skipped) → partAt s g d ≡ p → ofPart p ≡ stop e → Tells s g e
 unfolding ofPart
 of-stop s g d (On c f) e q h = let z : _≡_ {A = ℕ} 0 1 = cc in absurd (omega arith)
-of-stop s g d (Stop f) e q h = let k : f ≡ e = cc in stops-tell s g e (part-stops s g d e (q ∙ ap Stop k))
+of-stop s g d (Stop f w) e q h = let k : Past f w ≡ e = cc in subst (Tells s g) k (stops-tell s g (Past f w) (part-stops s g d f w q))
 
 from-tells : (s : List ℕ) (at d : ℕ) → Tells s at (statementFrom s at d)
 unfolding statementFrom statementTurn
@@ -336,7 +334,7 @@ from-moves : (s : List ℕ) (at : ℕ) (p : Part) → at < length s → (getD s 
 from-moves s at (On c d) l n h =
     rw (statement-more s at 0 refl refl c d h)
     (tells-moves s at (c .at) (statementFrom s (c .at) d) (omega (arith, part-far s (gapEnd s at) 0 d c h, gap-from s at)) (from-tells s (c .at) d))
-from-moves s at (Stop e) l n h = rw (statement-stop s at 0 refl refl e h) (stopped e (part-stops s (gapEnd s at) 0 e h))
+from-moves s at (Stop e w) l n h = rw (statement-stop s at 0 refl refl e w h) (stopped (Past e w) (part-stops s (gapEnd s at) 0 e w h))
   where
     stopped : (e : Skipped) → Stops s (gapEnd s at) e → Moves at e
     stopped (Past c Whole) t = absurd t

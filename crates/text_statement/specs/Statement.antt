@@ -35,13 +35,13 @@ quotedEnd s at q = at + quotedLen q q (drop at s)
 
 -- after a semicolon
 unfoldable pub atSemicolon : ℕ → ℕ → Part
-atSemicolon next d = cond (eqb d 0) (Stop (Past (record { at = next }) Semicolon)) (On (record { at = next }) d)
+atSemicolon next d = cond (eqb d 0) (Stop (record { at = next }) Semicolon) (On (record { at = next }) d)
 
 -- at a closing brace, and after it
 unfoldable pub atClose : ℕ → ℕ → ℕ → Part
 atClose at next d =
-    cond (eqb d 0) (Stop (Past (record { at = at }) Before))
-    (cond (eqb d 1) (Stop (Past (record { at = next }) Block)) (On (record { at = next }) (d - 1)))
+    cond (eqb d 0) (Stop (record { at = at }) Before)
+    (cond (eqb d 1) (Stop (record { at = next }) Block) (On (record { at = next }) (d - 1)))
 
 -- b: what stands at the place
 unfoldable pub partOf : List ℕ → ℕ → ℕ → ℕ → Part
@@ -52,7 +52,7 @@ partOf s at d b =
     (cond (eqb b closeBrace) (atClose at (at + 1) d) (On (record { at = at + 1 }) d))))
 
 unfoldable pub partAt : List ℕ → ℕ → ℕ → Part
-partAt s at d = cond (leb (length s) at) (Stop (Past (record { at = at }) Text)) (partOf s at d (look s at))
+partAt s at d = cond (leb (length s) at) (Stop (record { at = at }) Text) (partOf s at d (look s at))
 
 -- ---- a statement
 
@@ -63,7 +63,7 @@ pub record Inside : Type 0 where
 
 unfoldable pub ofPart : Part → Turn Inside Skipped
 ofPart (On c d) = on (record { at = c .at; depth = d })
-ofPart (Stop k) = stop k
+ofPart (Stop c how) = stop (Past c how)
 
 unfoldable pub statementTurn : List ℕ → Inside → Turn Inside Skipped
 statementTurn s i = ofPart (partAt s (gapEnd s (i .at)) (i .depth))

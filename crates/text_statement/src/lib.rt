@@ -22,17 +22,17 @@ pub fn skip_statement(here: Cursor, classes: &[u8; 128], s: &[u8]) -> Skipped
                 at = next.at;
                 depth = d;
             }
-            Part::Stop(end) => {
-                return end;
+            Part::Stop(end, how) => {
+                return Skipped::Past(end, how);
             }
         }
     }
 }
 
-// A part of a statement was passed, and the depth after it; or the statement ended.
+// A part of a statement was passed, and the depth after it; or the statement ended, and how.
 pub enum Part {
     On { next: Cursor, depth: usize },
-    Stop(Skipped),
+    Stop(Cursor, How),
 }
 
 // The part of a statement that stands here, at a depth: each brace that opened took a byte.
@@ -42,7 +42,7 @@ fn skip_part(here: Cursor, s: &[u8], depth: usize) -> Part
 {
     let at = here.at;
     if s.len() <= at {
-        return Part::Stop(Skipped::Past(here, How::Text));
+        return Part::Stop(here, How::Text);
     }
     let after = at + 1;
     let next = Cursor { at: after };
@@ -70,7 +70,7 @@ fn at_semicolon(next: Cursor, depth: usize) -> Part
     ensures { λ r. ⌜ r ≡ atSemicolon (next .at) depth ⌝ }
 {
     if depth == 0 {
-        return Part::Stop(Skipped::Past(next, How::Semicolon));
+        return Part::Stop(next, How::Semicolon);
     }
     Part::On { next, depth }
 }
@@ -80,10 +80,10 @@ fn at_close(here: Cursor, next: Cursor, depth: usize) -> Part
     ensures { λ r. ⌜ r ≡ atClose (here .at) (next .at) depth ⌝ }
 {
     if depth == 0 {
-        return Part::Stop(Skipped::Past(here, How::Before));
+        return Part::Stop(here, How::Before);
     }
     if depth == 1 {
-        return Part::Stop(Skipped::Past(next, How::Block));
+        return Part::Stop(next, How::Block);
     }
     let outer = depth - 1;
     Part::On { next, depth: outer }

@@ -1,4 +1,4 @@
--- `text_skip::skip_one_token`. A quote, an identifier's first byte or any other stands here: one law for each, and two for a string.
+-- `text_skip::skip_one_token`. An identifier's first byte, a quote or any other stands here: one law for each, and two for a string.
 -- Assumes nothing.
 use mathlib.Core.Path.{sym}
 use borrow.Author.Needs.{needs}
@@ -11,49 +11,49 @@ returns c = let a = c .before .before .args in sym (token-past (a .s .now) (a .h
 
 returns-2 : tie.Need-returns-2
 returns-2 c =
-    let close = c .before .before in
-    let if2 = close .before .before in
-    let quote = if2 .before in
-    let peek = quote .before in
+    let if2 = c .before in
+    let starts = if2 .before in
+    let peek = starts .before in
     let if1 = peek .before in
     let a = if1 .before .before .args in
-    sym (token-cut (a .s .now) (a .here .at) (if1 .if1 .left) (peek .peek-char .ensures) (quote .is-quote .ensures) (if2 .if2 .taken)
-    (close .close-of .ensures) (c .enum-told .given .1))
+    sym (token-name (a .s .now) (a .here .at) (if1 .if1 .left) (peek .peek-char .ensures) (starts .starts-ident .ensures) (if2 .if2 .taken)
+    (c .run-end .ensures))
 
 returns-3 : tie.Need-returns-3
 returns-3 c =
-    let known = c .before in
-    let close = known .before .before in
-    let if2 = close .before .before in
-    let quote = if2 .before in
-    let peek = quote .before in
+    let close = c .before .before in
+    let if3 = close .before .before in
+    let quote = if3 .before in
+    let if2 = quote .before in
+    let peek = if2 .before .before in
     let if1 = peek .before in
     let a = if1 .before .before .args in
-    sym (token-closed (a .s .now) (a .here .at) (if1 .if1 .left) (peek .peek-char .ensures) (quote .is-quote .ensures) (if2 .if2 .taken)
-    (close .close-of .ensures) (known .end .given .0 .0) (known .end .given .1))
+    sym (token-cut (a .s .now) (a .here .at) (if1 .if1 .left) (peek .peek-char .ensures) (quote .is-quote .ensures) (if3 .if3 .taken)
+    (close .close-of .ensures) (c .enum-told .given .1))
 
 returns-4 : tie.Need-returns-4
 returns-4 c =
-    let if3 = c .before in
-    let starts = if3 .before in
-    let if2 = starts .before in
-    let quote = if2 .before in
-    let peek = quote .before in
+    let known = c .before in
+    let close = known .before .before in
+    let if3 = close .before .before in
+    let quote = if3 .before in
+    let if2 = quote .before in
+    let peek = if2 .before .before in
     let if1 = peek .before in
     let a = if1 .before .before .args in
-    sym (token-name (a .s .now) (a .here .at) (if1 .if1 .left) (peek .peek-char .ensures) (quote .is-quote .ensures) (if2 .if2 .left)
-    (starts .starts-ident .ensures) (if3 .if3 .taken) (c .run-end .ensures))
+    sym (token-closed (a .s .now) (a .here .at) (if1 .if1 .left) (peek .peek-char .ensures) (quote .is-quote .ensures) (if3 .if3 .taken)
+    (close .close-of .ensures) (known .end .given .0 .0) (known .end .given .1))
 
 returns-5 : tie.Need-returns-5
 returns-5 c =
-    let starts = c .before in
-    let if2 = starts .before in
-    let quote = if2 .before in
-    let peek = quote .before in
+    let quote = c .before in
+    let if2 = quote .before in
+    let starts = if2 .before in
+    let peek = starts .before in
     let if1 = peek .before in
     let a = if1 .before .before .args in
-    sym (token-byte (a .s .now) (a .here .at) (if1 .if1 .left) (peek .peek-char .ensures) (quote .is-quote .ensures) (if2 .if2 .left)
-    (starts .starts-ident .ensures) (c .if3 .left))
+    sym (token-byte (a .s .now) (a .here .at) (if1 .if1 .left) (peek .peek-char .ensures) (starts .starts-ident .ensures) (if2 .if2 .left)
+    (quote .is-quote .ensures) (c .if3 .left))
 
 pub skip-one-token-spec : {M : Type 1} → statement M
 skip-one-token-spec =
@@ -63,13 +63,13 @@ skip-one-token-spec =
     (λ c κs. search needs)
     (λ c. search needs)
     (λ c κs. search needs)
-    (λ c. search needs)
     (λ c κs. search needs)
-    (λ c. search needs)
-    (λ c. search needs)
     returns-2
+    (λ c κs. search needs)
+    (λ c. search needs)
+    (λ c κs. search needs)
+    (λ c. search needs)
+    (λ c. search needs)
     returns-3
-    (λ c κs. search needs)
-    (λ c κs. search needs)
     returns-4
     returns-5)
