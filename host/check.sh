@@ -47,6 +47,7 @@ judged() {
 alone() {
     "$here/readme/reading.py" README.md
     "$here/readme/named.py"
+    "$here/readme/outcomes.py"
     "$here/architecture/test.sh"
     "$here/archive/test.sh"
     "$here/pack/test.py"

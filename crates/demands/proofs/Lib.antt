@@ -9,3 +9,4 @@ pub mod ScanNumbers
 pub mod Standing
 pub mod Starred
 pub mod TablesRead
+pub mod Zeros

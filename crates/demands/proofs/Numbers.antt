@@ -39,6 +39,7 @@ use Rattle.demands.specs.Demand1.{GraphCause, image, bundle, lent, graph
 use Rattle.demands.proofs.ScanNumbers.{isOne, one-of, is-one, dependencies-refused, dependencies-first}
 use Rattle.demands.proofs.Graphing.{graphHere, before, graph-reached, drawn}
 use Rattle.demands.proofs.MetadataNumbers.{metadata-refused, metadata-first}
+use Rattle.demands.proofs.Zeros.{zeros-left}
 
 -- ---- finds and texts
 
@@ -217,4 +218,5 @@ demand1 = record {
       let d = refused-scan b (x .0) a (x .1) in
       (x .0, d .0, d .1);
   graph-built = λ s b k. (λ x. buildable s b k (x .0) (x .1) (x .2), built s b k);
+  zeros = zeros-left;
 }

@@ -1,7 +1,7 @@
 -- Two outcomes of one promise are equal: each part of either equals one definition of the text and of the lengths lent.
 -- Assumes nothing.
 use Prim.Native.Nat.{ℕ}
-use mathlib.Core.Path.{_≡_, refl, sym, ap, _∙_}
+use mathlib.Core.Path.{_≡_, refl, sym, ap, ap₂, _∙_}
 use mathlib.Core.Bool.{Bool}
 use mathlib.Core.List.{List, [], _∷_, _++_}
 use native.Mathlib.Omega.{arith}
@@ -26,10 +26,18 @@ use Rattle.yanglib.specs.ToGraph.{Result, graphed, Leaves as GraphLeft}
 use Rattle.graph_tables.specs.Tables.{nodeWords, rowWords}
 use Rattle.graph_tables.specs.Lengths.{Lengths, lengthsOf}
 use Rattle.yanglib.specs.declared.Graphed.{Graphed}
+use Rattle.library_form.specs.Form.{PlacedName, wordAt, numberSeen, nameSeen}
+use Rattle.library_form.specs.declared.Number.the-variants.{Value, Wrong as WrongNumber}
+use Rattle.library_form.specs.declared.Name.the-variants.{Bytes, Wrong as WrongName}
 use Rattle.library_lists.specs.Lists.{readSeen}
-use Rattle.library_lists.specs.declared.Read.{Read}
 use Rattle.library_lists.specs.declared.Read.the-variants.{End, Wrong}
-use Rattle.demands.specs.OneOutcome.{OneOutcome}
+use Rattle.library_bundle.specs.Bundle.{looked}
+use Rattle.library_bundle.specs.declared.TextPlace.the-variants.{At, Nothing}
+use Rattle.graph.specs.declared.NodeIndex.{NodeIndex}
+use Rattle.graph_marks.specs.Marks.{resolvedCode, includedCode}
+use Rattle.graph_marks.specs.declared.Resolved.the-variants.{Unknown, Node}
+use Rattle.graph_marks.specs.declared.Included.the-variants.{NotFound, NotNode, Node as Below}
+use Rattle.demands.specs.OneOutcome.{LosesNothing, OneOutcome}
 
 -- ---- dependencies
 
@@ -69,13 +77,55 @@ pageScans s d t u p d′ t′ u′ p′ ds ts us ps = scans s d t u d′ t′ u�
 records : (s d d′ : List ℕ) → length d ≡ length d′ → Metadata.metadata s (ltb (length d) (length s)) ≡ Metadata.metadata s (ltb (length d′) (length s))
 records s d d′ ds = ap (λ n. Metadata.metadata s (ltb n (length s))) ds
 
--- ---- images and bundles
+-- ---- views
 
-seen-one : (r r′ : Read) → readSeen r ≡ readSeen r′ → r ≡ r′
-seen-one (End n) (End m) e = let k : n ≡ m = cc in ap End k
-seen-one (End n) (Wrong q) e = let z : _≡_ {A = ℕ} 0 1 = cc in absurd (omega arith)
-seen-one (Wrong p) (End m) e = let z : _≡_ {A = ℕ} 0 1 = cc in absurd (omega arith)
-seen-one (Wrong p) (Wrong q) e = let k : p ≡ q = cc in ap Wrong k
+seen-number : LosesNothing numberSeen
+seen-number (Value v c) (Value w d) e = let i : v ≡ w = cc in let j : c .at ≡ d .at = cc in λ k. Value (i k) (record { at = j k })
+seen-number (Value v c) (WrongNumber q) e = let z : _≡_ {A = ℕ} 0 1 = cc in absurd (omega arith)
+seen-number (WrongNumber p) (Value w d) e = let z : _≡_ {A = ℕ} 0 1 = cc in absurd (omega arith)
+seen-number (WrongNumber p) (WrongNumber q) e = let k : p ≡ q = cc in ap WrongNumber k
+
+seen-name : (s : List ℕ) → LosesNothing (nameSeen s)
+seen-name s (Bytes a m) (Bytes b n) e =
+    let h : wordAt s a m ≡ wordAt s b n = cc in
+    ap₂ Bytes (ap (λ (w : PlacedName). w .place) h) (ap (λ (w : PlacedName). w .size) h)
+seen-name s (Bytes a m) (WrongName q) e = let z : _≡_ {A = ℕ} 0 1 = cc in absurd (omega arith)
+seen-name s (WrongName p) (Bytes b n) e = let z : _≡_ {A = ℕ} 0 1 = cc in absurd (omega arith)
+seen-name s (WrongName p) (WrongName q) e = let k : p ≡ q = cc in ap WrongName k
+
+seen-read : LosesNothing readSeen
+seen-read (End n) (End m) e = let k : n ≡ m = cc in ap End k
+seen-read (End n) (Wrong q) e = let z : _≡_ {A = ℕ} 0 1 = cc in absurd (omega arith)
+seen-read (Wrong p) (End m) e = let z : _≡_ {A = ℕ} 0 1 = cc in absurd (omega arith)
+seen-read (Wrong p) (Wrong q) e = let k : p ≡ q = cc in ap Wrong k
+
+seen-place : LosesNothing looked
+seen-place (At a m) (At b n) e = let i : a ≡ b = cc in let j : m ≡ n = cc in ap₂ At i j
+seen-place (At a m) Nothing e = let z : _≡_ {A = ℕ} 0 1 = cc in absurd (omega arith)
+seen-place Nothing (At b n) e = let z : _≡_ {A = ℕ} 0 1 = cc in absurd (omega arith)
+seen-place Nothing Nothing e = refl
+
+seen-node : LosesNothing (λ (v : NodeIndex). v .0)
+seen-node v w e = λ i. record { 0 = e i }
+
+seen-known : LosesNothing resolvedCode
+seen-known Unknown Unknown e = refl
+seen-known Unknown (Node w) e = absurd (omega (arith, e))
+seen-known (Node v) Unknown e = absurd (omega (arith, e))
+seen-known (Node v) (Node w) e = ap Node (seen-node v w (omega (arith, e)))
+
+seen-included : LosesNothing includedCode
+seen-included NotFound NotFound e = refl
+seen-included NotFound NotNode e = absurd (omega (arith, e))
+seen-included NotFound (Below w) e = absurd (omega (arith, e))
+seen-included NotNode NotFound e = absurd (omega (arith, e))
+seen-included NotNode NotNode e = refl
+seen-included NotNode (Below w) e = absurd (omega (arith, e))
+seen-included (Below v) NotFound e = absurd (omega (arith, e))
+seen-included (Below v) NotNode e = absurd (omega (arith, e))
+seen-included (Below v) (Below w) e = ap Below (seen-node v w (omega (arith, e)))
+
+-- ---- finds
 
 told-one : {w : List ℕ} {n n′ : ℕ} {a a′ : List ℕ} → Told w n a → Told w n′ a′ → (n ≡ n′) × (a ≡ a′)
 told-one x y = (x .number ∙ sym (y .number), x .answered ∙ sym (y .answered))
@@ -122,6 +172,18 @@ ordered-as r r′ p q = λ i. record { number = p i; length = q i }
 
 pub one-outcome : OneOutcome
 one-outcome = record {
+  equal = λ a b. a ∙ sym b;
+  viewed = λ view f a b. f _ _ (a ∙ sym b);
+  views = record {
+    number = seen-number;
+    name = seen-name;
+    read = seen-read;
+    place = seen-place;
+    known = seen-known;
+    included = seen-included;
+    node = seen-node;
+    cursor = λ c d e i. record { at = e i };
+  };
   dependencies = λ s short d t u d′ t′ u′ ds ts us a b. leaves-one (scans s d t u d′ t′ u′ refl ds ts us) ds ts us a b;
   over = λ s short d t u a b. (
     a .answer ∙ sym (b .answer),
@@ -158,16 +220,11 @@ one-outcome = record {
         equals (λ x. Metadata.answerOf x .answer .number ∷ Metadata.answerOf x .answer .keyword ∷ Metadata.answerOf x .answer .at ∷ Metadata.answerOf x .used
             ∷ []) xe (a .answer) (b .answer),
       );
-  image = λ s {r} {r′} a b. seen-one r r′ (a ∙ sym b);
-  module-found = λ s t a b. a ∙ sym b;
-  submodule-found = λ s t a b. a ∙ sym b;
-  import-found = λ s t a b. a ∙ sym b;
-  text-found = λ s t a b. a ∙ sym b;
-  text-under = λ s t a b. a ∙ sym b;
   host-module = λ s t a b. told-one a b;
   host-submodule = λ s t a b. told-one a b;
   host-import = λ s t a b. told-one a b;
   host-text = λ s t a b. told-one a b;
+  put = λ x n t a b. a .words [] ∙ sym (b .words []);
   graph = λ s b n e d f g l n′ e′ d′ f′ g′ l′ ks h k. graph-one (ap (graphed passOver s b) ks) ks h k;
   host-graph = λ s b n e d f g l n′ e′ d′ f′ g′ l′ ks h k. drawn-one (ap (graphed passOver s b) ks) ks h k;
   order = λ x i w j t t′ ts {r} {r′} h k.
@@ -181,6 +238,5 @@ one-outcome = record {
         filled (λ o. o .nodes) xe ts (h .written) (k .written),
         equals orderWords xe (h .told .answered) (k .told .answered),
       );
-  check = λ x i w j l a b. a ∙ sym b;
   host-check = λ x i w j l a b. told-one a b;
 }

@@ -1,13 +1,14 @@
 -- Which refusals each call but an order can give, by number, keyword, entry, scan answer and place, and when a graph is built, over the definitions that
 -- the calls promise; those of an order are in OrderCalls. 1 to 3 and 20 to 22 are given exactly when they are due. Of 4 to 10 it is shown that no other
 -- number or keyword comes: when they come is in the definitions of the scans alone. Of 23 to 31 each has its cause in crate graph (Meaning).
+-- And every refusal leaves zeros, over what the functions and a host's calls promise.
 -- Assumes nothing.
 use Prim.Native.Nat.{ℕ, _≤_, _<_}
 use mathlib.Core.Path.{_≡_}
 use mathlib.Core.Bool.{Bool, true, false}
 use mathlib.Core.Logic.{_↔_, _⊎_}
 use mathlib.Core.List.{List, [], _∷_, List·Memᴰ}
-use lib.ListN.{length}
+use lib.ListN.{length, drop}
 use Rattle.text.specs.Scan.{runEnd}
 use Rattle.text.specs.declared.Refusal.{Refusal}
 use Rattle.text.specs.declared.Run.the-variants.{Low}
@@ -18,15 +19,25 @@ use Rattle.library_image.specs.Library.{Name}
 use Rattle.library_find.specs.Find.{findModule, findSubmodule, findImportModule}
 use Rattle.library_bundle.specs.Bundle.{bundleAt, lookUp, textUnder}
 use Rattle.library_bundle.specs.Reading.{longestText}
+use Rattle.text_lent.specs.Padded as Padded
 use Rattle.yangparser.specs.Dependencies as Dependencies
+use Rattle.yangparser.specs.Promises.{Extracts}
+use Rattle.yangparser.specs.declared.Parsed.the-variants.{Refused as RefusedScan}
+use Rattle.scan_page.specs.Page.{Prints}
+use Rattle.scan_page.specs.declared.Page.{Page}
 use Rattle.scan_metadata.specs.Metadata as Metadata
+use Rattle.scan_metadata.specs.Promises as MetadataPromises
+use Rattle.scan_metadata.specs.declared.YangModuleMetadata.{YangModuleMetadata}
+use Rattle.nuvaleta.specs.Host.{DependenciesAnswered, PrintedAnswered}
+use Rattle.nuvaleta.specs.Record.{MetadataAnswered}
+use Rattle.nuvaleta.specs.Graphs.{GraphAnswered}
 use Rattle.library_items.specs.Table.{Reads}
 use Rattle.graph.specs.Nodes.{passOver}
 use Rattle.text.specs.Refusal.{noRefusal}
 use Rattle.graph.specs.Meaning.{Sound, Cause}
 use Rattle.graph_nodes.specs.Adding.{plainAt}
 use Rattle.graph_texts.specs.Texts.{textOf}
-use Rattle.yanglib.specs.ToGraph.{graphed}
+use Rattle.yanglib.specs.ToGraph.{graphed, Graphs}
 use Rattle.graph_tables.specs.Lengths.{Lengths, tooShort}
 use Rattle.yanglib.specs.declared.Graphed.the-variants.{Built, Refused}
 
@@ -91,6 +102,44 @@ pub record Buildable (s b : List ℕ) (k : Lengths) : Type 0 where
   pub lent : tooShort (longestText b) k ≡ false
   pub sound : Sound passOver (textOf b) (plainAt s) 1024 8192
 
+-- ---- zeros
+
+-- a lent slice d is as long as it was, and every word of it is 0 at exit
+abbrev pub Zeroed : (d e : List ℕ) → Type 0
+Zeroed d e = e ≡ Padded.zeros (length d)
+
+-- what a graph's call was lent: node table, edge table, value store, import table, include table, levels
+pub record ZeroedGraph (n e d f g l n₁ e₁ d₁ f₁ g₁ l₁ : List ℕ) : Type 0 where
+  pub nodes : Zeroed n n₁
+  pub edges : Zeroed e e₁
+  pub store : Zeroed d d₁
+  pub imports : Zeroed f f₁
+  pub includes : Zeroed g g₁
+  pub levels : Zeroed l l₁
+
+-- of the functions, and of a host's calls
+pub record Zeros : Type 0 where
+  -- d, t, u, p: store, import table, include table and page at entry, of any length; e, f, g, q: at exit
+  pub dependencies : (s : List ℕ) (short : Bool) (d t u : List ℕ) {r : Refusal} {e f g : List ℕ} → Extracts s short d t u (RefusedScan r) e f g
+      → Zeroed d e × Zeroed t f × Zeroed u g
+  pub printed : (s d t u p : List ℕ) {x : Page} {r : Refusal} {e f g q : List ℕ} → Prints s d t u p x e f g q → x .parsed ≡ RefusedScan r
+      → (x .length ≡ 0) × Zeroed d e × Zeroed t f × Zeroed u g × Zeroed p q
+  pub metadata : (s d : List ℕ) {x : YangModuleMetadata} {e : List ℕ} → MetadataPromises.Extracts s d x e → (x .answer .number ≡ 0 → ⊥)
+      → (x .values ≡ Metadata.noValues) × (x .used ≡ 0) × Zeroed d e
+  pub graph : (s b n e d f g l : List ℕ) {number entry place : ℕ} {a : Refusal} {n₁ e₁ d₁ f₁ g₁ l₁ : List ℕ}
+      → Graphs s b n e d f g l (Refused number entry a place) n₁ e₁ d₁ f₁ g₁ l₁ → ZeroedGraph n e d f g l n₁ e₁ d₁ f₁ g₁ l₁
+  -- the same of a host's calls: i is the number returned, a the answer, w the record. Behind the words that tell the refusal the answer is 0 too
+  pub host-dependencies : (s d t u : List ℕ) {i : ℕ} {e f g a : List ℕ} → DependenciesAnswered s d t u i e f g a → (i ≡ 0 → ⊥)
+      → Zeroed d e × Zeroed t f × Zeroed u g × (drop 3 a ≡ Padded.zeros 3)
+  pub host-printed : (s d t u p : List ℕ) {i : ℕ} {e f g q a : List ℕ} → PrintedAnswered s d t u p i e f g q a → (i ≡ 0 → ⊥)
+      → Zeroed d e × Zeroed t f × Zeroed u g × Zeroed p q × (drop 3 a ≡ Padded.zeros 4)
+  pub host-metadata : (s d : List ℕ) {i : ℕ} {e w a : List ℕ} → MetadataAnswered s d i e w a → (i ≡ 0 → ⊥)
+      → Zeroed d e × (w ≡ Padded.zeros 18) × (drop 3 a ≡ Padded.zeros 1)
+  pub host-graph : (s b n e d f g l : List ℕ) {i : ℕ} {n₁ e₁ d₁ f₁ g₁ l₁ a : List ℕ} → GraphAnswered s b n e d f g l i n₁ e₁ d₁ f₁ g₁ l₁ a
+      → (i ≡ 0 → ⊥) → ZeroedGraph n e d f g l n₁ e₁ d₁ f₁ g₁ l₁ × (drop 6 a ≡ Padded.zeros 2)
+
+-- ---- the demand
+
 pub record Demand1 : Type 0 where
   -- extract_yang_dependencies, print_yang_dependencies; extract_yang_metadata
   pub dependencies : (s : List ℕ) (short : Bool) (r : Refusal) (d : Dependencies.Dependencies) → Dependencies.dependencies s short ≡ Dependencies.bad r d
@@ -111,3 +160,5 @@ pub record Demand1 : Type 0 where
   pub scan-carried : (s b : List ℕ) (k : Lengths) (entry place : ℕ) (a : Refusal) → graphed passOver s b k .answer ≡ Refused 25 entry a place
       → (v : Name) × (d : Dependencies.Dependencies) × (Dependencies.dependencies (textUnder b v) false ≡ Dependencies.bad a d)
   pub graph-built : (s b : List ℕ) (k : Lengths) → ((n : ℕ) × (m : ℕ) × (graphed passOver s b k .answer ≡ Built n m)) ↔ Buildable s b k
+  -- every refusal leaves zeros
+  pub zeros : Zeros

@@ -1,17 +1,21 @@
--- The functions below promise what they return and every word they leave, on refusals too; any two outcomes allowed are equal. What the lent buffers held
--- enters no promise but that of scan_over, only their lengths do: equal lengths, equal outcomes.
+-- A promise allows one outcome only: any two that it allows are equal, in what is returned and in every word that is left, on refusals too. A promise that is
+-- an equation has it by `equal`; one that speaks of a view of the answer by `viewed`, since no view loses anything (`Views`); one that is a record of
+-- equations has a field of `OneOutcome`. docs/PROMISES.md says for every public function which of these it is.
 -- Assumes nothing.
 use Prim.Native.Nat.{ℕ}
 use mathlib.Core.Path.{_≡_}
 use mathlib.Core.Bool.{Bool}
 use mathlib.Core.List.{List}
 use lib.ListN.{length}
-use Rattle.library_form.specs.declared.LookUp.{LookUp}
-use Rattle.library_image.specs.Image.{imageBroken, imageAt}
-use Rattle.library_lists.specs.Lists.{done, readSeen}
-use Rattle.library_lists.specs.declared.Read.{Read}
+use Rattle.text.specs.declared.Cursor.{Cursor}
+use Rattle.library_form.specs.Form.{numberSeen, nameSeen}
+use Rattle.library_image.specs.Image.{imageBroken}
+use Rattle.library_lists.specs.Lists.{readSeen}
 use Rattle.library_find.specs.Find.{findModule, findSubmodule, findImportModule}
-use Rattle.library_bundle.specs.Bundle.{bundleBroken, lookUp, textUnder}
+use Rattle.library_bundle.specs.Bundle.{bundleBroken, looked, lookUp}
+use Rattle.graph.specs.declared.NodeIndex.{NodeIndex}
+use Rattle.graph_marks.specs.Marks.{resolvedCode, includedCode}
+use Rattle.graph_tables.specs.Tables.{Named}
 use Rattle.yangparser.specs.Promises as Dependencies
 use Rattle.yangparser.specs.declared.Parsed.{Parsed}
 use Rattle.scan_page.specs.Page.{Prints}
@@ -27,12 +31,37 @@ use Rattle.yanglib.specs.ToGraph.{Graphs}
 use Rattle.graph_tables.specs.Lengths.{lengthsOf}
 use Rattle.yanglib.specs.declared.Graphed.{Graphed}
 use Rattle.order.specs.declared.Ordered.{Ordered}
-use Rattle.order.specs.declared.Checked.{Checked}
-use Rattle.order.specs.Order.{Orders, checkOf}
+use Rattle.order.specs.Order.{Orders}
 use Rattle.nuvaleta.specs.Orders.{OrderAnswered, CheckAnswered}
 
+-- ---- equations
+
+-- two answers that a view shows alike are equal
+abbrev pub LosesNothing : {A B : Type 0} → (view : A → B) → Type 0
+LosesNothing {A} view = (r r′ : A) → view r ≡ view r′ → r ≡ r′
+
+pub record Views : Type 0 where
+  -- ImageCursor::number and read_count; ImageCursor::name; read_names, read_rest and read_image
+  pub number : LosesNothing numberSeen
+  pub name : (s : List ℕ) → LosesNothing (nameSeen s)
+  pub read : LosesNothing readSeen
+  -- library_bundle::find
+  pub place : LosesNothing looked
+  -- find_known; find_included; node_of and node_at
+  pub known : LosesNothing resolvedCode
+  pub included : LosesNothing includedCode
+  pub node : LosesNothing (λ (v : NodeIndex). v .0)
+  -- skip_whitespace_and_comments, value_end
+  pub cursor : LosesNothing (λ (c : Cursor). c .at)
+
+-- ---- all promises; what the lent buffers held enters none but that of scan_over, only their lengths do: equal lengths, equal outcomes
+
 -- d, t, u, p: store, tables and page at entry; e, f, g, q: at exit; the second outcome has an accent
-pub record OneOutcome : Type 0 where
+pub record OneOutcome : Type 1 where
+  -- what is returned, or left in a buffer, is x
+  pub equal : {A : Type 0} {x r r′ : A} → r ≡ x → r′ ≡ x → r ≡ r′
+  pub viewed : {A B : Type 0} (view : A → B) → LosesNothing view → {x : B} {r r′ : A} → view r ≡ x → view r′ ≡ x → r ≡ r′
+  pub views : Views
   -- scan_lent, and with false extract_yang_dependencies
   pub dependencies : (s : List ℕ) (short : Bool) (d t u d′ t′ u′ : List ℕ) → length d ≡ length d′ → length t ≡ length t′ → length u ≡ length u′
       → {r r′ : Parsed} {e f g e′ f′ g′ : List ℕ} → Dependencies.Extracts s short d t u r e f g → Dependencies.Extracts s short d′ t′ u′ r′ e′ f′ g′
@@ -56,14 +85,6 @@ pub record OneOutcome : Type 0 where
       → (n ≡ n′) × (e ≡ e′) × (f ≡ f′) × (g ≡ g′) × (q ≡ q′) × (a ≡ a′)
   pub host-metadata : (s d d′ : List ℕ) → length d ≡ length d′
       → {n n′ : ℕ} {e w a e′ w′ a′ : List ℕ} → MetadataAnswered s d n e w a → MetadataAnswered s d′ n′ e′ w′ a′ → (n ≡ n′) × (e ≡ e′) × (w ≡ w′) × (a ≡ a′)
-  -- read_image
-  pub image : (s : List ℕ) {r r′ : Read} → readSeen r ≡ done (imageAt s) → readSeen r′ ≡ done (imageAt s) → r ≡ r′
-  -- find_module, find_submodule, find_import_module, find_text, text_under; s: the image or the bundle, t: the name
-  pub module-found : (s t : List ℕ) {r r′ : LookUp} → r ≡ findModule s t → r′ ≡ findModule s t → r ≡ r′
-  pub submodule-found : (s t : List ℕ) {r r′ : LookUp} → r ≡ findSubmodule s t → r′ ≡ findSubmodule s t → r ≡ r′
-  pub import-found : (s t : List ℕ) {r r′ : LookUp} → r ≡ findImportModule s t → r′ ≡ findImportModule s t → r ≡ r′
-  pub text-found : (s t : List ℕ) {r r′ : LookUp} → r ≡ lookUp s t → r′ ≡ lookUp s t → r ≡ r′
-  pub text-under : (s t : List ℕ) {r r′ : List ℕ} → r ≡ textUnder s t → r′ ≡ textUnder s t → r ≡ r′
   -- nuvaleta_find_module, nuvaleta_find_submodule, nuvaleta_find_import_module, nuvaleta_text
   pub host-module : (s t : List ℕ) {n n′ : ℕ} {a a′ : List ℕ} → let w = toldWords imageBroken (findModule s t) in
       Told w n a → Told w n′ a′ → (n ≡ n′) × (a ≡ a′)
@@ -72,6 +93,8 @@ pub record OneOutcome : Type 0 where
   pub host-import : (s t : List ℕ) {n n′ : ℕ} {a a′ : List ℕ} → let w = toldWords imageBroken (findImportModule s t) in
       Told w n a → Told w n′ a′ → (n ≡ n′) × (a ≡ a′)
   pub host-text : (s t : List ℕ) {n n′ : ℕ} {a a′ : List ℕ} → let w = toldWords bundleBroken (lookUp s t) in Told w n a → Told w n′ a′ → (n ≡ n′) × (a ≡ a′)
+  -- put_nodes; x: index table, n: names in it, t: node table
+  pub put : (x : List ℕ) (n : ℕ) (t : List ℕ) {y y′ : List ℕ} → Named x n t y → Named x n t y′ → y ≡ y′
   -- to_graph and nuvaleta_graph; s: image, b: bundle; x₁ to x₆: node table, edge table, value store, import table, include table, levels; y: at exit
   pub graph : (s b : List ℕ) (x₁ x₂ x₃ x₄ x₅ x₆ x₁′ x₂′ x₃′ x₄′ x₅′ x₆′ : List ℕ) → lengthsOf x₁ x₂ x₃ x₄ x₅ x₆ ≡ lengthsOf x₁′ x₂′ x₃′ x₄′ x₅′ x₆′
       → {r r′ : Graphed} {y₁ y₂ y₃ y₄ y₅ y₆ y₁′ y₂′ y₃′ y₄′ y₅′ y₆′ : List ℕ}
@@ -86,8 +109,6 @@ pub record OneOutcome : Type 0 where
       → Orders x i w j t r y → Orders x i w j t′ r′ y′ → (r ≡ r′) × (y ≡ y′)
   pub host-order : (x : List ℕ) (i : ℕ) (w : List ℕ) (j : ℕ) (t t′ : List ℕ) → length t ≡ length t′ → {n n′ : ℕ} {y a y′ a′ : List ℕ}
       → OrderAnswered x i w j t n y a → OrderAnswered x i w j t′ n′ y′ a′ → (n ≡ n′) × (y ≡ y′) × (a ≡ a′)
-  -- order_check and nuvaleta_order_check; l: the list
-  pub check : (x : List ℕ) (i : ℕ) (w : List ℕ) (j : ℕ) (l : List ℕ) {r r′ : Checked} → r ≡ checkOf (length x) i w j l
-      → r′ ≡ checkOf (length x) i w j l → r ≡ r′
+  -- nuvaleta_order_check; l: the list
   pub host-check : (x : List ℕ) (i : ℕ) (w : List ℕ) (j : ℕ) (l : List ℕ) {n n′ : ℕ} {a a′ : List ℕ} → CheckAnswered x i w j l n a
       → CheckAnswered x i w j l n′ a′ → (n ≡ n′) × (a ≡ a′)
