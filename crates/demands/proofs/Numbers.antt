@@ -109,7 +109,7 @@ module _ (s b : List ℕ) where
   unfolding isOne
   cause-numbers (names h) = before-walk 30 0 refl refl (inl refl)
   cause-numbers (by-fault {k = e} x f g) = fault-numbers x e (length (f .before)) (f .number) g
-  cause-numbers (edges {k = e} x f es d m h) = at-entry 31 e noRefusal (length (f .before)) (f .number) refl refl (inl refl)
+  cause-numbers (edges {k = e} x f w es d m h) = at-entry 31 e noRefusal (length (f .before)) (f .number) refl refl (inl refl)
 
   numbers : (k : Lengths) {n e place : ℕ} {a : Refusal} → GraphCause s b k n e a place → GraphNumbers n e a place
   unfolding isOne
@@ -151,7 +151,7 @@ module _ (s b : List ℕ) where
   cause-scan : {n e : ℕ} {a : ScanAnswer} → Cause passOver (textOf b) (plainAt s) 1024 8192 n e a → n ≡ 25 → RefusedText a
   cause-scan (names h) q = absurd (omega (arith, q))
   cause-scan (by-fault x f g) q = fault-scan x g q
-  cause-scan (edges x f es d m h) q = absurd (omega (arith, q))
+  cause-scan (edges x f w es d m h) q = absurd (omega (arith, q))
 
   carried : (k : Lengths) {n e place : ℕ} {a : Refusal} → GraphCause s b k n e a place → n ≡ 25 → RefusedText a
   carried k (image h) q = absurd (omega (arith, q))

@@ -18,15 +18,15 @@ use Rattle.text.specs.Refusal.{noRefusal}
 use Rattle.graph.specs.Graph.{ScanAnswer, Text, tooManyNodes, Edge, edge, Step, arc, stop, Entry, entries, entrySteps, world, graph, fault, walkOf}
 use Rattle.graph.specs.Graph.{graphOf}
 use Rattle.graph.specs.Numbers.{rowOf}
-use Rattle.graph.specs.Meaning.{Revised, IsEdge, Sound, FirstAt, Cause, names, edges, by-fault}
+use Rattle.graph.specs.Meaning.{Revised, IsEdge, Gives, GivenBy, AllGivenBy, Sound, FirstAt, Cause, names, edges, by-fault}
 use Rattle.graph.specs.Demand3.{allNames, Right, Demand3}
 use Rattle.graph.proofs.Tests.{each-in, each-out}
 use Rattle.graph.proofs.Runs.{Clean, adds, adds-new, adds-only, adds-nodup, Ran, run-ran, ran-run, Over, run-refused, walk-run, run-walk, Stopped}
 use Rattle.graph.proofs.Runs.{walk-refused}
-use Rattle.graph.proofs.Meaning.{trace, arcs-meant, meant-arcs, ends-nodes}
+use Rattle.graph.proofs.Meaning.{trace, arcs-given, arcs-meant, meant-arcs, ends-nodes}
 use Rattle.graph.proofs.Nodes.{nodes-differ, nodes-only, nodes-whole, entry-node}
 use Rattle.graph.proofs.Numbers.{small-rows, rows-differ, row-edge}
-use Rattle.graph.proofs.Faults.{stop-fault, fault-stop}
+use Rattle.graph.proofs.Faults.{stop-fault, fault-stop, given-arcs}
 use Rattle.graph.proofs.Spread.{graphs-agree}
 use Rattle.graph.proofs.Permuted.{permuted-agree}
 
@@ -43,7 +43,7 @@ taken (List·Memᴰ·tail {x = y} m) =
           (List·Memᴰ·cases-cons n),
     )
 
-no-longer : (xs ys : List Edge) → List·Nodup xs → ((e : Edge) → List·Memᴰ e xs → List·Memᴰ e ys) → length xs ≤ length ys
+pub no-longer : (xs ys : List Edge) → List·Nodup xs → ((e : Edge) → List·Memᴰ e xs → List·Memᴰ e ys) → length xs ≤ length ys
 no-longer [] ys d f = omega arith
 no-longer (x ∷ xs) ys d f =
     let t = taken (f x (List·Memᴰ·head refl)) in
@@ -145,20 +145,32 @@ module _ (mode : Mode) (nodeLimit edgeLimit : ℕ) (text : Name → Text) (l : P
       faultless = λ y m n a f. until .clean n a (each-in ofEntry m (fault-stop mode text l y f));
     }
 
-    entries-at : (y : Entry) → List·Memᴰ y (r .before ++ (r .at ∷ r .after)) → List·Memᴰ y (entries l)
-    entries-at y m = subst (λ t. List·Memᴰ y t) (sym (r .order)) m
-
-    asked-before : (e : Edge) → List·Memᴰ e (r .sofar) → IsEdge text l (e .from) (e .to)
+    -- the edges so far are those that the entries before give
+    asked-before : (e : Edge) → List·Memᴰ e (r .sofar) → (y : Entry) × List·Memᴰ y (r .before) × Gives mode text l y (e .from) (e .to)
     asked-before e m =
         let o = adds-only (flatMap ofEntry (r .before)) [] e (subst (λ t. List·Memᴰ e t) (until .all) m) in
-        arcs-meant mode text l e
-        (⊎-elim (λ n. absurd (List·Memᴰ·not-nil n)) (λ n. let p = each-out ofEntry (r .before) n in each-in ofEntry
-        (entries-at (p .0) (Memᴰ·append-left (r .at ∷ r .after) (p .1))) (p .2)) o)
+        let p = each-out ofEntry (r .before) (⊎-elim (λ n. absurd (List·Memᴰ·not-nil n)) (λ n. n) o) in
+        (p .0, p .1, arcs-given mode text l (p .0) e (p .2))
 
-    asked-here : (e : Edge) → List·Memᴰ (arc e) (ofEntry (r .at)) → IsEdge text l (e .from) (e .to)
-    asked-here e m = arcs-meant mode text l e (each-in ofEntry (entries-at (r .at) (Memᴰ·append-right (r .before) (List·Memᴰ·head refl))) m)
+    given-before : (e : Edge) → GivenBy mode text l (r .before) e → List·Memᴰ e (r .sofar)
+    given-before e g =
+        let clean : Clean (ofEntry (g .giver)) = λ n a m. until .clean n a (each-in ofEntry (g .one) m) in
+        let m = each-in ofEntry (g .one) (given-arcs mode text l (g .giver) clean (g .gives)) in
+        subst (λ t. List·Memᴰ e t) (sym (until .all)) (adds-new (flatMap ofEntry (r .before)) [] e m)
+
+    few-before : (es : List Edge) → List·Nodup es → AllGivenBy mode text l (r .before) es → length es ≤ edgeLimit
+    few-before es d f =
+        let k = no-longer es (r .sofar) d (λ e m. given-before e (f e m)) in
+        let i : length (r .sofar) ≤ edgeLimit = until .fits (omega arith) in
+        omega arith
+
+    given-here : (e : Edge) → List·Memᴰ e (r .sofar) ⊎ List·Memᴰ (arc e) (ofEntry (r .at)) → GivenBy mode text l (r .before ++ (r .at ∷ [])) e
+    given-here e (inl m) = let p = asked-before e m in record { giver = p .0; one = Memᴰ·append-left (r .at ∷ []) (p .1); gives = p .2 }
+    given-here e (inr m) =
+        record { giver = r .at; one = Memᴰ·append-right (r .before) (List·Memᴰ·head refl); gives = arcs-given mode text l (r .at) e m }
 
     caused : Cause mode text l nodeLimit edgeLimit n k a
+    unfolding first-at
     caused =
         let d : List·Nodup (r .sofar) = subst (λ t. List·Nodup t) (sym (until .all)) (adds-nodup (flatMap ofEntry (r .before)) [] nodup-nil) in
         go (run-refused edgeLimit (ofEntry (r .at)) (r .sofar) n a d (r .stopped))
@@ -169,7 +181,7 @@ module _ (mode : Mode) (nodeLimit edgeLimit : ℕ) (text : Name → Text) (l : P
             subst₂
             (λ m b. Cause mode text l nodeLimit edgeLimit m k b) (o .number)
             (o .answer)
-            (edges (r .at) first-at (o .edges) (o .differ) (λ e m. ⊎-elim (asked-before e) (asked-here e) (o .asked e m)) (o .many))
+            (edges (r .at) first-at few-before (o .edges) (o .differ) (λ e m. given-here e (o .asked e m)) (o .many))
 
   refused-for : (n k : ℕ) (a : ScanAnswer) → graphOf mode nodeLimit edgeLimit text l ≡ fault n k a → Cause mode text l nodeLimit edgeLimit n k a
   unfolding graphOf

@@ -1,4 +1,5 @@
--- The refusals among the steps of an entry are exactly its faults, each number for itself, whether or not something before it is refused.
+-- The refusals among the steps of an entry are exactly its faults, each number for itself, whether or not something before it is refused. And the edges that
+-- an entry gives are asked for by its steps, if none of them refuses.
 -- Assumes nothing.
 use mathlib.Core.Path.{_≡_, refl, sym, subst, subst₂}
 use mathlib.Core.List.{List, [], _∷_, flatMap, List·Memᴰ, List·Memᴰ·head, List·Memᴰ·tail, List·Memᴰ·cases-cons, List·Memᴰ·append-cases}
@@ -14,9 +15,10 @@ use Rattle.graph.specs.Graph.{ScanAnswer, Text, missing, refusing, deps,
 use Rattle.graph.specs.Graph.{deepest, Edge, edge, Step, arc, stop, halt, World, imported, given, included, reading, textSteps, Entry, entrySteps}
 use Rattle.graph.specs.Graph.{entryNames, submoduleNames, world}
 use Rattle.graph.specs.Meaning.{Follows, ReadAt, entry, included as included-by, Fault, entry-missing, include-missing, scan-refused, import-unknown}
-use Rattle.graph.specs.Meaning.{listed-unknown, include-unknown, include-no-node, too-deep}
+use Rattle.graph.specs.Meaning.{listed-unknown, include-unknown, include-no-node, too-deep, Gives, imports, includes, lists}
 use Rattle.graph.proofs.Tests.{both-bools, memb-mem, mem-memb, each-in, each-out}
-use Rattle.graph.proofs.Meaning.{belowOf, In, Held, text-in, import-in, include-in}
+use Rattle.graph.proofs.Runs.{Clean}
+use Rattle.graph.proofs.Meaning.{belowOf, In, Held, text-in, import-in, include-in, one-in, down as beneath}
 
 out : {u : Name} {ws : List Name} → memb u ws ≡ false → ¬ List·Memᴰ u ws
 out q m = both-bools (mem-memb m) q
@@ -106,6 +108,9 @@ module _ (mode : Mode) (text : Name → Text) (l : PlainLibrary) (x : Entry) whe
   entry-in : In steps (textSteps W deepest noEntryText (x .name))
   entry-in s m = Memᴰ·append-left _ m
 
+  list-in : {u : Name} → List·Memᴰ u (x .lists) → In steps (given W (x .name) u)
+  list-in k s m = Memᴰ·append-right (textSteps W deepest noEntryText (x .name)) (each-in (given W (x .name)) k m)
+
   held : {left : ℕ} {v : Name} → ReadAt mode text l x left v → Held mode text l steps left v
   held (entry q) = record { absent = noEntryText; steps = subst (λ w. In steps (textSteps W deepest noEntryText w)) (sym q) entry-in }
   held (included-by r i) = record { absent = noIncludedText; steps = down (held r) i }
@@ -122,11 +127,17 @@ module _ (mode : Mode) (text : Name → Text) (l : PlainLibrary) (x : Entry) whe
   fault-stop (import-unknown {v = v} {u = u} r i f) =
       first (pick (arc (edge u v) ∷ []) (halt unknownModule) (not-memb u (entryNames l) f) (import-in mode text l (held r) i))
   fault-stop (listed-unknown {u = u} k f) =
-      first (pick (arc (edge (x .name) u) ∷ []) (halt unknownModule) (not-memb u (entryNames l) f)
-      (λ s m. Memᴰ·append-right (textSteps W deepest noEntryText (x .name)) (each-in (given W (x .name)) k m)))
+      first (pick (arc (edge (x .name) u) ∷ []) (halt unknownModule) (not-memb u (entryNames l) f) (list-in k))
   fault-stop (include-unknown {left = left} {v = v} {u = u} r i f) =
       first (pick _ (halt unknownSubmodule) (not-memb u (submoduleNames l) f) (include-in mode text l (held r) i))
   fault-stop (include-no-node {left = left} {v = v} {u = u} r i s f) =
       first (pick (arc (edge u v) ∷ belowOf W left u) (halt noNode) (not-memb u (nodesOf mode l) f)
       (pick _ (halt unknownSubmodule) (mem-memb s) (include-in mode text l (held r) i)))
   fault-stop (too-deep r i) = first (down (held r) i)
+
+  -- ---- what the entry gives is asked for, if nothing of it is refused
+  pub given-arcs : Clean steps → {u v : Name} → Gives mode text l x u v → List·Memᴰ (arc (edge u v)) steps
+  given-arcs clean {u} {v} (imports r i) = one-in mode text l clean (edge u v) (W .known u) (import-in mode text l (held r) i)
+  given-arcs clean {u} {v} (includes r i) = beneath mode text l clean (held r) i .0
+  given-arcs clean {u} {v} (lists q k) =
+      subst (λ w. List·Memᴰ (arc (edge w v)) steps) (sym q) (one-in mode text l clean (edge (x .name) v) (W .known v) (list-in k))

@@ -1,19 +1,27 @@
--- Demand 3 at work: a library in one set and in two, with the hypotheses met and both graphs computed.
+-- Demand 3 at work: a library in one set and in two, with the hypotheses met and both graphs computed; and which entry is told with 31.
 -- Assumes nothing.
-use mathlib.Core.Path.{_≡_, refl, ap}
-use mathlib.Core.List.{List, [], _∷_, flatMap, List·Memᴰ·eq-of-singleton, List·Nodup, nodup-nil, Perm·refl}
+use Prim.Native.Nat.{ℕ}
+use mathlib.Core.Path.{_≡_, refl, sym, ap, ap₂, _∙_, subst}
+use mathlib.Core.List.{List, [], _∷_, _++_, flatMap, List·Memᴰ, List·Memᴰ·head, List·Memᴰ·not-nil, List·Memᴰ·eq-of-singleton, List·Nodup, nodup-nil}
+use mathlib.Core.List.{Perm·refl}
+use native.Mathlib.Omega.{arith}
+use lib.ListN.{length}
 use mathlib.Core.Logic.{∥∥₁-elim}
 use mathlib.Core.HLevel.{⊥-prop}
 use mathlib.Core.Bool.{Bool, true, false, cond}
 use mathlib.Mathlib.Data.List.Nodup.{cons as nodup-cons}
 use Rattle.text.specs.Keyword.{same}
+use Rattle.text.specs.Refusal.{noRefusal}
 use Rattle.library_image.specs.Library.{Name, PlainModule, PlainImportOnly, PlainLibrary, modulesOf, importOnlyOf, submodulesOf}
 use Rattle.library_index.specs.Names.{among, addAll}
 use Rattle.graph.specs.Nodes.{passOver, addGroups, nodesBy, memb}
-use Rattle.graph.specs.Graph.{Text, deps, textSteps, edge, memE, addBy, run, graph, walkFrom, graphOf}
+use Rattle.graph.specs.Graph.{ScanAnswer, Text, deps, textSteps, Edge, edge, memE, addBy, run, Entry, moduleEntry, entries, graph, fault, walkFrom}
+use Rattle.graph.specs.Graph.{graphOf}
+use Rattle.graph.specs.Meaning.{Gives, imports, includes, lists, AllGivenBy, Fault, entry-missing, include-missing, scan-refused, import-unknown}
+use Rattle.graph.specs.Meaning.{listed-unknown, include-unknown, include-no-node, too-deep, Cause, names, by-fault, edges}
 use Rattle.graph.specs.Demand3.{allNames, Once, Permuted, Agree}
 use Rattle.graph.proofs.Tests.{both-bools, mem-memb}
-use Rattle.graph.proofs.Demand.{demand3}
+use Rattle.graph.proofs.Demand.{no-longer, demand3}
 
 -- names that differ, by test
 unfoldable differ : List Name → Bool
@@ -67,3 +75,54 @@ second : graphOf passOver 1024 8192 text two-sets ≡ graph ((98 ∷ []) ∷ (11
     (edge (98 ∷ []) (109 ∷ []) ∷ edge (115 ∷ []) (109 ∷ []) ∷ edge (109 ∷ []) (98 ∷ []) ∷ [])
 unfolding text flatMap modulesOf importOnlyOf submodulesOf same among addAll addGroups nodesBy textSteps memE addBy run walkFrom graphOf
 second = refl
+
+-- ---- 31 tells the entry with which the edges become too many: a and b each augment themselves, and there is room for one edge
+
+abbrev alone : Name → PlainModule
+alone w = record { name = w; submodules = []; augmenting = w ∷ []; deviations = [] }
+
+abbrev a-and-b : PlainLibrary
+a-and-b = record { modules = alone (97 ∷ []) ∷ alone (98 ∷ []) ∷ []; importOnly = [] } ∷ []
+
+abbrev empty : Name → Text
+empty w = deps [] []
+
+at-the-second : graphOf passOver 1024 1 empty a-and-b ≡ fault 31 2 noRefusal
+unfolding flatMap modulesOf importOnlyOf submodulesOf same among addAll addGroups nodesBy textSteps memE addBy run walkFrom graphOf
+at-the-second = refl
+
+-- the first entry gives one edge alone
+abbrev first-edge : Edge
+first-edge = edge (97 ∷ []) (97 ∷ [])
+
+one-edge : {u v : Name} → Gives passOver empty a-and-b (moduleEntry (alone (97 ∷ []))) u v → edge u v ≡ first-edge
+one-edge {u} (imports r i) = let q : [] ≡ i .imports = cc in absurd (List·Memᴰ·not-nil (subst (λ l. List·Memᴰ u l) (sym q) (i .one)))
+one-edge {u} (includes r i) = let q : [] ≡ i .includes = cc in absurd (List·Memᴰ·not-nil (subst (λ l. List·Memᴰ u l) (sym q) (i .one)))
+one-edge (lists q k) = ap₂ edge q (List·Memᴰ·eq-of-singleton k)
+
+no-fault : (x : Entry) {n : ℕ} {a : ScanAnswer} → Fault passOver empty a-and-b x n a → n ≡ 31 → ⊥
+no-fault x (entry-missing h) e = omega (arith, e)
+no-fault x (include-missing r f h) e = omega (arith, e)
+no-fault x (scan-refused r h) e = omega (arith, e)
+no-fault x (import-unknown r i u) e = omega (arith, e)
+no-fault x (listed-unknown m u) e = omega (arith, e)
+no-fault x (include-unknown r i u) e = omega (arith, e)
+no-fault x (include-no-node r i m u) e = omega (arith, e)
+no-fault x (too-deep r f) e = omega (arith, e)
+
+not-the-first : {n k : ℕ} {a : ScanAnswer} → Cause passOver empty a-and-b 1024 1 n k a → n ≡ 31 → k ≡ 1 → ⊥
+unfolding flatMap
+not-the-first (names h) e q = omega (arith, e)
+not-the-first (by-fault x f g) e q = no-fault x g e
+not-the-first (edges x f few es d given many) e q = go (f .before) (f .order) (omega (arith, q, f .number)) given
+  where
+    go : (before : List Entry) → entries a-and-b ≡ before ++ (x ∷ f .after) → length before ≡ 0
+        → AllGivenBy passOver empty a-and-b (before ++ (x ∷ [])) es → ⊥
+    go (y ∷ ys) o z g = omega (arith, z)
+    go [] o z g =
+        let h : moduleEntry (alone (97 ∷ [])) ≡ x = cc in
+        let k = no-longer es (first-edge ∷ []) d (λ e m.
+        let p = g e m in
+        let i : p .giver ≡ moduleEntry (alone (97 ∷ [])) = List·Memᴰ·eq-of-singleton (p .one) ∙ sym h in
+        List·Memᴰ·head (one-edge (subst (λ y. Gives passOver empty a-and-b y (e .from) (e .to)) i (p .gives)))) in
+        omega (arith, many, k)

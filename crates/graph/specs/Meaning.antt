@@ -2,7 +2,7 @@
 -- Assumes nothing.
 use Prim.Native.Nat.{ℕ, zero, suc, _+_, _≤_, _<_}
 use mathlib.Core.Path.{_≡_}
-use mathlib.Core.List.{List, _∷_, _++_, List·Memᴰ, List·Nodup}
+use mathlib.Core.List.{List, [], _∷_, _++_, List·Memᴰ, List·Nodup}
 use lib.ListN.{length}
 use Rattle.library_image.specs.Library.{Name, PlainModule, PlainImportOnly, PlainLibrary, modulesOf, importOnlyOf}
 use Rattle.graph.specs.Nodes.{Mode, nodesOf}
@@ -71,6 +71,21 @@ module _ (mode : Mode) (text : Name → Text) (l : PlainLibrary) where
         → ¬ List·Memᴰ u (nodesOf mode l) → Fault x noNode noRefusal
     too-deep : {v u : Name} → ReadAt x zero v → Follows v u → Fault x tooDeep noRefusal
 
+  -- the entry x gives an edge from u to v: by a text that is read for it, or by its lists
+  pub data Gives (x : Entry) (u v : Name) : Type 0 where
+    imports : {left : ℕ} → ReadAt x left v → Imports text v u → Gives x u v
+    includes : {left : ℕ} → ReadAt x left v → Includes text v u → Gives x u v
+    lists : u ≡ x .name → List·Memᴰ v (x .lists) → Gives x u v
+
+  -- one of the entries xs gives it
+  pub record GivenBy (xs : List Entry) (e : Edge) : Type 0 where
+    pub giver : Entry
+    pub one : List·Memᴰ giver xs
+    pub gives : Gives giver (e .from) (e .to)
+
+  abbrev pub AllGivenBy : List Entry → List Edge → Type 0
+  AllGivenBy xs es = (e : Edge) → List·Memᴰ e es → GivenBy xs e
+
   abbrev pub Faultless : Entry → Type 0
   Faultless x = (n : ℕ) (a : ScanAnswer) → ¬ Fault x n a
 
@@ -92,5 +107,7 @@ module _ (mode : Mode) (text : Name → Text) (l : PlainLibrary) where
   pub data Cause (nodeLimit edgeLimit : ℕ) : ℕ → ℕ → ScanAnswer → Type 0 where
     names : nodeLimit < length (nodesOf mode l) → Cause nodeLimit edgeLimit tooManyNodes 0 noRefusal
     by-fault : {n k : ℕ} {a : ScanAnswer} (x : Entry) → FirstAt k x → Fault x n a → Cause nodeLimit edgeLimit n k a
-    edges : {k : ℕ} (x : Entry) → FirstAt k x → (es : List Edge) → List·Nodup es → AllEdges text l es → edgeLimit < length es
+    -- the entries before x give no more different edges than the limit, and with x there are more
+    edges : {k : ℕ} (x : Entry) (f : FirstAt k x) → ((es : List Edge) → List·Nodup es → AllGivenBy (f .before) es → length es ≤ edgeLimit)
+        → (es : List Edge) → List·Nodup es → AllGivenBy (f .before ++ (x ∷ [])) es → edgeLimit < length es
         → Cause nodeLimit edgeLimit tooManyEdges k noRefusal

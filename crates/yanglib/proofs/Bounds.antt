@@ -124,7 +124,7 @@ module _ (mode : Mode) (text : Name → Words) (l : PlainLibrary) where
     cause-low : {n k : ℕ} {a : ScanAnswer} → Cause mode text l mostNodes mostEdges n k a → (k ≤ length (entries l)) × (a .at ≤ 16777216)
     cause-low (names h) = (omega arith, omega arith)
     cause-low (by-fault {k = k} x f g) = (first-low k x f, fault-low x g)
-    cause-low (edges {k = k} x f es d m h) = (first-low k x f, omega arith)
+    cause-low (edges {k = k} x f w es d m h) = (first-low k x f, omega arith)
 
 module _ (mode : Mode) (s b : List ℕ) (bytes : AllBytes s) (reads : Reads (imageAt s)) where
   abbrev whole : Graph
