@@ -31,9 +31,11 @@ use Rattle.graph_nodes.specs.Adding.{plainAt, wordsAt}
 use Rattle.graph_texts.specs.Texts.{textOf}
 use Rattle.yanglib.specs.ToGraph.{lentTooShort, Result, refusal, resultOf, onRead, graphed, Graphs}
 use Rattle.graph_tables.specs.Lengths.{Lengths, tooShort, lengthsOf}
+use Rattle.yanglib.specs.declared.Graphed.{Graphed}
 use Rattle.yanglib.specs.declared.Graphed.the-variants.{Built}
 use Rattle.yanglib.proofs.Outcome.{revised-here}
-use Rattle.demands.specs.Demand3.{nameOf, names, tableNames, named, between, edges, RightGraph, WellFormed, Alike, both-refused, both-built, BytesDemand3}
+use Rattle.demands.specs.Demand3.{nameOf, names, tableNames, tableEdges, named, between, edges, RightGraph, WellFormed, Alike, both-refused, both-built}
+use Rattle.demands.specs.Demand3.{AlikeCalls, BytesDemand3}
 use Rattle.demands.proofs.Standing.{names-read}
 use Rattle.demands.proofs.TablesRead.{edges-read, nodes-read}
 
@@ -153,15 +155,26 @@ right-graph s b k n m bytes h =
     (subst₂ (λ x y. RightGraph (textOf b) (plainAt s) x y (d .ns) (map (rowOf (d .ns)) (d .es))) i j (right-here s b bytes (d .reads) (d .graphIs))))
 
 -- and of what a call leaves
-right-tables : (s b n e d f g l : List ℕ) (i j : ℕ) {n₁ e₁ d₁ f₁ g₁ l₁ : List ℕ} → AllBytes s → Graphs s b n e d f g l (Built i j) n₁ e₁ d₁ f₁ g₁ l₁
-    → RightGraph (textOf b) (plainAt s) i j (tableNames s i n₁) (rowsIn j e₁)
-right-tables s b n e d f g l i j {n₁} {e₁} bytes h =
-    let x = graphed passOver s b (lengthsOf n e d f g l) in
-    let r = right-graph s b (lengthsOf n e d f g l) i j bytes (sym (h .answer)) in
-    let p : i ≡ length (x .nodes) = r .node-count ∙ length-map (x .nodes) (nameOf s) in
-    let u : tableNames s i n₁ ≡ names s x = ap₂ (tableNames s) p (h .nodes) ∙ nodes-read s (length n) (x .nodes) in
-    let v : rowsIn j e₁ ≡ x .rows = ap₂ rowsIn (r .edge-count) (h .edges) ∙ edges-read (length e) (x .rows) in
-    subst₂ (λ ns rs. RightGraph (textOf b) (plainAt s) i j ns rs) (sym u) (sym v) r
+module _ (s b n e d f g l : List ℕ) {r : Graphed} {n₁ e₁ d₁ f₁ g₁ l₁ : List ℕ} (bytes : AllBytes s) (h : Graphs s b n e d f g l r n₁ e₁ d₁ f₁ g₁ l₁) where
+  abbrev left : Result
+  left = graphed passOver s b (lengthsOf n e d f g l)
+
+  module _ (i j : ℕ) (a : left .answer ≡ Built i j) where
+    right-left : RightGraph (textOf b) (plainAt s) i j (names s left) (left .rows)
+    right-left = right-graph s b (lengthsOf n e d f g l) i j bytes a
+
+    names-left : tableNames s i n₁ ≡ names s left
+    names-left =
+        ap₂ (tableNames s) (right-left .node-count ∙ length-map (left .nodes) (nameOf s)) (h .nodes) ∙ nodes-read s (length n) (left .nodes)
+
+    rows-left : rowsIn j e₁ ≡ left .rows
+    rows-left = ap₂ rowsIn (right-left .edge-count) (h .edges) ∙ edges-read (length e) (left .rows)
+
+    edges-left : tableEdges s i j n₁ e₁ ≡ edges s left
+    edges-left = ap₂ (λ ns rs. map (between ns) rs) names-left rows-left
+
+    right-tables : RightGraph (textOf b) (plainAt s) i j (tableNames s i n₁) (rowsIn j e₁)
+    right-tables = subst₂ (λ ns rs. RightGraph (textOf b) (plainAt s) i j ns rs) (sym names-left) (sym rows-left) right-left
 
 -- ---- second part
 
@@ -185,10 +198,27 @@ module _ (s s₁ b : List ℕ) (k : Lengths) (f : WellFormed s) (f₁ : WellForm
       subst₂ (Alike s s₁) (sym (well-formed s b k (f .reads))) (sym (well-formed s₁ b k (f₁ .reads)))
       (alike-behind (bundleAt b) (tooShort (longestText b) k) (graphs-alike (graphHere s b) (graphHere s₁ b) refl refl h))
 
+-- and of what two calls leave
+module _ (s s₁ b n e d f g l n′ e′ d′ f′ g′ l′ : List ℕ) (ks : lengthsOf n e d f g l ≡ lengthsOf n′ e′ d′ f′ g′ l′) (w : WellFormed s) (w₁ : WellFormed s₁)
+    {r r′ : Graphed} {n₁ e₁ d₁ f₁ g₁ l₁ n₁′ e₁′ d₁′ f₁′ g₁′ l₁′ : List ℕ} (h : Graphs s b n e d f g l r n₁ e₁ d₁ f₁ g₁ l₁)
+    (h₁ : Graphs s₁ b n′ e′ d′ f′ g′ l′ r′ n₁′ e₁′ d₁′ f₁′ g₁′ l₁′) where
+  abbrev Calls : Graphed → Graphed → Type 0
+  Calls x y = AlikeCalls s s₁ x n₁ e₁ y n₁′ e₁′
+
+  tables-alike : Alike s s₁ (left s b n e d f g l (w .bytes) h) (left s₁ b n′ e′ d′ f′ g′ l′ (w₁ .bytes) h₁) → Calls r r′
+  tables-alike (both-refused a a₁) = subst₂ Calls (sym (h .answer ∙ a)) (sym (h₁ .answer ∙ a₁)) both-refused
+  tables-alike (both-built {n = i} {m = j} a a₁ p q) =
+      subst₂ Calls (sym (h .answer ∙ a)) (sym (h₁ .answer ∙ a₁)) (both-built
+      (subst₂ Perm (sym (names-left s b n e d f g l (w .bytes) h i j a)) (sym (names-left s₁ b n′ e′ d′ f′ g′ l′ (w₁ .bytes) h₁ i j a₁)) p)
+      (subst₂ Perm (sym (edges-left s b n e d f g l (w .bytes) h i j a)) (sym (edges-left s₁ b n′ e′ d′ f′ g′ l′ (w₁ .bytes) h₁ i j a₁)) q))
+
 pub bytes-demand3 : BytesDemand3
 bytes-demand3 = record {
   right = right-graph;
-  called = right-tables;
+  called = λ s b n e d f g l i j bytes h. right-tables s b n e d f g l bytes h i j (sym (h .answer));
   permuted = λ s s₁ b k f f₁ p o. alike s s₁ b k f f₁ (demand3 passOver mostNodes mostEdges (textOf b) .permuted (plainAt s) (plainAt s₁) p o);
   spread = λ s s₁ b k f f₁ p o o₁. alike s s₁ b k f f₁ (demand3 passOver mostNodes mostEdges (textOf b) .spread (plainAt s) (plainAt s₁) p o o₁);
+  called-alike = λ s s₁ b n e d f g l n′ e′ d′ f′ g′ l′ ks w w₁ a h h₁.
+      tables-alike s s₁ b n e d f g l n′ e′ d′ f′ g′ l′ ks w w₁ h h₁ (subst (λ k. Alike s s₁ (graphed passOver s b (lengthsOf n e d f g l))
+      (graphed passOver s₁ b k)) ks a);
 }

@@ -22,7 +22,8 @@ use Rattle.graph_edges.specs.Edges.{rowsIn}
 use Rattle.graph_nodes.specs.Adding.{plainAt}
 use Rattle.graph_texts.specs.Texts.{textOf}
 use Rattle.yanglib.specs.ToGraph.{Result, graphed, Graphs}
-use Rattle.graph_tables.specs.Lengths.{Lengths}
+use Rattle.graph_tables.specs.Lengths.{Lengths, lengthsOf}
+use Rattle.yanglib.specs.declared.Graphed.{Graphed}
 use Rattle.yanglib.specs.declared.Graphed.the-variants.{Built, Refused}
 
 -- ---- names and edges, as a caller reads them
@@ -48,6 +49,10 @@ edges s x = map (between (names s x)) (x .rows)
 unfoldable pub tableNames : (image : List ℕ) → ℕ → List ℕ → List Name
 tableNames s zero w = []
 tableNames s (suc n) w = tableNames s n w ++ (take (getD w (n * 2 + 1) 0) (drop (getD w (n * 2) 0) s) ∷ [])
+
+-- the edges again, from the words of both tables: n nodes, m edges
+abbrev pub tableEdges : (image : List ℕ) → (n m : ℕ) → (nodes edges : List ℕ) → List Edge
+tableEdges s n m w x = map (between (tableNames s n w)) (rowsIn m x)
 
 -- ---- first part: what a built graph is
 
@@ -81,6 +86,13 @@ pub data Alike (s s₁ : List ℕ) (x x₁ : Result) : Type 0 where
   both-built : {n m : ℕ} → x .answer ≡ Built n m → x₁ .answer ≡ Built n m → Perm (names s x) (names s₁ x₁)
       → Perm (edges s x) (edges s₁ x₁) → Alike s s₁ x x₁
 
+-- the same of what two calls answer and leave in their node tables and edge tables
+pub data AlikeCalls (s s₁ : List ℕ) : (r : Graphed) (nodes edges : List ℕ) (r₁ : Graphed) (nodes₁ edges₁ : List ℕ) → Type 0 where
+  both-refused : {number entry place number₁ entry₁ place₁ : ℕ} {a a₁ : Refusal} {w x w₁ x₁ : List ℕ}
+      → AlikeCalls s s₁ (Refused number entry a place) w x (Refused number₁ entry₁ a₁ place₁) w₁ x₁
+  both-built : {n m : ℕ} {w x w₁ x₁ : List ℕ} → Perm (tableNames s n w) (tableNames s₁ n w₁) → Perm (tableEdges s n m w x) (tableEdges s₁ n m w₁ x₁)
+      → AlikeCalls s s₁ (Built n m) w x (Built n m) w₁ x₁
+
 -- ---- the demand; whatever a slice of bytes lends fulfils AllBytes
 
 pub record BytesDemand3 : Type 0 where
@@ -95,3 +107,8 @@ pub record BytesDemand3 : Type 0 where
   -- the stronger one: the names in their lists may stand in another order too
   pub spread : (s s₁ b : List ℕ) (k : Lengths) → WellFormed s → WellFormed s₁ → SameEntries (plainAt s) (plainAt s₁) → Once (plainAt s)
       → Once (plainAt s₁) → Alike s s₁ (graphed passOver s b k) (graphed passOver s₁ b k)
+  -- and then so are the tables that two calls leave, whatever they held, if the same lengths are lent; the call with an accent is the second one
+  pub called-alike : (s s₁ b n e d f g l n′ e′ d′ f′ g′ l′ : List ℕ) → lengthsOf n e d f g l ≡ lengthsOf n′ e′ d′ f′ g′ l′ → WellFormed s → WellFormed s₁
+      → Alike s s₁ (graphed passOver s b (lengthsOf n e d f g l)) (graphed passOver s₁ b (lengthsOf n e d f g l))
+      → {r r′ : Graphed} {n₁ e₁ d₁ f₁ g₁ l₁ n₁′ e₁′ d₁′ f₁′ g₁′ l₁′ : List ℕ} → Graphs s b n e d f g l r n₁ e₁ d₁ f₁ g₁ l₁
+      → Graphs s₁ b n′ e′ d′ f′ g′ l′ r′ n₁′ e₁′ d₁′ f₁′ g₁′ l₁′ → AlikeCalls s s₁ r n₁ e₁ r′ n₁′ e₁′
