@@ -19,6 +19,7 @@ TOPICS = [
     ("demand 2: RFC 7950's quoted values, the newest revision", set(), ["demands_rfc/RfcEquality", "demands_rfc/RfcQuoted", "demands/Newest"]),
     ("demand 3: which edges a graph has", set(), ["demands/Demand3", "demands/Demand3Needs"]),
     ("what an order is, by edges alone", set(), ["demands_order/Order", "demands/OrderCalls"]),
+    ("document 01's starred examples", set(), ["demands/Starred"]),
 ]
 USE = re.compile(r"use Rattle·([a-z_]+)(?:·specs)?\.specs\.(\w+)(?:\.\{([^}]*)\}| as (\w+))$")
 DEFINED = re.compile(r"\s*(?:(?:abbrev |unfoldable )*(?:pub )?(\S+) :|(?:pub )?(?:record|data|module) (\S+))")

@@ -8,9 +8,13 @@ use Rattle.scan_rows.specs.Span.{valueIn}
 use Rattle.scan_rows.proofs.Laws.{each-of}
 use Rattle.scan_newest.specs.Newest.{Revision, Read, newest, First}
 use Rattle.scan_newest.proofs.NewestLaws.{newest-none, newest-present, newest-greatest, newest-first, newest-valued}
-use Rattle.scan_metadata.specs.Metadata.{Metadata, good, scanned}
+use native.Mathlib.Omega.{arith}
+use Rattle.text_lent.specs.Lent.{lentAt}
+use Rattle.text_lent.specs.declared.Lent.{Lent}
+use Rattle.text_lent.specs.declared.Lent.the-variants.{Fit, Unfit}
+use Rattle.scan_metadata.specs.Metadata.{Metadata, Scan, good, scanned, ifFit, metadata}
 use Rattle.scan_metadata.proofs.ScanLaws.{Kept, scan-placed}
-use Rattle.demands.specs.Newest.{NewestIsRight}
+use Rattle.demands.specs.Newest.{NewestIsRight, NewestRight}
 
 some-present : (rs : List Revision) → Each Read rs → (rs ≡ [] → ⊥) → Read (newest rs)
 some-present [] h n = absurd (n refl)
@@ -20,8 +24,8 @@ some-first : (rs : List Revision) → Each Read rs → (rs ≡ [] → ⊥) → F
 some-first [] h n = absurd (n refl)
 some-first (r ∷ rs) h n = newest-first r rs h
 
-pub newest-is-right : (s : List ℕ) (m : Metadata) → scanned s ≡ good m → NewestIsRight m
-newest-is-right s m h =
+of-scanned : (s : List ℕ) (m : Metadata) → scanned s ≡ good m → NewestIsRight m
+of-scanned s m h =
     let rs = m .revisions in
     let kept = scan-placed s m h .revisions in
     let read : Each Read rs = each-of (Kept (m .bytes)) Read (λ r k. k .0) rs kept in
@@ -32,3 +36,13 @@ newest-is-right s m h =
       first = some-first rs read;
       stored = newest-valued (m .bytes) rs (each-of (Kept (m .bytes)) (λ r. valueIn (m .bytes) (r .span) ≡ r .value) (λ r k. k .2) rs kept);
     }
+
+-- a good scan is one that fits
+fitted : (l : Lent) (x : Scan) (m : Metadata) → ifFit l x ≡ good m → x ≡ good m
+unfolding ifFit
+fitted Fit x m h = h
+fitted (Unfit r) x m h = let z : _≡_ {A = ℕ} 0 1 = cc in absurd (omega arith)
+
+pub newest-is-right : NewestRight
+unfolding metadata
+newest-is-right s short m h = of-scanned s m (fitted (lentAt s short) (scanned s) m h)

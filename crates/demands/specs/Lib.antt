@@ -4,3 +4,4 @@ pub mod Demand3
 pub mod Demand3Needs
 pub mod Demand1
 pub mod OrderCalls
+pub mod Starred

@@ -2,12 +2,13 @@
 -- bytes.
 -- Assumes nothing.
 use mathlib.Core.Path.{_≡_}
-use mathlib.Core.Bool.{true, false}
-use mathlib.Core.List.{[]}
+use mathlib.Core.Bool.{Bool, true, false}
+use mathlib.Core.List.{List, []}
+use Prim.Native.Nat.{ℕ}
 use Rattle.scan_rows.specs.Rows.{Each}
 use Rattle.scan_rows.specs.Span.{missing, valueIn}
 use Rattle.scan_newest.specs.Newest.{less, newest, First}
-use Rattle.scan_metadata.specs.Metadata.{Metadata}
+use Rattle.scan_metadata.specs.Metadata.{Metadata, good, metadata}
 
 -- of what a metadata scan read
 pub record NewestIsRight (m : Metadata) : Type 0 where
@@ -20,3 +21,7 @@ pub record NewestIsRight (m : Metadata) : Type 0 where
   pub first : (m .revisions ≡ [] → ⊥) → First (m .revisions) (newest (m .revisions))
   -- its bytes are where it says
   pub stored : valueIn (m .bytes) (newest (m .revisions) .span) ≡ newest (m .revisions) .value
+
+-- and so for every good scan
+abbrev pub NewestRight : Type 0
+NewestRight = (s : List ℕ) (short : Bool) (m : Metadata) → metadata s short ≡ good m → NewestIsRight m
