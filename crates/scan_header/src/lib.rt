@@ -97,7 +97,11 @@ fn skip_field(here: Cursor, classes: &[u8; 128], s: &[u8], keyword: u32) -> Hear
     let Skipped::Past(next, _) = value else {
         return Heard::Refused(text_skip::skip_refusal(value));
     };
-    passed(after_value(next, classes, s, keyword))
+    let due = after_value(next, classes, s, keyword);
+    let Due::After(end) = due else {
+        return Heard::Refused(text::refusal_of(due));
+    };
+    Heard::Passed(end)
 }
 
 // Whether a prefix was read before this one.
