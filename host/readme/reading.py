@@ -15,7 +15,7 @@ TOPICS = [
     ("image and bundle, the finds", {"library_form", "library_image", "library_index", "library_find", "library_bundle"}, ["nuvaleta/Finds"]),
     ("the graph", set(), ["nuvaleta/Graphs"]),
     ("the order of registration", set(), ["nuvaleta/Orders"]),
-    ("demand 1: which refusals a call can give; one outcome of each", set(), ["demands/Demand1", "demands/OneOutcome"]),
+    ("demand 1: which refusals a call can give; one outcome of each", set(), ["demands/Demand1", "demands/OneOutcome", "demands/Answers"]),
     ("demand 2: RFC 7950's quoted values, the newest revision", set(), ["demands_rfc/RfcEquality", "demands_rfc/RfcQuoted", "demands/Newest"]),
     ("demand 3: which edges a graph has", set(), ["demands/Demand3", "demands/Demand3Needs"]),
     ("what an order is, by edges alone", set(), ["demands_order/Order", "demands/OrderCalls"]),

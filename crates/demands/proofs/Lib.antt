@@ -10,3 +10,4 @@ pub mod Standing
 pub mod Starred
 pub mod TablesRead
 pub mod Zeros
+pub mod Answers

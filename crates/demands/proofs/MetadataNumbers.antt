@@ -43,7 +43,7 @@ use Rattle.scan_metadata.specs.Metadata.{Metadata, nothing, Scan, good, bad, en
 use Rattle.demands.specs.Demand1.{FirstRefusal, Fits, RefusedAs, first, read, MetadataRefusal, no-value, no-byte, no-name}
 use Rattle.demands.proofs.ScanNumbers.{isOne, refusal, of, DueIs, ArgumentIs, due-is, value-is, turns-all, LentIs, lent-is, first-unfit}
 
-abbrev M : Refusal → Type 0
+abbrev pub M : Refusal → Type 0
 M r = MetadataRefusal r
 
 -- ---- what follows a value
@@ -77,7 +77,7 @@ rest-is s at k h =
 
 -- ---- a statement
 
-abbrev HeardIs : Heard → Type 0
+abbrev pub HeardIs : Heard → Type 0
 HeardIs (Value k x c n) = Unit {0}
 HeardIs (Passed c) = Unit {0}
 HeardIs (Done c) = Unit {0}
@@ -138,7 +138,7 @@ module _ (s : List ℕ) (at u : ℕ) (p : Bool) where
       (or-is 6 (λ c. statement-is s 6 (λ h. refl) (λ h. absurd (never h refl)) (c .at) u p) _ _
       (or-is 7 (λ c. statement-is s 7 (λ h. refl) (λ h. refl) (c .at) u p) _ _ (last-is (dataAt s at))))))))
 
-said-is : (s : List ℕ) (at u : ℕ) (p : Bool) → HeardIs (saidAt s at u p .answer)
+pub said-is : (s : List ℕ) (at u : ℕ) (p : Bool) → HeardIs (saidAt s at u p .answer)
 unfolding saidAt saidHere
 said-is s at u p = let g = gapEnd s at in by-test (leb (length s) g) (λ t. rw t tt) (λ t. rw t (tag-is s g u p))
 

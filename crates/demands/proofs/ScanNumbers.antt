@@ -141,7 +141,7 @@ module _ (P : Refusal → Type 0) where
 
 -- ---- dependencies
 
-abbrev D : Refusal → Type 0
+abbrev pub D : Refusal → Type 0
 D r = DependenciesRefusal r
 
 D-number : (k : ℕ) → isOne k (5 ∷ 8 ∷ 9 ∷ 10 ∷ []) ≡ true → (n : ℕ) → isOne n (4 ∷ 5 ∷ 6 ∷ []) ≡ true → (at : ℕ) → D (refusal n k at)
@@ -215,11 +215,11 @@ module _ (s : List ℕ) (k : ℕ) (own : isOne k (8 ∷ 9 ∷ []) ≡ true) wher
       (λ a r e. stop-is (a .bytes ++ insideAt s k (a .body) .bytes) (insideAt s k (a .body) .answer) r (inside-is (a .body)) e)
       (λ a b r e h. h) (suc (length s)) (record { body = begun at u; bytes = [] }) (omega arith)
 
-abbrev ImportedIs : ParsedImport → Type 0
+abbrev pub ImportedIs : ParsedImport → Type 0
 ImportedIs (ReadImport c n i) = Unit {0}
 ImportedIs (NoImport r) = D r
 
-abbrev IncludedIs : ParsedInclude → Type 0
+abbrev pub IncludedIs : ParsedInclude → Type 0
 IncludedIs (ReadInclude c n i) = Unit {0}
 IncludedIs (NoInclude r) = D r
 
@@ -245,7 +245,7 @@ module _ (s : List ℕ) where
   name-is u bytes (Read c n) h = body-is _ (blockAt s (c .at) n 8 .answer) (block-is s 8 refl (c .at) n)
   name-is u bytes (NoArgument r) h = h
 
-  import-is : (at u : ℕ) → ImportedIs (importAt s at u .answer)
+  pub import-is : (at u : ℕ) → ImportedIs (importAt s at u .answer)
   unfolding importAt isOne
   import-is at u = name-is u _ (lineAt s at u 8 123) (D-line 8 refl s at u 123)
 
@@ -260,7 +260,7 @@ module _ (s : List ℕ) where
   value-read-is u bytes (Read c n) h = rest-is (gapEnd s (c .at)) n _ bytes
   value-read-is u bytes (NoArgument r) h = h
 
-  include-is : (at u : ℕ) → IncludedIs (includeAt s at u .answer)
+  pub include-is : (at u : ℕ) → IncludedIs (includeAt s at u .answer)
   unfolding includeAt isOne
   include-is at u = value-read-is u _ (argumentAt s at u 9) (value-is D 9 (D-number 9 refl 4 refl) s at u)
 
