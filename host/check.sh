@@ -1,8 +1,8 @@
 #!/bin/sh
 # check.sh [alone | over]: the host's quick checks. `alone`: those that need no archive, so that they can run beside the proofs: the documents, the picture of
-# the crates, how an archive is made, the packing of images and bundles, and the recorded answers of the original Rust. `over`: the archive from C, installed
-# too, and under attack, the Rust crate and its command, the examples, the README's snippets; the port beside plain readings and beside the original. With no
-# word, both. What needs the NetGauze source, or a newer Rust, is skipped where that is not at hand, and says so.
+# the crates, how an archive is made, the packing of images and bundles, and the recorded answers of the original Rust. `over`: what deps and meta print; the
+# archive from C, installed too, and under attack, the Rust crate and its command, the examples, the README's snippets; the port beside plain readings and
+# beside the original. With no word, both. What needs the NetGauze source, or a newer Rust, is skipped where that is not at hand, and says so.
 set -eu
 here=$(cd "$(dirname "$0")" && pwd)
 cd "$here/.."
@@ -58,6 +58,7 @@ alone() {
 }
 
 from_c_and_rust() {
+    "$here/programs/test.py"
     "$here/c/test.sh" "$archive"
     "$here/attack/test.sh" "$archive"
     rust=rust

@@ -2,7 +2,7 @@
 -- Assumes nothing.
 use mathlib.Core.Path.{_≡_, refl, sym, ap, subst, _∙_}
 use mathlib.Core.List.{List}
-use Prim.Native.Nat.{ℕ, _+_, _-_}
+use Prim.Native.Nat.{ℕ}
 use native.Mathlib.Omega.{arith}
 use lib.ListN.{length, take, drop, length-take}
 use Rattle.library_bundle.specs.Bundle.{looked, lookUp}
@@ -20,19 +20,15 @@ module _ (b t : List ℕ) {p : TextPlace} (a : looked p ≡ lookUp b t) where
   unfolding textOf
   none-under d f g h = record { seen = ap (lookText b) (is-missing b t a h); few = tt; kept-store = refl; kept-imports = refl; kept-includes = refl }
 
-  module _ {from size : ℕ} (h : p ≡ At from size) where
-    part : take (from + size - from) (drop from b) ≡ take size (drop from b)
-    part = let z : from + size - from ≡ size = omega arith in rw z
-
-    pub under-room : (tab : List ℕ) (n : ℕ) → Held b tab n → (d f g : List ℕ) → ScanRoom (longestText b) d f g
-        → ScanRoom (length (take (from + size - from) (drop from b))) d f g
+  -- x: the bytes there
+  module _ {from size : ℕ} (h : p ≡ At from size) {x : List ℕ} (q : x ≡ take size (drop from b)) where
+    pub under-room : (tab : List ℕ) (n : ℕ) → Held b tab n → (d f g : List ℕ) → ScanRoom (longestText b) d f g → ScanRoom (length x) d f g
     under-room tab n held d f g m = record {
-      store-room = omega (arith, ap length part, length-take size (drop from b), found-low b tab t n held (sym (is-there b t a h)), m .store-room);
+      store-room = omega (arith, ap length q, length-take size (drop from b), found-low b tab t n held (sym (is-there b t a h)), m .store-room);
       import-room = m .import-room;
       include-room = m .include-room;
     }
 
-    pub text-under : {d f g : List ℕ} {r : Seen} {e i j : List ℕ} → SeenAs (scanText (take (from + size - from) (drop from b))) d f g r e i j
-        → SeenAs (textOf b t) d f g r e i j
+    pub text-under : {d f g : List ℕ} {r : Seen} {e i j : List ℕ} → SeenAs (scanText x) d f g r e i j → SeenAs (textOf b t) d f g r e i j
     unfolding textOf
-    text-under {d} {f} {g} {r} {e} {i} {j} w = subst (λ x. SeenAs x d f g r e i j) (ap scanText part ∙ ap (lookText b) (is-there b t a h)) w
+    text-under {d} {f} {g} {r} {e} {i} {j} w = subst (λ y. SeenAs y d f g r e i j) (ap scanText q ∙ ap (lookText b) (is-there b t a h)) w

@@ -47,6 +47,10 @@ pub fn read_text(
     let TextPlace::At(from, size) = library_bundle::find(bundle, tab, count, name) else {
         return Seen::Missing;
     };
-    let to = from + size;
-    scan_text(&bundle[from..to], store, imports, includes)
+    scan_text(
+        library_bundle::text_at(bundle, from, size),
+        store,
+        imports,
+        includes,
+    )
 }

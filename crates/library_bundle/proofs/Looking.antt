@@ -1,4 +1,4 @@
--- One law for each way out of `find`, `text`, `text_under` and `find_text`.
+-- One law for each way out of `find`, `text_at`, `text`, `text_under` and `find_text`.
 -- Assumes nothing.
 use mathlib.Core.Path.{_≡_, refl, sym, ap, ap₂, _∙_}
 use mathlib.Core.List.{List, [], _∷_}
@@ -89,6 +89,11 @@ module _ (s tab t : List ℕ) (n : ℕ) (g : Held s tab n) {r : Found} (a : r �
         pub stands : {size : ℕ} {c : ImageCursor} → q ≡ Value size c → looked (At (c .at) size) ≡ lookUp s t
         stands h = sym (text-place ∙ ap (λ (b : Ans ℕ). looked (seenPlace b)) (sym f ∙ ap numberSeen h))
 
+-- ---- the way out of `text_at`
+
+pub part-is : (s : List ℕ) (from size : ℕ) → take (from + size - from) (drop from s) ≡ take size (drop from s)
+part-is s from size = let z : from + size - from ≡ size = omega arith in rw z
+
 -- ---- the ways out of `text` and `find_text`, by what `find` answered
 
 module _ (s t : List ℕ) {r : TextPlace} (a : looked r ≡ lookUp s t) where
@@ -103,16 +108,14 @@ module _ (s t : List ℕ) {r : TextPlace} (a : looked r ≡ lookUp s t) where
   no-text e = ap (partOf s) (is-missing e)
 
   module _ {from size : ℕ} (e : r ≡ At from size) where
-    pub the-text : take (from + size - from) (drop from s) ≡ textUnder s t
+    -- x: the bytes there
+    pub the-text : {x : List ℕ} → x ≡ take size (drop from s) → x ≡ textUnder s t
     unfolding textUnder
-    the-text = let z : from + size - from ≡ size = omega arith in rw z (ap (partOf s) (is-there e))
+    the-text h = h ∙ ap (partOf s) (is-there e)
 
     module _ (tab : List ℕ) (n : ℕ) (g : Held s tab n) where
       pub text-in : from + size ≤ length s
       text-in = place-in s t (g .texts) (g .sizes) (is-at (placeOf t (g .texts)) (sym (held-look s tab t n g) ∙ sym (is-there e)))
-
-      pub to-fits : length s < 2 ^ 64 → Fits w64 (from + size)
-      to-fits k = record { fits = omega (arith, text-in) }
 
 -- ---- the ways out of `text_under` and `find_text`, by what `open` answered
 

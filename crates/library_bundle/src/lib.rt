@@ -6,8 +6,8 @@ use library_form::Name;
 use library_form::Number;
 use library_index::Found;
 ghost use mathlib.Core.Path.{_≡_};
-ghost use Prim.Native.Nat.{max, _≤_};
-ghost use lib.ListN.{length};
+ghost use Prim.Native.Nat.{max, _+_, _≤_};
+ghost use lib.ListN.{length, take, drop};
 ghost use Rattle.library_index.specs.Names.{Space};
 ghost use Rattle.library_bundle.specs.Bundle.{looked, lookUp, textUnder};
 ghost use Rattle.library_bundle.specs.Reading.{tableWords, FiledAs, Held, OpenedAs, NameHeld, sizeIn, longestText};
@@ -152,6 +152,15 @@ pub fn longest(s: &[u8], tab: &[u32], count: usize) -> usize
     most
 }
 
+// The text that stands at a place, as `find` tells it. `text` cuts here, and so does the walk of the graph, which must tell a missing text from an empty one.
+pub fn text_at<'a>(s: &'a [u8], from: usize, size: usize) -> &'a [u8]
+    requires { ⌜ from + size ≤ length (now s) ⌝ }
+    ensures { λ r. ⌜ now r ≡ take size (drop from (now (s .entry))) ⌝ }
+{
+    let to = from + size;
+    &s[from..to]
+}
+
 // The text under `name`, empty where there is none.
 pub fn text<'a>(s: &'a [u8], tab: &[u32], count: usize, name: &[u8]) -> &'a [u8]
     requires { ⌜ Held (now s) (now tab) count ⌝ }
@@ -160,8 +169,7 @@ pub fn text<'a>(s: &'a [u8], tab: &[u32], count: usize, name: &[u8]) -> &'a [u8]
     let TextPlace::At(from, size) = find(s, tab, count, name) else {
         return &s[0..0];
     };
-    let to = from + size;
-    &s[from..to]
+    text_at(s, from, size)
 }
 
 // The text under `name` in one call: empty where the bundle is wrong or has none.

@@ -9,13 +9,12 @@ use Rattle.scan_rows.specs.Span.{held, missing, valueIn}
 use Rattle.scan_rows.specs.declared.Span.{Span}
 use Rattle.scan_rows.specs.declared.YangImport.{YangImport}
 use Rattle.scan_rows.specs.declared.YangInclude.{YangInclude}
-use Rattle.scan_printed.specs.Pieces.{digits}
+use Rattle.scan_line.specs.Line.{lastDigits, decimal}
 use Rattle.scan_printed.specs.Printed.{heading, revision, importLine, includeLine, importLines, includeLines, printed}
 
--- the page of a store, its imports and its includes; the digits of a count
+-- the page of a store, its imports and its includes
 data Example : Type 0 where
   page : List ℕ → List YangImport → List YangInclude → List ℕ → Example
-  count : ℕ → List ℕ → Example
 
 import : Span → Span → Span → YangImport
 import name prefix rev = record { «module_name» = name; prefix = prefix; «revision_date» = rev }
@@ -25,7 +24,6 @@ include name rev = record { «submodule_name» = name; «revision_date» = rev }
 
 holds : Example → Bool
 holds (page store is js p) = same (printed store is js) p
-holds (count n ds) = same (digits n) ds
 
 all : List Example → Bool
 all [] = true
@@ -34,7 +32,6 @@ all (x ∷ xs) = holds x && all xs
 -- `baseb2024-05-01m-types`: import base, prefix b, revision 2024-05-01; include m-types
 -- nothing: `Imports (0):`, an empty line, `Includes (0):`
 -- `ap`: imports a with an empty prefix, p with prefix a and an empty revision; include ap, revision p
--- 7 | 10 | 99 | 100 | 256
 examples : List Example
 examples =
     page (98 ∷ 97 ∷ 115 ∷ 101 ∷ 98 ∷ 50 ∷ 48 ∷ 50 ∷ 52 ∷ 45 ∷ 48 ∷ 53 ∷ 45 ∷ 48 ∷ 49 ∷ 109 ∷ 45 ∷ 116 ∷ 121 ∷ 112 ∷ 101 ∷ 115 ∷ [])
@@ -49,8 +46,8 @@ examples =
     (73 ∷ 109 ∷ 112 ∷ 111 ∷ 114 ∷ 116 ∷ 115 ∷ 32 ∷ 40 ∷ 50 ∷ 41 ∷ 58 ∷ 10 ∷ 32 ∷ 32 ∷ 45 ∷ 32 ∷ 97 ∷ 32 ∷ 40 ∷ 112 ∷ 114 ∷ 101 ∷ 102 ∷ 105 ∷ 120 ∷ 58 ∷ 32 ∷ 41
     ∷ 10 ∷ 32 ∷ 32 ∷ 45 ∷ 32 ∷ 112 ∷ 32 ∷ 40 ∷ 112 ∷ 114 ∷ 101 ∷ 102 ∷ 105 ∷ 120 ∷ 58 ∷ 32 ∷ 97 ∷ 41 ∷ 32 ∷ 64 ∷ 32 ∷ 10 ∷ 10 ∷ 73 ∷ 110 ∷ 99 ∷ 108 ∷ 117
     ∷ 100 ∷ 101 ∷ 115 ∷ 32 ∷ 40 ∷ 49 ∷ 41 ∷ 58 ∷ 10 ∷ 32 ∷ 32 ∷ 45 ∷ 32 ∷ 97 ∷ 112 ∷ 32 ∷ 64 ∷ 32 ∷ 112 ∷ 10 ∷ [])
-    ∷ count 7 (55 ∷ []) ∷ count 10 (49 ∷ 48 ∷ []) ∷ count 99 (57 ∷ 57 ∷ []) ∷ count 100 (49 ∷ 48 ∷ 48 ∷ []) ∷ count 256 (50 ∷ 53 ∷ 54 ∷ []) ∷ []
+    ∷ []
 
 right : T (all examples)
-unfolding all holds examples import include same digits heading revision importLine includeLine importLines includeLines printed valueIn flatten
+unfolding all holds examples import include same lastDigits decimal heading revision importLine includeLine importLines includeLines printed valueIn flatten
 right = tt

@@ -1,5 +1,5 @@
 pub mod Examples
-pub mod Going
 pub mod Laws
+pub mod Lines
 pub mod Padded
 pub mod Sizes

@@ -1,21 +1,21 @@
 -- The printed form is at most 6,944 bytes longer than its values: 19 bytes go around an import's values, 8 around an include's, 32 into headings and
 -- the empty line, and there are 256 rows of each kind at the most.
 -- Assumes nothing.
-use mathlib.Core.Path.{_≡_, refl, ap, _∙_}
 use mathlib.Core.Bool.{Bool, true, false, cond}
 use mathlib.Core.List.{List, [], _∷_, _++_, map, flatten}
 use Prim.Native.Nat.{ℕ, _+_, _*_, _≤_}
 use native.Mathlib.Nat.{suc-mul}
 use native.Mathlib.Omega.{arith}
-use lib.Dec.{ltb}
 use lib.ListN.{length, drop, length-append, length-take}
-use Rattle.text.proofs.Here.{by-test}
+use Rattle.scan_line.specs.Line.{newline, decimal}
+use Rattle.scan_line.proofs.Decimal.{decimal-size}
+use Rattle.scan_line.proofs.Going.{sum, flatten-length}
 use Rattle.scan_rows.specs.Span.{valueIn}
 use Rattle.scan_rows.specs.Rows.{mostRows}
 use Rattle.scan_rows.specs.declared.Span.{Span}
 use Rattle.scan_rows.specs.declared.YangImport.{YangImport}
 use Rattle.scan_rows.specs.declared.YangInclude.{YangInclude}
-use Rattle.scan_printed.specs.Pieces.{headEnd, importsHead, includesHead, bullet, prefixOpen, prefixClose, revisionSign, newline, digits}
+use Rattle.scan_printed.specs.Pieces.{headEnd, importsHead, includesHead, bullet, prefixOpen, prefixClose, revisionSign}
 use Rattle.scan_printed.specs.Printed.{heading, revision, importLine, includeLine, importLines, includeLines, printed}
 use Rattle.scan_rows.specs.Sizes.{total, importValues, includeValues, importSizes, includeSizes}
 
@@ -31,24 +31,11 @@ revision-size : (store : List ℕ) (x : Span) → length (revision store x) ≤ 
 unfolding revision
 revision-size store x = omega (arith, signed-size (x .present) (valueIn store x), value-size store x)
 
-digits-size : (n : ℕ) → length (digits n) ≤ 3
-unfolding digits
-digits-size n = by-test (ltb n 10) (λ t. rw t (omega arith)) (λ f. rw f (by-test (ltb n 100) (λ t. rw t (omega arith)) (λ g. rw g (omega arith))))
-
 -- ---- pieces
 
-sum : List (List ℕ) → ℕ
-sum [] = 0
-sum (p ∷ ps) = length p + sum ps
-
-flatten-length : (ps : List (List ℕ)) → length (flatten ps) ≡ sum ps
-unfolding flatten sum
-flatten-length [] = refl
-flatten-length (p ∷ ps) = length-append p (flatten ps) ∙ ap (λ k. length p + k) (flatten-length ps)
-
-heading-size : (word : List ℕ) (n : ℕ) → length (heading word n) ≤ length word + 6
+heading-size : (word : List ℕ) (n : ℕ) → n ≤ mostRows → length (heading word n) ≤ length word + 6
 unfolding heading sum
-heading-size word n = omega (arith, flatten-length (word ∷ digits n ∷ headEnd ∷ []), digits-size n)
+heading-size word n h = omega (arith, flatten-length (word ∷ decimal n ∷ headEnd ∷ []), decimal-size 2 n (omega (arith, h)) (omega (arith, h)))
 
 import-size : (store : List ℕ) (i : YangImport) → length (importLine store i) ≤ 19 + importValues i
 unfolding importLine sum
@@ -97,8 +84,8 @@ printed-size store is js h k =
     omega (
       arith,
       flatten-length (heading importsHead (length is) ∷ importLines store is ∷ newline ∷ heading includesHead (length js) ∷ includeLines store js ∷ []),
-      heading-size importsHead (length is),
-      heading-size includesHead (length js),
+      heading-size importsHead (length is) h,
+      heading-size includesHead (length js) k,
       imports-size store is,
       includes-size store js,
     )

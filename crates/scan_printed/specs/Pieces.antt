@@ -1,9 +1,7 @@
--- The fixed pieces of the printed form, and a count in decimal.
+-- The fixed pieces of the printed form.
 -- Assumes nothing.
-use Prim.Native.Nat.{ℕ, _+_, _/_, _%_}
-use mathlib.Core.Bool.{cond}
+use Prim.Native.Nat.{ℕ}
 use mathlib.Core.List.{List, [], _∷_}
-use lib.Dec.{ltb}
 
 -- `Imports (`
 abbrev pub importsHead : List ℕ
@@ -32,21 +30,3 @@ prefixClose = 41 ∷ []
 -- ` @ `
 abbrev pub revisionSign : List ℕ
 revisionSign = 32 ∷ 64 ∷ 32 ∷ []
-
--- a line break
-abbrev pub newline : List ℕ
-newline = 10 ∷ []
-
--- `0`
-abbrev pub nought : ℕ
-nought = 48
-
-abbrev pub digit : ℕ → ℕ
-digit d = d + nought
-
--- a count below 1,000
-unfoldable pub digits : ℕ → List ℕ
-digits n =
-    cond (ltb n 10) (digit n ∷ [])
-    (cond (ltb n 100) (digit (n / 10) ∷ digit (n % 10) ∷ [])
-    (digit (n / 100) ∷ digit (n / 10 % 10) ∷ digit (n % 10) ∷ []))

@@ -5,15 +5,16 @@ use Prim.Native.Nat.{ℕ}
 use mathlib.Core.Bool.{cond}
 use mathlib.Core.List.{List, [], _∷_, _++_, map, flatten}
 use lib.ListN.{length}
+use Rattle.scan_line.specs.Line.{newline, decimal}
 use Rattle.scan_rows.specs.Rows.{importsIn, includesIn}
 use Rattle.scan_rows.specs.Span.{valueIn}
 use Rattle.scan_rows.specs.declared.Span.{Span}
 use Rattle.scan_rows.specs.declared.YangImport.{YangImport}
 use Rattle.scan_rows.specs.declared.YangInclude.{YangInclude}
-use Rattle.scan_printed.specs.Pieces.{importsHead, includesHead, headEnd, bullet, prefixOpen, prefixClose, revisionSign, newline, digits}
+use Rattle.scan_printed.specs.Pieces.{importsHead, includesHead, headEnd, bullet, prefixOpen, prefixClose, revisionSign}
 
 unfoldable pub heading : List ℕ → ℕ → List ℕ
-heading word n = flatten (word ∷ digits n ∷ headEnd ∷ [])
+heading word n = flatten (word ∷ decimal n ∷ headEnd ∷ [])
 
 unfoldable pub revision : List ℕ → Span → List ℕ
 revision store x = cond (x .present) (revisionSign ++ valueIn store x) []

@@ -7,34 +7,19 @@ ghost use mathlib.Core.List.{_++_};
 ghost use Prim.Native.Nat.{_+_, _*_, _≤_, _<_};
 ghost use lib.ListN.{length};
 ghost use lib.Seq.{sets};
+ghost use Rattle.scan_line.specs.Line.{newline};
+ghost use Rattle.scan_line.specs.Wrote.{Wrote};
 ghost use Rattle.scan_rows.specs.Span.{valueIn};
 ghost use Rattle.scan_rows.specs.Rows.{importSize, includeSize, mostRows, importsIn, includesIn};
-ghost use Rattle.scan_printed.specs.Pieces.{newline, digit, digits};
 ghost use Rattle.scan_printed.specs.Printed.{heading, revision, importLine, includeLine, importLines, includeLines, printedRows};
-ghost use Rattle.scan_printed.specs.Wrote.{Wrote};
-
-// These bytes.
-fn put(page: &mut [u8], at: usize, bytes: &[u8]) -> usize
-    requires { ⌜ at + length (now bytes) ≤ length (now page) ⌝ }
-    ensures { λ r. ⌜ Wrote (now (page .entry)) at (now (bytes .entry)) (now (page .exit)) r ⌝ }
-{
-    let mut i = 0;
-    let mut n = at;
-    while i < bytes.len() {
-        page[n] = bytes[i];
-        n += 1;
-        i += 1;
-    }
-    n
-}
 
 // A label, and a value behind it.
 fn put_value(page: &mut [u8], at: usize, label: &[u8], store: &[u8], x: Span) -> usize
     requires { ⌜ at + length (now label ++ valueIn (now store) x) ≤ length (now page) ⌝ }
     ensures { λ r. ⌜ Wrote (now (page .entry)) at (now (label .entry) ++ valueIn (now (store .entry)) x) (now (page .exit)) r ⌝ }
 {
-    let n = put(page, at, label);
-    put(page, n, scan_rows::value_in(store, x))
+    let n = scan_line::put(page, at, label);
+    scan_line::put(page, n, scan_rows::value_in(store, x))
 }
 
 // A revision, if present, and the line break.
@@ -44,9 +29,9 @@ fn put_line_end(page: &mut [u8], at: usize, store: &[u8], x: Span) -> usize
 {
     if x.present {
         let n = put_value(page, at, b" @ ", store, x);
-        return put(page, n, b"\n");
+        return scan_line::put(page, n, b"\n");
     }
-    put(page, at, b"\n")
+    scan_line::put(page, at, b"\n")
 }
 
 // An import's line.
@@ -56,7 +41,7 @@ fn put_import_line(page: &mut [u8], at: usize, store: &[u8], i: YangImport) -> u
 {
     let name = put_value(page, at, b"  - ", store, i.module_name);
     let prefix = put_value(page, name, b" (prefix: ", store, i.prefix);
-    let close = put(page, prefix, b")");
+    let close = scan_line::put(page, prefix, b")");
     put_line_end(page, close, store, i.revision_date)
 }
 
@@ -69,42 +54,13 @@ fn put_include_line(page: &mut [u8], at: usize, store: &[u8], i: YangInclude) ->
     put_line_end(page, name, store, i.revision_date)
 }
 
-// A digit's byte.
-fn digit_of(n: usize) -> u8
-    requires { ⌜ n < 10 ⌝ }
-    ensures { λ r. ⌜ r ≡ digit n ⌝ }
-{
-    n as u8 + b'0'
-}
-
-// A count in decimal.
-fn put_count(page: &mut [u8], at: usize, n: usize) -> usize
-    requires { ⌜ (n < 1000) × (at + length (digits n) ≤ length (now page)) ⌝ }
-    ensures { λ r. ⌜ Wrote (now (page .entry)) at (digits n) (now (page .exit)) r ⌝ }
-{
-    if n < 10 {
-        page[at] = digit_of(n);
-        return at + 1;
-    }
-    if n < 100 {
-        page[at] = digit_of(n / 10);
-        page[at + 1] = digit_of(n % 10);
-        return at + 2;
-    }
-    page[at] = digit_of(n / 100);
-    page[at + 1] = digit_of(n / 10 % 10);
-    page[at + 2] = digit_of(n % 10);
-    at + 3
-}
-
 // A heading with its count.
 fn put_heading(page: &mut [u8], at: usize, word: &[u8], n: usize) -> usize
-    requires { ⌜ (n < 1000) × (at + length (heading (now word) n) ≤ length (now page)) ⌝ }
+    requires { ⌜ at + length (heading (now word) n) ≤ length (now page) ⌝ }
     ensures { λ r. ⌜ Wrote (now (page .entry)) at (heading (now (word .entry)) n) (now (page .exit)) r ⌝ }
 {
-    let count = put(page, at, word);
-    let close = put_count(page, count, n);
-    put(page, close, b"):\n")
+    let close = scan_line::put_number(page, at, word, n);
+    scan_line::put(page, close, b"):\n")
 }
 
 // A line for each row of imports.
@@ -161,7 +117,7 @@ pub fn print(
 {
     let first = put_heading(page, 0, b"Imports (", m);
     let blank = put_import_lines(page, first, store, imports, m);
-    let second = put(page, blank, b"\n");
+    let second = scan_line::put(page, blank, b"\n");
     let rest = put_heading(page, second, b"Includes (", n);
     put_include_lines(page, rest, store, includes, n)
 }

@@ -1,7 +1,7 @@
 -- `graph_texts::read_text`. Each way out is one law of Under.
 -- Assumes nothing.
 use borrow.Author.Needs.{needs}
-use Rattle.library_bundle.proofs.Looking.{text-in, to-fits}
+use Rattle.library_bundle.proofs.Looking.{text-in}
 use Rattle.graph_texts.proofs.Under.{none-under, under-room, text-under}
 use Rattle.graph_texts.proofs.read_text.Statement.{statement}
 use Rattle.graph_texts.proofs.read_text.Tie as tie
@@ -9,11 +9,8 @@ use Rattle.graph_texts.proofs.read_text.Tie as tie
 returns : tie.Need-returns
 returns c = search none-under
 
-add-to : tie.Need-add-to
-add-to c = search to-fits
-
-part-scan-text-end : tie.Need-part-scan-text-end
-part-scan-text-end c = search text-in
+text-at-requires : tie.Need-text-at-requires
+text-at-requires c κs = search text-in
 
 scan-text-requires : tie.Need-scan-text-requires
 scan-text-requires c κs = search under-room
@@ -29,10 +26,7 @@ read-text-spec =
     (λ c. search needs)
     (λ c. search needs)
     returns
-    add-to
-    (λ c. search needs)
-    (λ c. search needs)
-    part-scan-text-end
+    text-at-requires
     scan-text-requires
     (λ c. search needs)
     (λ c. search needs)

@@ -1,8 +1,7 @@
 -- `scan_printed::print` writes the five pieces of the printed form.
 -- Assumes nothing.
-use native.Mathlib.Omega.{arith}
-use Rattle.scan_printed.proofs.Going.{puts, fits, ended}
-use Rattle.scan_printed.proofs.Laws.{printed-begin, from-start, from-first}
+use Rattle.scan_line.proofs.Going.{puts, fits, ended, from-start, from-first}
+use Rattle.scan_printed.proofs.Laws.{printed-begin}
 use borrow.Author.Needs.{needs}
 use Rattle.scan_printed.proofs.print.Statement.{statement}
 use Rattle.scan_printed.proofs.print.Tie as tie
@@ -11,7 +10,7 @@ put-heading-requires : tie.Need-put-heading-requires
 put-heading-requires c κs =
     let start = c .before .before .before .before .before .before in
     let a = start .args in
-    (omega arith, fits (from-start (start .pre .4)) (printed-begin (a .page .now) 0 (a .store .now) (a .imports .now) (a .includes .now) (a .m) (a .n)))
+    fits (from-start (start .pre .4)) (printed-begin (a .page .now) 0 (a .store .now) (a .imports .now) (a .includes .now) (a .m) (a .n))
 
 put-import-lines-requires : tie.Need-put-import-lines-requires
 put-import-lines-requires c κs =
@@ -44,7 +43,7 @@ put-heading-requires-2 c κs =
     let one = puts begun (heading .put-heading .ensures) in
     let two = puts one (lines .put-import-lines .ensures) in
     let three = puts two (blank .put .ensures) in
-    (omega arith, fits (from-start (start .pre .4)) three)
+    fits (from-start (start .pre .4)) three
 
 put-include-lines-requires : tie.Need-put-include-lines-requires
 put-include-lines-requires c κs =

@@ -1,6 +1,6 @@
 -- `scan_printed::put_import_line` writes the pieces of an import's line, two at a time where a label goes before a value.
 -- Assumes nothing.
-use Rattle.scan_printed.proofs.Going.{puts, puts-two, fits, fits-two, ended}
+use Rattle.scan_line.proofs.Going.{puts, puts-two, fits, fits-two, ended}
 use Rattle.scan_printed.proofs.Laws.{import-begin}
 use borrow.Author.Needs.{needs}
 use Rattle.scan_printed.proofs.put_import_line.Statement.{statement}

@@ -4,7 +4,8 @@ use Prim.Native.Nat.{_-_}
 use native.Mathlib.Omega.{arith}
 use Rattle.scan_rows.specs.Rows.{importSize, importAt, importsIn}
 use Rattle.scan_printed.specs.Printed.{importLine, importLines}
-use Rattle.scan_printed.proofs.Going.{Going, puts, fits, long, linesFrom, lines-more, lines-done}
+use Rattle.scan_line.proofs.Going.{Going, puts, fits, long}
+use Rattle.scan_printed.proofs.Lines.{linesFrom, lines-more, lines-done}
 use Rattle.scan_printed.proofs.Laws.{imports-begin}
 use Rattle.scan_printed.proofs.put_import_lines.Statement.{statement}
 use Rattle.scan_printed.proofs.put_import_lines.Tie as tie

@@ -1,6 +1,6 @@
 -- `scan_printed::put_include_line` writes the pieces of an include's line.
 -- Assumes nothing.
-use Rattle.scan_printed.proofs.Going.{puts-two, fits-two, ended}
+use Rattle.scan_line.proofs.Going.{puts-two, fits-two, ended}
 use Rattle.scan_printed.proofs.Laws.{include-begin}
 use borrow.Author.Needs.{needs}
 use Rattle.scan_printed.proofs.put_include_line.Statement.{statement}

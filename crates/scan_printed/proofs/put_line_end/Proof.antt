@@ -1,6 +1,6 @@
 -- `scan_printed::put_line_end` writes the revision where the mark says so, and the line break.
 -- Assumes nothing.
-use Rattle.scan_printed.proofs.Going.{puts, fits, ended}
+use Rattle.scan_line.proofs.Going.{puts, fits, ended}
 use Rattle.scan_printed.proofs.Laws.{end-there, end-none}
 use borrow.Author.Needs.{needs}
 use Rattle.scan_printed.proofs.put_line_end.Statement.{statement}

@@ -1,7 +1,7 @@
 -- `scan_printed::put_value` writes the label, then the value.
 -- Assumes nothing.
 use Rattle.scan_rows.specs.Span.{valueIn}
-use Rattle.scan_printed.proofs.Going.{begin-two, puts, fits, ended}
+use Rattle.scan_line.proofs.Going.{begin-two, puts, fits, ended}
 use Rattle.scan_printed.proofs.Laws.{value-begin}
 use borrow.Author.Needs.{needs}
 use Rattle.scan_printed.proofs.put_value.Statement.{statement}

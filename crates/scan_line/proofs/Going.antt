@@ -2,16 +2,13 @@
 -- them is room for each.
 -- Assumes nothing.
 use mathlib.Core.Path.{_≡_, refl, sym, ap, _∙_}
-use mathlib.Core.List.{List, [], _∷_, _++_, map, flatten, append-nil, append-assoc}
-use Prim.Native.Nat.{ℕ, _+_, _-_, _*_, _<_, _≤_}
-use native.Mathlib.Nat.{sub-zero, zero-mul}
+use mathlib.Core.List.{List, [], _∷_, _++_, flatten, append-nil, append-assoc}
+use Prim.Native.Nat.{ℕ, _+_, _≤_}
 use native.Mathlib.Omega.{arith}
 use lib.ListN.{length, length-append}
 use lib.Seq.{sets, length-sets}
 use Rattle.text.proofs.Writing.{Writing, begun, said, written, counted, sets-append}
-use Rattle.scan_rows.specs.Rows.{rowsOf}
-use Rattle.scan_rows.proofs.Laws.{rows-done, rows-more}
-use Rattle.scan_printed.specs.Wrote.{Wrote}
+use Rattle.scan_line.specs.Wrote.{Wrote}
 
 -- the page was d, `all` is to stand there from u on, the page is e now, and the pieces are still to be written from n on
 pub record Going (d : List ℕ) (u : ℕ) (all : List ℕ) (e : List ℕ) (n : ℕ) (ps : List (List ℕ)) : Type 0 where
@@ -63,23 +60,21 @@ module _ {d : List ℕ} {u : ℕ} {all e : List ℕ} {n : ℕ} where
   unfolding flatten
   ended g = record { left = written refl (g .is); next = counted refl (g .is) }
 
--- ---- a line for each row, of any kind
+-- ---- from the first byte of the page on
 
-module _ {A : Type 0} (row : ℕ → A) (size : ℕ) (line : A → List ℕ) (count : ℕ) where
-  -- the lines from the r-th on
-  abbrev pub linesFrom : ℕ → List (List ℕ)
-  linesFrom r = map line (rowsOf row size (count - r) (r * size))
+pub from-start : {k n : ℕ} → k ≤ n → 0 + k ≤ n
+from-start h = omega arith
 
-  pub lines-begin : (d : List ℕ) (u : ℕ) → Going d u (flatten (map line (rowsOf row size count 0))) d u (linesFrom 0)
-  lines-begin d u = rw (sub-zero count) (rw (zero-mul size) (begin d u (map line (rowsOf row size count 0))))
+pub from-first : {d all e : List ℕ} {n : ℕ} → Wrote d 0 all e n → (n ≡ length all) × (e ≡ sets d 0 all)
+from-first w = (omega (arith, w .next), w .left)
 
-  module _ {d : List ℕ} {u : ℕ} {all e : List ℕ} {n : ℕ} (r : ℕ) (g : Going d u all e n (linesFrom r)) where
-    -- i is the row there
-    pub lines-more : r < count → {i : A} → i ≡ row (r * size) → Going d u all e n (line i ∷ linesFrom (r + 1))
-    lines-more h {i} e = record {
-      is = said (ap (λ l. flatten (map line l)) (rows-more row size count r h ∙ ap (λ j. j ∷ rowsOf row size (count - (r + 1)) ((r + 1) * size)) (sym e)))
-          (g .is);
-    }
+-- ---- the length of pieces
 
-    pub lines-done : count ≤ r → Wrote d u all e n
-    lines-done h = ended (record { is = said (ap (λ l. flatten (map line l)) (rows-done row size count r h)) (g .is) })
+unfoldable pub sum : List (List ℕ) → ℕ
+sum [] = 0
+sum (p ∷ ps) = length p + sum ps
+
+pub flatten-length : (ps : List (List ℕ)) → length (flatten ps) ≡ sum ps
+unfolding flatten sum
+flatten-length [] = refl
+flatten-length (p ∷ ps) = length-append p (flatten ps) ∙ ap (λ k. length p + k) (flatten-length ps)

@@ -1,13 +1,13 @@
--- `scan_printed::put`. The loop keeps what is left to be written, the bytes from here on: each byte written is the first of them.
+-- `scan_line::put`. The loop keeps what is left to be written, the bytes from here on: each byte written is the first of them.
 -- Assumes nothing.
 use Prim.Native.Nat.{_+_, _-_, _≤_}
 use native.Mathlib.Omega.{arith}
 use lib.ListN.{length, drop, length-set}
 use Rattle.text.proofs.Writing.{Writing, begun, put, written, counted}
 use Rattle.text.proofs.Here.{rest-or}
-use Rattle.scan_printed.proofs.Laws.{bytes-past}
-use Rattle.scan_printed.proofs.put.Statement.{statement}
-use Rattle.scan_printed.proofs.put.Tie as tie
+use Rattle.scan_line.proofs.Laws.{bytes-past}
+use Rattle.scan_line.proofs.put.Statement.{statement}
+use Rattle.scan_line.proofs.put.Tie as tie
 
 abbrev Inv-loop : tie.InvT-loop
 Inv-loop page₀ at bytes i₀ n₀ page i n = (n + (length bytes - i) ≤ length page) × Writing page₀ at bytes page n (drop i bytes)
