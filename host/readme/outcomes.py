@@ -26,14 +26,13 @@ def written():
     """function of a crate: its parameters and answer, and its promise."""
     for file in sorted((ROOT / "crates").glob("*/src/lib.rt")):
         for name, head, clauses in PUBLIC.findall(file.read_text()):
-            yield (file.parts[-3], name), (head, " ".join(clauses.partition("ensures {")[2].split()))
+            yield (file.parts[-3], name), (head, re.findall(r"ensures \{\s*λ (\w+)\.\s*⌜(.*?)⌝", clauses, re.S))
 
 
 def conjuncts(promise):
     """What stands between the corners, taken apart at each × that no bracket holds."""
-    inner = promise[promise.index("⌜") + 1:promise.index("⌝")]
     depth, parts = 0, [""]
-    for c in inner:
+    for c in " ".join(promise.split()):
         depth += (c == "(") - (c == ")")
         if c == "×" and depth == 0:
             parts.append("")
@@ -42,20 +41,28 @@ def conjuncts(promise):
     return [p.strip()[1:-1] if p.strip().startswith("(") and p.strip().endswith(")") else p.strip() for p in parts]
 
 
-def misfit(head, promise, view):
-    """Why a promise is not a list of equations for all that is returned and left, or nothing."""
-    answer = re.match(r"\s*λ (\w+)\.", promise)[1]
-    equations = [c.split(" ≡ ", 1) for c in conjuncts(promise) if " ≡ " in c]
-    sure = {left for left, right in equations if ".exit" not in right and not re.search(rf"(?<![\w.]){answer}(?!\w)", right)}
-    wanted = {f"now ({name} .exit)" for name in re.findall(r"(\w+): &mut", head)}
-    if "->" in head:
-        seen = {f"{view} {answer}", f"{answer} {view}", *([f"now {answer}", answer] if not view else [])}
-        if not seen & sure:
-            return "no equation says what is returned"
-    return ", ".join(sorted(wanted - sure))
+def misfit(head, promises, view):
+    """Why the promises are not a list of equations for all that is returned and left, or nothing."""
+    sure, seen = set(), set()
+    for answer, promise in promises:
+        equations = [c.split(" ≡ ", 1) for c in conjuncts(promise) if " ≡ " in c]
+        sure |= {left for left, right in equations if ".exit" not in right and not re.search(rf"(?<![\w.]){answer}(?!\w)", right)}
+        seen |= {f"{view} {answer}", f"{answer} {view}"} if view else {answer, f"now {answer}"}
+    if "->" in head and not seen & sure:
+        return "no equation says what is returned"
+    return ", ".join(sorted({f"now ({name} .exit)" for name in re.findall(r"(\w+): &mut", head)} - sure))
+
+
+def test():
+    """Promises that leave something open are seen."""
+    assert not misfit("(t: &mut [u8]) -> usize", [("r", "(r ≡ f x) × (now (t .exit) ≡ g x)")], "")
+    assert misfit("(t: &mut [u8]) -> usize", [("r", "r ≡ f x")], "") == "now (t .exit)"
+    assert misfit("() -> usize", [("r", "r ≡ f r")], "") and misfit("() -> usize", [("r", "r < 5")], "")
+    assert misfit("() -> Number", [("r", "seen r ≡ f x")], "") and not misfit("() -> Number", [("r", "seen r ≡ f x")], "seen")
 
 
 def main():
+    test()
     laws, functions, faults = dict(told()), dict(written()), []
     views = {name: view.split()[0] if "(" not in view else re.search(r"(\w+ s|\.\w+)\)", view)[1]
              for name, view in re.findall(r"^  pub (\w+) : .*LosesNothing (.*)$", LAWS.split("pub record OneOutcome")[0], re.M)}

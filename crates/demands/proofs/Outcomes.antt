@@ -191,6 +191,7 @@ one-outcome = record {
     a .holds .imports ∙ sym (b .holds .imports),
     a .holds .includes ∙ sym (b .holds .includes),
   );
+  wrote = λ d at bs a b. (a .left ∙ sym (b .left), a .next ∙ sym (b .next));
   printed = λ s d t u p d′ t′ u′ p′ ds ts us ps a b.
       let xe = pageScans s d t u p d′ t′ u′ p′ ds ts us ps in
       let k = leaves-one xe ds ts us (a .scan) (b .scan) in

@@ -18,6 +18,7 @@ use Rattle.graph_marks.specs.Marks.{resolvedCode, includedCode}
 use Rattle.graph_tables.specs.Tables.{Named}
 use Rattle.yangparser.specs.Promises as Dependencies
 use Rattle.yangparser.specs.declared.Parsed.{Parsed}
+use Rattle.scan_line.specs.Wrote.{Wrote}
 use Rattle.scan_page.specs.Page.{Prints}
 use Rattle.scan_page.specs.declared.Page.{Page}
 use Rattle.scan_metadata.specs.Promises as Metadata
@@ -69,6 +70,8 @@ pub record OneOutcome : Type 1 where
   -- scan_over, which clears nothing: what it leaves depends on what was there
   pub over : (s : List ℕ) (short : Bool) (d t u : List ℕ) {r r′ : Parsed} {e f g e′ f′ g′ : List ℕ}
       → Dependencies.Scans s short d t u r e f g → Dependencies.Scans s short d t u r′ e′ f′ g′ → (r ≡ r′) × (e ≡ e′) × (f ≡ f′) × (g ≡ g′)
+  -- put and put_number; d: the page at entry, bs: the bytes that are written from a place on
+  pub wrote : (d : List ℕ) (at : ℕ) (bs : List ℕ) {e e′ : List ℕ} {r r′ : ℕ} → Wrote d at bs e r → Wrote d at bs e′ r′ → (e ≡ e′) × (r ≡ r′)
   -- print_yang_dependencies
   pub printed : (s d t u p d′ t′ u′ p′ : List ℕ) → length d ≡ length d′ → length t ≡ length t′ → length u ≡ length u′ → length p ≡ length p′
       → {r r′ : Page} {e f g q e′ f′ g′ q′ : List ℕ} → Prints s d t u p r e f g q → Prints s d′ t′ u′ p′ r′ e′ f′ g′ q′
