@@ -31,6 +31,10 @@ def err(message, keyword, position):
     return f"err {word(message)} {keyword} {position}"
 
 
+def graph(nodes, *edges):
+    return b"".join(n.to_bytes(4, "little") for n in (nodes, *(n for edge in edges for n in edge)))
+
+
 M_S_B = bytes.fromhex("01 02 01 6D 01 01 73 00 00 01 62 00 00 00 00")
 TWO_SETS = bytes.fromhex("02 01 01 6D 00 00 00 00 01 01 6D 01 01 73 00 00 00")
 ONLY = bytes.fromhex("01 00 01 01 69 02 01 01 73 00")
@@ -66,12 +70,17 @@ CASES = [
     (("submodule", word(ONLY), word("s")), "none"),
     (("module", word(M_S_B[:-1]), word("b")), "image 14"),
     (("graph", word(M_S_B), word(bundle({"m": "include s;import b{prefix b;}", "s": "import b{prefix b;}", "b": ""}))),
-     ok(3, 3, "3:m", "6:s", "10:b", "2-0", "1-0", "2-1")),
+     ok(3, 3, "3:m", "6:s", "10:b", "2-0", "1-0", "2-1", "sorted", "2", "1", "0")),
+    (("graph", word(M_S_B), word(bundle({"m": "", "s": "", "b": "import b{prefix b;}"}))), ok(3, 1, "3:m", "6:s", "10:b", "2-2", "cycle", "2")),
     (("graph", word(M_S_B), word(bundle({"m": "", "s": "", "b": " include"}))), err("Expected submodule name after 'include'", 9, 8)),
     # no text was read, so none was refused
     (("graph", word(M_S_B), word(bundle({"s": "", "b": ""}))), "err " + word("No schema for module m")),
     (("graph", word(TWO_SETS), word(bundle({"m": "include s;", "s": ""}))), "err " + word("No submodule s found in graph")),
     (("graph", word(M_S_B), word(b"\x01")), "bundle 1"),
+    (("sort", word(graph(0))), "sorted"),
+    (("sort", word(graph(3, (0, 1)))), "sorted 2 0 1"),
+    (("sort", word(graph(3, (1, 2), (2, 1)))), "cycle 2"),
+    (("sort", word(b"")), "what"),
     (("deps", word("import a{")), "hang 8 9"),
     GOOD,
     (("deps", word("import a{prefix b;}include c{revision-date 1; ")), "hang 9 46"),

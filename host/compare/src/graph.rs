@@ -4,6 +4,7 @@ use crate::port::{self, Graphed};
 use crate::{Run, orders};
 use vectors::answers::{self, FIVE_OR_SIX, Graph, Refusal};
 use vectors::rng::Rng;
+use vectors::orders::Given;
 use vectors::{form, libraries};
 
 /// What was lent and held something else, with so many words more than there must be.
@@ -30,10 +31,11 @@ fn agrees(image: &[u8], rust: &Graph, g: &Graphed) -> bool {
         return false;
     }
     match rust {
-        Graph::Built(nodes, edges) => {
+        Graph::Built(nodes, edges, order) => {
             g.answer == [0, 0, 0, 0, 0, 0, nodes.len() as u32, edges.len() as u32]
                 && names(image, nodes, g)
                 && g.edges.starts_with(edges.as_flattened())
+                && orders::sorted(&Given { nodes: nodes.len(), edges: edges.clone() }, order)
         }
         Graph::Refused(number, scan) => refused(*number, scan, g),
         Graph::Silent(_) => false,

@@ -7,6 +7,7 @@
 //! compare graphs SEED COUNT: COUNT generated libraries: nodes, edges in order, which refusal.
 //! compare graph-of IMAGE BUNDLE: the same for the image and the bundle in these files.
 //! compare orders SEED COUNT: COUNT generated graphs: the order or the ring, and lists, beside a plain reading of request 2026-08.
+//! compare sorts SEED COUNT: COUNT generated graphs: the Rust's own order is accepted, or both say that there is none.
 //! compare edges: lengths around each boundary and the limits of a graph and of an order, which the Rust does not have.
 //!
 //! Changes, orders and edges ask the original nothing.
@@ -52,6 +53,7 @@ fn main() {
         ["graphs", seed, count] => graph::graphs(&mut run, number(seed), number(count)),
         ["graph-of", image, bundle] => graph::of(&mut run, image, bundle),
         ["orders", seed, count] => orders::orders(&mut run, number(seed), number(count)),
+        ["sorts", seed, count] => orders::sorts(&mut run, number(seed), number(count)),
         ["edges"] => {
             edges::run(&mut run);
             metadata::edges(&mut run);
@@ -60,7 +62,7 @@ fn main() {
             order_limits::run(&mut run);
         }
         _ => {
-            eprintln!("compare: texts|changes|finds|graphs|orders SEED COUNT | files SEED COUNT FILE.. | graph-of IMAGE BUNDLE | edges");
+            eprintln!("compare: texts|changes|finds|graphs|orders|sorts SEED COUNT | files SEED COUNT FILE.. | graph-of IMAGE BUNDLE | edges");
             std::process::exit(2);
         }
     }

@@ -25,6 +25,7 @@ mod yanglib;
 mod yangparser;
 
 use house::{Image, read_image, read_schemas};
+use petgraph::graph::{DiGraph, NodeIndex};
 
 fn main() {
     if std::env::args().nth(1).as_deref() == Some("worker") {
@@ -183,6 +184,7 @@ fn answer(words: &[&str]) -> String {
             i.library.find_import_module(n).map(|v| format!("{} {}", i.places[&v[0].name().as_ptr()], v.len()))
         }),
         ("graph", [image, bundle]) => graph(image, bundle),
+        ("sort", [graph]) => sorted_numbers(graph),
         _ => "what".to_string(),
     }
 }
@@ -265,7 +267,34 @@ fn graph(image: &[u8], bundle: &[u8]) -> String {
         let (from, to) = graph.edge_endpoints(e).expect("an edge");
         out += &format!(" {}-{}", from.index(), to.index());
     }
-    out
+    out + " " + &sorted(&graph)
+}
+
+/// The order in which register_schema would take the nodes, or the node that its error names.
+fn sorted(graph: &DiGraph<&str, ()>) -> String {
+    let number = |n: NodeIndex| format!(" {}", n.index());
+    match yanglib::topo_sorted(graph) {
+        Ok(order) => "sorted".to_string() + &order.into_iter().map(number).collect::<String>(),
+        Err(yanglib::SchemaConstructionError::CycleDetected(name)) => {
+            let node = graph.node_indices().find(|n| graph[*n] == &*name).expect("a node");
+            "cycle".to_string() + &number(node)
+        }
+        Err(other) => format!("err {}", value(&format!("{other:?}"))),
+    }
+}
+
+/// The same for a graph of numbers: how many nodes, then from and to of each edge, four bytes each, low byte first.
+fn sorted_numbers(graph: &[u8]) -> String {
+    let words: Vec<usize> = graph.chunks(4).map(|b| b.iter().rev().fold(0, |n, b| 256 * n + *b as usize)).collect();
+    let [nodes, edges @ ..] = &words[..] else {
+        return "what".to_string();
+    };
+    let names: Vec<String> = (0..*nodes).map(|n| n.to_string()).collect();
+    let mut drawn = DiGraph::new();
+    names.iter().for_each(|name| _ = drawn.add_node(name.as_str()));
+    edges.chunks(2).for_each(|e| _ = drawn.add_edge(NodeIndex::new(e[0]), NodeIndex::new(e[1]), ()));
+    graph_limit(graph);
+    sorted(&drawn)
 }
 
 // ---- bytes

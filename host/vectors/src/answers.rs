@@ -1,6 +1,7 @@
 //! What the Rust's words say in document 01's numbers.
 
 use crate::oracle::{Oracle, value};
+use crate::orders::Given;
 
 /// What a find tells that finds nothing.
 pub const NOT_FOUND: u32 = u32::MAX;
@@ -134,8 +135,8 @@ pub fn finds(oracle: &mut Oracle, image: &[u8], name: &[u8]) -> [u32; 4] {
 
 #[derive(Debug, PartialEq)]
 pub enum Graph {
-    /// The places of the nodes' names, and the edges.
-    Built(Vec<u32>, Vec<[u32; 2]>),
+    /// The places of the nodes' names, the edges, and what register_schema's sort makes of them.
+    Built(Vec<u32>, Vec<[u32; 2]>, Sorted),
     /// The graph's refusal, and the scan's at 25.
     Refused(u32, Refusal),
     Silent(String),
@@ -157,11 +158,12 @@ pub fn graph(oracle: &mut Oracle, image: &[u8], bundle: &[u8]) -> Graph {
     let line = oracle.ask("graph", &[image, bundle]);
     let words: Vec<&str> = line.split(' ').collect();
     match words.as_slice() {
-        ["ok", nodes, _, rest @ ..] => {
-            let (nodes, edges) = rest.split_at(number(nodes) as usize);
+        ["ok", nodes, edges, rest @ ..] => {
+            let (nodes, rest) = rest.split_at(number(nodes) as usize);
+            let (edges, order) = rest.split_at(number(edges) as usize);
             let place = |w: &&str| number(w.split_once(':').expect("a node").0);
             let edge = |w: &&str| w.split_once('-').map(|(a, b)| [number(a), number(b)]).expect("an edge");
-            Graph::Built(nodes.iter().map(place).collect(), edges.iter().map(edge).collect())
+            Graph::Built(nodes.iter().map(place).collect(), edges.iter().map(edge).collect(), sorted(order))
         }
         ["panic"] => Graph::Refused(24, NO_SCAN),
         ["overflow"] => Graph::Refused(29, NO_SCAN),
@@ -173,4 +175,27 @@ pub fn graph(oracle: &mut Oracle, image: &[u8], bundle: &[u8]) -> Graph {
         }
         _ => Graph::Silent(line.clone()),
     }
+}
+
+/// The original's order of a graph, which is any one that breaks no edge; or a node that waits for itself.
+#[derive(Debug, PartialEq)]
+pub enum Sorted {
+    Order(Vec<u32>),
+    Cycle(u32),
+    Silent(String),
+}
+
+fn sorted(words: &[&str]) -> Sorted {
+    match words {
+        ["sorted", order @ ..] => Sorted::Order(order.iter().map(|w| number(w)).collect()),
+        ["cycle", node] => Sorted::Cycle(number(node)),
+        _ => Sorted::Silent(words.join(" ")),
+    }
+}
+
+/// What register_schema's sort makes of a graph.
+pub fn sort(oracle: &mut Oracle, given: &Given) -> Sorted {
+    let numbers = [given.nodes as u32].into_iter().chain(given.edges.iter().flatten().copied());
+    let line = oracle.ask("sort", &[&numbers.flat_map(u32::to_le_bytes).collect::<Vec<u8>>()]);
+    sorted(&line.split(' ').collect::<Vec<&str>>())
 }
