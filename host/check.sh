@@ -84,6 +84,7 @@ compared() {
     "$compare" files 3 3 $real
     "$compare" finds 5 2000
     "$compare" graphs 9 2000
+    "$compare" sorts 13 5000
     yuma=$(dpkg -L libyuma-base | grep '/yuma/modules$')
     "$here/pack/pack" folder "$yuma" "$work/libyuma-base.image" "$work/libyuma-base.bundle"
     "$compare" graph-of "$work/libyuma-base.image" "$work/libyuma-base.bundle"

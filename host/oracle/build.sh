@@ -14,7 +14,8 @@ EOF
 
 mkdir -p "$here/build/src"
 cp "$here/Cargo.toml" "$here/build/"
-cp "$here/src/main.rs" "$here/src/house.rs" "$here/src/read.rs" "$here/../vectors/src/form.rs" "$src/yangparser.rs" "$here/build/src/"
+cp "$here"/src/*.rs "$here/../vectors/src/form.rs" "$src/yangparser.rs" "$here/build/src/"
+sed 's/ fn match_keyword(/ fn matches(/' "$src/yangparser.rs" >"$here/build/src/renamed.rs"
 python3 "$here/cut.py" "$src/yanglib.rs" "$here/build/src/yanglib.rs"
 cd "$here/build"
 "$here/cargo.sh" build --release

@@ -3,8 +3,9 @@
 
 Each function, with its doc comment and its closing brace, is a contiguous piece of SOURCE, and is looked up there again after
 OUTPUT is written. Of a type only this is dropped, since the crates behind it are not there: whole attributes named serde or
-strum, and of a derive list the names Serialize, Deserialize and strum_macros::Display. Nothing else is changed or added but the
-`use` lines and the `impl` heads around the functions.
+strum, of a derive list the names Serialize, Deserialize and strum_macros::Display, and the case of an error that holds a type of
+schema_registry_client. Of register_schema one statement is taken, the one that sorts the graph, and looked up again like a function.
+Nothing else is changed or added but the `use` lines, the `impl` heads around the functions and the function around that statement.
 """
 import re
 import sys
@@ -25,7 +26,15 @@ WANTED = [
     ("struct Schema", []),
     ("enum DatastoreName", []),
     ("struct Datastore", []),
+    ("enum SchemaConstructionError", []),
 ]
+# the statement that sorts: its first and its last line, and what stands around it
+SORT = ("let topo_sorted = petgraph::algo::toposort(", "})?;")
+SORT_HEAD = """
+/// What register_schema does with its graph before it registers anything.
+pub fn topo_sorted(graph: &petgraph::graph::DiGraph<&str, ()>) -> Result<Vec<petgraph::graph::NodeIndex>, SchemaConstructionError> {
+"""
+SORT_END = "        Ok(topo_sorted)\n}\n"
 
 
 def block_end(lines, first):
@@ -56,6 +65,7 @@ def only(lines, pattern, low, high):
 
 def without_foreign(text):
     text = re.sub(r"[ \t]*#\[(serde|strum)\((?:[^()]|\([^()]*\))*\)\]\n", "", text)
+    text = re.sub(r"[ \t]*[A-Za-z]+\(schema_registry_client::.*\),\n", "", text)
 
     def derive(m):
         kept = [n.strip() for n in m.group(1).split(",") if n.strip() not in ("Serialize", "Deserialize", "strum_macros::Display")]
@@ -67,7 +77,7 @@ def without_foreign(text):
 def main():
     source = open(sys.argv[1], encoding="utf-8").read()
     lines = source.splitlines(keepends=True)
-    out, functions = [USES], []
+    out, pieces = [USES], []
     for kind, names in WANTED:
         at = only(lines, rf"pub {kind} \{{", 0, len(lines))
         out.append("\n" + without_foreign("".join(lines[above(lines, at):block_end(lines, at)])))
@@ -79,16 +89,21 @@ def main():
         for name in names:
             fn = only(lines, rf"    (pub )?(const )?fn {name}[(<]", head, end)
             piece = "".join(lines[above(lines, fn):block_end(lines, fn)])
-            functions.append(piece)
+            pieces.append(piece)
             out.append(piece + "\n")
         out.append("}\n")
+    first = only(lines, r"\s*" + re.escape(SORT[0]), 0, len(lines))
+    last = next(i for i in range(first, len(lines)) if lines[i].strip() == SORT[1])
+    statement = "".join(lines[first:last + 1])
+    pieces.append(statement)
+    out.append(SORT_HEAD + statement + SORT_END)
     with open(sys.argv[2], "w", encoding="utf-8") as f:
         f.write("".join(out))
     written = open(sys.argv[2], encoding="utf-8").read()
-    for piece in functions:
+    for piece in pieces:
         if source.count(piece) < 1 or written.count(piece) < 1:
             sys.exit("cut.py: not a contiguous piece of the source:\n" + piece)
-    print(f"cut.py: {len(functions)} functions, each a contiguous piece of the source")
+    print(f"cut.py: {len(pieces) - 1} functions and a statement, each a contiguous piece of the source")
 
 
 main()

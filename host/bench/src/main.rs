@@ -58,6 +58,8 @@ fn main() {
         measure_port(groups.iter_mut().flat_map(|group| &mut group.rows), ROUNDS_OF_PORT);
         return table::print_port(&groups);
     }
+    // What the port does here is what it does in the group before.
+    groups.insert(8, Group { name: "order of registration, beside `toposort`", rows: orders.iter().map(order::sorting).collect() });
     measure(groups.iter_mut().flat_map(|group| &mut group.rows), ROUNDS);
     // Only now, since an allocator may be slower with so much that comes and goes, and with threads; and of the two only the Rust needs one.
     fleet = routers::fleet();
@@ -66,7 +68,7 @@ fn main() {
     groups.push(many);
     println!("Each row ran in {ROUNDS} rounds (many routers: {ROUNDS_OF_MANY}), each with\n{}.\n{TIMES}\n", timing::told());
     table::print(&groups);
-    let [_, _, _, _, _, growing, growing_routers, _, _, many] = &groups[..] else { panic!("ten groups") };
+    let [_, _, _, _, _, growing, growing_routers, .., many] = &groups[..] else { panic!("eleven groups") };
     println!("\n{}", grown("modules", graph::SIZES, &growing.rows));
     println!("{}\n", grown("modules of a router", graph::ROUTERS, &growing_routers.rows));
     println!("{}\n\n{INCLUDED}", many_told(&many.rows));
@@ -103,5 +105,8 @@ const INCLUDED: &str = "\
 - The dependency scan ends at a module's organization, contact, description or reference, the metadata scan at its first container, list or the
   like: of real and generated modules most bytes are not looked at. MB/s are bytes lent, not bytes read. 1 MiB of something is read to its end.
 - Image and bundle are a form that the original does not have: for a graph the oracle's reader stands before its `to_graph`, but for the rows
-  without reading, where Nuvaleta reads all the same. Nor has it an order: beside Nuvaleta's stands a plain Kahn with a heap.
-- Both sides gave the same: the numbers of imports and includes, whether metadata are refused, nodes, edges, order, ring, wrong place.";
+  without reading, where Nuvaleta reads all the same.
+- The original's order is that of petgraph's `toposort`, by which it registers. It is another order than the lowest, and tells one node of a ring. So beside
+  Nuvaleta's order stands also a plain Kahn with a heap, which gives the same list and the same ring. Many routers are put in order by that Kahn.
+- Both sides gave the same: the numbers of imports and includes, whether metadata are refused, nodes, edges, order, ring, wrong place. Each list of
+  `toposort` was accepted by the check, and it found a ring where Nuvaleta did.";

@@ -1,8 +1,11 @@
-//! The order of registration, and the check of a list: the port beside the plain way of a Rust program, which makes its lists anew in each call.
+//! The order of registration, and the check of a list: the port beside the plain way of a Rust program, which makes its lists anew in each call, and beside
+//! the sort of the original.
 
 use crate::port::Tables;
 use crate::table::counted;
 use crate::timing::Row;
+use crate::yanglib::topo_sorted;
+use petgraph::graph::{DiGraph, NodeIndex};
 use std::cmp::Reverse;
 use std::collections::{BinaryHeap, HashSet};
 use std::hint::black_box;
@@ -179,8 +182,41 @@ pub fn ordering(input: &Input) -> Row<'_> {
     let tables = tables(input);
     agree(input, &tables);
     let rust = || _ = black_box(kahn(input.nodes, black_box(&input.edges)));
-    let mut table = vec![0; input.nodes];
-    Row::new(counted(&input.what, input.nodes, input.edges.len()), 0, rust, move || _ = black_box(black_box(&tables).order(&mut table)))
+    Row::new(counted(&input.what, input.nodes, input.edges.len()), 0, rust, ordered(tables))
+}
+
+/// One run of the port into a table that was made once.
+fn ordered(tables: Tables) -> impl FnMut() {
+    let mut table = vec![0; tables.node_count];
+    move || _ = black_box(black_box(&tables).order(&mut table))
+}
+
+/// The graph as to_graph leaves it, but for the names.
+fn drawn_in_rust(input: &Input) -> DiGraph<&str, ()> {
+    let mut graph = DiGraph::new();
+    (0..input.nodes).for_each(|_| _ = graph.add_node("a module"));
+    input.edges.iter().for_each(|edge| _ = graph.add_edge(NodeIndex::from(edge[0]), NodeIndex::from(edge[1]), ()));
+    graph
+}
+
+/// The original's order is another one, but it must be one; or both must find a ring.
+fn agree_on_sort(input: &Input, graph: &DiGraph<&str, ()>, tables: &Tables) {
+    let [number, _] = tables.order(&mut vec![0; input.nodes]);
+    match topo_sorted(graph) {
+        Ok(order) => {
+            let list: Vec<u32> = order.iter().map(|node| node.index() as u32).collect();
+            assert!(number == 0 && tables.check(&list) == [0, 0], "{}: the original's order is wrong", input.what);
+        }
+        Err(_) => assert_eq!(number, 40, "{}: a ring for the original alone", input.what),
+    }
+}
+
+/// The original's sort of a graph that stands in memory as to_graph leaves it, beside the port's order of the tables that its graph call leaves.
+pub fn sorting(input: &Input) -> Row<'_> {
+    let (graph, tables) = (drawn_in_rust(input), tables(input));
+    agree_on_sort(input, &graph, &tables);
+    let rust = move || _ = black_box(topo_sorted(black_box(&graph)));
+    Row::new(counted(&input.what, input.nodes, input.edges.len()), 0, rust, ordered(tables))
 }
 
 /// The check of its order.

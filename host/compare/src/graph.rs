@@ -2,8 +2,9 @@
 
 use crate::port::{self, Graphed};
 use crate::{Run, orders};
-use vectors::answers::{self, FIVE_OR_SIX, Graph, Refusal, UNTOLD};
+use vectors::answers::{self, FIVE_OR_SIX, Graph, Refusal};
 use vectors::rng::Rng;
+use vectors::orders::Given;
 use vectors::{form, libraries};
 
 /// What was lent and held something else, with so many words more than there must be.
@@ -11,14 +12,10 @@ fn drawn(image: &[u8], bundle: &[u8], more: usize) -> Graphed {
     port::graph(image, bundle, form::longest_text(bundle) + more, more)
 }
 
-fn told(recorded: u32, is: u32) -> bool {
-    recorded == UNTOLD || recorded == is
-}
-
 fn refused(number: u32, scan: &Refusal, g: &Graphed) -> bool {
     let same = g.answer[2] == scan.number || (scan.number == FIVE_OR_SIX && (g.answer[2] == 5 || g.answer[2] == 6));
     let entry = g.answer[1] != 0;
-    g.answer[0] == number && entry && same && told(scan.keyword, g.answer[3]) && told(scan.position, g.answer[4]) && g.answer[5..] == [0, 0, 0]
+    g.answer[0] == number && entry && same && g.answer[3..] == [scan.keyword, scan.position, 0, 0, 0]
 }
 
 /// A node's place is the Rust's, and its length that of a name that stands there.
@@ -34,10 +31,11 @@ fn agrees(image: &[u8], rust: &Graph, g: &Graphed) -> bool {
         return false;
     }
     match rust {
-        Graph::Built(nodes, edges) => {
+        Graph::Built(nodes, edges, order) => {
             g.answer == [0, 0, 0, 0, 0, 0, nodes.len() as u32, edges.len() as u32]
                 && names(image, nodes, g)
-                && edges.iter().enumerate().all(|(i, e)| g.edges[2 * i..2 * i + 2] == *e)
+                && g.edges.starts_with(edges.as_flattened())
+                && orders::sorted(&Given { nodes: nodes.len(), edges: edges.clone() }, order)
         }
         Graph::Refused(number, scan) => refused(*number, scan, g),
         Graph::Silent(_) => false,

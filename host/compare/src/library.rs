@@ -2,7 +2,7 @@
 
 use crate::Run;
 use crate::port::{FINDS, TEXT, look_up};
-use vectors::answers::{self, UNTOLD};
+use vectors::answers::{self, NOT_FOUND};
 use vectors::form::{self, Name, Set, Text};
 use vectors::libraries;
 use vectors::rng::Rng;
@@ -114,7 +114,7 @@ pub fn finds(run: &mut Run, seed: u64, count: u64) {
         let bytes = library.image();
         let name = NAMES[i as usize % NAMES.len()].as_bytes();
         let [m, s, o, revisions] = answers::finds(run.oracle(), &bytes, name);
-        let expected = [(m, 0), (s, 0), (o, revisions)].map(|(p, r)| if p == UNTOLD { NOTHING } else { [0, 0, 1, p, r] });
+        let expected = [(m, 0), (s, 0), (o, revisions)].map(|(p, r)| if p == NOT_FOUND { NOTHING } else { [0, 0, 1, p, r] });
         let told = FINDS.map(|find| look_up(find, &bytes, name));
         run.count(told == expected, || format!("image {}, {name:?}: {told:?}, the Rust {expected:?}", shown(&bytes)));
         image(run, &libraries::damaged(&mut r, &bytes), name);

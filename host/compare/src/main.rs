@@ -7,12 +7,13 @@
 //! compare graphs SEED COUNT: COUNT generated libraries: nodes, edges in order, which refusal.
 //! compare graph-of IMAGE BUNDLE: the same for the image and the bundle in these files.
 //! compare orders SEED COUNT: COUNT generated graphs: the order or the ring, and lists, beside a plain reading of request 2026-08.
+//! compare sorts SEED COUNT: COUNT generated graphs: the Rust's own order is accepted, or both say that there is none.
 //! compare edges: lengths around each boundary and the limits of a graph and of an order, which the Rust does not have.
 //!
 //! Changes, orders and edges ask the original nothing.
 
 use std::path::Path;
-use vectors::answers::{self, Dependencies, FIVE_OR_SIX, Refusal, Scan, UNTOLD};
+use vectors::answers::{self, Dependencies, FIVE_OR_SIX, Refusal, Scan};
 use vectors::oracle::Oracle;
 use vectors::rng::Rng;
 use vectors::texts;
@@ -52,6 +53,7 @@ fn main() {
         ["graphs", seed, count] => graph::graphs(&mut run, number(seed), number(count)),
         ["graph-of", image, bundle] => graph::of(&mut run, image, bundle),
         ["orders", seed, count] => orders::orders(&mut run, number(seed), number(count)),
+        ["sorts", seed, count] => orders::sorts(&mut run, number(seed), number(count)),
         ["edges"] => {
             edges::run(&mut run);
             metadata::edges(&mut run);
@@ -60,7 +62,7 @@ fn main() {
             order_limits::run(&mut run);
         }
         _ => {
-            eprintln!("compare: texts|changes|finds|graphs|orders SEED COUNT | files SEED COUNT FILE.. | graph-of IMAGE BUNDLE | edges");
+            eprintln!("compare: texts|changes|finds|graphs|orders|sorts SEED COUNT | files SEED COUNT FILE.. | graph-of IMAGE BUNDLE | edges");
             std::process::exit(2);
         }
     }
@@ -98,7 +100,7 @@ impl Run {
         let number = page.printed(text);
         let mut plain = port::enough(text, self.inputs % 5);
         let again = plain.dependencies(text);
-        let same = agrees(&told, &page, number) && plain_agrees(&page, number, &plain, again);
+        let same = agrees(text, &told, &page, number) && plain_agrees(&page, number, &plain, again);
         self.count(same, || format!("{:?}\n  the Rust {told:?}\n  the port {:?}", String::from_utf8_lossy(text), page.answer));
         metadata::text(self, text);
     }
@@ -117,7 +119,7 @@ fn plain_agrees(page: &port::Scanned, number: u32, plain: &port::Scanned, again:
         && plain.includes[5 * includes..].iter().all(|w| *w == 0)
 }
 
-fn agrees(told: &Scan<Dependencies>, port: &port::Scanned, number: u32) -> bool {
+fn agrees(text: &[u8], told: &Scan<Dependencies>, port: &port::Scanned, number: u32) -> bool {
     if number != port.answer[0] || !port.is_clean() {
         return false;
     }
@@ -128,15 +130,17 @@ fn agrees(told: &Scan<Dependencies>, port: &port::Scanned, number: u32) -> bool 
                 && port.include_rows() == d.includes
                 && port.page[..port.answer[6] as usize] == d.page
         }
-        Scan::Refused(r) => refused(r, &port.answer),
+        Scan::Refused(r) => refused(text, r, &port.answer),
         Scan::Silent(_) => false,
     }
 }
 
-/// Number, keyword and position as far as the Rust tells them, and no counts behind them.
-fn refused(told: &Refusal, answer: &[u32]) -> bool {
-    let number = answer[0] == told.number || (told.number == FIVE_OR_SIX && (answer[0] == 5 || answer[0] == 6));
-    let keyword = told.keyword == UNTOLD || told.keyword == answer[1];
-    let position = told.position == UNTOLD || told.position == answer[2];
-    number && keyword && position && answer[3..].iter().all(|w| *w == 0)
+/// Number, keyword and position, and no counts behind them. Of 5 and 6 it is 6 at the text's end.
+fn refused(text: &[u8], told: &Refusal, answer: &[u32]) -> bool {
+    let number = match told.number {
+        FIVE_OR_SIX if told.position as usize == text.len() => 6,
+        FIVE_OR_SIX => 5,
+        number => number,
+    };
+    answer[..3] == [number, told.keyword, told.position] && answer[3..].iter().all(|w| *w == 0)
 }

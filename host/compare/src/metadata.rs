@@ -55,7 +55,7 @@ pub fn text(run: &mut Run, text: &[u8]) {
     let same = number == port.answer[0]
         && match &told {
             Scan::Good(five) => good(five, &answers::metadata_read(run.oracle(), text), &port),
-            Scan::Refused(r) => refused(r, &port.answer) && port.record == [0; 18] && is_zero(&port.store),
+            Scan::Refused(r) => refused(text, r, &port.answer) && port.record == [0; 18] && is_zero(&port.store),
             Scan::Silent(_) => false,
         };
     run.count(same, || format!("{:?}\n  the Rust {told:?}\n  the port {:?} {:?}", String::from_utf8_lossy(text), port.answer, port.record));

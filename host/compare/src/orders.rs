@@ -1,12 +1,17 @@
-//! Orders, rings and lists of generated graphs, beside a plain reading of request 2026-08 by sets.
+//! Orders, rings and lists of generated graphs, beside a plain reading of request 2026-08 by sets, and beside the original's sort.
 
 use crate::Run;
 use crate::port::{Graphed, Tables};
+use std::ops::Range;
+use vectors::answers::{self, Sorted};
 use vectors::orders::{Given, Plain, any, any_order, damaged, due, shuffled};
 use vectors::rng::Rng;
 
 /// What every word of a table held before.
 pub const FILL: u32 = 0xa5a5_a5a5;
+
+/// How many nodes a graph may have of which there is every one.
+const SMALL: Range<u32> = 0..5;
 
 // ---- the port beside it
 
@@ -75,14 +80,20 @@ fn one(run: &mut Run, given: &Given, plain: &Plain, more: usize) -> ([u32; 2], V
     (answer, words)
 }
 
+/// Every graph of so many nodes.
+fn every_graph(nodes: u32) -> impl Iterator<Item = Given> {
+    let pairs: Vec<[u32; 2]> = (0..nodes * nodes).map(|i| [i / nodes, i % nodes]).collect();
+    (0..1_u32 << pairs.len()).map(move |set| {
+        let edges = (0..pairs.len()).filter(|i| set >> i & 1 == 1).map(|i| pairs[i]).collect();
+        Given { nodes: nodes as usize, edges }
+    })
+}
+
 /// Every graph of up to four nodes; for those of up to three every list of up to one number more than there are nodes, each a node or the first number
 /// that is none.
 fn small(run: &mut Run) {
-    for nodes in 0..5 {
-        let pairs: Vec<[u32; 2]> = (0..nodes * nodes).map(|i| [i / nodes, i % nodes]).collect();
-        for set in 0..1_u32 << pairs.len() {
-            let edges = (0..pairs.len()).filter(|i| set >> i & 1 == 1).map(|i| pairs[i]).collect();
-            let given = Given { nodes: nodes as usize, edges };
+    for nodes in SMALL {
+        for given in every_graph(nodes) {
             let plain = Plain::new(&given);
             one(run, &given, &plain, 1);
             if nodes < 4 {
@@ -132,4 +143,30 @@ pub fn drawn(run: &mut Run, what: &str, g: Graphed) {
     } else {
         println!("compare: {what}: it has no order, by a ring of {}", words.len());
     }
+}
+
+// ---- beside the original
+
+/// Where the original has an order, which need not be the lowest, the check accepts it and the port has one too. Where it names a node that waits for itself,
+/// there is a ring through that node and the port says 40.
+pub fn sorted(given: &Given, rust: &Sorted) -> bool {
+    let tables = tables(given, 0);
+    let [number, _] = tables.order(&mut vec![FILL; given.nodes]);
+    match rust {
+        Sorted::Order(list) => number == 0 && tables.check(list) == [0, 0],
+        Sorted::Cycle(node) => number == 40 && Plain::new(given).comes_back_to(*node),
+        Sorted::Silent(_) => false,
+    }
+}
+
+pub fn sorts(run: &mut Run, seed: u64, count: u64) {
+    let mut r = Rng::new(seed);
+    let generated = (0..count).map(|_| any(&mut r));
+    let mut cycles = 0;
+    for given in SMALL.flat_map(every_graph).chain(generated) {
+        let rust = answers::sort(run.oracle(), &given);
+        cycles += usize::from(matches!(rust, Sorted::Cycle(_)));
+        run.count(sorted(&given, &rust), || format!("{given:?}\n  the Rust {rust:?}"));
+    }
+    println!("compare: {cycles} of the graphs have no order");
 }

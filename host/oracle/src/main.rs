@@ -14,13 +14,18 @@ use std::process::{Child, ChildStdin, ChildStdout, Command, Stdio};
 mod form;
 mod house;
 #[allow(dead_code)]
+mod kept;
+#[path = "yangparser.rs"]
+mod original;
+#[allow(dead_code)]
 mod read;
 #[allow(dead_code, unused_imports)]
 mod yanglib;
-#[allow(dead_code)]
+#[path = "scans.rs"]
 mod yangparser;
 
 use house::{Image, read_image, read_schemas};
+use petgraph::graph::{DiGraph, NodeIndex};
 
 fn main() {
     if std::env::args().nth(1).as_deref() == Some("worker") {
@@ -48,6 +53,8 @@ struct Worker {
 
 const ABORTED: i32 = 6;
 const TOO_LONG: i32 = 124;
+/// The last answer of a worker that is sent away.
+const HANG: &str = "hang";
 
 impl Worker {
     fn start() -> Worker {
@@ -66,14 +73,15 @@ impl Worker {
     fn ask(&mut self, request: &str) -> String {
         let mut answer = String::new();
         let sent = self.requests.write_all(request.as_bytes()).is_ok() && self.requests.write_all(b"\n").is_ok();
-        if sent && self.answers.read_line(&mut answer).is_ok() && answer.ends_with('\n') {
-            answer.pop();
+        let whole = sent && self.answers.read_line(&mut answer).is_ok() && answer.ends_with('\n');
+        answer.truncate(answer.trim_end().len());
+        if whole && !answer.starts_with(HANG) {
             return answer;
         }
         let status = self.child.wait().expect("its status");
         *self = Worker::start();
         if status.code() == Some(TOO_LONG) {
-            return "hang".to_string();
+            return answer;
         }
         if status.signal() == Some(ABORTED) {
             return "overflow".to_string();
@@ -102,11 +110,21 @@ struct Timer {
 unsafe extern "C" {
     fn setitimer(which: i32, new: *const Timer, old: *mut Timer) -> i32;
     fn signal(number: i32, handler: extern "C" fn(i32)) -> usize;
+    fn write(file: i32, bytes: *const u8, count: usize) -> isize;
     fn _exit(status: i32) -> !;
 }
 
+/// Says where the parser goes round, with no memory but its own: the signal may come anywhere.
 extern "C" fn too_long(_: i32) {
-    unsafe { _exit(TOO_LONG) }
+    let mut line = [0; 64];
+    let mut rest = &mut line[..];
+    let (keyword, position) = kept::stopped().unwrap_or_default();
+    _ = writeln!(rest, "{HANG} {keyword} {position}");
+    let length = 64 - rest.len();
+    unsafe {
+        write(1, line.as_ptr(), length);
+        _exit(TOO_LONG)
+    }
 }
 
 /// Sends the process away after so much processor time; 0 takes that back.
@@ -146,6 +164,7 @@ fn answer(words: &[&str]) -> String {
     let Some(bytes) = bytes else {
         return "what".to_string();
     };
+    kept::forget();
     match (words[0], bytes.as_slice()) {
         ("deps", [text]) => scanned(text, |t| {
             yangparser::extract_yang_dependencies(t).map(|d| dependencies(&d))
@@ -154,7 +173,7 @@ fn answer(words: &[&str]) -> String {
             yangparser::extract_yang_dependencies(t).map(|d| format!("ok {}", value(&d.to_string())))
         }),
         ("meta", [text]) => scanned(text, |t| yangparser::extract_yang_metadata(t).map(|m| metadata(&m))),
-        ("read", [text]) => scanned(text, |t| read::values(t).map(|v| read_values(&v)).ok_or("refused".to_string())),
+        ("read", [text]) => scanned(text, |t| Ok(read::values(t).map_or("refused".to_string(), |v| read_values(&v)))),
         ("module", [image, name]) => found(image, name, |i, n| {
             i.library.find_module(n).map(|m| i.places[&m.name().as_ptr()].to_string())
         }),
@@ -165,6 +184,7 @@ fn answer(words: &[&str]) -> String {
             i.library.find_import_module(n).map(|v| format!("{} {}", i.places[&v[0].name().as_ptr()], v.len()))
         }),
         ("graph", [image, bundle]) => graph(image, bundle),
+        ("sort", [graph]) => sorted_numbers(graph),
         _ => "what".to_string(),
     }
 }
@@ -174,7 +194,13 @@ fn scanned(text: &[u8], scan: impl Fn(&str) -> Result<String, String>) -> String
         return "utf8".to_string();
     };
     scan_limit(text);
-    scan(text).unwrap_or_else(|e| format!("err {}", value(&e)))
+    scan(text).unwrap_or_else(|e| refused(&e))
+}
+
+/// The Rust's words, and where a scan said them its last keyword and its position.
+fn refused(message: &str) -> String {
+    let stopped = kept::stopped().map_or(String::new(), |(keyword, position)| format!(" {keyword} {position}"));
+    format!("err {}{stopped}", value(message))
 }
 
 fn dependencies(d: &yangparser::YangDependencies) -> String {
@@ -231,7 +257,7 @@ fn graph(image: &[u8], bundle: &[u8]) -> String {
     graph_limit(bundle);
     let graph = match image.library.to_graph(&schemas) {
         Ok(graph) => graph,
-        Err(e) => return format!("err {}", value(&e)),
+        Err(e) => return refused(&e),
     };
     let mut out = format!("ok {} {}", graph.node_count(), graph.edge_count());
     for n in graph.node_indices() {
@@ -241,7 +267,34 @@ fn graph(image: &[u8], bundle: &[u8]) -> String {
         let (from, to) = graph.edge_endpoints(e).expect("an edge");
         out += &format!(" {}-{}", from.index(), to.index());
     }
-    out
+    out + " " + &sorted(&graph)
+}
+
+/// The order in which register_schema would take the nodes, or the node that its error names.
+fn sorted(graph: &DiGraph<&str, ()>) -> String {
+    let number = |n: NodeIndex| format!(" {}", n.index());
+    match yanglib::topo_sorted(graph) {
+        Ok(order) => "sorted".to_string() + &order.into_iter().map(number).collect::<String>(),
+        Err(yanglib::SchemaConstructionError::CycleDetected(name)) => {
+            let node = graph.node_indices().find(|n| graph[*n] == &*name).expect("a node");
+            "cycle".to_string() + &number(node)
+        }
+        Err(other) => format!("err {}", value(&format!("{other:?}"))),
+    }
+}
+
+/// The same for a graph of numbers: how many nodes, then from and to of each edge, four bytes each, low byte first.
+fn sorted_numbers(graph: &[u8]) -> String {
+    let words: Vec<usize> = graph.chunks(4).map(|b| b.iter().rev().fold(0, |n, b| 256 * n + *b as usize)).collect();
+    let [nodes, edges @ ..] = &words[..] else {
+        return "what".to_string();
+    };
+    let names: Vec<String> = (0..*nodes).map(|n| n.to_string()).collect();
+    let mut drawn = DiGraph::new();
+    names.iter().for_each(|name| _ = drawn.add_node(name.as_str()));
+    edges.chunks(2).for_each(|e| _ = drawn.add_edge(NodeIndex::new(e[0]), NodeIndex::new(e[1]), ()));
+    graph_limit(graph);
+    sorted(&drawn)
 }
 
 // ---- bytes

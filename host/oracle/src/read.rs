@@ -1,6 +1,8 @@
 //! All values that the metadata scan reads, in order. The original keeps only some of them, so its loop is walked here once more, over its own
 //! functions: the file is taken in whole, and what is added stands behind it.
 
+use crate::kept::KEYWORDS;
+
 include!("yangparser.rs");
 
 /// Keyword and value of each statement whose value is kept or was kept for a time: yang-version's and a later prefix's are not.
@@ -28,11 +30,10 @@ const BELONGS_TO: u32 = 3;
 const PREFIX: u32 = 5;
 const YANG_VERSION: u32 = 6;
 const REVISION: u32 = 7;
-const KEYWORDS: [&str; 7] = ["module", "submodule", "belongs-to", "namespace", "prefix", "yang-version", "revision"];
 const LAST: [&str; 9] = ["container", "list", "leaf", "grouping", "typedef", "identity", "augment", "rpc", "notification"];
 
 fn keyword(p: &mut YangParser) -> Option<u32> {
-    let found = KEYWORDS.iter().position(|word| p.match_keyword(word))?;
+    let found = KEYWORDS[..REVISION as usize].iter().position(|word| p.match_keyword(word))?;
     Some(found as u32 + 1)
 }
 

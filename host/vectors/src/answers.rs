@@ -1,8 +1,10 @@
-//! What the Rust's words say in document 01's numbers. What it does not tell is `UNTOLD`.
+//! What the Rust's words say in document 01's numbers.
 
 use crate::oracle::{Oracle, value};
+use crate::orders::Given;
 
-pub const UNTOLD: u32 = u32::MAX;
+/// What a find tells that finds nothing.
+pub const NOT_FOUND: u32 = u32::MAX;
 /// After an include's value the Rust has one error for refusals 5 and 6.
 pub const FIVE_OR_SIX: u32 = 56;
 
@@ -30,6 +32,7 @@ pub struct Dependencies {
     pub page: Vec<u8>,
 }
 
+/// Number and keyword of the messages that tell both.
 const MESSAGES: [(&str, u32, u32); 12] = [
     ("Expected module name after 'import'", 4, 8),
     ("Expected submodule name after 'include'", 4, 9),
@@ -45,32 +48,42 @@ const MESSAGES: [(&str, u32, u32); 12] = [
     ("Module/submodule name not found", 9, 0),
 ];
 
-/// The refusal behind a message of the scans.
-pub fn refusal(message: &str) -> Option<Refusal> {
-    for (text, number, keyword) in MESSAGES {
-        if message == text {
-            return Some(Refusal { number, keyword, position: UNTOLD });
-        }
+/// The refusal behind a message of the scans. The oracle adds the keyword that the parser matched last and its position. Where a message tells one of them
+/// too, both must say the same.
+fn refusal(message: &str, matched: u32, position: u32) -> Option<Refusal> {
+    if let Some((_, number, keyword)) = MESSAGES.iter().find(|(text, ..)| message == *text) {
+        let same = matched == *keyword || *number == 7 || *number == 9; // other keywords may stand in an import's block or a text
+        return same.then_some(Refusal { number: *number, keyword: *keyword, position });
     }
     let rest = message.strip_prefix("Expected '{', found ").or(message.strip_prefix("Expected ';', found "))?;
     if rest == "EOF" {
-        return Some(Refusal { number: 6, keyword: UNTOLD, position: UNTOLD });
+        return Some(Refusal { number: 6, keyword: matched, position });
     }
-    let (_, position) = rest.rsplit_once(" at position: ")?;
-    Some(Refusal { number: 5, keyword: UNTOLD, position: position.parse().ok()? })
+    let (_, told) = rest.rsplit_once(" at position: ")?;
+    (told.parse() == Ok(position)).then_some(Refusal { number: 5, keyword: matched, position })
+}
+
+fn number(word: &str) -> u32 {
+    word.parse().expect("a number")
 }
 
 /// An unclosed import or include block is the only thing at which a scan never returns.
-const HANG: Refusal = Refusal { number: 8, keyword: UNTOLD, position: UNTOLD };
+fn unclosed(keyword: &str, position: &str) -> Refusal {
+    Refusal { number: 8, keyword: number(keyword), position: number(position) }
+}
+
+fn message(word: &str) -> String {
+    String::from_utf8(value(word).expect("a message")).expect("a message")
+}
 
 fn scan<T>(line: String, good: impl FnOnce(&[&str]) -> T) -> Scan<T> {
     let words: Vec<&str> = line.split(' ').collect();
     match words.as_slice() {
         ["ok", rest @ ..] => Scan::Good(good(rest)),
-        ["hang"] => Scan::Refused(HANG),
-        ["err", message] => {
-            let message = String::from_utf8(value(message).expect("a message")).expect("a message");
-            refusal(&message).map_or(Scan::Silent(message), Scan::Refused)
+        ["hang", keyword, position] => Scan::Refused(unclosed(keyword, position)),
+        ["err", text, keyword, position] => {
+            let text = message(text);
+            refusal(&text, number(keyword), number(position)).map_or(Scan::Silent(line), Scan::Refused)
         }
         _ => Scan::Silent(line),
     }
@@ -78,9 +91,8 @@ fn scan<T>(line: String, good: impl FnOnce(&[&str]) -> T) -> Scan<T> {
 
 pub fn dependencies(oracle: &mut Oracle, text: &[u8]) -> Scan<Dependencies> {
     let mut answer = scan(oracle.ask("deps", &[text]), |words| {
-        let count = |w: &str| w.parse::<usize>().expect("a count");
-        let (imports, includes) = words[2..].split_at(3 * count(words[0]));
-        assert_eq!(includes.len(), 2 * count(words[1]));
+        let (imports, includes) = words[2..].split_at(3 * number(words[0]) as usize);
+        assert_eq!(includes.len(), 2 * number(words[1]) as usize);
         Dependencies {
             imports: imports.chunks(3).map(|c| [value(c[0]), value(c[1]), value(c[2])]).collect(),
             includes: includes.chunks(2).map(|c| [value(c[0]), value(c[1])]).collect(),
@@ -104,18 +116,18 @@ pub fn metadata_read(oracle: &mut Oracle, text: &[u8]) -> Vec<(u32, Vec<u8>)> {
     let line = oracle.ask("read", &[text]);
     let words: Vec<&str> = line.split(' ').collect();
     assert_eq!(words[0], "ok", "{line}");
-    words[1..].chunks(2).map(|c| (c[0].parse().expect("a keyword"), value(c[1]).expect("a value"))).collect()
+    words[1..].chunks(2).map(|c| (number(c[0]), value(c[1]).expect("a value"))).collect()
 }
 
 /// Module, submodule, import-only module of a name, and the last one's revisions.
 pub fn finds(oracle: &mut Oracle, image: &[u8], name: &[u8]) -> [u32; 4] {
-    let mut out = [UNTOLD; 4];
+    let mut out = [NOT_FOUND; 4];
     for (i, kind) in ["module", "submodule", "import-only"].iter().enumerate() {
         let line = oracle.ask(kind, &[image, name]);
         let words: Vec<&str> = line.split(' ').collect();
         for (k, word) in words[1..].iter().enumerate() {
             assert_eq!(words[0], "ok", "{line}");
-            out[i + k] = word.parse().expect("a place");
+            out[i + k] = number(word);
         }
     }
     out
@@ -123,8 +135,8 @@ pub fn finds(oracle: &mut Oracle, image: &[u8], name: &[u8]) -> [u32; 4] {
 
 #[derive(Debug, PartialEq)]
 pub enum Graph {
-    /// The places of the nodes' names, and the edges.
-    Built(Vec<u32>, Vec<[u32; 2]>),
+    /// The places of the nodes' names, the edges, and what register_schema's sort makes of them.
+    Built(Vec<u32>, Vec<[u32; 2]>, Sorted),
     /// The graph's refusal, and the scan's at 25.
     Refused(u32, Refusal),
     Silent(String),
@@ -146,22 +158,44 @@ pub fn graph(oracle: &mut Oracle, image: &[u8], bundle: &[u8]) -> Graph {
     let line = oracle.ask("graph", &[image, bundle]);
     let words: Vec<&str> = line.split(' ').collect();
     match words.as_slice() {
-        ["ok", nodes, _, rest @ ..] => {
-            let number = |w: &str| w.parse::<u32>().expect("a number");
-            let (nodes, edges) = rest.split_at(number(nodes) as usize);
+        ["ok", nodes, edges, rest @ ..] => {
+            let (nodes, rest) = rest.split_at(number(nodes) as usize);
+            let (edges, order) = rest.split_at(number(edges) as usize);
             let place = |w: &&str| number(w.split_once(':').expect("a node").0);
             let edge = |w: &&str| w.split_once('-').map(|(a, b)| [number(a), number(b)]).expect("an edge");
-            Graph::Built(nodes.iter().map(place).collect(), edges.iter().map(edge).collect())
+            Graph::Built(nodes.iter().map(place).collect(), edges.iter().map(edge).collect(), sorted(order))
         }
         ["panic"] => Graph::Refused(24, NO_SCAN),
         ["overflow"] => Graph::Refused(29, NO_SCAN),
-        ["hang"] => Graph::Refused(25, HANG),
-        ["err", message] => {
-            let message = String::from_utf8(value(message).expect("a message")).expect("a message");
-            let refused = graph_refusal(&message).map(|n| Graph::Refused(n, NO_SCAN));
-            let scanned = || refusal(&message).map(|r| Graph::Refused(25, r));
-            refused.or_else(scanned).unwrap_or(Graph::Silent(message))
+        ["hang", keyword, position] => Graph::Refused(25, unclosed(keyword, position)),
+        ["err", text] => graph_refusal(&message(text)).map_or(Graph::Silent(line.clone()), |n| Graph::Refused(n, NO_SCAN)),
+        ["err", text, keyword, position] => {
+            let scan = refusal(&message(text), number(keyword), number(position));
+            scan.map_or(Graph::Silent(line.clone()), |r| Graph::Refused(25, r))
         }
         _ => Graph::Silent(line.clone()),
     }
+}
+
+/// The original's order of a graph, which is any one that breaks no edge; or a node that waits for itself.
+#[derive(Debug, PartialEq)]
+pub enum Sorted {
+    Order(Vec<u32>),
+    Cycle(u32),
+    Silent(String),
+}
+
+fn sorted(words: &[&str]) -> Sorted {
+    match words {
+        ["sorted", order @ ..] => Sorted::Order(order.iter().map(|w| number(w)).collect()),
+        ["cycle", node] => Sorted::Cycle(number(node)),
+        _ => Sorted::Silent(words.join(" ")),
+    }
+}
+
+/// What register_schema's sort makes of a graph.
+pub fn sort(oracle: &mut Oracle, given: &Given) -> Sorted {
+    let numbers = [given.nodes as u32].into_iter().chain(given.edges.iter().flatten().copied());
+    let line = oracle.ask("sort", &[&numbers.flat_map(u32::to_le_bytes).collect::<Vec<u8>>()]);
+    sorted(&line.split(' ').collect::<Vec<&str>>())
 }

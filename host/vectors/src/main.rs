@@ -183,7 +183,7 @@ fn all(oracle: &mut Oracle) -> Vec<File> {
     vec![dependencies, metadata, values, skips, finds, graph, ordered()]
 }
 
-/// Orders and checks, as the plain reading of request 2026-08 has them: the original has none.
+/// Orders and checks, as the plain reading of request 2026-08 has them: the original's sort takes any free node, and it checks no list.
 fn ordered() -> File {
     let mut file = File::new("order_run/data/orders.vec");
     let mut r = Rng::new(5);

@@ -71,16 +71,19 @@ impl Plain {
 
     /// Whether "some chain of edges comes back to its start".
     pub fn comes_back(&self) -> bool {
-        (0..self.before.len() as u32).any(|start| {
-            let mut reached = HashSet::new();
-            let mut due: Vec<u32> = self.before(start).iter().copied().collect();
-            while let Some(node) = due.pop() {
-                if reached.insert(node) {
-                    due.extend(self.before(node));
-                }
+        (0..self.before.len() as u32).any(|start| self.comes_back_to(start))
+    }
+
+    /// Whether one does that starts here.
+    pub fn comes_back_to(&self, start: u32) -> bool {
+        let mut reached = HashSet::new();
+        let mut due: Vec<u32> = self.before(start).iter().copied().collect();
+        while let Some(node) = due.pop() {
+            if reached.insert(node) {
+                due.extend(self.before(node));
             }
-            reached.contains(&start)
-        })
+        }
+        reached.contains(&start)
     }
 
     /// Whether a list "holds each node once and breaks no edge".

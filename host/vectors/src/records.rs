@@ -73,7 +73,7 @@ pub fn graph(image: &[u8], bundle: &[u8], answer: &Graph) -> Vec<u8> {
     let (number, scan, nodes, edges) = match answer {
         Graph::Silent(_) => return Vec::new(),
         Graph::Refused(n, r) => (*n, *r, [].as_slice(), [].as_slice()),
-        Graph::Built(nodes, edges) => {
+        Graph::Built(nodes, edges, _) => {
             (0, Refusal { number: 0, keyword: 0, position: 0 }, nodes.as_slice(), edges.as_slice())
         }
     };
