@@ -10,7 +10,7 @@ fn is_word(n: usize, word: u32) -> bool {
 fn agrees(found: LookUp, place: u32, revisions: u32) -> bool {
     match found {
         LookUp::Broken(p) => false,
-        LookUp::Nothing => place == replay::UNTOLD,
+        LookUp::Nothing => place == replay::NOT_FOUND,
         LookUp::At(p, r) => {
             if is_word(p, place) {
                 return is_word(r, revisions);

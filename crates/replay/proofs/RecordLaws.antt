@@ -13,7 +13,7 @@ use Rattle.text.specs.Turns.{Turn, stop, on}
 use Rattle.text.specs.declared.Refusal.{Refusal}
 use Rattle.text.proofs.Here.{by-test}
 use Rattle.text.proofs.Turns.{turns-stop, turns-on}
-use Rattle.replay.specs.Fields.{onBy, behind, wordAt, toldAs}
+use Rattle.replay.specs.Fields.{onBy, behind, wordAt}
 use Rattle.replay.specs.Records.{fiveOrSix, numberToldAs, refusalToldAs, Pair, pairTurn, wordsFrom, wordsToldAs, behindAll, passed}
 use Rattle.replay.specs.declared.Tally.{Tally}
 
@@ -32,7 +32,7 @@ module _ (recorded is : ℕ) where
   unfolding numberToldAs
   told-plain e = sym (simp (ne-eqb recorded fiveOrSix e))
 
--- a and b: whether number and keyword are the recorded ones; u, v, w: the recorded words
+-- a: whether the number is the recorded one; u, v, w: the recorded words
 module _ (answer : List ℕ) (at : ℕ) (r : Refusal) {u : ℕ} {a : Bool} (ue : u ≡ wordAt answer at) (ae : a ≡ numberToldAs u (r .number)) where
   number-is : a ≡ numberToldAs (wordAt answer at) (r .number)
   number-is = ae ∙ ap (λ x. numberToldAs x (r .number)) ue
@@ -41,18 +41,16 @@ module _ (answer : List ℕ) (at : ℕ) (r : Refusal) {u : ℕ} {a : Bool} (ue :
   unfolding refusalToldAs
   other-number h = sym (simp (sym number-is ∙ not-true a h))
 
-  module _ {v : ℕ} {b : Bool} (ve : v ≡ wordAt answer (at + 4)) (be : b ≡ toldAs v (r .keyword)) where
-    keyword-is : b ≡ toldAs (wordAt answer (at + 4)) (r .keyword)
-    keyword-is = be ∙ ap (λ x. toldAs x (r .keyword)) ve
-
-    pub other-keyword : not a ≡ false → not b ≡ true → false ≡ refusalToldAs answer at r
+  module _ {v : ℕ} (ve : v ≡ wordAt answer (at + 4)) where
+    pub other-keyword : not a ≡ false → (v ≡ r .keyword → ⊥) → false ≡ refusalToldAs answer at r
     unfolding refusalToldAs
-    other-keyword h k = sym (simp (sym number-is ∙ not-false a h, sym keyword-is ∙ not-true b k))
+    other-keyword h k = sym (simp (sym number-is ∙ not-false a h, ap (λ x. eqb x (r .keyword)) (sym ve) ∙ ne-eqb v (r .keyword) k))
 
-    pub position-told : not a ≡ false → not b ≡ false → {w : ℕ} {c : Bool} → w ≡ wordAt answer (at + 8) → c ≡ toldAs w (r .at % 4294967296)
-        → c ≡ refusalToldAs answer at r
+    pub position-told : not a ≡ false → v ≡ r .keyword → {w : ℕ} → w ≡ wordAt answer (at + 8) → eqb w (r .at % 4294967296) ≡ refusalToldAs answer at r
     unfolding refusalToldAs
-    position-told h k we ce = ce ∙ ap (λ x. toldAs x (r .at % 4294967296)) we ∙ sym (simp (sym number-is ∙ not-false a h, sym keyword-is ∙ not-false b k))
+    position-told h k we =
+        ap (λ x. eqb x (r .at % 4294967296)) we
+        ∙ sym (simp (sym number-is ∙ not-false a h, ap (λ x. eqb x (r .keyword)) (sym ve) ∙ eq-eqb v (r .keyword) k))
 
 -- ---- words of a table
 

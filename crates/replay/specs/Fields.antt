@@ -2,7 +2,7 @@
 -- 65535 stands for a value that is missing. Behind the file's end every byte is 0, and no field reaches past it.
 -- Assumes nothing.
 use Prim.Native.Nat.{ℕ, _+_, _*_, _-_}
-use mathlib.Core.Bool.{Bool, cond, _||_}
+use mathlib.Core.Bool.{Bool, cond}
 use mathlib.Core.List.{List}
 use lib.Dec.{eqb, leb}
 use lib.ListN.{length, getD, take, drop}
@@ -39,10 +39,3 @@ fourBytes f at = byteAt f at + byteAt f (at + 1) * 256 + (byteAt f (at + 2) + by
 
 unfoldable pub wordAt : List ℕ → ℕ → ℕ
 wordAt f at = cond (leb (at + 4) (length f)) (fourBytes f at) 0
-
--- the word for what the Rust does not tell
-abbrev pub untold : ℕ
-untold = 4294967295
-
-unfoldable pub toldAs : ℕ → ℕ → Bool
-toldAs recorded is = eqb recorded untold || eqb recorded is

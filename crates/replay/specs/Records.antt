@@ -8,7 +8,7 @@ use lib.ListN.{length, getD}
 use Rattle.text.specs.Refusal.{otherByte, endOfText}
 use Rattle.text.specs.Turns.{Turn, stop, on, turns}
 use Rattle.text.specs.declared.Refusal.{Refusal}
-use Rattle.replay.specs.Fields.{onBy, behind, wordAt, toldAs}
+use Rattle.replay.specs.Fields.{onBy, behind, wordAt}
 use Rattle.replay.specs.declared.Tally.{Tally}
 
 -- ---- refusals
@@ -23,8 +23,8 @@ numberToldAs recorded is = cond (eqb recorded fiveOrSix) (eqb is otherByte || eq
 -- number, keyword and position, from a place of the answer on; a position is recorded as a word
 unfoldable pub refusalToldAs : List ℕ → ℕ → Refusal → Bool
 refusalToldAs answer at r =
-    numberToldAs (wordAt answer at) (r .number) && toldAs (wordAt answer (at + 4)) (r .keyword)
-    && toldAs (wordAt answer (at + 8)) (r .at % 4294967296)
+    numberToldAs (wordAt answer at) (r .number) && eqb (wordAt answer (at + 4)) (r .keyword)
+    && eqb (wordAt answer (at + 8)) (r .at % 4294967296)
 
 -- ---- words of a table
 

@@ -6,13 +6,13 @@ ghost use mathlib.Core.Bool.{cond};
 ghost use Prim.Native.Nat.{_+_, _%_, _<_, _≤_};
 ghost use Rattle.io.specs.Counts.{Counts};
 ghost use lib.ListN.{take};
-ghost use Rattle.replay.specs.Fields.{byteAt, lengthAt, missingAt, onBy, behind, fieldAt, wordAt, toldAs};
+ghost use Rattle.replay.specs.Fields.{byteAt, lengthAt, missingAt, onBy, behind, fieldAt, wordAt};
 ghost use Rattle.replay.specs.Records.{numberToldAs, refusalToldAs, wordsToldAs, behindAll, begun, passed};
 
 const MISSING: u32 = 65535;
 
-// What the Rust does not tell.
-pub const UNTOLD: u32 = 4294967295;
+// Stands for the place of a name that the Rust does not find.
+pub const NOT_FOUND: u32 = 4294967295;
 
 // The Rust's one error for refusals 5 and 6 after an include's value.
 const FIVE_OR_SIX: u32 = 56;
@@ -90,16 +90,6 @@ pub fn word(f: &[u8], at: usize) -> u32
     low + high * 65536
 }
 
-// Whether a word is the recorded one, where the Rust tells it.
-pub fn told(recorded: u32, is: u32) -> bool
-    ensures { λ r. ⌜ r ≡ toldAs recorded is ⌝ }
-{
-    if recorded == UNTOLD {
-        return true;
-    }
-    recorded == is
-}
-
 // Whether a number is the recorded one.
 fn number_told(recorded: u32, is: u32) -> bool
     ensures { λ r. ⌜ r ≡ numberToldAs recorded is ⌝ }
@@ -121,11 +111,11 @@ pub fn refusal_agrees(answer: &[u8], at: usize, r: Refusal) -> bool
     if !number_told(word(answer, at), r.number) {
         return false;
     }
-    if !told(word(answer, at + 4), r.keyword) {
+    if word(answer, at + 4) != r.keyword {
         return false;
     }
     let position = (r.at % 4294967296) as u32;
-    told(word(answer, at + 8), position)
+    word(answer, at + 8) == position
 }
 
 // The first n words of a table, or all where there are fewer.

@@ -16,15 +16,15 @@ returns-2 c =
     let if1 = c .before .before .before in
     let start = if1 .before .before .before .before in
     other-keyword (start .args .answer .now) (start .args .at) (start .args .r) (if1 .before .before .word .ensures) (if1 .before .number-told .ensures)
-    (c .before .before .word2 .ensures) (c .before .told .ensures) (if1 .if1 .left) (c .if2 .taken)
+    (c .before .before .word2 .ensures) (if1 .if1 .left) (c .if2 .taken)
 
 returns-3 : tie.Need-returns-3
 returns-3 c =
-    let if2 = c .before .before .before in
+    let if2 = c .before .before in
     let if1 = if2 .before .before .before in
     let start = if1 .before .before .before .before in
     position-told (start .args .answer .now) (start .args .at) (start .args .r) (if1 .before .before .word .ensures) (if1 .before .number-told .ensures)
-    (if2 .before .before .word2 .ensures) (if2 .before .told .ensures) (if1 .if1 .left) (if2 .if2 .left) (c .before .word3 .ensures) (c .told2 .ensures)
+    (if2 .before .before .word2 .ensures) (if1 .if1 .left) (if2 .if2 .left) (c .word3 .ensures)
 
 pub refusal-agrees-spec : {M : Type 1} → statement M
 refusal-agrees-spec =
@@ -35,10 +35,8 @@ refusal-agrees-spec =
     returns
     (λ c. search needs)
     (λ c κs. search needs)
-    (λ c κs. search needs)
     returns-2
     (λ c. search needs)
     (λ c. search needs)
-    (λ c κs. search needs)
     (λ c κs. search needs)
     returns-3)
