@@ -1,0 +1,104 @@
+-- A value behind its keyword: it is written behind the bytes stored so far, and more bytes behind it change nothing.
+-- Assumes nothing.
+use Prim.Native.Nat.{ℕ, zero, suc, _+_, _-_}
+use mathlib.Core.Path.{_≡_, refl, sym, ap, ap₂, _∙_}
+use mathlib.Core.Logic.{_⊎_, inl, inr, ⊎-elim}
+use mathlib.Core.List.{List, _++_}
+use native.Mathlib.Omega.{arith}
+use lib.ListN.{length, length-append}
+use Rattle.text.specs.Due.{dueAt}
+use Rattle.text.specs.Keyword.{matchAt}
+use Rattle.text.specs.Turns.{Turn, stop, on, after, turns}
+use Rattle.text.specs.declared.Cursor.{Cursor}
+use Rattle.text.specs.declared.Due.{Due}
+use Rattle.text.specs.declared.Due.the-variants.{After as Stands, Not}
+use Rattle.text.specs.declared.Match.the-variants.{After}
+use Rattle.text_value.specs.Argument.{argumentOf, argumentAt, afterDue, afterArgument, lineAt}
+use Rattle.text_value.specs.Value.{Val, value, none, valueAt, valueBytes}
+use Rattle.text_value.specs.declared.Argument.the-variants.{Read}
+use Rattle.scan_rows.specs.Span.{held}
+use Rattle.scan_rows.specs.declared.Span.{Span}
+use Rattle.scan_rows.proofs.Values.{value-more}
+use Rattle.scan_metadata.proofs.ScanLaws.{within-new, value-new}
+use Rattle.demands_values.specs.Behind.{Behind, MayBe, LineRead, InBlock, Header}
+
+-- ---- a loop: what each turn keeps, and what a turn that stops gives of it, its answer has
+
+module _ {A R : Type 0} (step : A → Turn A R) (none-read : R) (I : A → Type 0) (Q : R → Type 0)
+    (keeps : (a b : A) → I a → step a ≡ on b → I b) (last : (a : A) (r : R) → I a → step a ≡ stop r → Q r) (default : Q none-read) where
+  pub turns-keep : (n : ℕ) (a : A) → I a → Q (turns step none-read n a)
+  unfolding turns
+  turns-keep zero a i = default
+  turns-keep (suc n) a i = go (step a) refl (turns-keep n)
+    where
+      go : (t : Turn A R) → step a ≡ t → ((b : A) → I b → Q (turns step none-read n b)) → Q (after (λ b. turns step none-read n b) t)
+      go (stop r) e h = last a r i e
+      go (on b) e h = h b (keeps a b i e)
+
+-- ---- a keyword's value, and the byte that is due behind it
+
+module _ (s : List ℕ) (at u k : ℕ) where
+  value-of : (w : Val) (c : Cursor) (n : ℕ) → argumentOf u k w ≡ Read c n → w ≡ value (valueBytes w) (c .at)
+  unfolding argumentOf valueBytes
+  value-of (value bs e) c n h = let q : e ≡ c .at = cc in ap (value bs) q
+  value-of (none e) c n h = let z : _≡_ {A = ℕ} 0 1 = cc in absurd (omega arith)
+
+  pub argument-value : (c : Cursor) (n : ℕ) → argumentAt s at u k ≡ Read c n → valueAt s at ≡ value (valueBytes (valueAt s at)) (c .at)
+  unfolding argumentAt
+  argument-value c n h = value-of (valueAt s at) c n h
+
+  module _ (b : ℕ) (c : Cursor) (n : ℕ) where
+    due-of : (m : ℕ) (d : Due) → afterDue m d ≡ Read c n → d ≡ Stands c
+    unfolding afterDue
+    due-of m (Stands e) h = let q : e ≡ c = cc in ap Stands q
+    due-of m (Not r) h = let z : _≡_ {A = ℕ} 0 1 = cc in absurd (omega arith)
+
+    line-of : (w : Val) → afterArgument s k b (argumentOf u k w) ≡ Read c n → (e : ℕ) × (w ≡ value (valueBytes w) e) × (dueAt s e b k ≡ Stands c)
+    unfolding argumentOf afterArgument valueBytes
+    line-of (value bs e) h = (e, refl, due-of (u + length bs) (dueAt s e b k) h)
+    line-of (none e) h = let z : _≡_ {A = ℕ} 0 1 = cc in absurd (omega arith)
+
+    pub line-value : lineAt s at u k b ≡ Read c n → (e : ℕ) × (valueAt s at ≡ value (valueBytes (valueAt s at)) e) × (dueAt s e b k ≡ Stands c)
+    unfolding lineAt argumentAt
+    line-value h = line-of (valueAt s at) h
+
+-- ---- more bytes behind
+
+pub may-map : (P Q : Span → Type 0) (x : Span) → (P x → Q x) → MayBe P x → MayBe Q x
+may-map P Q x f m = ⊎-elim (λ e. inl e) (λ p. inr (f p)) m
+
+module _ {s : List ℕ} (bytes zs : List ℕ) {word : List ℕ} {x : Span} where
+  abbrev pub behind-more : {p : ℕ} → Behind s word p bytes x → Behind s word p (bytes ++ zs) x
+  behind-more b = record {
+    after = b .after;
+    matched = b .matched;
+    end = b .end;
+    read = b .read ∙ ap (λ v. value v (b .end)) (sym (value-more bytes zs x (b .within)));
+    present = b .present;
+    within = omega (arith, b .within, length-append bytes zs);
+  }
+
+  pub line-more : {k from : ℕ} → LineRead s k from word bytes x → LineRead s k from word (bytes ++ zs) x
+  line-more l = record { used = l .used; state = l .state; reached = l .reached; value = behind-more (l .value) }
+
+  pub block-more : {k end : ℕ} → InBlock s k end word bytes x → InBlock s k end word (bytes ++ zs) x
+  block-more b = record { opens = b .opens; opened = b .opened; line = line-more (b .line) }
+
+  pub header-more : Header s word bytes x → Header s word (bytes ++ zs) x
+  header-more h = record { state = h .state; reached = h .reached; value = behind-more (h .value) }
+
+-- ---- the bytes of a value written behind those stored so far
+
+pub held-new : (bytes bs : List ℕ) {u n : ℕ} → u ≡ length bytes → n ≡ u + length bs → held u (n - u) ≡ held (length bytes) (length bs)
+held-new bytes bs h k = ap₂ held h (omega (arith, h, k))
+
+abbrev pub behind-new : {s word : List ℕ} {p : ℕ} (bytes bs : List ℕ) {c : Cursor} {e : ℕ} (x : Span) → matchAt s p word ≡ After c
+    → valueAt s (c .at) ≡ value bs e → x ≡ held (length bytes) (length bs) → Behind s word p (bytes ++ bs) x
+behind-new bytes bs {c} {e} x m h q = record {
+  after = c;
+  matched = m;
+  end = e;
+  read = h ∙ ap (λ v. value v e) (sym (value-new bytes bs x q));
+  present = ap (λ y. y .present) q;
+  within = within-new bytes bs x q;
+}
