@@ -1,11 +1,12 @@
 -- A value behind its keyword: it is written behind the bytes stored so far, and more bytes behind it change nothing.
 -- Assumes nothing.
-use Prim.Native.Nat.{ℕ, zero, suc, _+_, _-_}
+use Prim.Native.Nat.{ℕ, zero, suc, _+_, _-_, _<_}
 use mathlib.Core.Path.{_≡_, refl, sym, ap, ap₂, _∙_}
 use mathlib.Core.Logic.{_⊎_, inl, inr, ⊎-elim}
 use mathlib.Core.List.{List, _++_}
 use native.Mathlib.Omega.{arith}
-use lib.ListN.{length, length-append}
+use lib.ListN.{length, drop, length-append, length-drop}
+use lib.Seq.{length-take-le}
 use Rattle.text.specs.Due.{dueAt}
 use Rattle.text.specs.Keyword.{matchAt}
 use Rattle.text.specs.Turns.{Turn, stop, on, after, turns}
@@ -16,7 +17,7 @@ use Rattle.text.specs.declared.Match.the-variants.{After}
 use Rattle.text_value.specs.Argument.{argumentOf, argumentAt, afterDue, afterArgument, lineAt}
 use Rattle.text_value.specs.Value.{Val, value, none, valueAt, valueBytes}
 use Rattle.text_value.specs.declared.Argument.the-variants.{Read}
-use Rattle.scan_rows.specs.Span.{held}
+use Rattle.scan_rows.specs.Span.{held, valueIn}
 use Rattle.scan_rows.specs.declared.Span.{Span}
 use Rattle.scan_rows.proofs.Values.{value-more}
 use Rattle.scan_metadata.proofs.ScanLaws.{within-new, value-new}
@@ -102,3 +103,25 @@ behind-new bytes bs {c} {e} x m h q = record {
   present = ap (λ y. y .present) q;
   within = within-new bytes bs x q;
 }
+
+-- ---- a value has one length: a span that is a byte shorter is not behind the keyword
+
+module _ {s word : List ℕ} {p : ℕ} {store : List ℕ} where
+  pub behind-size : (x : Span) → Behind s word p store x → length (valueIn store x) ≡ x .size
+  unfolding valueIn
+  behind-size x b = length-take-le (x .size) (drop (x .start) store) (omega (arith, b .within, length-drop (x .start) store))
+
+  pub same-value : (x y : Span) → Behind s word p store x → Behind s word p store y → valueIn store x ≡ valueIn store y
+  same-value x y b c =
+      let e : b .after ≡ c .after = one-after (sym (b .matched) ∙ c .matched) in
+      let q : value (valueIn store x) (b .end) ≡ value (valueIn store y) (c .end)
+      = sym (b .read) ∙ ap (λ (z : Cursor). valueAt s (z .at)) e ∙ c .read in
+      cc
+    where
+      one-after : {a b : Cursor} → After a ≡ After b → a ≡ b
+      one-after h = cc
+
+  pub shorter-refused : (x : Span) → 0 < x .size → Behind s word p store x → Behind s word p store (held (x .start) (x .size - 1)) → ⊥
+  shorter-refused x some b c =
+      let y = held (x .start) (x .size - 1) in
+      omega (arith, some, behind-size x b, behind-size y c, ap length (same-value x y b c))
