@@ -1,16 +1,17 @@
 -- Demand 2 at the calls: what a scan read stands at the beginning of the store at exit, and the rows and records that a call leaves read back as they were.
 -- Assumes nothing.
 use Prim.Native.Nat.{ℕ, _+_, _-_}
-use native.Mathlib.Nat.{not-suc-le-zero}
 use native.Mathlib.Omega.{arith}
 use mathlib.Core.Path.{_≡_, refl, sym, ap, subst, _∙_}
 use mathlib.Core.Logic.{_⊎_, inl, inr, ⊎-elim}
 use mathlib.Core.Bool.{Bool, true, false, cond}
-use mathlib.Core.List.{List, [], _∷_, _++_, append-nil}
+use mathlib.Core.List.{List, [], _∷_, _++_, append-nil, List·Memᴰ}
 use lib.Dec.{eqb, ltb}
 use lib.ListN.{length, getD, drop}
 use lib.Seq.{sets-eq}
 use Rattle.text.specs.Words.{namespaceWord, prefixWord, revisionWord, belongsToWord}
+use Rattle.text.specs.declared.Refusal.{Refusal}
+use Rattle.text.proofs.Here.{never}
 use Rattle.text_lent.specs.Lent.{lentAt}
 use Rattle.text_lent.specs.Padded.{padded, zeros}
 use Rattle.text_lent.specs.declared.Lent.{Lent}
@@ -24,33 +25,38 @@ use Rattle.scan_rows.proofs.Laws.{each-of}
 use Rattle.scan_rows.proofs.ShortLaws.{long-enough}
 use Rattle.scan_newest.specs.Newest.{Revision, newest}
 use Rattle.scan_newest.proofs.NewestLaws.{newest-keeps}
-use Rattle.yangparser.specs.Dependencies.{Dependencies, importWordsOf, includeWordsOf, Scan, good, scanned, dependencies, readOf, keptOf, pageShort}
+use Rattle.yangparser.specs.Dependencies.{Dependencies, importWordsOf, includeWordsOf, Scan, good, scanned, dependencies, parsedOf, readOf, keptOf, pageShort}
 use Rattle.yangparser.specs.Promises.{Holds, Leaves, Parses, lentScan}
 use Rattle.yangparser.specs.declared.Parsed.{Parsed}
 use Rattle.yangparser.specs.declared.Parsed.the-variants.{Good, Refused}
-use Rattle.yangparser.proofs.KeptLaws.{entry-good, parsed-good, held-imports, held-includes, padded-imports, padded-includes}
+use Rattle.yangparser.proofs.KeptLaws.{entry-good, parsed-good, parsed-refused, held-imports, held-includes, padded-imports, padded-includes}
 use Rattle.yangparser.proofs.ScanLaws.{Sound, scan-sound}
 use Rattle.scan_metadata.specs.Metadata as Metadata
 use Rattle.scan_metadata.specs.Metadata.{Metadata, firstOf, valuesOf, metadata, answerOf, refusedWith}
 use Rattle.host_words.specs.Words.{recordWords}
-use Rattle.nuvaleta.specs.Words.{answerWords}
+use Rattle.nuvaleta.specs.Words.{numberOf, answerWords}
+use Rattle.demands.specs.Demand1.{too-long, too-little, high, RefusedAs, first, read, DependenciesRefusal, argument, no-prefix, block-or-rows}
+use Rattle.demands.proofs.ScanNumbers.{isOne, is-one, dependencies-refused}
 use Rattle.demands_rfc.specs.Rfc.{reads, rfcValue}
 use Rattle.demands_rfc.specs.RfcDomain.{plainAt}
 use Rattle.demands_rfc.specs.RfcQuoted.{Quoted}
 use Rattle.demands_rfc.proofs.RfcEquality.{rfc-equality}
 use Rattle.demands_values.specs.Behind.{Behind, MayBe, Header, ImportRead, IncludeRead, RecordRead}
 use Rattle.demands_values.specs.Demand2.{RowsRead, recordIn, Demand2}
+use Rattle.demands_values.proofs.EveryRow.{import-has-row, include-has-row}
 use Rattle.demands_values.proofs.HeaderValues.{Named, Tells, tells-more, scan-tells}
 use Rattle.demands_values.proofs.RowLaws.{EachFrom, from-of, rows-each}
-use Rattle.demands_values.proofs.ScanValues.{import-more, include-more, Rows, scan-rows}
+use Rattle.demands_values.proofs.ScanValues.{import-more, include-more, scan-rows}
 
 -- ---- dependencies
 
 -- over a store that begins with the bytes, and tables that read back
-rows-read : (s : List ℕ) (x : Dependencies) → Rows s x → (zs : List ℕ) {e f g : List ℕ} → e ≡ x .bytes ++ zs → importsIn f (length (x .imports)) ≡ x .imports
-    → includesIn g (length (x .includes)) ≡ x .includes → RowsRead s e f (length (x .imports)) g (length (x .includes))
+rows-read : (s : List ℕ) (x : Dependencies) → scanned s ≡ good x → (zs : List ℕ) {e f g : List ℕ} → e ≡ x .bytes ++ zs
+    → importsIn f (length (x .imports)) ≡ x .imports → includesIn g (length (x .includes)) ≡ x .includes
+    → RowsRead s e f (length (x .imports)) g (length (x .includes))
 unfolding importsIn includesIn
-rows-read s x rows zs {e} {f} {g} p q r =
+rows-read s x h zs {e} {f} {g} p q r =
+    let rows = scan-rows s x h in
     let store = x .bytes ++ zs in
     let imports = from-of (ImportRead s (x .bytes)) (ImportRead s store) (import-more s (x .bytes) zs) 0 (x .imports) (rows .imports) in
     let includes = from-of (IncludeRead s (x .bytes)) (IncludeRead s store) (include-more s (x .bytes) zs) 0 (x .includes) (rows .includes) in
@@ -58,6 +64,8 @@ rows-read s x rows zs {e} {f} {g} p q r =
     (record {
       imports = rows-each (ImportRead s store) (importAt f) 7 (length (x .imports)) (subst (EachFrom (ImportRead s store) 0) (sym q) imports);
       includes = rows-each (IncludeRead s store) (includeAt g) 5 (length (x .includes)) (subst (EachFrom (IncludeRead s store) 0) (sym r) includes);
+      every-import = import-has-row s x h;
+      every-include = include-has-row s x h;
     })
 
 module _ (s : List ℕ) (short : Bool) where
@@ -79,7 +87,7 @@ module _ (s : List ℕ) (short : Bool) where
         let good-scan = entry-good s short x (k .1) .0 in
         let sound = sound-good x good-scan in
         counted x (k .2) (k .3)
-        (rows-read s x (scan-rows s x good-scan) _ (l .stored ∙ ap (λ z. padded (length d) (keptOf z .bytes)) (k .1))
+        (rows-read s x good-scan _ (l .stored ∙ ap (λ z. padded (length d) (keptOf z .bytes)) (k .1))
         (ap (λ w. importsIn w (length (x .imports))) (l .imports ∙ ap (λ z. padded (length t) (importWordsOf (keptOf z))) (k .1))
         ∙ padded-imports x sound (length t))
         (ap (λ w. includesIn w (length (x .includes))) (l .includes ∙ ap (λ z. padded (length u) (includeWordsOf (keptOf z))) (k .1))
@@ -98,20 +106,40 @@ over-rows s short d t u {r} {e} {f} {g} l i j n h =
     let sound = sound-good s long x (entry .0) in
     let holds = subst (λ z. Holds (readOf z) d t u e f g) (k .1) (l .holds) in
     counted s long d t u i j n h x (k .2) (k .3)
-    (rows-read s x (scan-rows s x (entry .0)) (drop (0 + length (x .bytes)) d)
+    (rows-read s x (entry .0) (drop (0 + length (x .bytes)) d)
     (holds .stored ∙ sets-eq (x .bytes) d 0 (omega (arith, sound .short, room .0)))
     (held-imports x sound holds (room .1)) (held-includes x sound holds (room .2)))
 
--- the counts of an answer in words, with more words behind; a refused one counts no row
-told-rows : (s e f g more : List ℕ) (p : Parsed) → ((i j n : ℕ) → p ≡ Good i j n → RowsRead s e f i g j) → {a : List ℕ} → a ≡ answerWords p ++ more
-    → RowsRead s e f (getD a 3 0) g (getD a 4 0)
-unfolding answerWords
-told-rows s e f g more p rows h = subst (λ w. RowsRead s e f (getD w 3 0) g (getD w 4 0)) (sym h) (of p rows)
-  where
-    of : (p : Parsed) → ((i j n : ℕ) → p ≡ Good i j n → RowsRead s e f i g j)
-        → RowsRead s e f (getD (answerWords p ++ more) 3 0) g (getD (answerWords p ++ more) 4 0)
-    of (Good i j n) rows = rows i j n refl
-    of (Refused r) rows = record { imports = λ k l. absurd (not-suc-le-zero l); includes = λ k l. absurd (not-suc-le-zero l) }
+-- a refusal's number is not 0
+some-number : {n : ℕ} (ks : List ℕ) → List·Memᴰ n ks → isOne 0 ks ≡ false → n ≡ 0 → ⊥
+some-number ks m f e = never (ap (λ z. isOne z ks) e ∙ f) (is-one m)
+
+refused-number : {Read : Refusal → Type 0} {s : List ℕ} {short : Bool} {r : Refusal} → ((q : Refusal) → Read q → q .number ≡ 0 → ⊥)
+    → RefusedAs Read s short r → r .number ≡ 0 → ⊥
+refused-number numbered (first (too-long h e)) z = omega (arith, z, ap (λ q. q .number) e)
+refused-number numbered (first (too-little h k e)) z = omega (arith, z, ap (λ q. q .number) e)
+refused-number numbered (first (high h k l e)) z = omega (arith, z, ap (λ q. q .number) e)
+refused-number {r = r} numbered (read f h) z = numbered r h z
+
+dependencies-number : (q : Refusal) → DependenciesRefusal q → q .number ≡ 0 → ⊥
+unfolding isOne
+dependencies-number q (argument o) = some-number (4 ∷ 5 ∷ 6 ∷ []) (o .number) refl
+dependencies-number q (no-prefix o) = some-number (7 ∷ []) (o .number) refl
+dependencies-number q (block-or-rows o) = some-number (8 ∷ 10 ∷ []) (o .number) refl
+
+-- the counts of a good answer in words, with more words behind
+module _ (s : List ℕ) (short : Bool) (d t u : List ℕ) {e f g : List ℕ} (l : Leaves (dependencies s short) d t u (parsedOf (dependencies s short)) e f g) where
+  told-rows : {n : ℕ} → n ≡ numberOf (parsedOf (dependencies s short)) → n ≡ 0 → (more : List ℕ) {a : List ℕ}
+      → a ≡ answerWords (parsedOf (dependencies s short)) ++ more → RowsRead s e f (getD a 3 0) g (getD a 4 0)
+  unfolding answerWords numberOf
+  told-rows ne z more {a} h = subst (λ w. RowsRead s e f (getD w 3 0) g (getD w 4 0)) (sym h) (of (parsedOf (dependencies s short)) refl (sym ne ∙ z))
+    where
+      of : (p : Parsed) → parsedOf (dependencies s short) ≡ p → numberOf p ≡ 0
+          → RowsRead s e f (getD (answerWords p ++ more) 3 0) g (getD (answerWords p ++ more) 4 0)
+      of (Good i j n) q z = left-rows s short d t u i j n q l
+      of (Refused r) q z =
+          let k = parsed-refused (dependencies s short) r q in
+          absurd (refused-number dependencies-number (dependencies-refused s short r (k .0) (k .1)) z)
 
 -- ---- metadata
 
@@ -221,10 +249,8 @@ demand2 = record {
   metadata = λ s d {r} {e} l. let b = ltb (length d) (length s) in
       subst (λ v. RecordRead s e (v .values)) (sym (l .answer))
       (subst (λ z. RecordRead s z (answerOf (metadata s b) .values)) (sym (l .stored)) (call-answers s b (length d) .0));
-  host-dependencies = λ s d t u {n} {e} {f} {g} l.
-      told-rows s e f g [] _ (λ i j n h. left-rows s (short s false d t u) d t u i j n h (l .scan)) (l .answer ∙ sym (append-nil _));
-  host-printed = λ s d t u p {n} {e} {f} {g} l.
-      told-rows s e f g _ _ (λ i j n h. left-rows s (shortPage s d t u p) d t u i j n h (l .scan)) (l .answer);
+  host-dependencies = λ s d t u l z. told-rows s (short s false d t u) d t u (l .scan) (l .number) z [] (l .answer ∙ sym (append-nil _));
+  host-printed = λ s d t u p l z. told-rows s (shortPage s d t u p) d t u (l .scan) (l .number) z _ (l .answer);
   host-metadata = λ s d {n} {e} l. let b = ltb (length d) (length s) in
       subst (λ v. RecordRead s e (recordIn v)) (sym (l .words))
       (subst (λ z. RecordRead s z (recordIn (recordWords (answerOf (metadata s b) .values)))) (sym (l .stored)) (call-answers s b (length d) .1));

@@ -32,8 +32,8 @@ use Rattle.scan_rows.specs.declared.YangInclude.{YangInclude}
 use Rattle.scan_block.specs.Block.{orLine, lineKind, kept, withValue, withSkipped, afterKind, insideHere, insideAt, afterInside, blockTurn, blockFrom, blockAt}
 use Rattle.scan_imports.specs.Statement.{ofBody, importOf, withName, afterName, importAt, includeOf, plainOf, blockOf, openOrPlain, afterValue, includeAt}
 use Rattle.yangparser.specs.Dependencies.{importWordsOf, includeWordsOf, joined, importStep, includeStep, unlessFull, importHere, includeHere, movedTo}
-use Rattle.yangparser.specs.Dependencies.{afterToken, headStep, stepHere, stepAt, good, afterStep, scanTurn, scanFrom, scanned, ifFit, dependencies, parsedOf, keptOf}
-use Rattle.yangparser.specs.Dependencies.{Dependencies}
+use Rattle.yangparser.specs.Dependencies.{afterToken, headStep, stepHere, stepAt, good, afterStep, scanTurn, scanFrom, scanned, ifFit, dependencies, parsedOf}
+use Rattle.yangparser.specs.Dependencies.{Dependencies, keptOf}
 use Rattle.yangparser.specs.Promises.{Extracts}
 use Rattle.yangparser.specs.declared.Parsed.{Parsed}
 use Rattle.yangparser.specs.declared.Parsed.the-variants.{Good}

@@ -1,6 +1,7 @@
 pub mod BehindLaws
 pub mod BlockValues
 pub mod Demand2
+pub mod EveryRow
 pub mod HeaderValues
 pub mod Instance
 pub mod Once

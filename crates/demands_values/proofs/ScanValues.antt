@@ -29,12 +29,13 @@ use Rattle.yangparser.specs.Dependencies.{Dependencies, none, joined, Step, imp
 use Rattle.yangparser.specs.Dependencies.{stepAt, Scanning, Scan, good, bad, afterStep, scanTurn, scanFrom, start, scanned}
 use Rattle.yangparser.specs.declared.Next.{Next}
 use Rattle.yangparser.specs.declared.Next.the-variants.{On, Done, Stop}
+use Rattle.yangparser.specs.declared.Sofar.{Sofar}
 use Rattle.yangparser.proofs.FarLaws.{step-said}
 use Rattle.yangparser.proofs.ScanLaws.{Stands, stands-first, stands-step}
-use Rattle.demands_values.specs.Behind.{MayBe, Reaches, first, next, InBlock, ImportRead, IncludeRead}
-use Rattle.demands_values.proofs.BehindLaws.{turns-keep, may-map, behind-more, block-more}
+use Rattle.demands_values.specs.Behind.{Either, Reaches, first, next, NoLine, Opened, InBlock, ImportRead, IncludeRead}
+use Rattle.demands_values.proofs.BehindLaws.{turns-keep, either-map, behind-more, block-more}
 use Rattle.demands_values.proofs.RowLaws.{EachFrom, from-of, from-append}
-use Rattle.demands_values.proofs.StatementValues.{ImportHas, import-has, IncludeHas, include-has}
+use Rattle.demands_values.proofs.StatementValues.{ImportHas, import-has, NoRevision, IncludeHas, include-has}
 
 -- ---- which keyword matched
 
@@ -59,8 +60,9 @@ module _ (s : List ℕ) (at : ℕ) where
 -- ---- more bytes behind
 
 module _ (s bytes zs : List ℕ) (k : ℕ) where
-  may-more : (j end : ℕ) (word : List ℕ) (x : Span) → MayBe (InBlock s j end word bytes) x → MayBe (InBlock s j end word (bytes ++ zs)) x
-  may-more j end word x m = may-map (InBlock s j end word bytes) (InBlock s j end word (bytes ++ zs)) x (block-more bytes zs) m
+  either-more : (No : Type 0) (j end : ℕ) (word : List ℕ) (x : Span) → Either No (InBlock s j end word bytes) x
+      → Either No (InBlock s j end word (bytes ++ zs)) x
+  either-more No j end word x m = either-map No (InBlock s j end word bytes) (InBlock s j end word (bytes ++ zs)) x (block-more bytes zs) m
 
   pub import-more : (i : YangImport) → ImportRead s bytes k i → ImportRead s (bytes ++ zs) k i
   import-more i r = record {
@@ -69,7 +71,7 @@ module _ (s bytes zs : List ℕ) (k : ℕ) where
     before = r .before;
     name = behind-more bytes zs (r .name);
     prefix = block-more bytes zs (r .prefix);
-    revision = may-more 8 (r .name .end) revisionDateWord (i .«revision_date») (r .revision);
+    revision = either-more (Opened s 8 (r .name .end) (NoLine s 8 revisionDateWord)) 8 (r .name .end) revisionDateWord (i .«revision_date») (r .revision);
   }
 
   pub include-more : (i : YangInclude) → IncludeRead s bytes k i → IncludeRead s (bytes ++ zs) k i
@@ -78,7 +80,7 @@ module _ (s bytes zs : List ℕ) (k : ℕ) where
     reached = r .reached;
     before = r .before;
     name = behind-more bytes zs (r .name);
-    revision = may-more 9 (r .name .end) revisionDateWord (i .«revision_date») (r .revision);
+    revision = either-more (NoRevision s (r .name .end)) 9 (r .name .end) revisionDateWord (i .«revision_date») (r .revision);
   }
 
 -- ---- a step from the state g
@@ -155,6 +157,21 @@ module _ (s : List ℕ) where
         from-zero : (n : ℕ) → n ≡ 0 + n
         from-zero n = omega arith
 
+  -- the state that a turn goes on from
+  pub turn-is : (g h : Scanning) → scanTurn s g ≡ on h
+      → (n : Sofar) × (stepAt s (g .far) .answer ≡ On n) × (record { far = n; read = joined (g .read) (stepAt s (g .far) .adds) } ≡ h)
+  unfolding scanTurn afterStep
+  turn-is g h t = of (stepAt s (g .far) .answer) refl t
+    where
+      d : Dependencies
+      d = joined (g .read) (stepAt s (g .far) .adds)
+
+      of : (r : Next) → stepAt s (g .far) .answer ≡ r → afterStep d r ≡ on h
+          → (n : Sofar) × (stepAt s (g .far) .answer ≡ On n) × (record { far = n; read = d } ≡ h)
+      of (On n) e t = (n, e, cc)
+      of Done e t = let z : _≡_ {A = ℕ} 0 1 = cc in absurd (omega arith)
+      of (Stop r) e t = let z : _≡_ {A = ℕ} 0 1 = cc in absurd (omega arith)
+
   abbrev Stays : Scanning → Type 0
   Stays g = Reaches (scanTurn s) (record { far = start; read = none }) g × Stands s g × Rows s (g .read)
 
@@ -167,18 +184,10 @@ module _ (s : List ℕ) where
     step-rows = rows-joined g (i .1) (i .2) (stepAt s (g .far) .adds) (i .0) (step-adds s g (i .0) (i .1 .used))
 
     turn-on : (h : Scanning) → scanTurn s g ≡ on h → Stands s h × Rows s (h .read)
-    unfolding scanTurn afterStep
-    turn-on h t = of (stepAt s (g .far) .answer) refl t
-      where
-        d : Dependencies
-        d = joined (g .read) (stepAt s (g .far) .adds)
-
-        of : (r : Next) → stepAt s (g .far) .answer ≡ r → afterStep d r ≡ on h → Stands s h × Rows s (h .read)
-        of (On n) e t =
-            let q : _≡_ {A = Scanning} (record { far = n; read = d }) h = cc in
-            subst (λ (z : Scanning). Stands s z × Rows s (z .read)) q (stands-step s g (i .1) (stepAt s (g .far)) (step-said s (g .far)) n e, step-rows)
-        of Done e t = let z : _≡_ {A = ℕ} 0 1 = cc in absurd (omega arith)
-        of (Stop r) e t = let z : _≡_ {A = ℕ} 0 1 = cc in absurd (omega arith)
+    turn-on h t =
+        let w = turn-is g h t in
+        subst (λ (z : Scanning). Stands s z × Rows s (z .read)) (w .2)
+        (stands-step s g (i .1) (stepAt s (g .far)) (step-said s (g .far)) (w .0) (w .1), step-rows)
 
     turn-stop : (x : Scan) → scanTurn s g ≡ stop x → ScanHas x
     unfolding scanTurn afterStep

@@ -7,7 +7,7 @@ use mathlib.Core.Bool.{true}
 use mathlib.Core.Logic.{_⊎_}
 use mathlib.Core.List.{List, []}
 use lib.ListN.{length, getD}
-use Rattle.text.specs.Bytes.{openBrace}
+use Rattle.text.specs.Bytes.{openBrace, semicolon}
 use Rattle.text.specs.Due.{dueAt}
 use Rattle.text.specs.Keyword.{matchAt}
 use Rattle.text.specs.Scan.{gapEnd}
@@ -16,7 +16,7 @@ use Rattle.text.specs.Words.{importWord, includeWord, prefixWord, revisionDateW
 use Rattle.text.specs.Words.{namespaceWord, revisionWord, belongsToWord}
 use Rattle.text.specs.declared.Cursor.{Cursor}
 use Rattle.text.specs.declared.Due.the-variants.{After as Stands}
-use Rattle.text.specs.declared.Match.the-variants.{After}
+use Rattle.text.specs.declared.Match.the-variants.{After, Not}
 use Rattle.text_value.specs.Value.{value, valueAt}
 use Rattle.scan_rows.specs.Span.{missing, valueIn, Within}
 use Rattle.scan_rows.specs.declared.Span.{Span}
@@ -36,28 +36,45 @@ pub record Behind (s word : List ℕ) (p : ℕ) (store : List ℕ) (x : Span) : 
   pub present : x .present ≡ true
   pub within : Within (length store) x
 
-abbrev pub MayBe : (Span → Type 0) → Span → Type 0
-MayBe P x = (x ≡ missing) ⊎ P x
-
 -- the states that a loop comes to from a: those where the scan stands
 pub data Reaches {A R : Type 0} (step : A → Turn A R) (a : A) : A → Type 0 where
   first : Reaches step a a
   next : {b c : A} → Reaches step a b → step b ≡ on c → Reaches step a c
 
--- ---- dependencies
+-- a value that may be missing: then No holds, and else Yes
+abbrev pub Either : (No : Type 0) (Yes : Span → Type 0) → Span → Type 0
+Either No Yes x = ((x ≡ missing) × No) ⊎ Yes x
 
--- a value of a statement in the block that begins at a place; k: import or include
-pub record LineRead (s : List ℕ) (k from : ℕ) (word store : List ℕ) (x : Span) : Type 0 where
-  pub used : ℕ
+-- ---- a block; k: import or include
+
+-- from the state g on, no statement of the block has the keyword
+abbrev pub NoLine : List ℕ → ℕ → List ℕ → Stored → Type 0
+NoLine s k word g = (h : Stored) → Reaches (blockTurn s k) g h → matchAt s (gapEnd s (h .body .at)) word ≡ Not
+
+-- last one read wins: from the state g on, the last statement with the keyword gives x
+pub record LineRead (s : List ℕ) (k : ℕ) (g : Stored) (word store : List ℕ) (x : Span) : Type 0 where
   pub state : Stored
-  pub reached : Reaches (blockTurn s k) (record { body = begun from used; bytes = [] }) state
+  pub reached : Reaches (blockTurn s k) g state
   pub value : Behind s word (gapEnd s (state .body .at)) store x
+  pub behind : Stored
+  pub turn : blockTurn s k state ≡ on behind
+  pub last : NoLine s k word behind
 
--- in the block whose `{` follows at the place `end`
-pub record InBlock (s : List ℕ) (k end : ℕ) (word store : List ℕ) (x : Span) : Type 0 where
+-- the block's first state, behind its `{`, which follows at the place `end`
+pub record Opened (s : List ℕ) (k end : ℕ) (P : Stored → Type 0) : Type 0 where
   pub opens : Cursor
-  pub opened : dueAt s end openBrace k ≡ Stands opens
-  pub line : LineRead s k (opens .at) word store x
+  pub brace : dueAt s end openBrace k ≡ Stands opens
+  pub used : ℕ
+  pub holds : P (record { body = begun (opens .at) used; bytes = [] })
+
+-- or `;` follows, and there is no block
+abbrev pub Ended : List ℕ → ℕ → ℕ → Type 0
+Ended s k end = (c : Cursor) × (dueAt s end semicolon k ≡ Stands c)
+
+abbrev pub InBlock : List ℕ → ℕ → ℕ → List ℕ → List ℕ → Span → Type 0
+InBlock s k end word store x = Opened s k end (λ g. LineRead s k g word store x)
+
+-- ---- dependencies
 
 -- an import's row: its keyword stands where the scan has read k imports
 pub record ImportRead (s store : List ℕ) (k : ℕ) (i : YangImport) : Type 0 where
@@ -66,7 +83,8 @@ pub record ImportRead (s store : List ℕ) (k : ℕ) (i : YangImport) : Type 0 w
   pub before : state .far .imports ≡ k
   pub name : Behind s importWord (gapEnd s (state .far .at)) store (i .«module_name»)
   pub prefix : InBlock s importKeyword (name .end) prefixWord store (i .prefix)
-  pub revision : MayBe (InBlock s importKeyword (name .end) revisionDateWord store) (i .«revision_date»)
+  pub revision : Either (Opened s importKeyword (name .end) (NoLine s importKeyword revisionDateWord))
+      (InBlock s importKeyword (name .end) revisionDateWord store) (i .«revision_date»)
 
 -- an include's row: its keyword stands where the scan has read k includes
 pub record IncludeRead (s store : List ℕ) (k : ℕ) (i : YangInclude) : Type 0 where
@@ -74,9 +92,13 @@ pub record IncludeRead (s store : List ℕ) (k : ℕ) (i : YangInclude) : Type 0
   pub reached : Reaches (scanTurn s) (record { far = start; read = none }) state
   pub before : state .far .includes ≡ k
   pub name : Behind s includeWord (gapEnd s (state .far .at)) store (i .«submodule_name»)
-  pub revision : MayBe (InBlock s includeKeyword (name .end) revisionDateWord store) (i .«revision_date»)
+  pub revision : Either (Ended s includeKeyword (name .end) ⊎ Opened s includeKeyword (name .end) (NoLine s includeKeyword revisionDateWord))
+      (InBlock s includeKeyword (name .end) revisionDateWord store) (i .«revision_date»)
 
 -- ---- metadata
+
+abbrev pub MayBe : (Span → Type 0) → Span → Type 0
+MayBe P x = (x ≡ missing) ⊎ P x
 
 -- a value of a statement of the header
 pub record Header (s word store : List ℕ) (x : Span) : Type 0 where
