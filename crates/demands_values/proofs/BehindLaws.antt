@@ -1,0 +1,177 @@
+-- A value behind its keyword: it is written behind the bytes stored so far, and more bytes behind it change nothing.
+-- Assumes nothing.
+use Prim.Native.Nat.{ℕ, zero, suc, _+_, _-_, _<_}
+use mathlib.Core.Path.{_≡_, refl, sym, ap, ap₂, subst, _∙_}
+use mathlib.Core.Logic.{_⊎_, inl, inr, ⊎-elim}
+use mathlib.Core.List.{List, _++_}
+use native.Mathlib.Omega.{arith}
+use lib.ListN.{length, drop, length-append, length-drop}
+use lib.Seq.{length-take-le}
+use Rattle.text.specs.Due.{dueAt}
+use Rattle.text.specs.Keyword.{matchAt}
+use Rattle.text.specs.Turns.{Turn, stop, on, after, turns}
+use Rattle.text.specs.declared.Cursor.{Cursor}
+use Rattle.text.specs.declared.Due.{Due}
+use Rattle.text.specs.declared.Due.the-variants.{After as Stands, Not as NotDue}
+use Rattle.text.specs.declared.Match.{Match}
+use Rattle.text.specs.declared.Match.the-variants.{After, Not}
+use Rattle.text.proofs.KeywordLaws.{match-one}
+use Rattle.text_value.specs.Argument.{argumentOf, argumentAt, afterDue, afterArgument, lineAt}
+use Rattle.text_value.specs.Value.{Val, value, none, valueAt, valueBytes}
+use Rattle.text_value.specs.declared.Argument.the-variants.{Read}
+use Rattle.scan_rows.specs.Span.{held, valueIn}
+use Rattle.scan_rows.specs.declared.Span.{Span}
+use Rattle.scan_rows.proofs.Values.{value-more}
+use Rattle.scan_block.specs.Block.{Stored}
+use Rattle.scan_metadata.proofs.ScanLaws.{within-new, value-new}
+use Rattle.demands_values.specs.Behind.{Behind, MayBe, Either, Reaches, first, next, LineRead, InBlock, Header}
+
+-- ---- a loop: what each turn keeps, and what a turn that stops gives of it, its answer has
+
+module _ {A R : Type 0} (step : A → Turn A R) (none-read : R) (I : A → Type 0) (Q : R → Type 0)
+    (keeps : (a b : A) → I a → step a ≡ on b → I b) (last : (a : A) (r : R) → I a → step a ≡ stop r → Q r) (default : Q none-read) where
+  pub turns-keep : (n : ℕ) (a : A) → I a → Q (turns step none-read n a)
+  unfolding turns
+  turns-keep zero a i = default
+  turns-keep (suc n) a i = go (step a) refl (turns-keep n)
+    where
+      go : (t : Turn A R) → step a ≡ t → ((b : A) → I b → Q (turns step none-read n b)) → Q (after (λ b. turns step none-read n b) t)
+      go (stop r) e h = last a r i e
+      go (on b) e h = h b (keeps a b i e)
+
+-- ---- the states that a loop comes to
+
+module _ {A R : Type 0} (step : A → Turn A R) where
+  pub reach-on : {a b c : A} → step a ≡ on b → Reaches step b c → Reaches step a c
+  reach-on t first = next first t
+  reach-on t (next r u) = next (reach-on t r) u
+
+  -- the first turn of the way
+  reach-front : {a c : A} → Reaches step a c → (c ≡ a) ⊎ ((b : A) × (step a ≡ on b) × Reaches step b c)
+  reach-front first = inl refl
+  reach-front {a} {c} (next {b = b} r t) =
+      ⊎-elim (λ e. inr (c, ap step (sym e) ∙ t, first)) (λ w. inr (w .0, w .1, next (w .2) t)) (reach-front r)
+
+  -- what holds of a state and of all that come behind it; where the loop stops, none does
+  module _ (P : A → Type 0) {a : A} (p : P a) where
+    pub all-stop : {r : R} → step a ≡ stop r → (c : A) → Reaches step a c → P c
+    all-stop {r} t c h = ⊎-elim (λ e. subst P (sym e) p) (λ w. absurd (on-stop (sym (w .1) ∙ t))) (reach-front h)
+      where
+        on-stop : {b : A} → _≡_ {A = Turn A R} (on b) (stop r) → ⊥
+        on-stop e = let z : _≡_ {A = ℕ} 0 1 = cc in omega arith
+
+    pub all-on : {b : A} → step a ≡ on b → ((c : A) → Reaches step b c → P c) → (c : A) → Reaches step a c → P c
+    all-on {b} t behind c h =
+        ⊎-elim (λ e. subst P (sym e) p) (λ w. behind c (subst (λ z. Reaches step z c) (same (sym (w .1) ∙ t)) (w .2))) (reach-front h)
+      where
+        same : {d : A} → _≡_ {A = Turn A R} (on d) (on b) → d ≡ b
+        same e = cc
+
+-- ---- a keyword's value, and the byte that is due behind it
+
+module _ (s : List ℕ) (at u k : ℕ) where
+  value-of : (w : Val) (c : Cursor) (n : ℕ) → argumentOf u k w ≡ Read c n → w ≡ value (valueBytes w) (c .at)
+  unfolding argumentOf valueBytes
+  value-of (value bs e) c n h = let q : e ≡ c .at = cc in ap (value bs) q
+  value-of (none e) c n h = let z : _≡_ {A = ℕ} 0 1 = cc in absurd (omega arith)
+
+  pub argument-value : (c : Cursor) (n : ℕ) → argumentAt s at u k ≡ Read c n → valueAt s at ≡ value (valueBytes (valueAt s at)) (c .at)
+  unfolding argumentAt
+  argument-value c n h = value-of (valueAt s at) c n h
+
+  module _ (b : ℕ) (c : Cursor) (n : ℕ) where
+    due-of : (m : ℕ) (d : Due) → afterDue m d ≡ Read c n → d ≡ Stands c
+    unfolding afterDue
+    due-of m (Stands e) h = let q : e ≡ c = cc in ap Stands q
+    due-of m (NotDue r) h = let z : _≡_ {A = ℕ} 0 1 = cc in absurd (omega arith)
+
+    line-of : (w : Val) → afterArgument s k b (argumentOf u k w) ≡ Read c n → (e : ℕ) × (w ≡ value (valueBytes w) e) × (dueAt s e b k ≡ Stands c)
+    unfolding argumentOf afterArgument valueBytes
+    line-of (value bs e) h = (e, refl, due-of (u + length bs) (dueAt s e b k) h)
+    line-of (none e) h = let z : _≡_ {A = ℕ} 0 1 = cc in absurd (omega arith)
+
+    pub line-value : lineAt s at u k b ≡ Read c n → (e : ℕ) × (valueAt s at ≡ value (valueBytes (valueAt s at)) e) × (dueAt s e b k ≡ Stands c)
+    unfolding lineAt argumentAt
+    line-value h = line-of (valueAt s at) h
+
+-- ---- at one place no other keyword matches
+
+pub other-not : (s : List ℕ) (p : ℕ) (v w : List ℕ) {c : Cursor} → matchAt s p v ≡ After c → (v ≡ w → ⊥) → matchAt s p w ≡ Not
+other-not s p v w {c} m other = of (matchAt s p w) refl
+  where
+    of : (x : Match) → matchAt s p w ≡ x → x ≡ Not
+    of (After d) e = absurd (other (match-one s p v w c d m e))
+    of Not e = refl
+
+-- ---- more bytes behind
+
+pub may-map : (P Q : Span → Type 0) (x : Span) → (P x → Q x) → MayBe P x → MayBe Q x
+may-map P Q x f m = ⊎-elim (λ e. inl e) (λ p. inr (f p)) m
+
+pub either-map : (No : Type 0) (P Q : Span → Type 0) (x : Span) → (P x → Q x) → Either No P x → Either No Q x
+either-map No P Q x f m = ⊎-elim (λ e. inl e) (λ p. inr (f p)) m
+
+module _ {s : List ℕ} (bytes zs : List ℕ) {word : List ℕ} {x : Span} where
+  abbrev pub behind-more : {p : ℕ} → Behind s word p bytes x → Behind s word p (bytes ++ zs) x
+  behind-more b = record {
+    after = b .after;
+    matched = b .matched;
+    end = b .end;
+    read = b .read ∙ ap (λ v. value v (b .end)) (sym (value-more bytes zs x (b .within)));
+    present = b .present;
+    within = omega (arith, b .within, length-append bytes zs);
+  }
+
+  pub line-more : {k : ℕ} {g : Stored} → LineRead s k g word bytes x → LineRead s k g word (bytes ++ zs) x
+  line-more l = record {
+    state = l .state;
+    reached = l .reached;
+    value = behind-more (l .value);
+    behind = l .behind;
+    turn = l .turn;
+    last = l .last;
+  }
+
+  pub block-more : {k end : ℕ} → InBlock s k end word bytes x → InBlock s k end word (bytes ++ zs) x
+  block-more b = record { opens = b .opens; brace = b .brace; used = b .used; holds = line-more (b .holds) }
+
+  pub header-more : Header s word bytes x → Header s word (bytes ++ zs) x
+  header-more h = record { state = h .state; reached = h .reached; value = behind-more (h .value) }
+
+-- ---- the bytes of a value written behind those stored so far
+
+pub held-new : (bytes bs : List ℕ) {u n : ℕ} → u ≡ length bytes → n ≡ u + length bs → held u (n - u) ≡ held (length bytes) (length bs)
+held-new bytes bs h k = ap₂ held h (omega (arith, h, k))
+
+abbrev pub behind-new : {s word : List ℕ} {p : ℕ} (bytes bs : List ℕ) {c : Cursor} {e : ℕ} (x : Span) → matchAt s p word ≡ After c
+    → valueAt s (c .at) ≡ value bs e → x ≡ held (length bytes) (length bs) → Behind s word p (bytes ++ bs) x
+behind-new bytes bs {c} {e} x m h q = record {
+  after = c;
+  matched = m;
+  end = e;
+  read = h ∙ ap (λ v. value v e) (sym (value-new bytes bs x q));
+  present = ap (λ y. y .present) q;
+  within = within-new bytes bs x q;
+}
+
+-- ---- a value has one length: a span that is a byte shorter is not behind the keyword
+
+module _ {s word : List ℕ} {p : ℕ} {store : List ℕ} where
+  pub behind-size : (x : Span) → Behind s word p store x → length (valueIn store x) ≡ x .size
+  unfolding valueIn
+  behind-size x b = length-take-le (x .size) (drop (x .start) store) (omega (arith, b .within, length-drop (x .start) store))
+
+  pub same-value : (x y : Span) → Behind s word p store x → Behind s word p store y → valueIn store x ≡ valueIn store y
+  same-value x y b c =
+      let e : b .after ≡ c .after = one-after (sym (b .matched) ∙ c .matched) in
+      let q : value (valueIn store x) (b .end) ≡ value (valueIn store y) (c .end)
+      = sym (b .read) ∙ ap (λ (z : Cursor). valueAt s (z .at)) e ∙ c .read in
+      cc
+    where
+      one-after : {a b : Cursor} → After a ≡ After b → a ≡ b
+      one-after h = cc
+
+  pub shorter-refused : (x : Span) → 0 < x .size → Behind s word p store x → Behind s word p store (held (x .start) (x .size - 1)) → ⊥
+  shorter-refused x some b c =
+      let y = held (x .start) (x .size - 1) in
+      omega (arith, some, behind-size x b, behind-size y c, ap length (same-value x y b c))

@@ -1,0 +1,259 @@
+-- Demand 2 at the calls: what a scan read stands at the beginning of the store at exit, and the rows and records that a call leaves read back as they were.
+-- Assumes nothing.
+use Prim.Native.Nat.{ℕ, _+_, _-_}
+use native.Mathlib.Omega.{arith}
+use mathlib.Core.Path.{_≡_, refl, sym, ap, subst, _∙_}
+use mathlib.Core.Logic.{_⊎_, inl, inr, ⊎-elim}
+use mathlib.Core.Bool.{Bool, true, false, cond}
+use mathlib.Core.List.{List, [], _∷_, _++_, append-nil, List·Memᴰ}
+use lib.Dec.{eqb, ltb}
+use lib.ListN.{length, getD, drop}
+use lib.Seq.{sets-eq}
+use Rattle.text.specs.Words.{namespaceWord, prefixWord, revisionWord, belongsToWord}
+use Rattle.text.specs.declared.Refusal.{Refusal}
+use Rattle.text.proofs.Here.{never}
+use Rattle.text_lent.specs.Lent.{lentAt}
+use Rattle.text_lent.specs.Padded.{padded, zeros}
+use Rattle.text_lent.specs.declared.Lent.{Lent}
+use Rattle.text_lent.specs.declared.Lent.the-variants.{Fit, Unfit}
+use Rattle.text_value.specs.Value.{value, valueAt}
+use Rattle.scan_rows.specs.Rows.{importAt, includeAt, markedAt, spanAt, rowsOf, importsIn, includesIn, Each}
+use Rattle.scan_rows.specs.Short.{tooShort}
+use Rattle.scan_rows.specs.Span.{held, missing, markOf, valueIn}
+use Rattle.scan_rows.specs.declared.Span.{Span}
+use Rattle.scan_rows.proofs.Laws.{each-of}
+use Rattle.scan_rows.proofs.ShortLaws.{long-enough}
+use Rattle.scan_newest.specs.Newest.{Revision, newest}
+use Rattle.scan_newest.proofs.NewestLaws.{newest-keeps}
+use Rattle.yangparser.specs.Dependencies.{Dependencies, importWordsOf, includeWordsOf, Scan, good, scanned, dependencies, parsedOf, readOf, keptOf, pageShort}
+use Rattle.yangparser.specs.Promises.{Holds, Leaves, Parses, lentScan}
+use Rattle.yangparser.specs.declared.Parsed.{Parsed}
+use Rattle.yangparser.specs.declared.Parsed.the-variants.{Good, Refused}
+use Rattle.yangparser.proofs.KeptLaws.{entry-good, parsed-good, parsed-refused, held-imports, held-includes, padded-imports, padded-includes}
+use Rattle.yangparser.proofs.ScanLaws.{Sound, scan-sound}
+use Rattle.scan_metadata.specs.Metadata as Metadata
+use Rattle.scan_metadata.specs.Metadata.{Metadata, firstOf, valuesOf, metadata, answerOf, refusedWith}
+use Rattle.host_words.specs.Words.{recordWords}
+use Rattle.nuvaleta.specs.Words.{numberOf, answerWords}
+use Rattle.demands.specs.Demand1.{too-long, too-little, high, RefusedAs, first, read, DependenciesRefusal, argument, no-prefix, block-or-rows}
+use Rattle.demands.proofs.ScanNumbers.{isOne, is-one, dependencies-refused}
+use Rattle.demands_rfc.specs.Rfc.{reads, rfcValue}
+use Rattle.demands_rfc.specs.RfcDomain.{plainAt}
+use Rattle.demands_rfc.specs.RfcQuoted.{Quoted}
+use Rattle.demands_rfc.proofs.RfcEquality.{rfc-equality}
+use Rattle.demands_values.specs.Behind.{Behind, MayBe, Header, ImportRead, IncludeRead, RecordRead}
+use Rattle.demands_values.specs.Demand2.{RowsRead, recordIn, Demand2}
+use Rattle.demands_values.proofs.EveryRow.{import-has-row, include-has-row}
+use Rattle.demands_values.proofs.HeaderValues.{Named, Tells, tells-more, scan-tells}
+use Rattle.demands_values.proofs.RowLaws.{EachFrom, from-of, rows-each}
+use Rattle.demands_values.proofs.ScanValues.{import-more, include-more, scan-rows}
+
+-- ---- dependencies
+
+-- over a store that begins with the bytes, and tables that read back
+rows-read : (s : List ℕ) (x : Dependencies) → scanned s ≡ good x → (zs : List ℕ) {e f g : List ℕ} → e ≡ x .bytes ++ zs
+    → importsIn f (length (x .imports)) ≡ x .imports → includesIn g (length (x .includes)) ≡ x .includes
+    → RowsRead s e f (length (x .imports)) g (length (x .includes))
+unfolding importsIn includesIn
+rows-read s x h zs {e} {f} {g} p q r =
+    let rows = scan-rows s x h in
+    let store = x .bytes ++ zs in
+    let imports = from-of (ImportRead s (x .bytes)) (ImportRead s store) (import-more s (x .bytes) zs) 0 (x .imports) (rows .imports) in
+    let includes = from-of (IncludeRead s (x .bytes)) (IncludeRead s store) (include-more s (x .bytes) zs) 0 (x .includes) (rows .includes) in
+    subst (λ l. RowsRead s l f (length (x .imports)) g (length (x .includes))) (sym p)
+    (record {
+      imports = rows-each (ImportRead s store) (importAt f) 7 (length (x .imports)) (subst (EachFrom (ImportRead s store) 0) (sym q) imports);
+      includes = rows-each (IncludeRead s store) (includeAt g) 5 (length (x .includes)) (subst (EachFrom (IncludeRead s store) 0) (sym r) includes);
+      every-import = import-has-row s x h;
+      every-include = include-has-row s x h;
+    })
+
+module _ (s : List ℕ) (short : Bool) where
+  sound-good : (x : Dependencies) → scanned s ≡ good x → Sound s x
+  unfolding readOf
+  sound-good x h = subst (λ z. Sound s (readOf z)) h (scan-sound s)
+
+  module _ (d t u : List ℕ) {r : Parsed} {e f g : List ℕ} (i j n : ℕ) (h : r ≡ Good i j n) where
+    -- the counts are those of what was read
+    counted : (x : Dependencies) → i ≡ length (x .imports) → j ≡ length (x .includes) → RowsRead s e f (length (x .imports)) g (length (x .includes))
+        → RowsRead s e f i g j
+    counted x p q w = subst (λ m. RowsRead s e f m g j) (sym p) (subst (λ m. RowsRead s e f (length (x .imports)) g m) (sym q) w)
+
+    pub left-rows : Leaves (dependencies s short) d t u r e f g → RowsRead s e f i g j
+    unfolding keptOf padded
+    left-rows l =
+        let k = parsed-good (dependencies s short) i j n (sym (l .answer) ∙ h) in
+        let x = k .0 in
+        let good-scan = entry-good s short x (k .1) .0 in
+        let sound = sound-good x good-scan in
+        counted x (k .2) (k .3)
+        (rows-read s x good-scan _ (l .stored ∙ ap (λ z. padded (length d) (keptOf z .bytes)) (k .1))
+        (ap (λ w. importsIn w (length (x .imports))) (l .imports ∙ ap (λ z. padded (length t) (importWordsOf (keptOf z))) (k .1))
+        ∙ padded-imports x sound (length t))
+        (ap (λ w. includesIn w (length (x .includes))) (l .includes ∙ ap (λ z. padded (length u) (includeWordsOf (keptOf z))) (k .1))
+        ∙ padded-includes x sound (length u)))
+
+-- scan_over writes over what the buffers held
+over-rows : (s : List ℕ) (short : Bool) (d t u : List ℕ) {r : Parsed} {e f g : List ℕ} → Parses (lentScan s short d t u) d t u r e f g
+    → (i j n : ℕ) → r ≡ Good i j n → RowsRead s e f i g j
+unfolding readOf
+over-rows s short d t u {r} {e} {f} {g} l i j n h =
+    let long = tooShort short (length s) (length d) (length t) (length u) in
+    let k = parsed-good (dependencies s long) i j n (sym (l .answer) ∙ h) in
+    let x = k .0 in
+    let entry = entry-good s long x (k .1) in
+    let room = long-enough short (length s) (length d) (length t) (length u) (entry .2) in
+    let sound = sound-good s long x (entry .0) in
+    let holds = subst (λ z. Holds (readOf z) d t u e f g) (k .1) (l .holds) in
+    counted s long d t u i j n h x (k .2) (k .3)
+    (rows-read s x (entry .0) (drop (0 + length (x .bytes)) d)
+    (holds .stored ∙ sets-eq (x .bytes) d 0 (omega (arith, sound .short, room .0)))
+    (held-imports x sound holds (room .1)) (held-includes x sound holds (room .2)))
+
+-- a refusal's number is not 0
+some-number : {n : ℕ} (ks : List ℕ) → List·Memᴰ n ks → isOne 0 ks ≡ false → n ≡ 0 → ⊥
+some-number ks m f e = never (ap (λ z. isOne z ks) e ∙ f) (is-one m)
+
+refused-number : {Read : Refusal → Type 0} {s : List ℕ} {short : Bool} {r : Refusal} → ((q : Refusal) → Read q → q .number ≡ 0 → ⊥)
+    → RefusedAs Read s short r → r .number ≡ 0 → ⊥
+refused-number numbered (first (too-long h e)) z = omega (arith, z, ap (λ q. q .number) e)
+refused-number numbered (first (too-little h k e)) z = omega (arith, z, ap (λ q. q .number) e)
+refused-number numbered (first (high h k l e)) z = omega (arith, z, ap (λ q. q .number) e)
+refused-number {r = r} numbered (read f h) z = numbered r h z
+
+dependencies-number : (q : Refusal) → DependenciesRefusal q → q .number ≡ 0 → ⊥
+unfolding isOne
+dependencies-number q (argument o) = some-number (4 ∷ 5 ∷ 6 ∷ []) (o .number) refl
+dependencies-number q (no-prefix o) = some-number (7 ∷ []) (o .number) refl
+dependencies-number q (block-or-rows o) = some-number (8 ∷ 10 ∷ []) (o .number) refl
+
+-- the counts of a good answer in words, with more words behind
+module _ (s : List ℕ) (short : Bool) (d t u : List ℕ) {e f g : List ℕ} (l : Leaves (dependencies s short) d t u (parsedOf (dependencies s short)) e f g) where
+  told-rows : {n : ℕ} → n ≡ numberOf (parsedOf (dependencies s short)) → n ≡ 0 → (more : List ℕ) {a : List ℕ}
+      → a ≡ answerWords (parsedOf (dependencies s short)) ++ more → RowsRead s e f (getD a 3 0) g (getD a 4 0)
+  unfolding answerWords numberOf
+  told-rows ne z more {a} h = subst (λ w. RowsRead s e f (getD w 3 0) g (getD w 4 0)) (sym h) (of (parsedOf (dependencies s short)) refl (sym ne ∙ z))
+    where
+      of : (p : Parsed) → parsedOf (dependencies s short) ≡ p → numberOf p ≡ 0
+          → RowsRead s e f (getD (answerWords p ++ more) 3 0) g (getD (answerWords p ++ more) 4 0)
+      of (Good i j n) q z = left-rows s short d t u i j n q l
+      of (Refused r) q z =
+          let k = parsed-refused (dependencies s short) r q in
+          absurd (refused-number dependencies-number (dependencies-refused s short r (k .0) (k .1)) z)
+
+-- ---- metadata
+
+-- the six values of what was told, over a store that begins with its bytes
+values-read : (s store : List ℕ) (m : Metadata) → Tells s store m → RecordRead s store (valuesOf m)
+unfolding valuesOf firstOf Each
+values-read s store m t =
+    let P : Revision → Type 0 = λ r. MayBe (Header s revisionWord store) (r .span) in
+    let all = each-of (λ r. Header s revisionWord store (r .span)) P (λ r h. inr h) (m .revisions) (t .revisions) in
+    record {
+      name = t .name;
+      namespace = t .namespace;
+      prefix = t .prefix;
+      first-revision = of (m .revisions) all;
+      parent = t .parent;
+      newest = newest-keeps P (m .revisions) (inl refl) all;
+    }
+  where
+    of : (rs : List Revision) → Each (λ r. MayBe (Header s revisionWord store) (r .span)) rs → MayBe (Header s revisionWord store) (firstOf rs)
+    of [] h = inl refl
+    of (r ∷ rs) h = h .0
+
+none-read : (s store : List ℕ) → RecordRead s store Metadata.noValues
+none-read s store = record { name = inl refl; namespace = inl refl; prefix = inl refl; first-revision = inl refl; parent = inl refl; newest = inl refl }
+
+-- a value that is missing or present is told whole by its three words
+back : (P : Span → Type 0) (x : Span) → (P x → x .present ≡ true) → MayBe P x → MayBe P (cond (eqb (markOf x) 0) missing (held (x .start) (x .size)))
+back P x there m = subst (MayBe P) (⊎-elim none (λ p. some (there p)) m) m
+  where
+    f : Span → Span
+    f y = cond (eqb (markOf y) 0) missing (held (y .start) (y .size))
+
+    none : x ≡ missing → x ≡ f x
+    none e = e ∙ ap f (sym e)
+
+    some : x .present ≡ true → x ≡ f x
+    some t =
+        let q : x ≡ held (x .start) (x .size) = ap (λ b. record { present = b; start = x .start; size = x .size }) t in
+        q ∙ ap f (sym q)
+
+-- six values read back from their words
+words-read : (s store : List ℕ) (a b c d e f : Span) → RecordRead s store (a ∷ b ∷ c ∷ d ∷ e ∷ f ∷ [])
+    → RecordRead s store (recordIn (recordWords (a ∷ b ∷ c ∷ d ∷ e ∷ f ∷ [])))
+unfolding recordWords rowsOf markedAt spanAt
+words-read s store a b c d e f r =
+    let plain : (word : List ℕ) (x : Span) → MayBe (Header s word store) x
+    → MayBe (Header s word store) (cond (eqb (markOf x) 0) missing (held (x .start) (x .size)))
+    = λ word x m. back (Header s word store) x (λ h. h .value .present) m in
+    record {
+      name = back (Named s store) a (λ h. ⊎-elim (λ n. n .value .present) (λ n. n .value .present) h) (r .name);
+      namespace = plain namespaceWord b (r .namespace);
+      prefix = plain prefixWord c (r .prefix);
+      first-revision = plain revisionWord d (r .first-revision);
+      parent = plain belongsToWord e (r .parent);
+      newest = plain revisionWord f (r .newest);
+    }
+
+-- what a scan x leaves in a store of length n, as spans and as words
+abbrev Answers : List ℕ → ℕ → Metadata.Scan → Type 0
+Answers s n x =
+    RecordRead s (padded n (Metadata.keptOf x)) (answerOf x .values) × RecordRead s (padded n (Metadata.keptOf x)) (recordIn (recordWords (answerOf x .values)))
+
+scan-answers : (s : List ℕ) (n : ℕ) (x : Metadata.Scan) → ((m : Metadata) → x ≡ Metadata.good m → Tells s (m .bytes) m) → Answers s n x
+unfolding answerOf refusedWith Metadata.keptOf padded valuesOf
+scan-answers s n (Metadata.good m) h =
+    let r = values-read s (padded n (m .bytes)) m (tells-more s (m .bytes) (zeros (n - length (m .bytes))) m (h m refl)) in
+    (r, words-read s (padded n (m .bytes)) _ _ _ _ _ _ r)
+scan-answers s n (Metadata.bad q bs) h = let r = none-read s (padded n []) in (r, words-read s (padded n []) _ _ _ _ _ _ r)
+
+call-answers : (s : List ℕ) (short : Bool) (n : ℕ) → Answers s n (metadata s short)
+unfolding metadata Metadata.ifFit
+call-answers s short n = of (lentAt s short)
+  where
+    of : (x : Lent) → Answers s n (Metadata.ifFit x (Metadata.scanned s))
+    of Fit = scan-answers s n (Metadata.scanned s) (scan-tells s)
+    of (Unfit r) = scan-answers s n (Metadata.bad r []) (λ m h. let z : _≡_ {A = ℕ} 0 1 = cc in absurd (omega arith))
+
+-- ---- the RFC's values
+
+module _ (s word : List ℕ) (p : ℕ) (store : List ℕ) (x : Span) (b : Behind s word p store x) where
+  one-value : (bs : List ℕ) (end : ℕ) → valueAt s (b .after .at) ≡ value bs end → (bs ≡ valueIn store x) × (end ≡ b .end)
+  one-value bs end h = let q : value bs end ≡ value (valueIn store x) (b .end) = sym h ∙ b .read in (cc, cc)
+
+  is-rfc : Quoted s (b .after .at) → rfcValue s (b .after .at) ≡ reads (valueIn store x) (b .end)
+  is-rfc q =
+      let v = rfc-equality .same s (b .after .at) q in
+      let w = one-value (v .0) (v .1) (v .3) in
+      v .2 ∙ ap (λ z. reads z (v .1)) (w .0) ∙ ap (reads (valueIn store x)) (w .1)
+
+  rfc-is : (bs : List ℕ) (end : ℕ) → rfcValue s (b .after .at) ≡ reads bs end → plainAt s (b .after .at) ≡ true → valueIn store x ≡ bs
+  rfc-is bs end h k = sym (one-value bs end (rfc-equality .equal s (b .after .at) bs end h k) .0)
+
+-- ---- all calls
+
+-- whether something lent is too short, with a page p
+abbrev short : List ℕ → Bool → List ℕ → List ℕ → List ℕ → Bool
+short s b d t u = tooShort b (length s) (length d) (length t) (length u)
+
+abbrev shortPage : List ℕ → List ℕ → List ℕ → List ℕ → List ℕ → Bool
+shortPage s d t u p = short s (pageShort (length s) (length p)) d t u
+
+pub demand2 : Demand2
+demand2 = record {
+  dependencies = λ s b d t u l i j n h. left-rows s (short s b d t u) d t u i j n h l;
+  over = over-rows;
+  printed = λ s d t u p l i j n h. left-rows s (shortPage s d t u p) d t u i j n h (l .scan);
+  metadata = λ s d {r} {e} l. let b = ltb (length d) (length s) in
+      subst (λ v. RecordRead s e (v .values)) (sym (l .answer))
+      (subst (λ z. RecordRead s z (answerOf (metadata s b) .values)) (sym (l .stored)) (call-answers s b (length d) .0));
+  host-dependencies = λ s d t u l z. told-rows s (short s false d t u) d t u (l .scan) (l .number) z [] (l .answer ∙ sym (append-nil _));
+  host-printed = λ s d t u p l z. told-rows s (shortPage s d t u p) d t u (l .scan) (l .number) z _ (l .answer);
+  host-metadata = λ s d {n} {e} l. let b = ltb (length d) (length s) in
+      subst (λ v. RecordRead s e (recordIn v)) (sym (l .words))
+      (subst (λ z. RecordRead s z (recordIn (recordWords (answerOf (metadata s b) .values)))) (sym (l .stored)) (call-answers s b (length d) .1));
+  rfc = is-rfc;
+  rfc-equal = rfc-is;
+}

@@ -1,0 +1,11 @@
+pub mod BehindLaws
+pub mod BlockValues
+pub mod Demand2
+pub mod EveryRow
+pub mod HeaderValues
+pub mod Instance
+pub mod Once
+pub mod RecordInstance
+pub mod RowLaws
+pub mod ScanValues
+pub mod StatementValues

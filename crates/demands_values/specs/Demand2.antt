@@ -1,0 +1,69 @@
+-- Of every call of a scan: each row that its answer counts, and each value that its record has, stands in the store at exit as it stands behind its keyword in
+-- the text; and where document 01's conditions hold there, it is RFC 7950's value. A refused call counts no row, and its record has no value.
+-- Assumes nothing.
+use Prim.Native.Nat.{ℕ, _*_, _<_}
+use mathlib.Core.Path.{_≡_}
+use mathlib.Core.Bool.{Bool, true}
+use mathlib.Core.List.{List}
+use lib.ListN.{getD}
+use Rattle.text.specs.Keyword.{matchAt}
+use Rattle.text.specs.Scan.{gapEnd}
+use Rattle.text.specs.Words.{importWord, includeWord}
+use Rattle.text.specs.declared.Cursor.{Cursor}
+use Rattle.text.specs.declared.Match.the-variants.{After}
+use Rattle.scan_rows.specs.Rows.{importSize, includeSize, importAt, includeAt, markedAt, rowsOf}
+use Rattle.scan_rows.specs.Span.{valueIn}
+use Rattle.scan_rows.specs.declared.Span.{Span}
+use Rattle.yangparser.specs.Dependencies.{Scanning, scanTurn, start, none}
+use Rattle.yangparser.specs.Promises as Dependencies
+use Rattle.yangparser.specs.declared.Parsed.{Parsed}
+use Rattle.yangparser.specs.declared.Parsed.the-variants.{Good}
+use Rattle.scan_page.specs.Page.{Prints}
+use Rattle.scan_page.specs.declared.Page.{Page}
+use Rattle.scan_metadata.specs.Promises as Metadata
+use Rattle.scan_metadata.specs.declared.YangModuleMetadata.{YangModuleMetadata}
+use Rattle.nuvaleta.specs.Host.{DependenciesAnswered, PrintedAnswered}
+use Rattle.nuvaleta.specs.Record.{MetadataAnswered}
+use Rattle.demands_rfc.specs.Rfc.{reads, rfcValue}
+use Rattle.demands_rfc.specs.RfcDomain.{plainAt}
+use Rattle.demands_rfc.specs.RfcQuoted.{Quoted}
+use Rattle.demands_values.specs.Behind.{Behind, Reaches, ImportRead, IncludeRead, RecordRead}
+
+-- the first i rows of the import table f and the first j of the include table g
+pub record RowsRead (s store f : List ℕ) (i : ℕ) (g : List ℕ) (j : ℕ) : Type 0 where
+  pub imports : (k : ℕ) → k < i → ImportRead s store k (importAt f (k * importSize))
+  pub includes : (k : ℕ) → k < j → IncludeRead s store k (includeAt g (k * includeSize))
+  -- each import and each include that the scan meets has its row
+  pub every-import : (x : Scanning) → Reaches (scanTurn s) (record { far = start; read = none }) x
+      → (c : Cursor) → matchAt s (gapEnd s (x .far .at)) importWord ≡ After c → x .far .imports < i
+  pub every-include : (x : Scanning) → Reaches (scanTurn s) (record { far = start; read = none }) x
+      → (c : Cursor) → matchAt s (gapEnd s (x .far .at)) includeWord ≡ After c → x .far .includes < j
+
+-- the six values of the words of a record: present, start and length of each
+abbrev pub recordIn : List ℕ → List Span
+recordIn w = rowsOf (markedAt w) 3 6 0
+
+-- s: the text; d, t, u, p: store, tables and page at entry; e, f, g, q: at exit
+pub record Demand2 : Type 0 where
+  -- scan_lent, and with false extract_yang_dependencies
+  pub dependencies : (s : List ℕ) (short : Bool) (d t u : List ℕ) {r : Parsed} {e f g : List ℕ} → Dependencies.Extracts s short d t u r e f g
+      → (i j n : ℕ) → r ≡ Good i j n → RowsRead s e f i g j
+  -- scan_over
+  pub over : (s : List ℕ) (short : Bool) (d t u : List ℕ) {r : Parsed} {e f g : List ℕ} → Dependencies.Scans s short d t u r e f g
+      → (i j n : ℕ) → r ≡ Good i j n → RowsRead s e f i g j
+  -- print_yang_dependencies
+  pub printed : (s d t u p : List ℕ) {r : Page} {e f g q : List ℕ} → Prints s d t u p r e f g q → (i j n : ℕ) → r .parsed ≡ Good i j n → RowsRead s e f i g j
+  -- extract_yang_metadata
+  pub metadata : (s d : List ℕ) {r : YangModuleMetadata} {e : List ℕ} → Metadata.Extracts s d r e → RecordRead s e (r .values)
+  -- nuvaleta_dependencies, nuvaleta_printed, nuvaleta_metadata; n: the number returned, a: the answer, w: the record
+  pub host-dependencies : (s d t u : List ℕ) {n : ℕ} {e f g a : List ℕ} → DependenciesAnswered s d t u n e f g a → n ≡ 0
+      → RowsRead s e f (getD a 3 0) g (getD a 4 0)
+  pub host-printed : (s d t u p : List ℕ) {n : ℕ} {e f g q a : List ℕ} → PrintedAnswered s d t u p n e f g q a → n ≡ 0
+      → RowsRead s e f (getD a 3 0) g (getD a 4 0)
+  pub host-metadata : (s d : List ℕ) {n : ℕ} {e w a : List ℕ} → MetadataAnswered s d n e w a → RecordRead s e (recordIn w)
+  -- each such value whose text meets the conditions is the RFC's, up to the same place
+  pub rfc : (s word : List ℕ) (p : ℕ) (store : List ℕ) (x : Span) (b : Behind s word p store x) → Quoted s (b .after .at)
+      → rfcValue s (b .after .at) ≡ reads (valueIn store x) (b .end)
+  -- the same from the RFC's side
+  pub rfc-equal : (s word : List ℕ) (p : ℕ) (store : List ℕ) (x : Span) (b : Behind s word p store x) (bs : List ℕ) (end : ℕ)
+      → rfcValue s (b .after .at) ≡ reads bs end → plainAt s (b .after .at) ≡ true → valueIn store x ≡ bs
