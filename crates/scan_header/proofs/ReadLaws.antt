@@ -8,7 +8,7 @@ use native.Mathlib.Omega.{arith}
 use lib.Dec.{eqb}
 use lib.ListN.{getD}
 use borrow.Author.Tests.{eq-eqb, ne-eqb}
-use Rattle.text.specs.Due.{dueAt}
+use Rattle.text.specs.Due.{refusalOf, dueAt}
 use Rattle.text.specs.Scan.{gapEnd}
 use Rattle.text.specs.declared.Cursor.{Cursor}
 use Rattle.text.specs.declared.Due.{Due}
@@ -51,9 +51,9 @@ module _ {d : Due} where
   unfolding passed
   passed-after c h = sym (ap passed h)
 
-  pub passed-not : (r : Refusal) → d ≡ NotDue r → Refused r ≡ passed d
-  unfolding passed
-  passed-not r h = sym (ap passed h)
+  pub passed-not : (r : Refusal) → d ≡ NotDue r → {q : Refusal} → q ≡ refusalOf d → Refused q ≡ passed d
+  unfolding passed refusalOf
+  passed-not r h e = ap Refused (e ∙ ap refusalOf h) ∙ sym (ap passed h)
 
 module _ (s : List ℕ) (at k : ℕ) {d : Due} where
   pub value-parent : k ≡ 3 → d ≡ pastStatement s at → d ≡ afterValue s at k

@@ -30,7 +30,7 @@ use Rattle.scan_tag.specs.Tag.{tagAt}
 use Rattle.scan_header.specs.Header.{pastOf, pastStatement, afterValue, passed, kept, withRest, fieldAt, afterSkipped, laterPrefix, statementSaid}
 use Rattle.scan_header.specs.Header.{tagSaid, saidHere, saidAt}
 use Rattle.scan_header.specs.declared.Heard.{Heard}
-use Rattle.scan_header.specs.declared.Heard.the-variants.{Value, Passed, Done, Refused}
+use Rattle.scan_header.specs.declared.Heard.the-variants.{Value, Done, Refused}
 use Rattle.scan_tag.specs.declared.Tag.{Tag}
 use Rattle.scan_tag.specs.declared.Tag.the-variants.{Statement, Last, Other}
 use Rattle.scan_tag.proofs.TagLaws.{tag-far}
@@ -78,18 +78,9 @@ module _ (s : List ℕ) (k : ℕ) {v x : Skipped} (e : v ≡ x) where
   unfolding afterSkipped
   skip-refused r h p = ap Refused (skip-refusal-is h p) ∙ sym (ap (afterSkipped s k) (sym e ∙ h))
 
-  module _ (c : Cursor) (h : How) (m : v ≡ Past c h) {b : Due} (be : b ≡ afterValue s (c .at) k) where
-    skip-due : passed b ≡ afterSkipped s k x
-    unfolding afterSkipped
-    skip-due = ap passed be ∙ sym (ap (afterSkipped s k) (sym e ∙ m))
-
-    pub skip-other : (r : Refusal) → b ≡ Not r → {q : Refusal} → q ≡ refusalOf b → Refused q ≡ afterSkipped s k x
-    unfolding passed refusalOf
-    skip-other r n p = ap Refused (p ∙ ap refusalOf n) ∙ ap passed (sym n) ∙ skip-due
-
-    pub skip-past : (d : Cursor) → b ≡ After d → Passed d ≡ afterSkipped s k x
-    unfolding passed
-    skip-past d n = ap passed (sym n) ∙ skip-due
+  pub skip-past : (c : Cursor) (h : How) → v ≡ Past c h → {b : Due} → b ≡ afterValue s (c .at) k → {r : Heard} → r ≡ passed b → r ≡ afterSkipped s k x
+  unfolding afterSkipped
+  skip-past c h m be re = re ∙ ap passed be ∙ sym (ap (afterSkipped s k) (sym e ∙ m))
 
 module _ (s : List ℕ) (at k u : ℕ) (p : Bool) (d : List ℕ) where
   pub version-said : k ≡ 6 → {r : Heard} → r ≡ afterSkipped s k (skippedAt s at)

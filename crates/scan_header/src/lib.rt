@@ -97,11 +97,7 @@ fn skip_field(here: Cursor, classes: &[u8; 128], s: &[u8], keyword: u32) -> Hear
     let Skipped::Past(next, _) = value else {
         return Heard::Refused(text_skip::skip_refusal(value));
     };
-    let due = after_value(next, classes, s, keyword);
-    let Due::After(end) = due else {
-        return Heard::Refused(text::refusal_of(due));
-    };
-    Heard::Passed(end)
+    passed(after_value(next, classes, s, keyword))
 }
 
 // Whether a prefix was read before this one.
@@ -148,10 +144,10 @@ fn read_field(
 fn passed(d: Due) -> Heard
     ensures { λ r. ⌜ r ≡ passed d ⌝ }
 {
-    match d {
-        Due::After(c) => Heard::Passed(c),
-        Due::Not(r) => Heard::Refused(r),
-    }
+    let Due::After(next) = d else {
+        return Heard::Refused(text::refusal_of(d));
+    };
+    Heard::Passed(next)
 }
 
 // What is due after a keyword's value.

@@ -1,7 +1,7 @@
 -- `scan_header::skip_field`. A refusal is sent up; else what is due stands after the value.
 -- Assumes nothing.
 use borrow.Author.Needs.{needs}
-use Rattle.scan_header.proofs.StatementLaws.{skip-refused, skip-other, skip-past}
+use Rattle.scan_header.proofs.StatementLaws.{skip-refused, skip-past}
 use Rattle.scan_header.proofs.skip_field.Statement.{statement}
 use Rattle.scan_header.proofs.skip_field.Tie as tie
 
@@ -9,10 +9,7 @@ returns : tie.Need-returns
 returns c = search skip-refused
 
 returns-2 : tie.Need-returns-2
-returns-2 c = search skip-other
-
-returns-3 : tie.Need-returns-3
-returns-3 c = search skip-past
+returns-2 c = search skip-past
 
 pub skip-field-spec : {M : Type 1} → statement M
 skip-field-spec =
@@ -24,8 +21,5 @@ skip-field-spec =
     (λ c κs. search needs)
     returns
     (λ c κs. search needs)
-    (λ c. search needs)
-    (λ c. search needs)
     (λ c κs. search needs)
-    returns-2
-    returns-3)
+    returns-2)
