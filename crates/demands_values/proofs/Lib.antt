@@ -9,3 +9,4 @@ pub mod RecordInstance
 pub mod RowLaws
 pub mod ScanValues
 pub mod StatementValues
+pub mod Walks

@@ -17,7 +17,6 @@ use Rattle.text.specs.Turns.{turns}
 use Rattle.text.specs.Words.{moduleWord, submoduleWord}
 use Rattle.text.specs.declared.Cursor.{Cursor}
 use Rattle.text.specs.declared.Match.the-variants.{After}
-use Rattle.text.proofs.Here.{never}
 use Rattle.text.proofs.KeywordLaws.{match-far}
 use Rattle.text_value.specs.Argument.{argumentOf, argumentAt}
 use Rattle.text_value.specs.Value.{value, isQuote, startsName, valueHere, valueAt, valueBytes}
@@ -85,8 +84,12 @@ module _ (d : List ℕ) (long : ltb (length d) (length text) ≡ false) {n : ℕ
   unfolding answerOf valuesOf firstOf newest newestFrom newer less recordWords rowsOf markedAt spanAt
   record-left = ap recordIn (l .words ∙ ap (λ x. recordWords (answerOf x .values)) called)
 
+  answered : n ≡ 0
+  unfolding answerOf
+  answered = l .number ∙ ap (λ x. answerOf x .answer .number) called
+
   record-read : RecordRead text e (valuesWith (held 0 2))
-  record-read = subst (RecordRead text e) record-left (demand2 .host-metadata text d l)
+  record-read = subst (RecordRead text e) record-left (demand2 .host-metadata text d l answered)
 
   -- ab, n, p, 1, m, 2
   values : (valueIn e (held 0 2) ≡ 97 ∷ 98 ∷ []) × (valueIn e (held 2 1) ≡ 110 ∷ []) × (valueIn e (held 3 1) ≡ 112 ∷ [])
@@ -113,12 +116,11 @@ name-read = refl
 refused : RecordRead text stored (valuesWith (held 0 1)) → ⊥
 unfolding valueIn
 refused r =
-    ⊎-elim (λ e. never (ap (λ x. x .present) e) refl)
-    (λ n. ⊎-elim
-    (λ h. let b = h .value in
-    let q : value (97 ∷ 98 ∷ []) 9 ≡ value (97 ∷ []) (b .end)
-    = sym name-read ∙ ap (valueAt text) (sym (module-once (gapEnd text (h .state .at)) (b .after) (b .matched))) ∙ b .read in
+    let b = r .name .met .value in
+    let p = gapEnd text (r .name .met .state .at) in
+    ⊎-elim
+    (λ e. let at = module-once p (b .after) (ap (matchAt text p) (sym e) ∙ b .matched) in
+    let q : value (97 ∷ 98 ∷ []) 9 ≡ value (97 ∷ []) (b .end) = sym name-read ∙ ap (valueAt text) (sym at) ∙ b .read in
     let z : _≡_ {A = List ℕ} (97 ∷ 98 ∷ []) (97 ∷ []) = cc in
     omega (arith, ap length z))
-    (λ h. submodule-never (gapEnd text (h .state .at)) (h .value .after) (h .value .matched)) n)
-    (r .name)
+    (λ e. submodule-never p (b .after) (ap (matchAt text p) (sym e) ∙ b .matched)) (r .name .either)
