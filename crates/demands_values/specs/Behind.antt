@@ -136,8 +136,8 @@ pub record NameRead (s store : List ℕ) (g : Reading) (x : Span) : Type 0 where
   pub no-module : UnmetBehind (metadataTurn s) (λ b. b .at) s moduleWord g (met .state .at)
   pub no-submodule : UnmetBehind (metadataTurn s) (λ b. b .at) s submoduleWord g (met .state .at)
 
--- `belongs-to` value (last wins); `namespace` value (last wins); `prefix` value (first wins); `revision` value (first wins). The newest is one of the revisions;
--- which one is said in demands (Newest).
+-- `belongs-to` value (last wins); `namespace` value (last wins); `prefix` value (first wins); `revision` value (first wins). The newest is one of the
+-- revisions; which one is said in demands (Newest).
 pub record RecordRead (s store : List ℕ) (values : List Span) : Type 0 where
   pub name : NameRead s store begin (getD values nameValue missing)
   pub namespace : Either (NoHeader s namespaceWord) (HeaderLast s namespaceWord store) (getD values namespaceValue missing)
