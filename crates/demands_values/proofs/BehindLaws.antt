@@ -1,6 +1,6 @@
 -- A value behind its keyword: it is written behind the bytes stored so far, and more bytes behind it change nothing.
 -- Assumes nothing.
-use Prim.Native.Nat.{ℕ, zero, suc, _+_, _-_, _<_}
+use Prim.Native.Nat.{ℕ, _+_, _-_, _<_}
 use mathlib.Core.Path.{_≡_, refl, sym, ap, ap₂, _∙_}
 use mathlib.Core.Logic.{_⊎_, inl, inr, ⊎-elim}
 use mathlib.Core.List.{List, _++_}
@@ -9,7 +9,7 @@ use lib.ListN.{length, drop, length-append, length-drop}
 use lib.Seq.{length-take-le}
 use Rattle.text.specs.Due.{dueAt}
 use Rattle.text.specs.Keyword.{matchAt}
-use Rattle.text.specs.Turns.{Turn, stop, on, after, turns}
+use Rattle.text.specs.Turns.{Turn, after}
 use Rattle.text.specs.declared.Cursor.{Cursor}
 use Rattle.text.specs.declared.Due.{Due}
 use Rattle.text.specs.declared.Due.the-variants.{After as Stands, Not as NotDue}
@@ -24,19 +24,6 @@ use Rattle.scan_rows.specs.declared.Span.{Span}
 use Rattle.scan_rows.proofs.Values.{value-more}
 use Rattle.scan_metadata.proofs.ScanLaws.{within-new, value-new}
 use Rattle.demands_values.specs.Behind.{Behind, Either, Met, MetFirst, MetLast, InBlock}
-
--- ---- a loop: what each turn keeps, and what a turn that stops gives of it, its answer has
-
-module _ {A R : Type 0} (step : A → Turn A R) (none-read : R) (I : A → Type 0) (Q : R → Type 0)
-    (keeps : (a b : A) → I a → step a ≡ on b → I b) (last : (a : A) (r : R) → I a → step a ≡ stop r → Q r) (default : Q none-read) where
-  pub turns-keep : (n : ℕ) (a : A) → I a → Q (turns step none-read n a)
-  unfolding turns
-  turns-keep zero a i = default
-  turns-keep (suc n) a i = go (step a) refl (turns-keep n)
-    where
-      go : (t : Turn A R) → step a ≡ t → ((b : A) → I b → Q (turns step none-read n b)) → Q (after (λ b. turns step none-read n b) t)
-      go (stop r) e h = last a r i e
-      go (on b) e h = h b (keeps a b i e)
 
 -- ---- a keyword's value, and the byte that is due behind it
 

@@ -2,6 +2,7 @@ pub mod BehindLaws
 pub mod BlockValues
 pub mod Demand2
 pub mod EveryRow
+pub mod HeaderTurns
 pub mod HeaderValues
 pub mod Instance
 pub mod Once
