@@ -1,7 +1,7 @@
 -- A value behind its keyword: it is written behind the bytes stored so far, and more bytes behind it change nothing.
 -- Assumes nothing.
-use Prim.Native.Nat.{ℕ, zero, suc, _+_, _-_, _<_}
-use mathlib.Core.Path.{_≡_, refl, sym, ap, ap₂, subst, _∙_}
+use Prim.Native.Nat.{ℕ, _+_, _-_, _<_}
+use mathlib.Core.Path.{_≡_, refl, sym, ap, ap₂, _∙_}
 use mathlib.Core.Logic.{_⊎_, inl, inr, ⊎-elim}
 use mathlib.Core.List.{List, _++_}
 use native.Mathlib.Omega.{arith}
@@ -9,7 +9,7 @@ use lib.ListN.{length, drop, length-append, length-drop}
 use lib.Seq.{length-take-le}
 use Rattle.text.specs.Due.{dueAt}
 use Rattle.text.specs.Keyword.{matchAt}
-use Rattle.text.specs.Turns.{Turn, stop, on, after, turns}
+use Rattle.text.specs.Turns.{Turn, after}
 use Rattle.text.specs.declared.Cursor.{Cursor}
 use Rattle.text.specs.declared.Due.{Due}
 use Rattle.text.specs.declared.Due.the-variants.{After as Stands, Not as NotDue}
@@ -22,50 +22,8 @@ use Rattle.text_value.specs.declared.Argument.the-variants.{Read}
 use Rattle.scan_rows.specs.Span.{held, valueIn}
 use Rattle.scan_rows.specs.declared.Span.{Span}
 use Rattle.scan_rows.proofs.Values.{value-more}
-use Rattle.scan_block.specs.Block.{Stored}
 use Rattle.scan_metadata.proofs.ScanLaws.{within-new, value-new}
-use Rattle.demands_values.specs.Behind.{Behind, MayBe, Either, Reaches, first, next, LineRead, InBlock, Header}
-
--- ---- a loop: what each turn keeps, and what a turn that stops gives of it, its answer has
-
-module _ {A R : Type 0} (step : A → Turn A R) (none-read : R) (I : A → Type 0) (Q : R → Type 0)
-    (keeps : (a b : A) → I a → step a ≡ on b → I b) (last : (a : A) (r : R) → I a → step a ≡ stop r → Q r) (default : Q none-read) where
-  pub turns-keep : (n : ℕ) (a : A) → I a → Q (turns step none-read n a)
-  unfolding turns
-  turns-keep zero a i = default
-  turns-keep (suc n) a i = go (step a) refl (turns-keep n)
-    where
-      go : (t : Turn A R) → step a ≡ t → ((b : A) → I b → Q (turns step none-read n b)) → Q (after (λ b. turns step none-read n b) t)
-      go (stop r) e h = last a r i e
-      go (on b) e h = h b (keeps a b i e)
-
--- ---- the states that a loop comes to
-
-module _ {A R : Type 0} (step : A → Turn A R) where
-  pub reach-on : {a b c : A} → step a ≡ on b → Reaches step b c → Reaches step a c
-  reach-on t first = next first t
-  reach-on t (next r u) = next (reach-on t r) u
-
-  -- the first turn of the way
-  reach-front : {a c : A} → Reaches step a c → (c ≡ a) ⊎ ((b : A) × (step a ≡ on b) × Reaches step b c)
-  reach-front first = inl refl
-  reach-front {a} {c} (next {b = b} r t) =
-      ⊎-elim (λ e. inr (c, ap step (sym e) ∙ t, first)) (λ w. inr (w .0, w .1, next (w .2) t)) (reach-front r)
-
-  -- what holds of a state and of all that come behind it; where the loop stops, none does
-  module _ (P : A → Type 0) {a : A} (p : P a) where
-    pub all-stop : {r : R} → step a ≡ stop r → (c : A) → Reaches step a c → P c
-    all-stop {r} t c h = ⊎-elim (λ e. subst P (sym e) p) (λ w. absurd (on-stop (sym (w .1) ∙ t))) (reach-front h)
-      where
-        on-stop : {b : A} → _≡_ {A = Turn A R} (on b) (stop r) → ⊥
-        on-stop e = let z : _≡_ {A = ℕ} 0 1 = cc in omega arith
-
-    pub all-on : {b : A} → step a ≡ on b → ((c : A) → Reaches step b c → P c) → (c : A) → Reaches step a c → P c
-    all-on {b} t behind c h =
-        ⊎-elim (λ e. subst P (sym e) p) (λ w. behind c (subst (λ z. Reaches step z c) (same (sym (w .1) ∙ t)) (w .2))) (reach-front h)
-      where
-        same : {d : A} → _≡_ {A = Turn A R} (on d) (on b) → d ≡ b
-        same e = cc
+use Rattle.demands_values.specs.Behind.{Behind, Either, Met, MetFirst, MetLast, InBlock}
 
 -- ---- a keyword's value, and the byte that is due behind it
 
@@ -105,9 +63,6 @@ other-not s p v w {c} m other = of (matchAt s p w) refl
 
 -- ---- more bytes behind
 
-pub may-map : (P Q : Span → Type 0) (x : Span) → (P x → Q x) → MayBe P x → MayBe Q x
-may-map P Q x f m = ⊎-elim (λ e. inl e) (λ p. inr (f p)) m
-
 pub either-map : (No : Type 0) (P Q : Span → Type 0) (x : Span) → (P x → Q x) → Either No P x → Either No Q x
 either-map No P Q x f m = ⊎-elim (λ e. inl e) (λ p. inr (f p)) m
 
@@ -122,21 +77,19 @@ module _ {s : List ℕ} (bytes zs : List ℕ) {word : List ℕ} {x : Span} where
     within = omega (arith, b .within, length-append bytes zs);
   }
 
-  pub line-more : {k : ℕ} {g : Stored} → LineRead s k g word bytes x → LineRead s k g word (bytes ++ zs) x
-  line-more l = record {
-    state = l .state;
-    reached = l .reached;
-    value = behind-more (l .value);
-    behind = l .behind;
-    turn = l .turn;
-    last = l .last;
-  }
+  -- a scan by its step and its places
+  module _ {A R : Type 0} {step : A → Turn A R} {at : A → ℕ} {g : A} where
+    abbrev pub met-more : Met step at s word bytes g x → Met step at s word (bytes ++ zs) g x
+    met-more m = record { state = m .state; reached = m .reached; value = behind-more (m .value) }
+
+    pub last-more : MetLast step at s word bytes g x → MetLast step at s word (bytes ++ zs) g x
+    last-more m = (met-more (m .0), m .1)
+
+    pub first-more : MetFirst step at s word bytes g x → MetFirst step at s word (bytes ++ zs) g x
+    first-more m = (met-more (m .0), m .1)
 
   pub block-more : {k end : ℕ} → InBlock s k end word bytes x → InBlock s k end word (bytes ++ zs) x
-  block-more b = record { opens = b .opens; brace = b .brace; used = b .used; holds = line-more (b .holds) }
-
-  pub header-more : Header s word bytes x → Header s word (bytes ++ zs) x
-  header-more h = record { state = h .state; reached = h .reached; value = behind-more (h .value) }
+  block-more b = record { opens = b .opens; brace = b .brace; used = b .used; holds = last-more (b .holds) }
 
 -- ---- the bytes of a value written behind those stored so far
 
@@ -156,12 +109,12 @@ behind-new bytes bs {c} {e} x m h q = record {
 
 -- ---- a value has one length: a span that is a byte shorter is not behind the keyword
 
-module _ {s word : List ℕ} {p : ℕ} {store : List ℕ} where
+module _ (s word : List ℕ) (p : ℕ) (store : List ℕ) where
   pub behind-size : (x : Span) → Behind s word p store x → length (valueIn store x) ≡ x .size
   unfolding valueIn
   behind-size x b = length-take-le (x .size) (drop (x .start) store) (omega (arith, b .within, length-drop (x .start) store))
 
-  pub same-value : (x y : Span) → Behind s word p store x → Behind s word p store y → valueIn store x ≡ valueIn store y
+  same-value : (x y : Span) → Behind s word p store x → Behind s word p store y → valueIn store x ≡ valueIn store y
   same-value x y b c =
       let e : b .after ≡ c .after = one-after (sym (b .matched) ∙ c .matched) in
       let q : value (valueIn store x) (b .end) ≡ value (valueIn store y) (c .end)
@@ -171,7 +124,7 @@ module _ {s word : List ℕ} {p : ℕ} {store : List ℕ} where
       one-after : {a b : Cursor} → After a ≡ After b → a ≡ b
       one-after h = cc
 
-  pub shorter-refused : (x : Span) → 0 < x .size → Behind s word p store x → Behind s word p store (held (x .start) (x .size - 1)) → ⊥
-  shorter-refused x some b c =
+  pub shorter-refused : (x : Span) → Behind s word p store x → 0 < x .size → Behind s word p store (held (x .start) (x .size - 1)) → ⊥
+  shorter-refused x b some c =
       let y = held (x .start) (x .size - 1) in
       omega (arith, some, behind-size x b, behind-size y c, ap length (same-value x y b c))

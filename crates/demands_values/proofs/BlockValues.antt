@@ -41,9 +41,10 @@ use Rattle.scan_block.specs.declared.Inside.{Inside}
 use Rattle.scan_block.specs.declared.Inside.the-variants.{On, Closed, Refused}
 use Rattle.scan_block.specs.declared.Line.{Line}
 use Rattle.scan_block.specs.declared.Line.the-variants.{Value, Other}
-use Rattle.scan_block.proofs.BlockLaws.{block-falls, block-on, block-close, block-broken}
-use Rattle.demands_values.specs.Behind.{Behind, first, NoLine, LineRead}
-use Rattle.demands_values.proofs.BehindLaws.{reach-on, all-stop, all-on, line-value, other-not, behind-more, held-new, behind-new}
+use Rattle.scan_block.proofs.BlockLaws.{turn-far, block-falls, block-on, block-close, block-broken}
+use Rattle.demands_values.specs.Behind.{Behind}
+use Rattle.demands_values.proofs.BehindLaws.{line-value, other-not, held-new, behind-new}
+use Rattle.demands_values.proofs.Walks.{Gives, Won, won-stop, won-on}
 
 -- ---- which keyword matched; an import's block has both, an include's the second
 
@@ -78,20 +79,23 @@ closed-not : (s : List ℕ) (at : ℕ) (word : List ℕ) → eqb (look s at) 125
 unfolding startsIdent classOf
 closed-not s at word t = match-none s at word refl refl (ap startsIdent (eqb-true (look s at) 125 t))
 
+-- each statement goes forward
+block-forward : (s : List ℕ) (k : ℕ) (g h : Stored) → blockTurn s k g ≡ on h → g .body .at < h .body .at
+block-forward s k g h t = omega (arith, turn-far s k g h t .0 .0)
+
 -- ---- one statement from the state g; store: the bytes stored so far
 
 module _ (s : List ℕ) (k : ℕ) (g : Stored) (store : List ℕ) (count : g .body .used ≡ length store) where
   abbrev place : ℕ
   place = gapEnd s (g .body .at)
 
-  -- the statement has the keyword and gives the value y, or it has not and the value x stays
-  abbrev Gives : List ℕ → List ℕ → Span → Span → Type 0
-  Gives word bs x y = Behind s word place (store ++ bs) y ⊎ ((matchAt s place word ≡ Not) × (y ≡ x))
+  abbrev LineGives : List ℕ → List ℕ → Span → Span → Type 0
+  LineGives word bs x y = Gives (blockTurn s k) (λ b. b .body .at) s word g (store ++ bs) x y
 
   abbrev InsideHas : List ℕ → Inside → Type 0
   InsideHas bs (On y) =
-      (y .used ≡ length (store ++ bs)) × (k ≡ 8 → Gives prefixWord bs (g .body .prefix) (y .prefix))
-      × Gives revisionDateWord bs (g .body .revision) (y .revision)
+      (y .used ≡ length (store ++ bs)) × (k ≡ 8 → LineGives prefixWord bs (g .body .prefix) (y .prefix))
+      × LineGives revisionDateWord bs (g .body .revision) (y .revision)
   InsideHas bs (Closed y) =
       ((matchAt s place prefixWord ≡ Not) × (y .prefix ≡ g .body .prefix))
       × ((matchAt s place revisionDateWord ≡ Not) × (y .revision ≡ g .body .revision))
@@ -136,56 +140,18 @@ module _ (s : List ℕ) (k : ℕ) (g : Stored) (store : List ℕ) (count : g .bo
 -- ---- the whole block; pre: the bytes stored before it
 
 module _ (s : List ℕ) (k : ℕ) (pre : List ℕ) where
-  -- from the state g with the value x: no statement has the keyword and it stays, or the last one that has it gives y
-  abbrev pub Won : List ℕ → Stored → List ℕ → Span → Span → Type 0
-  Won word g store x y = ((y ≡ x) × NoLine s k word g) ⊎ LineRead s k g word store y
+  abbrev pub LineWon : List ℕ → Stored → List ℕ → Span → Span → Type 0
+  LineWon word g store x y = Won (blockTurn s k) (λ b. b .body .at) s word g store x y
 
   pub record Ends (g : Stored) (cs : List ℕ) (y : Body) : Type 0 where
     pub rest : List ℕ
     pub grown : pre ++ cs ≡ pre ++ g .bytes ++ rest
-    pub prefix : k ≡ 8 → Won prefixWord g (pre ++ cs) (g .body .prefix) (y .prefix)
-    pub revision : Won revisionDateWord g (pre ++ cs) (g .body .revision) (y .revision)
+    pub prefix : k ≡ 8 → LineWon prefixWord g (pre ++ cs) (g .body .prefix) (y .prefix)
+    pub revision : LineWon revisionDateWord g (pre ++ cs) (g .body .revision) (y .revision)
 
   abbrev pub BlockHas : Stored → List ℕ → Block → Type 0
   BlockHas g cs (Whole y) = Ends g cs y
   BlockHas g cs (Broken r) = Unit {0}
-
-  -- the state b does not stand at the keyword
-  abbrev Free : List ℕ → Stored → Type 0
-  Free word b = matchAt s (gapEnd s (b .body .at)) word ≡ Not
-
-  -- one word over one turn, from g to h; x, y, z: its value at g, at h and at the end
-  module _ (word : List ℕ) (g h : Stored) (turn : blockTurn s k g ≡ on h) (store rest : List ℕ) (grown : store ≡ pre ++ h .bytes ++ rest) (x y z : Span) where
-    won-on : Behind s word (gapEnd s (g .body .at)) (pre ++ h .bytes) y ⊎ ((matchAt s (gapEnd s (g .body .at)) word ≡ Not) × (y ≡ x)) → Won word h store y z
-        → Won word g store x z
-    won-on gives won = ⊎-elim (λ stays. ⊎-elim (given stays) (kept-on stays) gives) (λ l. inr (behind-it l)) won
-      where
-        given : (z ≡ y) × NoLine s k word h → Behind s word (gapEnd s (g .body .at)) (pre ++ h .bytes) y → Won word g store x z
-        given stays b =
-            let p = gapEnd s (g .body .at) in
-            inr (record {
-              state = g;
-              reached = first;
-              value =
-                  subst (λ l. Behind s word p l z) (sym grown)
-                  (behind-more (pre ++ h .bytes) rest (subst (Behind s word p (pre ++ h .bytes)) (sym (stays .0)) b));
-              behind = h;
-              turn = turn;
-              last = stays .1;
-            })
-
-        kept-on : (z ≡ y) × NoLine s k word h → (matchAt s (gapEnd s (g .body .at)) word ≡ Not) × (y ≡ x) → Won word g store x z
-        kept-on stays not = inl (stays .0 ∙ not .1, all-on (blockTurn s k) (Free word) (not .0) turn (stays .1))
-
-        behind-it : LineRead s k h word store z → LineRead s k g word store z
-        behind-it l = record {
-          state = l .state;
-          reached = reach-on (blockTurn s k) turn (l .reached);
-          value = l .value;
-          behind = l .behind;
-          turn = l .turn;
-          last = l .last;
-        }
 
   -- m: more than the bytes that are left
   from-has : (m : ℕ) (g : Stored) → length s - g .body .at < m → g .body .used ≡ length (pre ++ g .bytes)
@@ -209,19 +175,16 @@ module _ (s : List ℕ) (k : ℕ) (pre : List ℕ) where
       more h turn hb has cs (Broken r) w = tt
       more h turn hb has cs (Whole y) w =
           let at : pre ++ g .bytes ++ i .bytes ≡ pre ++ h .bytes = assoc ∙ ap (λ z. pre ++ z) (sym hb) in
-          let p = gapEnd s (g .body .at) in
-          let gives : (word : List ℕ) (x z : Span) → Behind s word p (pre ++ g .bytes ++ i .bytes) z ⊎ ((matchAt s p word ≡ Not) × (z ≡ x))
-          → Behind s word p (pre ++ h .bytes) z ⊎ ((matchAt s p word ≡ Not) × (z ≡ x))
-          = λ word x z v. subst (λ l. Behind s word p l z ⊎ ((matchAt s p word ≡ Not) × (z ≡ x))) at v in
+          let behind = w .grown ∙ ap (λ z. z ++ w .rest) (sym at) in
           record {
             rest = i .bytes ++ w .rest;
-            grown = w .grown ∙ ap (λ z. z ++ w .rest) (sym at) ∙ append-assoc (pre ++ g .bytes) (i .bytes) (w .rest);
+            grown = behind ∙ append-assoc (pre ++ g .bytes) (i .bytes) (w .rest);
             prefix = λ e.
-                won-on prefixWord g h turn (pre ++ cs) (w .rest) (w .grown) (g .body .prefix) (h .body .prefix) (y .prefix)
-                (gives prefixWord (g .body .prefix) (h .body .prefix) (has .1 e)) (w .prefix e);
+                won-on (blockTurn s k) (λ b. b .body .at) (block-forward s k) s prefixWord turn (pre ++ cs) (pre ++ g .bytes ++ i .bytes) (w .rest) behind
+                (g .body .prefix) (h .body .prefix) (y .prefix) (has .1 e) (w .prefix e);
             revision =
-                won-on revisionDateWord g h turn (pre ++ cs) (w .rest) (w .grown) (g .body .revision) (h .body .revision) (y .revision)
-                (gives revisionDateWord (g .body .revision) (h .body .revision) (has .2)) (w .revision);
+                won-on (blockTurn s k) (λ b. b .body .at) (block-forward s k) s revisionDateWord turn (pre ++ cs) (pre ++ g .bytes ++ i .bytes) (w .rest) behind
+                (g .body .revision) (h .body .revision) (y .revision) (has .2) (w .revision);
           }
 
       of : (r : Inside) → i .answer ≡ r → InsideHas s k g (pre ++ g .bytes) count (i .bytes) r
@@ -240,8 +203,8 @@ module _ (s : List ℕ) (k : ℕ) (pre : List ℕ) where
           (record {
             rest = i .bytes;
             grown = sym assoc;
-            prefix = λ k8. inl (has .0 .1, all-stop (blockTurn s k) (Free prefixWord) (has .0 .0) turn);
-            revision = inl (has .1 .1, all-stop (blockTurn s k) (Free revisionDateWord) (has .1 .0) turn);
+            prefix = λ e. won-stop (blockTurn s k) (λ b. b .body .at) (block-forward s k) s prefixWord turn (has .0 .0) (pre ++ bs) (has .0 .1);
+            revision = won-stop (blockTurn s k) (λ b. b .body .at) (block-forward s k) s revisionDateWord turn (has .1 .0) (pre ++ bs) (has .1 .1);
           })
       of (Refused r) e has go = subst (λ (z : Left Block). BlockHas g (z .bytes) (z .answer)) (sym (block-broken s k g r e)) tt
 

@@ -23,8 +23,8 @@ use Rattle.scan_rows.specs.Span.{held, missing, markOf, valueIn}
 use Rattle.scan_rows.specs.declared.Span.{Span}
 use Rattle.scan_rows.proofs.Laws.{each-of}
 use Rattle.scan_rows.proofs.ShortLaws.{long-enough}
-use Rattle.scan_newest.specs.Newest.{Revision, newest}
-use Rattle.scan_newest.proofs.NewestLaws.{newest-keeps}
+use Rattle.scan_newest.specs.Newest.{Revision, Read as Present, newest}
+use Rattle.scan_newest.proofs.NewestLaws.{newest-keeps, newest-none, newest-present}
 use Rattle.yangparser.specs.Dependencies.{Dependencies, importWordsOf, includeWordsOf, Scan, good, scanned, dependencies, parsedOf, readOf, keptOf, pageShort}
 use Rattle.yangparser.specs.Promises.{Holds, Leaves, Parses, lentScan}
 use Rattle.yangparser.specs.declared.Parsed.{Parsed}
@@ -32,19 +32,23 @@ use Rattle.yangparser.specs.declared.Parsed.the-variants.{Good, Refused}
 use Rattle.yangparser.proofs.KeptLaws.{entry-good, parsed-good, parsed-refused, held-imports, held-includes, padded-imports, padded-includes}
 use Rattle.yangparser.proofs.ScanLaws.{Sound, scan-sound}
 use Rattle.scan_metadata.specs.Metadata as Metadata
-use Rattle.scan_metadata.specs.Metadata.{Metadata, firstOf, valuesOf, metadata, answerOf, refusedWith}
+use Rattle.scan_metadata.specs.Metadata.{Metadata, firstOf, valuesOf, Reading, metadataTurn, metadata, answerOf, refusedWith}
+use Rattle.scan_metadata.proofs.ScanLaws.{scan-good}
 use Rattle.host_words.specs.Words.{recordWords}
 use Rattle.nuvaleta.specs.Words.{numberOf, answerWords}
 use Rattle.demands.specs.Demand1.{too-long, too-little, high, RefusedAs, first, read, DependenciesRefusal, argument, no-prefix, block-or-rows}
+use Rattle.demands.specs.Demand1.{MetadataRefusal, no-value, no-byte, no-name}
+use Rattle.demands.proofs.MetadataNumbers.{metadata-refused}
 use Rattle.demands.proofs.ScanNumbers.{isOne, is-one, dependencies-refused}
 use Rattle.demands_rfc.specs.Rfc.{reads, rfcValue}
 use Rattle.demands_rfc.specs.RfcDomain.{plainAt}
 use Rattle.demands_rfc.specs.RfcQuoted.{Quoted}
 use Rattle.demands_rfc.proofs.RfcEquality.{rfc-equality}
-use Rattle.demands_values.specs.Behind.{Behind, MayBe, Header, ImportRead, IncludeRead, RecordRead}
+use Rattle.demands_values.specs.Behind.{Behind, Either, Met, ImportRead, IncludeRead, begin, NoHeader, HeaderFirst, HeaderLast, NameRead, RecordRead}
 use Rattle.demands_values.specs.Demand2.{RowsRead, recordIn, Demand2}
 use Rattle.demands_values.proofs.EveryRow.{import-has-row, include-has-row}
-use Rattle.demands_values.proofs.HeaderValues.{Named, Tells, tells-more, scan-tells}
+use Rattle.demands_values.proofs.BehindLaws.{met-more, last-more, first-more, behind-size, shorter-refused}
+use Rattle.demands_values.proofs.HeaderValues.{Revised, Ends, scan-ends}
 use Rattle.demands_values.proofs.RowLaws.{EachFrom, from-of, rows-each}
 use Rattle.demands_values.proofs.ScanValues.{import-more, include-more, scan-rows}
 
@@ -143,79 +147,117 @@ module _ (s : List ℕ) (short : Bool) (d t u : List ℕ) {e f g : List ℕ} (l 
 
 -- ---- metadata
 
--- the six values of what was told, over a store that begins with its bytes
-values-read : (s store : List ℕ) (m : Metadata) → Tells s store m → RecordRead s store (valuesOf m)
-unfolding valuesOf firstOf Each
-values-read s store m t =
-    let P : Revision → Type 0 = λ r. MayBe (Header s revisionWord store) (r .span) in
-    let all = each-of (λ r. Header s revisionWord store (r .span)) P (λ r h. inr h) (m .revisions) (t .revisions) in
-    record {
-      name = t .name;
-      namespace = t .namespace;
-      prefix = t .prefix;
-      first-revision = of (m .revisions) all;
-      parent = t .parent;
-      newest = newest-keeps P (m .revisions) (inl refl) all;
-    }
-  where
-    of : (rs : List Revision) → Each (λ r. MayBe (Header s revisionWord store) (r .span)) rs → MayBe (Header s revisionWord store) (firstOf rs)
-    of [] h = inl refl
-    of (r ∷ rs) h = h .0
+-- the name with more bytes behind
+name-more : (s bytes zs : List ℕ) {g : Reading} {x : Span} → NameRead s bytes g x → NameRead s (bytes ++ zs) g x
+name-more s bytes zs n = record {
+  word = n .word;
+  either = n .either;
+  met = met-more bytes zs (n .met);
+  no-module = n .no-module;
+  no-submodule = n .no-submodule;
+}
 
-none-read : (s store : List ℕ) → RecordRead s store Metadata.noValues
-none-read s store = record { name = inl refl; namespace = inl refl; prefix = inl refl; first-revision = inl refl; parent = inl refl; newest = inl refl }
+-- the six values of what was told, over a store that begins with its bytes
+module _ (s : List ℕ) (m : Metadata) (h : Metadata.scanned s ≡ Metadata.good m) (zs : List ℕ) where
+  ends : Ends s m begin
+  ends = scan-ends s m h
+
+  abbrev MetRevision : Span → Type 0
+  MetRevision x = Met (metadataTurn s) (λ b. b .at) s revisionWord (m .bytes ++ zs) begin x
+
+  name-read : NameRead s (m .bytes ++ zs) begin (m .name)
+  name-read =
+      ⊎-elim (λ e. absurd (never (ap (λ x. x .present) (e .0)) (scan-good s m h .2))) (λ n. name-more s (m .bytes) zs n) (ends .name)
+
+  -- the first of the revisions, and the newest
+  first-read : (rs : List Revision) → Revised s (m .bytes) begin rs
+      → Either (NoHeader s revisionWord) (HeaderFirst s revisionWord (m .bytes ++ zs)) (firstOf rs)
+  unfolding firstOf Revised
+  first-read [] u = inl (refl, u)
+  first-read (r ∷ rs) w = inr (first-more (m .bytes) zs (w .0))
+
+  newest-read : (rs : List Revision) → Revised s (m .bytes) begin rs → Either (NoHeader s revisionWord) MetRevision (newest rs .span)
+  unfolding Revised Each
+  newest-read [] u = inl (ap (λ r. r .span) newest-none, u)
+  newest-read (r ∷ rs) w =
+      let P : Revision → Type 0 = λ q. Met (metadataTurn s) (λ b. b .at) s revisionWord (m .bytes) begin (q .span) in
+      let Q : Revision → Type 0 = λ q. q .span .present ≡ true → MetRevision (q .span) in
+      let all : Each P (r ∷ rs) = (w .0 .0, w .1) in
+      let present = newest-present r rs (each-of P Present (λ q k. k .value .present) (r ∷ rs) all) in
+      inr (newest-keeps Q (r ∷ rs) (λ t. absurd (never refl t)) (each-of P Q (λ q k t. met-more (m .bytes) zs k) (r ∷ rs) all) present)
+
+  values-read : RecordRead s (m .bytes ++ zs) (valuesOf m)
+  unfolding valuesOf
+  values-read =
+      let revised = subst (Revised s (m .bytes) begin) (sym (ends .revisions)) (ends .revised) in
+      record {
+        name = name-read;
+        namespace = ⊎-elim (λ e. inl e) (λ l. inr (last-more (m .bytes) zs l)) (ends .namespace);
+        prefix = ⊎-elim (λ e. inl e) (λ l. inr (first-more (m .bytes) zs l)) (ends .prefix refl);
+        first-revision = first-read (m .revisions) revised;
+        parent = ⊎-elim (λ e. inl e) (λ l. inr (last-more (m .bytes) zs l)) (ends .parent);
+        newest = newest-read (m .revisions) revised;
+      }
 
 -- a value that is missing or present is told whole by its three words
-back : (P : Span → Type 0) (x : Span) → (P x → x .present ≡ true) → MayBe P x → MayBe P (cond (eqb (markOf x) 0) missing (held (x .start) (x .size)))
-back P x there m = subst (MayBe P) (⊎-elim none (λ p. some (there p)) m) m
-  where
-    f : Span → Span
-    f y = cond (eqb (markOf y) 0) missing (held (y .start) (y .size))
+told : Span → Span
+told x = cond (eqb (markOf x) 0) missing (held (x .start) (x .size))
 
-    none : x ≡ missing → x ≡ f x
-    none e = e ∙ ap f (sym e)
+told-present : (x : Span) → x .present ≡ true → x ≡ told x
+unfolding told
+told-present x t =
+    let q : x ≡ held (x .start) (x .size) = ap (λ b. record { present = b; start = x .start; size = x .size }) t in
+    q ∙ ap told (sym q)
 
-    some : x .present ≡ true → x ≡ f x
-    some t =
-        let q : x ≡ held (x .start) (x .size) = ap (λ b. record { present = b; start = x .start; size = x .size }) t in
-        q ∙ ap f (sym q)
+told-either : (No : Type 0) (P : Span → Type 0) (x : Span) → (P x → x .present ≡ true) → Either No P x → Either No P (told x)
+unfolding told
+told-either No P x there m = subst (Either No P) (⊎-elim (λ e. e .0 ∙ ap told (sym (e .0))) (λ p. told-present x (there p)) m) m
 
 -- six values read back from their words
 words-read : (s store : List ℕ) (a b c d e f : Span) → RecordRead s store (a ∷ b ∷ c ∷ d ∷ e ∷ f ∷ [])
     → RecordRead s store (recordIn (recordWords (a ∷ b ∷ c ∷ d ∷ e ∷ f ∷ [])))
-unfolding recordWords rowsOf markedAt spanAt
-words-read s store a b c d e f r =
-    let plain : (word : List ℕ) (x : Span) → MayBe (Header s word store) x
-    → MayBe (Header s word store) (cond (eqb (markOf x) 0) missing (held (x .start) (x .size)))
-    = λ word x m. back (Header s word store) x (λ h. h .value .present) m in
-    record {
-      name = back (Named s store) a (λ h. ⊎-elim (λ n. n .value .present) (λ n. n .value .present) h) (r .name);
-      namespace = plain namespaceWord b (r .namespace);
-      prefix = plain prefixWord c (r .prefix);
-      first-revision = plain revisionWord d (r .first-revision);
-      parent = plain belongsToWord e (r .parent);
-      newest = plain revisionWord f (r .newest);
-    }
+unfolding recordWords rowsOf markedAt spanAt told
+words-read s store a b c d e f r = record {
+  name = subst (NameRead s store begin) (told-present a (r .name .met .value .present)) (r .name);
+  namespace = told-either (NoHeader s namespaceWord) (HeaderLast s namespaceWord store) b (λ h. h .0 .value .present) (r .namespace);
+  prefix = told-either (NoHeader s prefixWord) (HeaderFirst s prefixWord store) c (λ h. h .0 .value .present) (r .prefix);
+  first-revision = told-either (NoHeader s revisionWord) (HeaderFirst s revisionWord store) d (λ h. h .0 .value .present) (r .first-revision);
+  parent = told-either (NoHeader s belongsToWord) (HeaderLast s belongsToWord store) e (λ h. h .0 .value .present) (r .parent);
+  newest =
+      told-either (NoHeader s revisionWord) (Met (metadataTurn s) (λ b. b .at) s revisionWord store begin) f (λ h. h .value .present) (r .newest);
+}
 
--- what a scan x leaves in a store of length n, as spans and as words
-abbrev Answers : List ℕ → ℕ → Metadata.Scan → Type 0
-Answers s n x =
-    RecordRead s (padded n (Metadata.keptOf x)) (answerOf x .values) × RecordRead s (padded n (Metadata.keptOf x)) (recordIn (recordWords (answerOf x .values)))
+metadata-number : (q : Refusal) → MetadataRefusal q → q .number ≡ 0 → ⊥
+unfolding isOne
+metadata-number q (no-value o) = some-number (4 ∷ []) (o .number) refl
+metadata-number q (no-byte o) = some-number (5 ∷ 6 ∷ []) (o .number) refl
+metadata-number q (no-name o) = some-number (9 ∷ []) (o .number) refl
 
-scan-answers : (s : List ℕ) (n : ℕ) (x : Metadata.Scan) → ((m : Metadata) → x ≡ Metadata.good m → Tells s (m .bytes) m) → Answers s n x
-unfolding answerOf refusedWith Metadata.keptOf padded valuesOf
-scan-answers s n (Metadata.good m) h =
-    let r = values-read s (padded n (m .bytes)) m (tells-more s (m .bytes) (zeros (n - length (m .bytes))) m (h m refl)) in
-    (r, words-read s (padded n (m .bytes)) _ _ _ _ _ _ r)
-scan-answers s n (Metadata.bad q bs) h = let r = none-read s (padded n []) in (r, words-read s (padded n []) _ _ _ _ _ _ r)
-
-call-answers : (s : List ℕ) (short : Bool) (n : ℕ) → Answers s n (metadata s short)
+-- a good call is a good scan
+metadata-good : (s : List ℕ) (short : Bool) (m : Metadata) → metadata s short ≡ Metadata.good m → Metadata.scanned s ≡ Metadata.good m
 unfolding metadata Metadata.ifFit
-call-answers s short n = of (lentAt s short)
+metadata-good s short m h = of (lentAt s short) h
   where
-    of : (x : Lent) → Answers s n (Metadata.ifFit x (Metadata.scanned s))
-    of Fit = scan-answers s n (Metadata.scanned s) (scan-tells s)
-    of (Unfit r) = scan-answers s n (Metadata.bad r []) (λ m h. let z : _≡_ {A = ℕ} 0 1 = cc in absurd (omega arith))
+    of : (x : Lent) → Metadata.ifFit x (Metadata.scanned s) ≡ Metadata.good m → Metadata.scanned s ≡ Metadata.good m
+    of Fit h = h
+    of (Unfit r) h = let z : _≡_ {A = ℕ} 0 1 = cc in absurd (omega arith)
+
+-- what a good scan leaves in a store of length n, as spans and as words
+module _ (s : List ℕ) (short : Bool) (n : ℕ) where
+  abbrev Answers : Metadata.Scan → Type 0
+  Answers x =
+      answerOf x .answer .number ≡ 0 → RecordRead s (padded n (Metadata.keptOf x)) (answerOf x .values)
+      × RecordRead s (padded n (Metadata.keptOf x)) (recordIn (recordWords (answerOf x .values)))
+
+  call-answers : Answers (metadata s short)
+  unfolding answerOf refusedWith Metadata.keptOf padded valuesOf
+  call-answers = of (metadata s short) refl
+    where
+      of : (x : Metadata.Scan) → metadata s short ≡ x → Answers x
+      of (Metadata.good m) h z =
+          let r = values-read s m (metadata-good s short m h) (zeros (n - length (m .bytes))) in
+          (r, words-read s (padded n (m .bytes)) _ _ _ _ _ _ r)
+      of (Metadata.bad r bs) h z = absurd (refused-number metadata-number (metadata-refused s short r bs h) z)
 
 -- ---- the RFC's values
 
@@ -246,14 +288,18 @@ demand2 = record {
   dependencies = λ s b d t u l i j n h. left-rows s (short s b d t u) d t u i j n h l;
   over = over-rows;
   printed = λ s d t u p l i j n h. left-rows s (shortPage s d t u p) d t u i j n h (l .scan);
-  metadata = λ s d {r} {e} l. let b = ltb (length d) (length s) in
+  metadata = λ s d {r} {e} l z. let b = ltb (length d) (length s) in
       subst (λ v. RecordRead s e (v .values)) (sym (l .answer))
-      (subst (λ z. RecordRead s z (answerOf (metadata s b) .values)) (sym (l .stored)) (call-answers s b (length d) .0));
+      (subst (λ w. RecordRead s w (answerOf (metadata s b) .values)) (sym (l .stored))
+      (call-answers s b (length d) (ap (λ v. v .answer .number) (sym (l .answer)) ∙ z) .0));
   host-dependencies = λ s d t u l z. told-rows s (short s false d t u) d t u (l .scan) (l .number) z [] (l .answer ∙ sym (append-nil _));
   host-printed = λ s d t u p l z. told-rows s (shortPage s d t u p) d t u (l .scan) (l .number) z _ (l .answer);
-  host-metadata = λ s d {n} {e} l. let b = ltb (length d) (length s) in
+  host-metadata = λ s d {n} {e} l z. let b = ltb (length d) (length s) in
       subst (λ v. RecordRead s e (recordIn v)) (sym (l .words))
-      (subst (λ z. RecordRead s z (recordIn (recordWords (answerOf (metadata s b) .values)))) (sym (l .stored)) (call-answers s b (length d) .1));
+      (subst (λ w. RecordRead s w (recordIn (recordWords (answerOf (metadata s b) .values)))) (sym (l .stored))
+      (call-answers s b (length d) (sym (l .number) ∙ z) .1));
+  whole = behind-size;
+  shorter = shorter-refused;
   rfc = is-rfc;
   rfc-equal = rfc-is;
 }

@@ -1,255 +1,215 @@
--- The values of the metadata scan: each is told where its keyword stands, its bytes behind those stored so far; what is stored later does not change that.
+-- The values of the metadata scan: each stands in the store as it stands behind its keyword; of the statements with the keyword the last one counts, of prefix
+-- and revision the first.
 -- Assumes nothing.
-use Prim.Native.Nat.{ℕ, suc, _+_, _-_}
-use mathlib.Core.Path.{_≡_, refl, subst}
+use Prim.Native.Nat.{ℕ, zero, suc, _+_, _-_, _<_}
+use mathlib.Core.Path.{_≡_, refl, sym, ap, subst, _∙_}
 use mathlib.Core.Logic.{_⊎_, inl, inr, ⊎-elim}
 use mathlib.Core.Bool.{Bool, true, false, cond}
-use mathlib.Core.List.{List, [], _++_}
+use mathlib.Core.List.{List, [], _∷_, _++_, append-nil, append-assoc}
+use native.Mathlib.Nat.{not-suc-le-zero}
 use native.Mathlib.Omega.{arith}
-use lib.Dec.{eqb, leb}
 use lib.ListN.{length}
 use Rattle.text.specs.Keyword.{matchAt}
 use Rattle.text.specs.Scan.{gapEnd}
 use Rattle.text.specs.Turns.{stop, on}
-use Rattle.text.specs.Words.{moduleWord, submoduleWord, belongsToWord, namespaceWord, prefixWord, yangVersionWord, revisionWord}
-use Rattle.text.specs.declared.Cursor.{Cursor}
-use Rattle.text.specs.declared.Due.{Due}
-use Rattle.text.specs.declared.Due.the-variants.{After as Stands, Not as NotDue}
-use Rattle.text.specs.declared.Match.{Match}
-use Rattle.text.specs.declared.Match.the-variants.{After, Not}
-use Rattle.text.proofs.Here.{by-test}
-use Rattle.text_value.specs.Argument.{argumentAt}
-use Rattle.text_value.specs.Value.{valueAt, valueBytes}
-use Rattle.text_value.specs.declared.Argument.{Argument}
-use Rattle.text_value.specs.declared.Argument.the-variants.{Read, Refused as NoArgument}
-use Rattle.text_value.proofs.ArgumentLaws.{argument-far}
-use Rattle.text_skip.specs.Skip.{tokenAt, skippedAt}
-use Rattle.text_skip.specs.declared.Skipped.{Skipped}
-use Rattle.text_skip.specs.declared.Skipped.the-variants.{Past, Refused as NoSkip}
+use Rattle.text.specs.Words.{moduleWord, submoduleWord, belongsToWord, namespaceWord, prefixWord, revisionWord}
+use Rattle.text.specs.declared.Match.the-variants.{Not}
+use Rattle.text.specs.declared.Refusal.{Refusal}
 use Rattle.scan_rows.specs.Rows.{Each}
-use Rattle.scan_rows.specs.Span.{held}
 use Rattle.scan_rows.specs.declared.Span.{Span}
-use Rattle.scan_rows.proofs.Laws.{each-of, each-snoc}
-use Rattle.scan_tag.specs.Tag.{lastTag, orTag, dataAt, tagAt}
-use Rattle.scan_tag.specs.declared.Tag.{Tag}
-use Rattle.scan_tag.specs.declared.Tag.the-variants.{Statement}
-use Rattle.scan_header.specs.Header.{pastOf, pastStatement, afterValue, passed, kept, withRest, fieldAt, afterSkipped, laterPrefix, statementSaid, tagSaid}
-use Rattle.scan_header.specs.Header.{saidHere, saidAt}
+use Rattle.scan_rows.proofs.Laws.{each-of}
+use Rattle.scan_newest.specs.Newest.{Revision}
 use Rattle.scan_header.specs.declared.Heard.{Heard}
 use Rattle.scan_header.specs.declared.Heard.the-variants.{Value, Passed, Done, Refused}
-use Rattle.scan_metadata.specs.Metadata.{Metadata, nothing, told, Reading, Scan, good, bad, ended, afterHeard, metadataTurn, scanFrom, scanned}
-use Rattle.scan_metadata.proofs.ScanLaws.{heard}
-use Rattle.demands_values.specs.Behind.{MayBe, Reaches, first, next, Header}
-use Rattle.demands_values.proofs.BehindLaws.{turns-keep, argument-value, may-map, header-more, held-new, behind-new}
+use Rattle.scan_metadata.specs.Metadata.{Metadata, told, Reading, Scan, good, bad, ended, afterHeard, metadataTurn, scanFrom, scanned}
+use Rattle.scan_metadata.proofs.ScanLaws.{heard, turn-falls, scan-value, scan-passed, scan-done, scan-refused}
+use Rattle.demands_values.specs.Behind.{Behind, begin, Unmet, Met, MetFirst, NameRead}
+use Rattle.demands_values.proofs.Walks.{Won, unmet-stop, unmet-on, met-on, behind-here, behind-later}
+use Rattle.demands_values.proofs.Walks.{met-here, won-on, first-here, first-on, reach-at}
+use Rattle.demands_values.proofs.HeaderTurns.{Frees, WordGives, Turns, HeardHas, said-has}
 
--- ---- what was told of a text
-
--- the name, behind either keyword
-abbrev pub Named : List ℕ → List ℕ → Span → Type 0
-Named s store x = Header s moduleWord store x ⊎ Header s submoduleWord store x
-
-pub record Tells (s store : List ℕ) (m : Metadata) : Type 0 where
-  pub name : MayBe (Named s store) (m .name)
-  pub namespace : MayBe (Header s namespaceWord store) (m .namespace)
-  pub prefix : MayBe (Header s prefixWord store) (m .prefix)
-  pub parent : MayBe (Header s belongsToWord store) (m .parent)
-  pub revisions : Each (λ r. Header s revisionWord store (r .span)) (m .revisions)
-
--- more bytes behind
-module _ (s bytes zs : List ℕ) where
-  may-more : (word : List ℕ) (x : Span) → MayBe (Header s word bytes) x → MayBe (Header s word (bytes ++ zs)) x
-  may-more word x m = may-map (Header s word bytes) (Header s word (bytes ++ zs)) x (header-more bytes zs) m
-
-  named-more : (x : Span) → Named s bytes x → Named s (bytes ++ zs) x
-  named-more x n = ⊎-elim (λ h. inl (header-more bytes zs h)) (λ h. inr (header-more bytes zs h)) n
-
-  pub tells-more : (m : Metadata) → Tells s bytes m → Tells s (bytes ++ zs) m
-  tells-more m t = record {
-    name = may-map (Named s bytes) (Named s (bytes ++ zs)) (m .name) (named-more (m .name)) (t .name);
-    namespace = may-more namespaceWord (m .namespace) (t .namespace);
-    prefix = may-more prefixWord (m .prefix) (t .prefix);
-    parent = may-more belongsToWord (m .parent) (t .parent);
-    revisions =
-        each-of (λ r. Header s revisionWord bytes (r .span)) (λ r. Header s revisionWord (bytes ++ zs) (r .span))
-        (λ r h. header-more bytes zs h) (m .revisions) (t .revisions);
-  }
-
--- ---- a step from the state g
-
-abbrev Holds : List ℕ → Metadata → Type 0
-Holds s m = Tells s (m .bytes) m
-
-module _ (s : List ℕ) (g : Reading) (reached : Reaches (metadataTurn s) (record { at = 0; read = nothing }) g) (holds : Holds s (g .read)) where
-  -- one more value, whose bytes are bs
-  module _ (bs : List ℕ) (x : Span) where
-    old : Tells s (g .read .bytes ++ bs) (g .read)
-    old = tells-more s (g .read .bytes) bs (g .read) holds
-
-    abbrev New : List ℕ → Type 0
-    New word = Header s word (g .read .bytes ++ bs) x
-
-    named : (k : ℕ) → eqb k 7 ≡ false → eqb k 3 ≡ false → eqb k 4 ≡ false → eqb k 5 ≡ false → New moduleWord ⊎ New submoduleWord
-        → Holds s (told (g .read) k x bs)
-    unfolding told
-    named k a b c d h =
-        rw (a, b, c, d) (record { name = inr h; namespace = old .namespace; prefix = old .prefix; parent = old .parent; revisions = old .revisions })
-
-    belongs : New belongsToWord → Holds s (told (g .read) 3 x bs)
-    unfolding told
-    belongs h = record { name = old .name; namespace = old .namespace; prefix = old .prefix; parent = inr h; revisions = old .revisions }
-
-    spaced : New namespaceWord → Holds s (told (g .read) 4 x bs)
-    unfolding told
-    spaced h = record { name = old .name; namespace = inr h; prefix = old .prefix; parent = old .parent; revisions = old .revisions }
-
-    prefixed : New prefixWord → Holds s (told (g .read) 5 x bs)
-    unfolding told
-    prefixed h = record { name = old .name; namespace = old .namespace; prefix = inr h; parent = old .parent; revisions = old .revisions }
-
-    revised : New revisionWord → Holds s (told (g .read) 7 x bs)
-    unfolding told
-    revised h = record {
-      name = old .name;
-      namespace = old .namespace;
-      prefix = old .prefix;
-      parent = old .parent;
-      revisions =
-          each-snoc (λ r. Header s revisionWord (g .read .bytes ++ bs) (r .span)) (g .read .revisions) (record { span = x; value = bs }) (old .revisions) h;
-    }
-
-  -- what a step that answered leaves
-  abbrev HeardHas : List ℕ → Heard → Type 0
-  HeardHas bs (Value k x c n) = Holds s (told (g .read) k x bs)
-  HeardHas bs (Passed c) = Unit {0}
-  HeardHas bs (Done c) = Unit {0}
-  HeardHas bs (Refused r) = Unit {0}
-
-  passed-has : (d : Due) → HeardHas [] (passed d)
-  unfolding passed
-  passed-has (Stands c) = tt
-  passed-has (NotDue r) = tt
-
-  skipped-has : (k : ℕ) (x : Skipped) → HeardHas [] (afterSkipped s k x)
-  unfolding afterSkipped
-  skipped-has k (Past c h) = passed-has (afterValue s (c .at) k)
-  skipped-has k (NoSkip r) = tt
-
-  -- the keyword k with the word at the place p, which ends at c
-  module _ (k : ℕ) (word : List ℕ) (tell : (bs : List ℕ) (x : Span) → New bs x word → Holds s (told (g .read) k x bs)) (c : Cursor)
-      (m : matchAt s (gapEnd s (g .at)) word ≡ After c) where
-    kept-has : (bs : List ℕ) (u n : ℕ) (d : Due) → New bs (held u (n - u)) word → HeardHas bs (kept k u n d)
-    unfolding kept
-    kept-has bs u n (Stands e) h = tell bs (held u (n - u)) h
-    kept-has bs u n (NotDue r) h = tt
-
-    rest-has : (u : ℕ) → u ≡ length (g .read .bytes) → (a : Argument) → argumentAt s (c .at) u k ≡ a
-        → HeardHas (valueBytes (valueAt s (c .at))) (withRest s k u a)
-    unfolding withRest
-    rest-has u count (Read e n) h =
-        let bs = valueBytes (valueAt s (c .at)) in
-        let f = argument-far s (c .at) u k e n h in
-        kept-has bs u n (afterValue s (e .at) k) (record {
-          state = g;
-          reached = reached;
-          value = behind-new (g .read .bytes) bs (held u (n - u)) m (argument-value s (c .at) u k e n h) (held-new (g .read .bytes) bs count (f .3));
-        })
-    rest-has u count (NoArgument r) h = tt
-
-    statement-has : (u : ℕ) → u ≡ length (g .read .bytes) → (p : Bool) → HeardHas (statementSaid s (c .at) k u p .bytes) (statementSaid s (c .at) k u p .answer)
-    unfolding statementSaid fieldAt
-    statement-has u count p =
-        by-test (eqb k 6) (λ t. rw t (skipped-has k (skippedAt s (c .at))))
-        (λ t. rw t (by-test (laterPrefix k p) (λ v. rw v (passed-has (pastStatement s (c .at))))
-        (λ v. rw v (rest-has u count (argumentAt s (c .at) u k) refl))))
-
-  -- which keyword stands there; u: the store's next place, p: whether a prefix was read before
-  module _ (u : ℕ) (count : u ≡ length (g .read .bytes)) (p : Bool) where
-    abbrev TagHas : Tag → Type 0
-    TagHas t = HeardHas (tagSaid s (gapEnd s (g .at)) u p t .bytes) (tagSaid s (gapEnd s (g .at)) u p t .answer)
-
-    or-has : (k : ℕ) (m : Match) (t : Tag) → ((c : Cursor) → m ≡ After c → TagHas (Statement k c)) → TagHas t → TagHas (orTag k m t)
-    unfolding orTag
-    or-has k (After c) t f h = f c refl
-    or-has k Not t f h = h
-
-    word-has : (k : ℕ) (word : List ℕ) → ((bs : List ℕ) (x : Span) → New bs x word → Holds s (told (g .read) k x bs)) → (t : Tag) → TagHas t
-        → TagHas (orTag k (matchAt s (gapEnd s (g .at)) word) t)
-    unfolding tagSaid
-    word-has k word tell t h = or-has k (matchAt s (gapEnd s (g .at)) word) t (λ c m. statement-has k word tell c m u count p) h
-
-    version-has : (c : Cursor) → TagHas (Statement 6 c)
-    unfolding tagSaid statementSaid
-    version-has c = skipped-has 6 (skippedAt s (c .at))
-
-    last-has : (m : Match) → TagHas (lastTag m)
-    unfolding lastTag tagSaid
-    last-has (After c) = tt
-    last-has Not = passed-has (pastOf (tokenAt s (gapEnd s (g .at))))
-
-    tag-has : TagHas (tagAt s (gapEnd s (g .at)))
-    unfolding tagAt
-    tag-has =
-        word-has 1 moduleWord (λ bs x h. named bs x 1 refl refl refl refl (inl h)) _
-        (word-has 2 submoduleWord (λ bs x h. named bs x 2 refl refl refl refl (inr h)) _
-        (word-has 3 belongsToWord belongs _ (word-has 4 namespaceWord spaced _ (word-has 5 prefixWord prefixed _
-        (or-has 6 (matchAt s (gapEnd s (g .at)) yangVersionWord) _ (λ c m. version-has c)
-        (word-has 7 revisionWord revised _ (last-has (dataAt s (gapEnd s (g .at))))))))))
-
-    said-has : HeardHas (saidAt s (g .at) u p .bytes) (saidAt s (g .at) u p .answer)
-    unfolding saidAt saidHere
-    said-has = by-test (leb (length s) (gapEnd s (g .at))) (λ t. rw t tt) (λ t. rw t tag-has)
-
--- ---- all of them
+-- ---- all of them; d: what was told at the end
 
 module _ (s : List ℕ) where
-  abbrev Stays : Reading → Type 0
-  Stays g = Reaches (metadataTurn s) (record { at = 0; read = nothing }) g × Holds s (g .read)
+  abbrev WordUnmet : List ℕ → Reading → Type 0
+  WordUnmet word g = Unmet (metadataTurn s) (λ b. b .at) s word g
 
-  abbrev ScanHas : Scan → Type 0
-  ScanHas (good m) = Holds s m
-  ScanHas (bad r bs) = Unit {0}
+  abbrev WordMet : List ℕ → List ℕ → Reading → Span → Type 0
+  WordMet word store g x = Met (metadataTurn s) (λ b. b .at) s word store g x
 
-  ended-has : (m : Metadata) (at : ℕ) → Holds s m → ScanHas (ended m at)
+  abbrev WordFirst : List ℕ → List ℕ → Reading → Span → Type 0
+  WordFirst word store g x = MetFirst (metadataTurn s) (λ b. b .at) s word store g x
+
+  -- the revisions that are read from the state g on
+  unfoldable pub Revised : List ℕ → Reading → List Revision → Type 0
+  Revised store g [] = WordUnmet revisionWord g
+  Revised store g (r ∷ rs) = WordFirst revisionWord store g (r .span) × Each (λ q. WordMet revisionWord store g (q .span)) rs
+
+  pub record Ends (d : Metadata) (g : Reading) : Type 0 where
+    pub rest : List ℕ
+    pub grown : d .bytes ≡ g .read .bytes ++ rest
+    pub name : ((d .name ≡ g .read .name) × WordUnmet moduleWord g × WordUnmet submoduleWord g) ⊎ NameRead s (d .bytes) g (d .name)
+    pub namespace : Won (metadataTurn s) (λ b. b .at) s namespaceWord g (d .bytes) (g .read .namespace) (d .namespace)
+    pub parent : Won (metadataTurn s) (λ b. b .at) s belongsToWord g (d .bytes) (g .read .parent) (d .parent)
+    pub prefix-kept : g .read .prefix .present ≡ true → d .prefix ≡ g .read .prefix
+    pub prefix : g .read .prefix .present ≡ false → ((d .prefix ≡ g .read .prefix) × WordUnmet prefixWord g) ⊎ WordFirst prefixWord (d .bytes) g (d .prefix)
+    pub new : List Revision
+    pub revisions : d .revisions ≡ g .read .revisions ++ new
+    pub revised : Revised (d .bytes) g new
+
+  forward : (g h : Reading) → metadataTurn s g ≡ on h → g .at < h .at
+  forward g h t = omega (arith, turn-falls s g h t)
+
+  -- where the scan stops
+  ends-stop : (g : Reading) (x : Scan) → metadataTurn s g ≡ stop x → Frees s (gapEnd s (g .at)) → Ends (g .read) g
+  unfolding Revised
+  ends-stop g x t f =
+      let unmet : (word : List ℕ) → matchAt s (gapEnd s (g .at)) word ≡ Not → WordUnmet word g
+      = λ word. unmet-stop (metadataTurn s) (λ b. b .at) forward s word t in
+      record {
+        rest = [];
+        grown = sym (append-nil (g .read .bytes));
+        name = inl (refl, unmet moduleWord (f .module-not), unmet submoduleWord (f .submodule-not));
+        namespace = inl (refl, unmet namespaceWord (f .namespace-not));
+        parent = inl (refl, unmet belongsToWord (f .parent-not));
+        prefix-kept = λ e. refl;
+        prefix = λ e. inl (refl, unmet prefixWord (f .prefix-not));
+        new = [];
+        revisions = sym (append-nil (g .read .revisions));
+        revised = unmet revisionWord (f .revision-not);
+      }
+
+  -- over a turn from g to h
+  module _ (d : Metadata) (g h : Reading) (t : metadataTurn s g ≡ on h) (has : Turns s g (h .read)) (ends : Ends d h) where
+    abbrev Free : List ℕ → Type 0
+    Free word = matchAt s (gapEnd s (g .at)) word ≡ Not
+
+    unmet : (word : List ℕ) → Free word → WordUnmet word h → WordUnmet word g
+    unmet word = unmet-on (metadataTurn s) (λ b. b .at) forward s word t
+
+    won : (word : List ℕ) (x y z : Span) → WordGives s word g (h .read .bytes) x y → Won (metadataTurn s) (λ b. b .at) s word h (d .bytes) y z
+        → Won (metadataTurn s) (λ b. b .at) s word g (d .bytes) x z
+    won word = won-on (metadataTurn s) (λ b. b .at) forward s word t (d .bytes) (h .read .bytes) (ends .rest) (ends .grown)
+
+    here : (word : List ℕ) (z : Span) → Behind s word (gapEnd s (g .at)) (h .read .bytes) z → WordFirst word (d .bytes) g z
+    here word = first-here (metadataTurn s) (λ b. b .at) forward s word t (d .bytes) (h .read .bytes) (ends .rest) (ends .grown)
+
+    later : (word : List ℕ) → Free word → (z : Span) → WordFirst word (d .bytes) h z → WordFirst word (d .bytes) g z
+    later word = first-on (metadataTurn s) (λ b. b .at) forward s word t (d .bytes) (h .read .bytes) (ends .rest) (ends .grown)
+
+    -- the name, behind either keyword
+    name-given : (d .name ≡ h .read .name) × WordUnmet moduleWord h × WordUnmet submoduleWord h → (word : List ℕ) → (word ≡ moduleWord) ⊎ (word ≡ submoduleWord)
+        → Behind s word (gapEnd s (g .at)) (h .read .bytes) (h .read .name) → NameRead s (d .bytes) g (d .name)
+    name-given stays word either b = record {
+      word = word;
+      either = either;
+      met =
+          met-here (metadataTurn s) (λ b. b .at) forward s word t (d .bytes) (h .read .bytes) (ends .rest) (ends .grown) (d .name)
+          (subst (Behind s word (gapEnd s (g .at)) (h .read .bytes)) (sym (stays .0)) b);
+      no-module = behind-here (metadataTurn s) (λ b. b .at) forward s moduleWord t (stays .1);
+      no-submodule = behind-here (metadataTurn s) (λ b. b .at) forward s submoduleWord t (stays .2);
+    }
+
+    name-later : NameRead s (d .bytes) h (d .name) → NameRead s (d .bytes) g (d .name)
+    name-later n =
+        let l = reach-at (metadataTurn s) (λ b. b .at) forward (n .met .reached) in
+        record {
+          word = n .word;
+          either = n .either;
+          met = met-on (metadataTurn s) (λ b. b .at) forward s (n .word) t (n .met);
+          no-module = behind-later (metadataTurn s) (λ b. b .at) forward s moduleWord t l (n .no-module);
+          no-submodule = behind-later (metadataTurn s) (λ b. b .at) forward s submoduleWord t l (n .no-submodule);
+        }
+
+    name-on : ((d .name ≡ g .read .name) × WordUnmet moduleWord g × WordUnmet submoduleWord g) ⊎ NameRead s (d .bytes) g (d .name)
+    name-on =
+        ⊎-elim (λ stays. ⊎-elim (λ b. inr (name-given stays (b .0) (b .1) (b .2)))
+        (λ n. inl (stays .0 ∙ n .2, unmet moduleWord (n .0) (stays .1), unmet submoduleWord (n .1) (stays .2))) (has .name))
+        (λ n. inr (name-later n)) (ends .name)
+
+    -- the prefix, if none was read before
+    prefix-on : g .read .prefix .present ≡ false → ((d .prefix ≡ g .read .prefix) × WordUnmet prefixWord g) ⊎ WordFirst prefixWord (d .bytes) g (d .prefix)
+    prefix-on f =
+        ⊎-elim (λ b. inr (here prefixWord (d .prefix)
+        (subst (Behind s prefixWord (gapEnd s (g .at)) (h .read .bytes)) (sym (ends .prefix-kept (b .present))) b)))
+        (λ n. ⊎-elim (λ e. inl (e .0 ∙ n .1, unmet prefixWord (n .0) (e .1))) (λ m. inr (later prefixWord (n .0) (d .prefix) m))
+        (ends .prefix (ap (λ x. x .present) (n .1) ∙ f))) (has .prefix f)
+
+    -- revisions
+    mets : (rs : List Revision) → Each (λ q. WordMet revisionWord (d .bytes) h (q .span)) rs → Each (λ q. WordMet revisionWord (d .bytes) g (q .span)) rs
+    mets rs m =
+        each-of (λ q. WordMet revisionWord (d .bytes) h (q .span)) (λ q. WordMet revisionWord (d .bytes) g (q .span))
+        (λ q w. met-on (metadataTurn s) (λ b. b .at) forward s revisionWord t w) rs m
+
+    revised-later : Free revisionWord → (rs : List Revision) → Revised (d .bytes) h rs → Revised (d .bytes) g rs
+    unfolding Revised
+    revised-later n [] u = unmet revisionWord n u
+    revised-later n (r ∷ rs) w = (later revisionWord n (r .span) (w .0), mets rs (w .1))
+
+    revised-here : (r : Revision) → Behind s revisionWord (gapEnd s (g .at)) (h .read .bytes) (r .span) → (rs : List Revision) → Revised (d .bytes) h rs
+        → Revised (d .bytes) g (r ∷ rs)
+    unfolding Revised Each
+    revised-here r b [] u = (here revisionWord (r .span) b, tt)
+    revised-here r b (q ∷ rs) w = (here revisionWord (r .span) b, (met-on (metadataTurn s) (λ b. b .at) forward s revisionWord t (w .0 .0), mets rs (w .1)))
+
+    revisions-on : (new : List Revision) × (d .revisions ≡ g .read .revisions ++ new) × Revised (d .bytes) g new
+    revisions-on =
+        ⊎-elim
+        (λ b. (
+          b .0 ∷ ends .new,
+          ends .revisions ∙ ap (λ l. l ++ ends .new) (b .1) ∙ append-assoc (g .read .revisions) (b .0 ∷ []) (ends .new),
+          revised-here (b .0) (b .2) (ends .new) (ends .revised),
+        ))
+        (λ n. (ends .new, ends .revisions ∙ ap (λ l. l ++ ends .new) (n .0), revised-later (n .1) (ends .new) (ends .revised))) (has .revision)
+
+    ends-on : Ends d g
+    ends-on =
+        let r = revisions-on in
+        record {
+          rest = has .part ++ ends .rest;
+          grown = ends .grown ∙ ap (λ l. l ++ ends .rest) (has .grown) ∙ append-assoc (g .read .bytes) (has .part) (ends .rest);
+          name = name-on;
+          namespace = won namespaceWord (g .read .namespace) (h .read .namespace) (d .namespace) (has .namespace) (ends .namespace);
+          parent = won belongsToWord (g .read .parent) (h .read .parent) (d .parent) (has .parent) (ends .parent);
+          prefix-kept = λ e. let k = has .prefix-kept e in ends .prefix-kept (ap (λ x. x .present) k ∙ e) ∙ k;
+          prefix = prefix-on;
+          new = r .0;
+          revisions = r .1;
+          revised = r .2;
+        }
+
+  ended-good : (m d : Metadata) (at : ℕ) → ended m at ≡ good d → m ≡ d
   unfolding ended
-  ended-has m at h = either (m .name .present)
+  ended-good m d at h = of (m .name .present) h
     where
-      either : (t : Bool) → ScanHas (cond t (good m) (bad (record { number = 9; keyword = 0; at = at }) (m .bytes)))
-      either true = h
-      either false = tt
+      of : (t : Bool) → cond t (good m) (bad (record { number = 9; keyword = 0; at = at }) (m .bytes)) ≡ good d → m ≡ d
+      of true e = cc
+      of false e = let z : _≡_ {A = ℕ} 0 1 = cc in absurd (omega arith)
 
-  module _ (g : Reading) (i : Stays g) where
-    has : HeardHas s g (i .0) (i .1) (heard s g .bytes) (heard s g .answer)
-    has = said-has s g (i .0) (i .1) (length (g .read .bytes)) refl (g .read .prefix .present)
+  good-bad : {X : Type 0} {d : Metadata} {r : Refusal} {bs : List ℕ} → good d ≡ bad r bs → X
+  good-bad h = let z : _≡_ {A = ℕ} 0 1 = cc in absurd (omega arith)
 
-    turn-on : (h : Reading) → metadataTurn s g ≡ on h → Holds s (h .read)
-    unfolding metadataTurn afterHeard
-    turn-on h t = of (heard s g .answer) has t
-      where
-        of : (r : Heard) → HeardHas s g (i .0) (i .1) (heard s g .bytes) r → afterHeard (g .read) (heard s g .bytes) r ≡ on h → Holds s (h .read)
-        of (Value k x c n) w t = let q : told (g .read) k x (heard s g .bytes) ≡ h .read = cc in subst (Holds s) q w
-        of (Passed c) w t = let q : g .read ≡ h .read = cc in subst (Holds s) q (i .1)
-        of (Done c) w t = let z : _≡_ {A = ℕ} 0 1 = cc in absurd (omega arith)
-        of (Refused r) w t = let z : _≡_ {A = ℕ} 0 1 = cc in absurd (omega arith)
+  -- m: more than the bytes that are left
+  from-ends : (d : Metadata) (m : ℕ) (g : Reading) → length s - g .at < m → scanFrom s g ≡ good d → Ends d g
+  unfolding metadataTurn afterHeard
+  from-ends d zero g l e = absurd (not-suc-le-zero l)
+  from-ends d (suc m) g l e = of (heard s g .answer) refl (said-has s g (length (g .read .bytes)) refl) (from-ends d m)
+    where
+      of : (r : Heard) → heard s g .answer ≡ r → HeardHas s g (heard s g .bytes) r
+          → ((h : Reading) → length s - h .at < m → scanFrom s h ≡ good d → Ends d h) → Ends d g
+      of (Value k x c n) q has go =
+          let h : Reading = record { at = c .at; read = told (g .read) k x (heard s g .bytes) } in
+          let t : metadataTurn s g ≡ on h = ap (afterHeard (g .read) (heard s g .bytes)) q in
+          ends-on d g h t has (go h (omega (arith, turn-falls s g h t)) (sym (scan-value s g k x c n q) ∙ e))
+      of (Passed c) q has go =
+          let h : Reading = record { at = c .at; read = g .read } in
+          let t : metadataTurn s g ≡ on h = ap (afterHeard (g .read) (heard s g .bytes)) q in
+          ends-on d g h t has (go h (omega (arith, turn-falls s g h t)) (sym (scan-passed s g c q) ∙ e))
+      of (Done c) q has go =
+          let k = ended-good (g .read) d (c .at) (sym (scan-done s g c q) ∙ e) in
+          subst (λ z. Ends z g) k (ends-stop g (ended (g .read) (c .at)) (ap (afterHeard (g .read) (heard s g .bytes)) q) has)
+      of (Refused r) q has go = good-bad (sym e ∙ scan-refused s g r q)
 
-    turn-stop : (x : Scan) → metadataTurn s g ≡ stop x → ScanHas x
-    unfolding metadataTurn afterHeard
-    turn-stop x t = of (heard s g .answer) t
-      where
-        of : (r : Heard) → afterHeard (g .read) (heard s g .bytes) r ≡ stop x → ScanHas x
-        of (Value k y c n) t = let z : _≡_ {A = ℕ} 0 1 = cc in absurd (omega arith)
-        of (Passed c) t = let z : _≡_ {A = ℕ} 0 1 = cc in absurd (omega arith)
-        of (Done c) t = let q : ended (g .read) (c .at) ≡ x = cc in subst ScanHas q (ended-has (g .read) (c .at) (i .1))
-        of (Refused r) t = let q : bad r (g .read .bytes ++ heard s g .bytes) ≡ x = cc in subst ScanHas q tt
-
-  holds-nothing : Holds s nothing
-  unfolding Each
-  holds-nothing = record { name = inl refl; namespace = inl refl; prefix = inl refl; parent = inl refl; revisions = tt }
-
-  scan-has : ScanHas (scanned s)
-  unfolding scanned scanFrom
-  scan-has =
-      turns-keep (metadataTurn s) (good nothing) Stays ScanHas (λ a b i t. (next (i .0) t, turn-on a i b t)) (λ a x i t. turn-stop a i x t) holds-nothing
-      (suc (length s)) (record { at = 0; read = nothing }) (first, holds-nothing)
-
-  pub scan-tells : (m : Metadata) → scanned s ≡ good m → Tells s (m .bytes) m
-  scan-tells m h = subst ScanHas h scan-has
+  pub scan-ends : (d : Metadata) → scanned s ≡ good d → Ends d begin
+  unfolding scanned
+  scan-ends d h = from-ends d (suc (length s)) begin (omega arith) h

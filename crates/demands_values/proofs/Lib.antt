@@ -2,6 +2,7 @@ pub mod BehindLaws
 pub mod BlockValues
 pub mod Demand2
 pub mod EveryRow
+pub mod HeaderTurns
 pub mod HeaderValues
 pub mod Instance
 pub mod Once
@@ -9,3 +10,4 @@ pub mod RecordInstance
 pub mod RowLaws
 pub mod ScanValues
 pub mod StatementValues
+pub mod Walks

@@ -1,4 +1,4 @@
--- A keyword that matches at one place only: of a text that is given, this is computed.
+-- The places where a keyword matches: of a text that is given, they are computed.
 -- Assumes nothing.
 use Prim.Native.Nat.{ℕ, zero, suc, _<_}
 use mathlib.Core.Path.{_≡_, sym, ap, _∙_}
@@ -33,10 +33,10 @@ below-all f (suc n) k h l =
     by-test (eqb k n) (λ t. ap f (eqb-true k n t) ∙ w .0)
     (λ t. let z : (k ≡ n → ⊥) = eqb-false k n t in below-all f n k (w .1) (omega arith))
 
--- the word matches at the place q, or nowhere
-pub only-at : (s word : List ℕ) (q : ℕ) → below (λ p. unmatched (matchAt s p word) || eqb p q) (length s) ≡ true
-    → (p : ℕ) (c : Cursor) → matchAt s p word ≡ After c → p ≡ q
+-- the test f holds of each place where the word matches
+pub met-where : (s word : List ℕ) (f : ℕ → Bool) → below (λ p. unmatched (matchAt s p word) || f p) (length s) ≡ true
+    → (p : ℕ) (c : Cursor) → matchAt s p word ≡ After c → f p ≡ true
 unfolding unmatched
-only-at s word q h p c m =
-    let w = below-all (λ p. unmatched (matchAt s p word) || eqb p q) (length s) p h (omega (arith, match-far s p word c m)) in
-    eqb-true p q (ap (λ z. unmatched z || eqb p q) (sym m) ∙ w)
+met-where s word f h p c m =
+    let w = below-all (λ p. unmatched (matchAt s p word) || f p) (length s) p h (omega (arith, match-far s p word c m)) in
+    ap (λ z. unmatched z || f p) (sym m) ∙ w

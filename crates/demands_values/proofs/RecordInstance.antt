@@ -7,8 +7,9 @@ use mathlib.Core.Bool.{false}
 use mathlib.Core.Logic.{⊎-elim}
 use mathlib.Core.List.{List, [], _∷_}
 use native.Mathlib.Omega.{arith}
-use lib.Dec.{ltb}
+use lib.Dec.{eqb, ltb}
 use lib.ListN.{length}
+use borrow.Author.Tests.{eqb-true}
 use Rattle.text.specs.Class.{classOf}
 use Rattle.text.specs.Due.{dueNumber, dueHere, dueAt}
 use Rattle.text.specs.Keyword.{startsIdent, endsKeyword, same, part, keywordAt, matchAt, orMatch}
@@ -18,7 +19,6 @@ use Rattle.text.specs.Words.{moduleWord, submoduleWord}
 use Rattle.text.specs.declared.Cursor.{Cursor}
 use Rattle.text.specs.declared.Match.the-variants.{After}
 use Rattle.text.proofs.Here.{never}
-use Rattle.text.proofs.KeywordLaws.{match-far}
 use Rattle.text_value.specs.Argument.{argumentOf, argumentAt}
 use Rattle.text_value.specs.Value.{value, isQuote, startsName, valueHere, valueAt, valueBytes}
 use Rattle.text_skip.specs.Skip.{closedToken, tokenHere, tokenAt}
@@ -40,14 +40,15 @@ use Rattle.nuvaleta.specs.Record.{MetadataAnswered}
 use Rattle.demands_values.specs.Behind.{RecordRead}
 use Rattle.demands_values.specs.Demand2.{recordIn}
 use Rattle.demands_values.proofs.Demand2.{demand2}
-use Rattle.demands_values.proofs.Once.{below, unmatched, only-at}
+use Rattle.demands_values.proofs.Once.{below, unmatched, met-where}
 
--- module ab{namespace n;prefix p;belongs-to m{}revision 1;revision 2;}
+-- module ab{namespace n;prefix p;belongs-to m{}revision 1;revision 2;prefix q;}
 abbrev text : List ℕ
 text =
     109 ∷ 111 ∷ 100 ∷ 117 ∷ 108 ∷ 101 ∷ 32 ∷ 97 ∷ 98 ∷ 123 ∷ 110 ∷ 97 ∷ 109 ∷ 101 ∷ 115 ∷ 112 ∷ 97 ∷ 99 ∷ 101 ∷ 32 ∷ 110 ∷ 59 ∷ 112 ∷ 114 ∷ 101 ∷ 102
     ∷ 105 ∷ 120 ∷ 32 ∷ 112 ∷ 59 ∷ 98 ∷ 101 ∷ 108 ∷ 111 ∷ 110 ∷ 103 ∷ 115 ∷ 45 ∷ 116 ∷ 111 ∷ 32 ∷ 109 ∷ 123 ∷ 125 ∷ 114 ∷ 101 ∷ 118 ∷ 105 ∷ 115 ∷ 105
-    ∷ 111 ∷ 110 ∷ 32 ∷ 49 ∷ 59 ∷ 114 ∷ 101 ∷ 118 ∷ 105 ∷ 115 ∷ 105 ∷ 111 ∷ 110 ∷ 32 ∷ 50 ∷ 59 ∷ 125 ∷ []
+    ∷ 111 ∷ 110 ∷ 32 ∷ 49 ∷ 59 ∷ 114 ∷ 101 ∷ 118 ∷ 105 ∷ 115 ∷ 105 ∷ 111 ∷ 110 ∷ 32 ∷ 50 ∷ 59 ∷ 112 ∷ 114 ∷ 101 ∷ 102 ∷ 105 ∷ 120 ∷ 32 ∷ 113 ∷ 59
+    ∷ 125 ∷ []
 
 -- abnpm12
 abbrev stored : List ℕ
@@ -85,8 +86,12 @@ module _ (d : List ℕ) (long : ltb (length d) (length text) ≡ false) {n : ℕ
   unfolding answerOf valuesOf firstOf newest newestFrom newer less recordWords rowsOf markedAt spanAt
   record-left = ap recordIn (l .words ∙ ap (λ x. recordWords (answerOf x .values)) called)
 
+  answered : n ≡ 0
+  unfolding answerOf
+  answered = l .number ∙ ap (λ x. answerOf x .answer .number) called
+
   record-read : RecordRead text e (valuesWith (held 0 2))
-  record-read = subst (RecordRead text e) record-left (demand2 .host-metadata text d l)
+  record-read = subst (RecordRead text e) record-left (demand2 .host-metadata text d l answered)
 
   -- ab, n, p, 1, m, 2
   values : (valueIn e (held 0 2) ≡ 97 ∷ 98 ∷ []) × (valueIn e (held 2 1) ≡ 110 ∷ []) × (valueIn e (held 3 1) ≡ 112 ∷ [])
@@ -99,12 +104,13 @@ module _ (d : List ℕ) (long : ltb (length d) (length text) ≡ false) {n : ℕ
 module-once : (p : ℕ) (c : Cursor) → matchAt text p moduleWord ≡ After c → c .at ≡ 6
 unfolding below unmatched startsIdent endsKeyword same part keywordAt matchAt runEnd span inRun inIdent classOf
 module-once p c m =
-    let q : After (record { at = 6 }) ≡ After c = ap (λ z. matchAt text z moduleWord) (sym (only-at text moduleWord 0 refl p c m)) ∙ m in
+    let e : p ≡ 0 = eqb-true p 0 (met-where text moduleWord (λ p. eqb p 0) refl p c m) in
+    let q : After (record { at = 6 }) ≡ After c = ap (λ z. matchAt text z moduleWord) (sym e) ∙ m in
     cc
 
 submodule-never : (p : ℕ) (c : Cursor) → matchAt text p submoduleWord ≡ After c → ⊥
 unfolding below unmatched startsIdent endsKeyword same part keywordAt matchAt runEnd span inRun inIdent classOf
-submodule-never p c m = omega (arith, only-at text submoduleWord (length text) refl p c m, match-far text p submoduleWord c m)
+submodule-never p c m = never refl (met-where text submoduleWord (λ p. false) refl p c m)
 
 name-read : valueAt text 6 ≡ value (97 ∷ 98 ∷ []) 9
 unfolding valueAt valueHere isQuote startsName part gapEnd gapTurn afterWhite commentEnd blockEnd closing pairAt runEnd span inRun inIdent classOf turns
@@ -113,12 +119,11 @@ name-read = refl
 refused : RecordRead text stored (valuesWith (held 0 1)) → ⊥
 unfolding valueIn
 refused r =
-    ⊎-elim (λ e. never (ap (λ x. x .present) e) refl)
-    (λ n. ⊎-elim
-    (λ h. let b = h .value in
-    let q : value (97 ∷ 98 ∷ []) 9 ≡ value (97 ∷ []) (b .end)
-    = sym name-read ∙ ap (valueAt text) (sym (module-once (gapEnd text (h .state .at)) (b .after) (b .matched))) ∙ b .read in
+    let b = r .name .met .value in
+    let p = gapEnd text (r .name .met .state .at) in
+    ⊎-elim
+    (λ e. let at = module-once p (b .after) (ap (matchAt text p) (sym e) ∙ b .matched) in
+    let q : value (97 ∷ 98 ∷ []) 9 ≡ value (97 ∷ []) (b .end) = sym name-read ∙ ap (valueAt text) (sym at) ∙ b .read in
     let z : _≡_ {A = List ℕ} (97 ∷ 98 ∷ []) (97 ∷ []) = cc in
     omega (arith, ap length z))
-    (λ h. submodule-never (gapEnd text (h .state .at)) (h .value .after) (h .value .matched)) n)
-    (r .name)
+    (λ e. submodule-never p (b .after) (ap (matchAt text p) (sym e) ∙ b .matched)) (r .name .either)

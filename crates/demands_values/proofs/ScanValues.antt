@@ -32,8 +32,9 @@ use Rattle.yangparser.specs.declared.Next.the-variants.{On, Done, Stop}
 use Rattle.yangparser.specs.declared.Sofar.{Sofar}
 use Rattle.yangparser.proofs.FarLaws.{step-said}
 use Rattle.yangparser.proofs.ScanLaws.{Stands, stands-first, stands-step}
-use Rattle.demands_values.specs.Behind.{Either, Reaches, first, next, NoLine, Opened, InBlock, ImportRead, IncludeRead}
-use Rattle.demands_values.proofs.BehindLaws.{turns-keep, either-map, behind-more, block-more}
+use Rattle.demands_values.specs.Behind.{Either, Reaches, first, next, InBlock, NotInBlock, ImportRead, IncludeRead}
+use Rattle.demands_values.proofs.BehindLaws.{either-map, behind-more, block-more}
+use Rattle.demands_values.proofs.Walks.{turns-keep}
 use Rattle.demands_values.proofs.RowLaws.{EachFrom, from-of, from-append}
 use Rattle.demands_values.proofs.StatementValues.{ImportHas, import-has, NoRevision, IncludeHas, include-has}
 
@@ -71,7 +72,7 @@ module _ (s bytes zs : List ℕ) (k : ℕ) where
     before = r .before;
     name = behind-more bytes zs (r .name);
     prefix = block-more bytes zs (r .prefix);
-    revision = either-more (Opened s 8 (r .name .end) (NoLine s 8 revisionDateWord)) 8 (r .name .end) revisionDateWord (i .«revision_date») (r .revision);
+    revision = either-more (NotInBlock s 8 (r .name .end) revisionDateWord) 8 (r .name .end) revisionDateWord (i .«revision_date») (r .revision);
   }
 
   pub include-more : (i : YangInclude) → IncludeRead s bytes k i → IncludeRead s (bytes ++ zs) k i

@@ -25,7 +25,7 @@ use Rattle.text_value.specs.declared.Argument.the-variants.{Read, Refused as No
 use Rattle.text_value.proofs.ArgumentLaws.{argument-far, line-far}
 use Rattle.scan_rows.specs.Span.{held, missing}
 use Rattle.scan_rows.specs.declared.Span.{Span}
-use Rattle.scan_block.specs.Block.{Stored, begun, blockAt}
+use Rattle.scan_block.specs.Block.{Stored, blockTurn, begun, blockAt}
 use Rattle.scan_block.specs.declared.Block.{Block}
 use Rattle.scan_block.specs.declared.Block.the-variants.{Whole, Broken}
 use Rattle.scan_imports.specs.Statement.{importOf, withName, afterName, importAt, includeOf, plainOf, blockOf, openOrPlain, afterValue, includeAt}
@@ -34,9 +34,9 @@ use Rattle.scan_imports.specs.declared.ParsedImport.the-variants.{Import, NoImp
 use Rattle.scan_imports.specs.declared.ParsedInclude.{ParsedInclude}
 use Rattle.scan_imports.specs.declared.ParsedInclude.the-variants.{Include, NoInclude}
 use Rattle.scan_imports.proofs.StatementLaws.{of-prefixed, of-bare}
-use Rattle.demands_values.specs.Behind.{Behind, Either, NoLine, LineRead, Opened, Ended, InBlock}
+use Rattle.demands_values.specs.Behind.{Behind, Either, Unmet, MetLast, Opened, Ended, InBlock, NotInBlock}
 use Rattle.demands_values.proofs.BehindLaws.{argument-value, line-value, behind-more, held-new, behind-new}
-use Rattle.demands_values.proofs.BlockValues.{Won, BlockHas, block-has}
+use Rattle.demands_values.proofs.BlockValues.{LineWon, BlockHas, block-has}
 
 -- what is said of the first state of the block that opens at c; u: the store's place there
 module _ (s : List ℕ) (k end : ℕ) (c : Cursor) (brace : dueAt s end 123 k ≡ Stands c) (u : ℕ) where
@@ -47,14 +47,20 @@ module _ (s : List ℕ) (k end : ℕ) (c : Cursor) (brace : dueAt s end 123 k �
   opened P p = record { opens = c; brace = brace; used = u; holds = p }
 
   module _ (pre word store : List ℕ) (x : Span) where
-    in-block : LineRead s k begin word store x → InBlock s k end word store x
-    in-block l = opened (λ g. LineRead s k g word store x) l
+    abbrev Last : Type 0
+    Last = MetLast (blockTurn s k) (λ b. b .body .at) s word store begin x
 
-    either-in : Won s k pre word begin store missing x → Either (Opened s k end (NoLine s k word)) (InBlock s k end word store) x
-    either-in w = ⊎-elim (λ e. inl (e .0, opened (NoLine s k word) (e .1))) (λ l. inr (in-block l)) w
+    in-block : Last → InBlock s k end word store x
+    in-block l = opened (λ g. MetLast (blockTurn s k) (λ b. b .body .at) s word store g x) l
+
+    not-in : Unmet (blockTurn s k) (λ b. b .body .at) s word begin → NotInBlock s k end word
+    not-in u = opened (Unmet (blockTurn s k) (λ b. b .body .at) s word) u
+
+    either-in : LineWon s k pre word begin store missing x → Either (NotInBlock s k end word) (InBlock s k end word store) x
+    either-in w = ⊎-elim (λ e. inl (e .0, not-in (e .1))) (λ l. inr (in-block l)) w
 
     -- a present one is there
-    present-in : x .present ≡ true → Won s k pre word begin store missing x → InBlock s k end word store x
+    present-in : x .present ≡ true → LineWon s k pre word begin store missing x → InBlock s k end word store x
     present-in t w = ⊎-elim (λ e. absurd (never (ap (λ y. y .present) (e .0)) t)) in-block w
 
 -- ---- an import; p: its keyword's place, which ends at c
@@ -62,7 +68,7 @@ module _ (s : List ℕ) (k end : ℕ) (c : Cursor) (brace : dueAt s end 123 k �
 abbrev pub ImportHas : List ℕ → ℕ → List ℕ → ParsedImport → Type 0
 ImportHas s p store (Import c n i) =
     (name : Behind s importWord p store (i .«module_name»)) × InBlock s 8 (name .end) prefixWord store (i .prefix)
-    × Either (Opened s 8 (name .end) (NoLine s 8 revisionDateWord)) (InBlock s 8 (name .end) revisionDateWord store) (i .«revision_date»)
+    × Either (NotInBlock s 8 (name .end) revisionDateWord) (InBlock s 8 (name .end) revisionDateWord store) (i .«revision_date»)
 ImportHas s p store (NoImport r) = Unit {0}
 
 -- pre: the bytes stored before it
@@ -106,7 +112,7 @@ module _ (s : List ℕ) (p : ℕ) (c : Cursor) (m : matchAt s p importWord ≡ A
 -- ---- an include
 
 abbrev pub NoRevision : List ℕ → ℕ → Type 0
-NoRevision s end = Ended s 9 end ⊎ Opened s 9 end (NoLine s 9 revisionDateWord)
+NoRevision s end = Ended s 9 end ⊎ NotInBlock s 9 end revisionDateWord
 
 abbrev pub IncludeHas : List ℕ → ℕ → List ℕ → ParsedInclude → Type 0
 IncludeHas s p store (Include c n i) =

@@ -1,7 +1,7 @@
 -- Starts refer to the lent value store. What this means of one value: its keyword stands in the text at a place where the scan stands, and the bytes of the
 -- store from its start on, as many as its length, are the value that is read behind the keyword.
 -- Assumes nothing.
-use Prim.Native.Nat.{ℕ}
+use Prim.Native.Nat.{ℕ, _<_}
 use mathlib.Core.Path.{_≡_}
 use mathlib.Core.Bool.{true}
 use mathlib.Core.Logic.{_⊎_}
@@ -36,31 +36,45 @@ pub record Behind (s word : List ℕ) (p : ℕ) (store : List ℕ) (x : Span) : 
   pub present : x .present ≡ true
   pub within : Within (length store) x
 
--- the states that a loop comes to from a: those where the scan stands
+-- a value that may be missing, with 0, 0: then No holds, and else Yes
+abbrev pub Either : (No : Type 0) (Yes : Span → Type 0) → Span → Type 0
+Either No Yes x = ((x ≡ missing) × No) ⊎ Yes x
+
+-- ---- where a scan stands
+
+-- the states that a loop comes to from a
 pub data Reaches {A R : Type 0} (step : A → Turn A R) (a : A) : A → Type 0 where
   first : Reaches step a a
   next : {b c : A} → Reaches step a b → step b ≡ on c → Reaches step a c
 
--- a value that may be missing: then No holds, and else Yes
-abbrev pub Either : (No : Type 0) (Yes : Span → Type 0) → Span → Type 0
-Either No Yes x = ((x ≡ missing) × No) ⊎ Yes x
+-- a scan is known by its step and by the place of each of its states, which stands before a gap; all that follows is said from the state g on
+module _ {A R : Type 0} (step : A → Turn A R) (at : A → ℕ) (s word : List ℕ) where
+  -- it stands at the keyword nowhere; nowhere before the place p; nowhere behind it
+  abbrev pub Unmet : A → Type 0
+  Unmet g = (b : A) → Reaches step g b → matchAt s (gapEnd s (at b)) word ≡ Not
 
--- ---- a block; k: import or include
+  abbrev pub UnmetBefore : A → ℕ → Type 0
+  UnmetBefore g p = (b : A) → Reaches step g b → at b < p → matchAt s (gapEnd s (at b)) word ≡ Not
 
--- from the state g on, no statement of the block has the keyword
-abbrev pub NoLine : List ℕ → ℕ → List ℕ → Stored → Type 0
-NoLine s k word g = (h : Stored) → Reaches (blockTurn s k) g h → matchAt s (gapEnd s (h .body .at)) word ≡ Not
+  abbrev pub UnmetBehind : A → ℕ → Type 0
+  UnmetBehind g p = (b : A) → Reaches step g b → p < at b → matchAt s (gapEnd s (at b)) word ≡ Not
 
--- last one read wins: from the state g on, the last statement with the keyword gives x
-pub record LineRead (s : List ℕ) (k : ℕ) (g : Stored) (word store : List ℕ) (x : Span) : Type 0 where
-  pub state : Stored
-  pub reached : Reaches (blockTurn s k) g state
-  pub value : Behind s word (gapEnd s (state .body .at)) store x
-  pub behind : Stored
-  pub turn : blockTurn s k state ≡ on behind
-  pub last : NoLine s k word behind
+  -- it stands at the keyword, and x is the value behind it
+  pub record Met (store : List ℕ) (g : A) (x : Span) : Type 0 where
+    pub state : A
+    pub reached : Reaches step g state
+    pub value : Behind s word (gapEnd s (at state)) store x
 
--- the block's first state, behind its `{`, which follows at the place `end`
+  -- first wins; last wins
+  abbrev pub MetFirst : List ℕ → A → Span → Type 0
+  MetFirst store g x = (m : Met store g x) × UnmetBefore g (at (m .state))
+
+  abbrev pub MetLast : List ℕ → A → Span → Type 0
+  MetLast store g x = (m : Met store g x) × UnmetBehind g (at (m .state))
+
+-- ---- the block of an import or include; k: the keyword's number
+
+-- P holds of its first state, behind its `{`, which follows at the place `end`
 pub record Opened (s : List ℕ) (k end : ℕ) (P : Stored → Type 0) : Type 0 where
   pub opens : Cursor
   pub brace : dueAt s end openBrace k ≡ Stands opens
@@ -71,46 +85,63 @@ pub record Opened (s : List ℕ) (k end : ℕ) (P : Stored → Type 0) : Type 0 
 abbrev pub Ended : List ℕ → ℕ → ℕ → Type 0
 Ended s k end = (c : Cursor) × (dueAt s end semicolon k ≡ Stands c)
 
+-- `prefix` value `;`, `revision-date` value `;`, any other statement skipped. Last one read wins.
 abbrev pub InBlock : List ℕ → ℕ → ℕ → List ℕ → List ℕ → Span → Type 0
-InBlock s k end word store x = Opened s k end (λ g. LineRead s k g word store x)
+InBlock s k end word store x = Opened s k end (λ g. MetLast (blockTurn s k) (λ b. b .body .at) s word store g x)
+
+abbrev pub NotInBlock : List ℕ → ℕ → ℕ → List ℕ → Type 0
+NotInBlock s k end word = Opened s k end (Unmet (blockTurn s k) (λ b. b .body .at) s word)
 
 -- ---- dependencies
 
--- an import's row: its keyword stands where the scan has read k imports
+-- Import: value, `{`, then its block. Prefix is required. The row k: its keyword stands where the scan has read k imports.
 pub record ImportRead (s store : List ℕ) (k : ℕ) (i : YangImport) : Type 0 where
   pub state : Scanning
   pub reached : Reaches (scanTurn s) (record { far = start; read = none }) state
   pub before : state .far .imports ≡ k
   pub name : Behind s importWord (gapEnd s (state .far .at)) store (i .«module_name»)
   pub prefix : InBlock s importKeyword (name .end) prefixWord store (i .prefix)
-  pub revision : Either (Opened s importKeyword (name .end) (NoLine s importKeyword revisionDateWord))
+  pub revision : Either (NotInBlock s importKeyword (name .end) revisionDateWord)
       (InBlock s importKeyword (name .end) revisionDateWord store) (i .«revision_date»)
 
--- an include's row: its keyword stands where the scan has read k includes
+-- Include: value, then `;`, or `{` with its block. The row k: its keyword stands where the scan has read k includes.
 pub record IncludeRead (s store : List ℕ) (k : ℕ) (i : YangInclude) : Type 0 where
   pub state : Scanning
   pub reached : Reaches (scanTurn s) (record { far = start; read = none }) state
   pub before : state .far .includes ≡ k
   pub name : Behind s includeWord (gapEnd s (state .far .at)) store (i .«submodule_name»)
-  pub revision : Either (Ended s includeKeyword (name .end) ⊎ Opened s includeKeyword (name .end) (NoLine s includeKeyword revisionDateWord))
+  pub revision : Either (Ended s includeKeyword (name .end) ⊎ NotInBlock s includeKeyword (name .end) revisionDateWord)
       (InBlock s includeKeyword (name .end) revisionDateWord store) (i .«revision_date»)
 
 -- ---- metadata
 
-abbrev pub MayBe : (Span → Type 0) → Span → Type 0
-MayBe P x = (x ≡ missing) ⊎ P x
+abbrev pub begin : Reading
+begin = record { at = 0; read = nothing }
 
--- a value of a statement of the header
-pub record Header (s word store : List ℕ) (x : Span) : Type 0 where
-  pub state : Reading
-  pub reached : Reaches (metadataTurn s) (record { at = 0; read = nothing }) state
-  pub value : Behind s word (gapEnd s (state .at)) store x
+module _ (s : List ℕ) where
+  abbrev pub NoHeader : List ℕ → Type 0
+  NoHeader word = Unmet (metadataTurn s) (λ b. b .at) s word begin
 
--- the six values of a record
+  abbrev pub HeaderFirst : List ℕ → List ℕ → Span → Type 0
+  HeaderFirst word store x = MetFirst (metadataTurn s) (λ b. b .at) s word store begin x
+
+  abbrev pub HeaderLast : List ℕ → List ℕ → Span → Type 0
+  HeaderLast word store x = MetLast (metadataTurn s) (λ b. b .at) s word store begin x
+
+-- `module` or `submodule` value (last wins); from the state g on
+pub record NameRead (s store : List ℕ) (g : Reading) (x : Span) : Type 0 where
+  pub word : List ℕ
+  pub either : (word ≡ moduleWord) ⊎ (word ≡ submoduleWord)
+  pub met : Met (metadataTurn s) (λ b. b .at) s word store g x
+  pub no-module : UnmetBehind (metadataTurn s) (λ b. b .at) s moduleWord g (met .state .at)
+  pub no-submodule : UnmetBehind (metadataTurn s) (λ b. b .at) s submoduleWord g (met .state .at)
+
+-- `belongs-to` value (last wins); `namespace` value (last wins); `prefix` value (first wins); `revision` value (first wins). The newest is one of the
+-- revisions; which one is said in demands (Newest).
 pub record RecordRead (s store : List ℕ) (values : List Span) : Type 0 where
-  pub name : MayBe (λ x. Header s moduleWord store x ⊎ Header s submoduleWord store x) (getD values nameValue missing)
-  pub namespace : MayBe (Header s namespaceWord store) (getD values namespaceValue missing)
-  pub prefix : MayBe (Header s prefixWord store) (getD values prefixValue missing)
-  pub first-revision : MayBe (Header s revisionWord store) (getD values firstValue missing)
-  pub parent : MayBe (Header s belongsToWord store) (getD values parentValue missing)
-  pub newest : MayBe (Header s revisionWord store) (getD values newestValue missing)
+  pub name : NameRead s store begin (getD values nameValue missing)
+  pub namespace : Either (NoHeader s namespaceWord) (HeaderLast s namespaceWord store) (getD values namespaceValue missing)
+  pub prefix : Either (NoHeader s prefixWord) (HeaderFirst s prefixWord store) (getD values prefixValue missing)
+  pub first-revision : Either (NoHeader s revisionWord) (HeaderFirst s revisionWord store) (getD values firstValue missing)
+  pub parent : Either (NoHeader s belongsToWord) (HeaderLast s belongsToWord store) (getD values parentValue missing)
+  pub newest : Either (NoHeader s revisionWord) (Met (metadataTurn s) (λ b. b .at) s revisionWord store begin) (getD values newestValue missing)

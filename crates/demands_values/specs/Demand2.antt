@@ -1,18 +1,18 @@
--- Of every call of a scan: each row that its answer counts, and each value that its record has, stands in the store at exit as it stands behind its keyword in
--- the text; and where document 01's conditions hold there, it is RFC 7950's value. A refused call counts no row, and its record has no value.
+-- Of every good call of a scan: each value of a row or record stands in the store at exit as it stands behind its keyword in the text; and where document 01's
+-- conditions hold there, it is RFC 7950's value. What the scan meets is not left out.
 -- Assumes nothing.
-use Prim.Native.Nat.{ℕ, _*_, _<_}
+use Prim.Native.Nat.{ℕ, _-_, _*_, _<_}
 use mathlib.Core.Path.{_≡_}
 use mathlib.Core.Bool.{Bool, true}
 use mathlib.Core.List.{List}
-use lib.ListN.{getD}
+use lib.ListN.{length, getD}
 use Rattle.text.specs.Keyword.{matchAt}
 use Rattle.text.specs.Scan.{gapEnd}
 use Rattle.text.specs.Words.{importWord, includeWord}
 use Rattle.text.specs.declared.Cursor.{Cursor}
 use Rattle.text.specs.declared.Match.the-variants.{After}
 use Rattle.scan_rows.specs.Rows.{importSize, includeSize, importAt, includeAt, markedAt, rowsOf}
-use Rattle.scan_rows.specs.Span.{valueIn}
+use Rattle.scan_rows.specs.Span.{held, valueIn}
 use Rattle.scan_rows.specs.declared.Span.{Span}
 use Rattle.yangparser.specs.Dependencies.{Scanning, scanTurn, start, none}
 use Rattle.yangparser.specs.Promises as Dependencies
@@ -54,14 +54,19 @@ pub record Demand2 : Type 0 where
   -- print_yang_dependencies
   pub printed : (s d t u p : List ℕ) {r : Page} {e f g q : List ℕ} → Prints s d t u p r e f g q → (i j n : ℕ) → r .parsed ≡ Good i j n → RowsRead s e f i g j
   -- extract_yang_metadata
-  pub metadata : (s d : List ℕ) {r : YangModuleMetadata} {e : List ℕ} → Metadata.Extracts s d r e → RecordRead s e (r .values)
+  pub metadata : (s d : List ℕ) {r : YangModuleMetadata} {e : List ℕ} → Metadata.Extracts s d r e → r .answer .number ≡ 0
+      → RecordRead s e (r .values)
   -- nuvaleta_dependencies, nuvaleta_printed, nuvaleta_metadata; n: the number returned, a: the answer, w: the record
   pub host-dependencies : (s d t u : List ℕ) {n : ℕ} {e f g a : List ℕ} → DependenciesAnswered s d t u n e f g a → n ≡ 0
       → RowsRead s e f (getD a 3 0) g (getD a 4 0)
   pub host-printed : (s d t u p : List ℕ) {n : ℕ} {e f g q a : List ℕ} → PrintedAnswered s d t u p n e f g q a → n ≡ 0
       → RowsRead s e f (getD a 3 0) g (getD a 4 0)
-  pub host-metadata : (s d : List ℕ) {n : ℕ} {e w a : List ℕ} → MetadataAnswered s d n e w a → RecordRead s e (recordIn w)
-  -- each such value whose text meets the conditions is the RFC's, up to the same place
+  pub host-metadata : (s d : List ℕ) {n : ℕ} {e w a : List ℕ} → MetadataAnswered s d n e w a → n ≡ 0 → RecordRead s e (recordIn w)
+  -- each such value has all its bytes, and a span that is a byte shorter is none
+  pub whole : (s word : List ℕ) (p : ℕ) (store : List ℕ) (x : Span) → Behind s word p store x → length (valueIn store x) ≡ x .size
+  pub shorter : (s word : List ℕ) (p : ℕ) (store : List ℕ) (x : Span) → Behind s word p store x → 0 < x .size
+      → Behind s word p store (held (x .start) (x .size - 1)) → ⊥
+  -- where its text meets the conditions it is the RFC's, up to the same place
   pub rfc : (s word : List ℕ) (p : ℕ) (store : List ℕ) (x : Span) (b : Behind s word p store x) → Quoted s (b .after .at)
       → rfcValue s (b .after .at) ≡ reads (valueIn store x) (b .end)
   -- the same from the RFC's side
