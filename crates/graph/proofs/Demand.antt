@@ -154,8 +154,7 @@ module _ (mode : Mode) (nodeLimit edgeLimit : ℕ) (text : Name → Text) (l : P
 
     given-before : (e : Edge) → GivenBy mode text l (r .before) e → List·Memᴰ e (r .sofar)
     given-before e g =
-        let clean : Clean (ofEntry (g .giver)) = λ n a m. until .clean n a (each-in ofEntry (g .one) m) in
-        let m = each-in ofEntry (g .one) (given-arcs mode text l (g .giver) clean (g .gives)) in
+        let m = each-in ofEntry (g .one) (given-arcs mode text l (g .giver) (g .gives)) in
         subst (λ t. List·Memᴰ e t) (sym (until .all)) (adds-new (flatMap ofEntry (r .before)) [] e m)
 
     few-before : (es : List Edge) → List·Nodup es → AllGivenBy mode text l (r .before) es → length es ≤ edgeLimit

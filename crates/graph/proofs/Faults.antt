@@ -1,5 +1,5 @@
 -- The refusals among the steps of an entry are exactly its faults, each number for itself, whether or not something before it is refused. And the edges that
--- an entry gives are asked for by its steps, if none of them refuses.
+-- an entry gives are asked for by its steps.
 -- Assumes nothing.
 use mathlib.Core.Path.{_≡_, refl, sym, subst, subst₂}
 use mathlib.Core.List.{List, [], _∷_, flatMap, List·Memᴰ, List·Memᴰ·head, List·Memᴰ·tail, List·Memᴰ·cases-cons, List·Memᴰ·append-cases}
@@ -17,8 +17,7 @@ use Rattle.graph.specs.Graph.{entryNames, submoduleNames, world}
 use Rattle.graph.specs.Meaning.{Follows, ReadAt, entry, included as included-by, Fault, entry-missing, include-missing, scan-refused, import-unknown}
 use Rattle.graph.specs.Meaning.{listed-unknown, include-unknown, include-no-node, too-deep, Gives, imports, includes, lists}
 use Rattle.graph.proofs.Tests.{both-bools, memb-mem, mem-memb, each-in, each-out}
-use Rattle.graph.proofs.Runs.{Clean}
-use Rattle.graph.proofs.Meaning.{belowOf, In, Held, text-in, import-in, include-in, one-in, down as beneath}
+use Rattle.graph.proofs.Meaning.{belowOf, In, Held, text-in, import-in, include-in}
 
 out : {u : Name} {ws : List Name} → memb u ws ≡ false → ¬ List·Memᴰ u ws
 out q m = both-bools (mem-memb m) q
@@ -135,9 +134,13 @@ module _ (mode : Mode) (text : Name → Text) (l : PlainLibrary) (x : Entry) whe
       (pick _ (halt unknownSubmodule) (mem-memb s) (include-in mode text l (held r) i)))
   fault-stop (too-deep r i) = first (down (held r) i)
 
-  -- ---- what the entry gives is asked for, if nothing of it is refused
-  pub given-arcs : Clean steps → {u v : Name} → Gives mode text l x u v → List·Memᴰ (arc (edge u v)) steps
-  given-arcs clean {u} {v} (imports r i) = one-in mode text l clean (edge u v) (W .known u) (import-in mode text l (held r) i)
-  given-arcs clean {u} {v} (includes r i) = beneath mode text l clean (held r) i .0
-  given-arcs clean {u} {v} (lists q k) =
-      subst (λ w. List·Memᴰ (arc (edge w v)) steps) (sym q) (one-in mode text l clean (edge (x .name) v) (W .known v) (list-in k))
+  -- ---- what the entry gives is asked for
+  pub given-arcs : {u v : Name} → Gives mode text l x u v → List·Memᴰ (arc (edge u v)) steps
+  given-arcs {u} {v} (imports r i n) =
+      pick (arc (edge u v) ∷ []) (halt unknownModule) (mem-memb n) (import-in mode text l (held r) i) (arc (edge u v)) (List·Memᴰ·head refl)
+  given-arcs {u} {v} (includes {left = left} r f) =
+      pick (arc (edge u v) ∷ belowOf W left u) (halt noNode) (mem-memb (f .node))
+      (pick _ (halt unknownSubmodule) (mem-memb (f .listed)) (include-in mode text l (held r) (f .includes))) (arc (edge u v)) (List·Memᴰ·head refl)
+  given-arcs {u} {v} (lists q k n) =
+      subst (λ w. List·Memᴰ (arc (edge w v)) steps) (sym q)
+      (pick (arc (edge (x .name) v) ∷ []) (halt unknownModule) (mem-memb n) (list-in k) (arc (edge (x .name) v)) (List·Memᴰ·head refl))

@@ -96,9 +96,12 @@ abbrev first-edge : Edge
 first-edge = edge (97 ∷ []) (97 ∷ [])
 
 one-edge : {u v : Name} → Gives passOver empty a-and-b (moduleEntry (alone (97 ∷ []))) u v → edge u v ≡ first-edge
-one-edge {u} (imports r i) = let q : [] ≡ i .imports = cc in absurd (List·Memᴰ·not-nil (subst (λ l. List·Memᴰ u l) (sym q) (i .one)))
-one-edge {u} (includes r i) = let q : [] ≡ i .includes = cc in absurd (List·Memᴰ·not-nil (subst (λ l. List·Memᴰ u l) (sym q) (i .one)))
-one-edge (lists q k) = ap₂ edge q (List·Memᴰ·eq-of-singleton k)
+one-edge {u} (imports r i n) = let q : [] ≡ i .imports = cc in absurd (List·Memᴰ·not-nil (subst (λ l. List·Memᴰ u l) (sym q) (i .one)))
+one-edge {u} (includes r f) =
+    let i = f .includes in
+    let q : [] ≡ i .includes = cc in
+    absurd (List·Memᴰ·not-nil (subst (λ l. List·Memᴰ u l) (sym q) (i .one)))
+one-edge (lists q k n) = ap₂ edge q (List·Memᴰ·eq-of-singleton k)
 
 no-fault : (x : Entry) {n : ℕ} {a : ScanAnswer} → Fault passOver empty a-and-b x n a → n ≡ 31 → ⊥
 no-fault x (entry-missing h) e = omega (arith, e)

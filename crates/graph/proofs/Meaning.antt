@@ -62,20 +62,20 @@ module _ (mode : Mode) (text : Name → Text) (l : PlainLibrary) where
     read-given below absent v r ih (refusing a) q m = no-arc m
     read-given below absent v r ih (deps xs ys) q m =
         ⊎-elim
-        (λ n. let p = each-out (imported W v) xs n in import (p .0) (p .1) (W .known (p .0)) (p .2))
+        (λ n. let p = each-out (imported W v) xs n in import (p .0) (p .1) (W .known (p .0)) refl (p .2))
         (λ n. let p = each-out (included W below v) ys n in include (p .0) (p .1) (W .listed (p .0)) (W .node (p .0)) refl refl (p .2))
         (List·Memᴰ·append-cases (flatMap (imported W v) xs) m)
       where
-        import : (u : Name) → List·Memᴰ u xs → (b : Bool) → List·Memᴰ (arc e) (cond b (arc (edge u v) ∷ []) (halt unknownModule)) → Given
-        import u k true n = is (one-arc n) (imports r (record { imports = xs; includes = ys; scan = q; one = k }))
-        import u k false n = no-arc n
+        import : (u : Name) → List·Memᴰ u xs → (b : Bool) → W .known u ≡ b → List·Memᴰ (arc e) (cond b (arc (edge u v) ∷ []) (halt unknownModule)) → Given
+        import u k true f n = is (one-arc n) (imports r (record { imports = xs; includes = ys; scan = q; one = k }) (memb-mem u (entryNames l) f))
+        import u k false f n = no-arc n
 
         include : (u : Name) → List·Memᴰ u ys → (b c : Bool) → W .listed u ≡ b → W .node u ≡ c
             → List·Memᴰ (arc e) (cond b (cond c (arc (edge u v) ∷ below u) (halt noNode)) (halt unknownSubmodule)) → Given
         include u k true true f g n =
             let i : Includes text v u = record { imports = xs; includes = ys; scan = q; one = k } in
             let h : Follows mode text l v u = record { includes = i; listed = memb-mem u (submoduleNames l) f; node = memb-mem u (nodesOf mode l) g } in
-            ⊎-elim (λ p. let a : e ≡ edge u v = cc in is a (includes r i)) (λ o. ih u h o) (List·Memᴰ·cases-cons n)
+            ⊎-elim (λ p. let a : e ≡ edge u v = cc in is a (includes r h)) (λ o. ih u h o) (List·Memᴰ·cases-cons n)
         include u k true false f g n = no-arc n
         include u k false c f g n = no-arc n
 
@@ -86,11 +86,12 @@ module _ (mode : Mode) (text : Name → Text) (l : PlainLibrary) where
         read-given (textSteps W left noIncludedText) absent v r (λ u f n. text-given left noIncludedText u (included-by r f) n) (text v) refl m
 
     list-given : List·Memᴰ (arc e) (flatMap (given W (x .name)) (x .lists)) → Given
-    list-given m = let p = each-out (given W (x .name)) (x .lists) m in go (p .0) (p .1) (W .known (p .0)) (p .2)
+    list-given m = let p = each-out (given W (x .name)) (x .lists) m in go (p .0) (p .1) (W .known (p .0)) refl (p .2)
       where
-        go : (u : Name) → List·Memᴰ u (x .lists) → (b : Bool) → List·Memᴰ (arc e) (cond b (arc (edge (x .name) u) ∷ []) (halt unknownModule)) → Given
-        go u k true n = is (one-arc n) (lists refl k)
-        go u k false n = no-arc n
+        go : (u : Name) → List·Memᴰ u (x .lists) → (b : Bool) → W .known u ≡ b
+            → List·Memᴰ (arc e) (cond b (arc (edge (x .name) u) ∷ []) (halt unknownModule)) → Given
+        go u k true f n = is (one-arc n) (lists refl k (memb-mem u (entryNames l) f))
+        go u k false f n = no-arc n
 
     pub arcs-given : List·Memᴰ (arc e) (entrySteps W x) → Gives mode text l x (e .from) (e .to)
     arcs-given m =
@@ -110,9 +111,9 @@ module _ (mode : Mode) (text : Name → Text) (l : PlainLibrary) where
         (List·Memᴰ·append-cases (n .augmenting) (subst (λ (y : Entry). List·Memᴰ v (y .lists)) (sym q) k))
 
     given-edge : {u v : Name} → Gives mode text l x u v → IsEdge text l u v
-    given-edge (imports r i) = imports (is-read r) i
-    given-edge (includes r i) = includes (is-read r) i
-    given-edge (lists q k) = list-edge (came l m) q k
+    given-edge (imports r i n) = imports (is-read r) i
+    given-edge (includes r f) = includes (is-read r) (f .includes)
+    given-edge (lists q k n) = list-edge (came l m) q k
 
   pub arcs-meant : (e : Edge) → List·Memᴰ (arc e) trace → IsEdge text l (e .from) (e .to)
   arcs-meant e m = let p = each-out (entrySteps W) (entries l) m in given-edge (p .1) (arcs-given (p .0) e (p .2))
@@ -148,7 +149,7 @@ module _ (mode : Mode) (text : Name → Text) (l : PlainLibrary) where
     refuted : {n : ℕ} {A : Type 0} → In t (halt n) → A
     refuted {n} f = absurd (clean n noRefusal (f (stop n noRefusal) (List·Memᴰ·head refl)))
 
-    pub one-in : (a : Edge) (b : Bool) → In t (cond b (arc a ∷ []) (halt unknownModule)) → List·Memᴰ (arc a) t
+    one-in : (a : Edge) (b : Bool) → In t (cond b (arc a ∷ []) (halt unknownModule)) → List·Memᴰ (arc a) t
     one-in a true f = f (arc a) (List·Memᴰ·head refl)
     one-in a false f = refuted f
 
@@ -158,7 +159,7 @@ module _ (mode : Mode) (text : Name → Text) (l : PlainLibrary) where
     both-in below v u true false f = refuted f
     both-in below v u false c f = refuted f
 
-    pub down : {left : ℕ} {v u : Name} → Held t left v → Includes text v u → List·Memᴰ (arc (edge u v)) t × In t (belowOf W left u)
+    down : {left : ℕ} {v u : Name} → Held t left v → Includes text v u → List·Memᴰ (arc (edge u v)) t × In t (belowOf W left u)
     down {left} {v} {u} h i = both-in (belowOf W left u) v u (W .listed u) (W .node u) (include-in h i)
 
   module _ (clean : Clean trace) where

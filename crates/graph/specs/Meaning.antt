@@ -71,11 +71,11 @@ module _ (mode : Mode) (text : Name → Text) (l : PlainLibrary) where
         → ¬ List·Memᴰ u (nodesOf mode l) → Fault x noNode noRefusal
     too-deep : {v u : Name} → ReadAt x zero v → Follows v u → Fault x tooDeep noRefusal
 
-  -- the entry x gives an edge from u to v: by a text that is read for it, or by its lists
+  -- the entry x gives an edge from u to v: by a text that is read for it, or by its lists; what is a fault gives none
   pub data Gives (x : Entry) (u v : Name) : Type 0 where
-    imports : {left : ℕ} → ReadAt x left v → Imports text v u → Gives x u v
-    includes : {left : ℕ} → ReadAt x left v → Includes text v u → Gives x u v
-    lists : u ≡ x .name → List·Memᴰ v (x .lists) → Gives x u v
+    imports : {left : ℕ} → ReadAt x left v → Imports text v u → List·Memᴰ u (entryNames l) → Gives x u v
+    includes : {left : ℕ} → ReadAt x left v → Follows v u → Gives x u v
+    lists : u ≡ x .name → List·Memᴰ v (x .lists) → List·Memᴰ v (entryNames l) → Gives x u v
 
   -- one of the entries xs gives it
   pub record GivenBy (xs : List Entry) (e : Edge) : Type 0 where
