@@ -32,7 +32,7 @@ use Rattle.graph.proofs.Demand.{demand3}
 use Rattle.graph_nodes.specs.Adding.{plainAt, wordsAt}
 use Rattle.graph_texts.specs.Texts.{scanSeen, scanText, lookText, textOf}
 use Rattle.yangparser.specs.Dependencies.{Dependencies, Scan, good as scanGood, bad as scanBad, dependencies}
-use Rattle.yanglib.specs.ToGraph.{Result, refusal, resultOf, graphed}
+use Rattle.yanglib.specs.ToGraph.{Result, resultOf, graphed}
 use Rattle.graph_tables.specs.Lengths.{Lengths, tooShort}
 use Rattle.yanglib.specs.declared.Graphed.the-variants.{Built, Refused}
 use Rattle.demands.specs.Demand1.{GraphCause, image, bundle, lent, graph, GraphNumbers, Buildable, Demand1}

@@ -24,6 +24,7 @@ use Rattle.order.specs.Order.{orderOf}
 use Rattle.graph.specs.Nodes.{passOver}
 use Rattle.yanglib.specs.ToGraph.{Result, graphed, Leaves as GraphLeft}
 use Rattle.graph_tables.specs.Tables.{nodeWords, rowWords}
+use Rattle.library_index.specs.Names.{namesIn}
 use Rattle.graph_tables.specs.Lengths.{Lengths, lengthsOf}
 use Rattle.yanglib.specs.declared.Graphed.{Graphed}
 use Rattle.library_form.specs.Form.{PlacedName, wordAt, numberSeen, nameSeen}
@@ -225,7 +226,7 @@ one-outcome = record {
   host-submodule = λ s t a b. told-one a b;
   host-import = λ s t a b. told-one a b;
   host-text = λ s t a b. told-one a b;
-  put = λ x n t a b. a .words [] ∙ sym (b .words []);
+  put = λ x n t t′ l a b. a .words [] ∙ ap (λ k. padded k (nodeWords (namesIn [] x n))) l ∙ sym (b .words []);
   graph = λ s b n e d f g l n′ e′ d′ f′ g′ l′ ks h k. graph-one (ap (graphed passOver s b) ks) ks h k;
   host-graph = λ s b n e d f g l n′ e′ d′ f′ g′ l′ ks h k. drawn-one (ap (graphed passOver s b) ks) ks h k;
   order = λ x i w j t t′ ts {r} {r′} h k.

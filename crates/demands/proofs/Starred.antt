@@ -24,7 +24,7 @@ use Rattle.scan_block.specs.Block.{orLine, lineKind, kept as keptLine, withValu
 use Rattle.scan_block.specs.Block.{blockFrom, blockAt}
 use Rattle.scan_imports.specs.Statement.{ofBody, importOf, withName, afterName, importAt, includeOf, plainOf, blockOf, openOrPlain, afterValue, includeAt}
 use Rattle.yangparser.specs.Dependencies.{joined, importStep, includeStep, unlessFull, importHere, includeHere, movedTo, afterToken, headStep, stepHere, stepAt}
-use Rattle.yangparser.specs.Dependencies.{Scan, good, bad, afterStep, scanTurn, scanFrom, scanned, ifFit, dependencies}
+use Rattle.yangparser.specs.Dependencies.{afterStep, scanTurn, scanFrom, scanned, ifFit, dependencies}
 use Rattle.scan_head.specs.Head.{lastAt, orHead, headAt}
 use Rattle.library_form.specs.Form.{groups, numberAt, many, printableAt, nameBody, nameAt}
 use Rattle.library_index.specs.Names.{among, addAll, newName}
@@ -35,13 +35,13 @@ use Rattle.library_bundle.specs.Bundle.{bodyAt, filedAt, textsAt, bundleAt, loo
 use Rattle.library_bundle.specs.Reading.{longestOf, longestText}
 use Rattle.scan_rows.specs.Span.{valueIn}
 use Rattle.graph_texts.specs.Texts.{importNames, includeNames, scanText, textOf}
-use Rattle.graph.specs.Nodes.{passOver, addGroups, nodesBy}
+use Rattle.graph.specs.Nodes.{addGroups, nodesBy}
 use Rattle.graph.specs.Graph.{textSteps, memE, addBy, run, walkFrom, graphOf}
 use Rattle.graph.specs.Numbers.{numberOf}
 use Rattle.graph_nodes.specs.Adding.{wordsAt}
-use Rattle.yanglib.specs.ToGraph.{Result, graphed}
+use Rattle.yanglib.specs.ToGraph.{graphed}
 use Rattle.graph_tables.specs.Tables.{nodeWords, rowWords}
-use Rattle.graph_tables.specs.Lengths.{Lengths, tooShort}
+use Rattle.graph_tables.specs.Lengths.{tooShort}
 use Rattle.host_words.specs.Words.{recordWords}
 use Rattle.nuvaleta.specs.Words.{graphWords}
 use Rattle.demands.specs.Starred.{outcome, described, enough, drawn, holds, all, starred, StarredRight}

@@ -107,7 +107,7 @@ pub record BytesDemand3 : Type 0 where
   -- the stronger one: the names in their lists may stand in another order too
   pub spread : (s s₁ b : List ℕ) (k : Lengths) → WellFormed s → WellFormed s₁ → SameEntries (plainAt s) (plainAt s₁) → Once (plainAt s)
       → Once (plainAt s₁) → Alike s s₁ (graphed passOver s b k) (graphed passOver s₁ b k)
-  -- and then so are the tables that two calls leave, whatever they held, if the same lengths are lent; the call with an accent is the second one
+  -- and with either of these the tables that two calls leave are alike too, whatever they held, if the same lengths are lent; the second call has an accent
   pub called-alike : (s s₁ b n e d f g l n′ e′ d′ f′ g′ l′ : List ℕ) → lengthsOf n e d f g l ≡ lengthsOf n′ e′ d′ f′ g′ l′ → WellFormed s → WellFormed s₁
       → Alike s s₁ (graphed passOver s b (lengthsOf n e d f g l)) (graphed passOver s₁ b (lengthsOf n e d f g l))
       → {r r′ : Graphed} {n₁ e₁ d₁ f₁ g₁ l₁ n₁′ e₁′ d₁′ f₁′ g₁′ l₁′ : List ℕ} → Graphs s b n e d f g l r n₁ e₁ d₁ f₁ g₁ l₁

@@ -55,7 +55,8 @@ pub record Views : Type 0 where
   -- skip_whitespace_and_comments, value_end
   pub cursor : LosesNothing (λ (c : Cursor). c .at)
 
--- ---- all promises; what the lent buffers held enters none but that of scan_over, only their lengths do: equal lengths, equal outcomes
+-- ---- all promises; of what is lent to an entry or to a host's call only the lengths enter: equal lengths, equal outcomes. What scan_over and the inner
+-- writers leave depends on what was there too
 
 -- d, t, u, p: store, tables and page at entry; e, f, g, q: at exit; the second outcome has an accent
 pub record OneOutcome : Type 1 where
@@ -97,7 +98,7 @@ pub record OneOutcome : Type 1 where
       Told w n a → Told w n′ a′ → (n ≡ n′) × (a ≡ a′)
   pub host-text : (s t : List ℕ) {n n′ : ℕ} {a a′ : List ℕ} → let w = toldWords bundleBroken (lookUp s t) in Told w n a → Told w n′ a′ → (n ≡ n′) × (a ≡ a′)
   -- put_nodes; x: index table, n: names in it, t: node table
-  pub put : (x : List ℕ) (n : ℕ) (t : List ℕ) {y y′ : List ℕ} → Named x n t y → Named x n t y′ → y ≡ y′
+  pub put : (x : List ℕ) (n : ℕ) (t t′ : List ℕ) → length t ≡ length t′ → {y y′ : List ℕ} → Named x n t y → Named x n t′ y′ → y ≡ y′
   -- to_graph and nuvaleta_graph; s: image, b: bundle; x₁ to x₆: node table, edge table, value store, import table, include table, levels; y: at exit
   pub graph : (s b : List ℕ) (x₁ x₂ x₃ x₄ x₅ x₆ x₁′ x₂′ x₃′ x₄′ x₅′ x₆′ : List ℕ) → lengthsOf x₁ x₂ x₃ x₄ x₅ x₆ ≡ lengthsOf x₁′ x₂′ x₃′ x₄′ x₅′ x₆′
       → {r r′ : Graphed} {y₁ y₂ y₃ y₄ y₅ y₆ y₁′ y₂′ y₃′ y₄′ y₅′ y₆′ : List ℕ}

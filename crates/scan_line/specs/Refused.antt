@@ -1,4 +1,4 @@
--- A refusal prints `refused N keyword K at P`; over 32,768 bytes `input too long`, each closed by byte 10.
+-- A refusal prints `refused N keyword K at P`; over 32,768 bytes `input too long`, each closed by byte 10. (32,768 is deps' limit; meta's is 131,072.)
 -- Assumes nothing.
 use Prim.Native.Nat.{ℕ}
 use mathlib.Core.List.{List, [], _∷_, _++_, flatten}

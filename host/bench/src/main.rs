@@ -106,7 +106,7 @@ const INCLUDED: &str = "\
   like: of real and generated modules most bytes are not looked at. MB/s are bytes lent, not bytes read. 1 MiB of something is read to its end.
 - Image and bundle are a form that the original does not have: for a graph the oracle's reader stands before its `to_graph`, but for the rows
   without reading, where Nuvaleta reads all the same.
-- The original's order is that of petgraph's `toposort`, by which it registers. It is another order than the lowest, and tells one node of a ring. So beside
+- The original's order is that of petgraph's `toposort`, by which it registers. It is another order than the lowest, and of a ring it tells one node. So beside
   Nuvaleta's order stands also a plain Kahn with a heap, which gives the same list and the same ring. Many routers are put in order by that Kahn.
 - Both sides gave the same: the numbers of imports and includes, whether metadata are refused, nodes, edges, order, ring, wrong place. Each list of
   `toposort` was accepted by the check, and it found a ring where Nuvaleta did.";

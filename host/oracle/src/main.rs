@@ -149,9 +149,9 @@ fn work() {
     }
 }
 
-/// A scan reads a mebibyte in 0.2 seconds at worst, so a microsecond a byte is several times what it may take.
+/// Each text is read twice, a mebibyte in 0.4 seconds at worst, so two microseconds a byte are several times what it may take.
 fn scan_limit(text: &str) {
-    limit(10_000 + text.len() as i64);
+    limit(10_000 + 2 * text.len() as i64);
 }
 
 /// A circle of includes scans its texts some thousand times before the stack is full.
