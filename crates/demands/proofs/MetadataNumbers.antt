@@ -41,10 +41,16 @@ use Rattle.scan_tag.specs.declared.Tag.{Tag}
 use Rattle.scan_tag.specs.declared.Tag.the-variants.{Statement}
 use Rattle.scan_metadata.specs.Metadata.{Metadata, nothing, Scan, good, bad, ended, afterHeard, metadataTurn, scanFrom, scanned, ifFit, metadata}
 use Rattle.demands.specs.Demand1.{FirstRefusal, Fits, RefusedAs, first, read, MetadataRefusal, no-value, no-byte, no-name}
-use Rattle.demands.proofs.ScanNumbers.{isOne, refusal, of, DueIs, ArgumentIs, due-is, value-is, turns-all, LentIs, lent-is, first-unfit}
+use Rattle.demands.proofs.ScanNumbers.{isOne, some-number, refusal, of, DueIs, ArgumentIs, due-is, value-is, turns-all, LentIs, lent-is, first-unfit}
 
 abbrev pub M : Refusal → Type 0
 M r = MetadataRefusal r
+
+pub metadata-number : (q : Refusal) → MetadataRefusal q → q .number ≡ 0 → ⊥
+unfolding isOne
+metadata-number q (no-value o) = some-number (4 ∷ []) (o .number) refl
+metadata-number q (no-byte o) = some-number (5 ∷ 6 ∷ []) (o .number) refl
+metadata-number q (no-name o) = some-number (9 ∷ []) (o .number) refl
 
 -- ---- what follows a value
 

@@ -21,7 +21,7 @@ use Rattle.text.specs.declared.Match.{Match}
 use Rattle.text.specs.declared.Match.the-variants.{After as Matched, Not as Unmatched}
 use Rattle.text.specs.declared.Refusal.{Refusal}
 use Rattle.text.specs.declared.Run.the-variants.{Low}
-use Rattle.text.proofs.Here.{by-test}
+use Rattle.text.proofs.Here.{by-test, never}
 use Rattle.text.proofs.Turns.{turns-rule}
 use Rattle.text_value.specs.Argument.{argumentOf, argumentAt, afterDue, afterArgument, lineAt}
 use Rattle.text_value.specs.Value.{Val, value, none, valueAt}
@@ -90,6 +90,10 @@ is-one {n} (List·Memᴰ·tail {x = k} m) = go (eqb n k) (is-one m)
     go true h = refl
     go false h = h
 
+-- a refusal's number is not 0
+pub some-number : {n : ℕ} (ks : List ℕ) → List·Memᴰ n ks → isOne 0 ks ≡ false → n ≡ 0 → ⊥
+some-number ks m f e = never (ap (λ z. isOne z ks) e ∙ f) (is-one m)
+
 abbrev pub refusal : ℕ → ℕ → ℕ → Refusal
 refusal n k at = record { number = n; keyword = k; at = at }
 
@@ -143,6 +147,12 @@ module _ (P : Refusal → Type 0) where
 
 abbrev pub D : Refusal → Type 0
 D r = DependenciesRefusal r
+
+pub dependencies-number : (q : Refusal) → DependenciesRefusal q → q .number ≡ 0 → ⊥
+unfolding isOne
+dependencies-number q (argument o) = some-number (4 ∷ 5 ∷ 6 ∷ []) (o .number) refl
+dependencies-number q (no-prefix o) = some-number (7 ∷ []) (o .number) refl
+dependencies-number q (block-or-rows o) = some-number (8 ∷ 10 ∷ []) (o .number) refl
 
 D-number : (k : ℕ) → isOne k (5 ∷ 8 ∷ 9 ∷ 10 ∷ []) ≡ true → (n : ℕ) → isOne n (4 ∷ 5 ∷ 6 ∷ []) ≡ true → (at : ℕ) → D (refusal n k at)
 D-number k h n i at = argument (of (4 ∷ 5 ∷ 6 ∷ []) (5 ∷ 8 ∷ 9 ∷ 10 ∷ []) n k at i h)
@@ -354,6 +364,11 @@ module _ (s : List ℕ) (short : Bool) where
   first-unfit r (too-long h e) = sym (lent-long s short h) ∙ ap Unfit (sym e)
   first-unfit r (too-little f h e) = sym (lent-short s short f h) ∙ ap Unfit (sym e)
   first-unfit r (high f v h e) = sym (lent-high s short f v refl h) ∙ ap Unfit (sym e)
+
+  pub first-number : (r : Refusal) → FirstRefusal s short r → r .number ≡ 0 → ⊥
+  first-number r (too-long h e) z = omega (arith, z, ap (λ q. q .number) e)
+  first-number r (too-little h k e) z = omega (arith, z, ap (λ q. q .number) e)
+  first-number r (high h k l e) z = omega (arith, z, ap (λ q. q .number) e)
 
   WholeIs : Deps.Scan → Type 0
   WholeIs (Deps.good d) = Unit {0}

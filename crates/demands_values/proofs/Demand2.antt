@@ -5,7 +5,7 @@ use native.Mathlib.Omega.{arith}
 use mathlib.Core.Path.{_≡_, refl, sym, ap, subst, _∙_}
 use mathlib.Core.Logic.{_⊎_, inl, inr, ⊎-elim}
 use mathlib.Core.Bool.{Bool, true, false, cond}
-use mathlib.Core.List.{List, [], _∷_, _++_, append-nil, List·Memᴰ}
+use mathlib.Core.List.{List, [], _∷_, _++_, append-nil}
 use lib.Dec.{eqb, ltb}
 use lib.ListN.{length, getD, drop}
 use lib.Seq.{sets-eq}
@@ -36,10 +36,9 @@ use Rattle.scan_metadata.specs.Metadata.{Metadata, firstOf, valuesOf, Reading, 
 use Rattle.scan_metadata.proofs.ScanLaws.{scan-good}
 use Rattle.host_words.specs.Words.{recordWords}
 use Rattle.nuvaleta.specs.Words.{numberOf, answerWords}
-use Rattle.demands.specs.Demand1.{too-long, too-little, high, RefusedAs, first, read, DependenciesRefusal, argument, no-prefix, block-or-rows}
-use Rattle.demands.specs.Demand1.{MetadataRefusal, no-value, no-byte, no-name}
-use Rattle.demands.proofs.MetadataNumbers.{metadata-refused}
-use Rattle.demands.proofs.ScanNumbers.{isOne, is-one, dependencies-refused}
+use Rattle.demands.specs.Demand1.{RefusedAs, first, read}
+use Rattle.demands.proofs.MetadataNumbers.{metadata-number, metadata-refused}
+use Rattle.demands.proofs.ScanNumbers.{dependencies-number, first-number, dependencies-refused}
 use Rattle.demands_rfc.specs.Rfc.{reads, rfcValue}
 use Rattle.demands_rfc.specs.RfcDomain.{plainAt}
 use Rattle.demands_rfc.specs.RfcQuoted.{Quoted}
@@ -115,21 +114,10 @@ over-rows s short d t u {r} {e} {f} {g} l i j n h =
     (held-imports x sound holds (room .1)) (held-includes x sound holds (room .2)))
 
 -- a refusal's number is not 0
-some-number : {n : ℕ} (ks : List ℕ) → List·Memᴰ n ks → isOne 0 ks ≡ false → n ≡ 0 → ⊥
-some-number ks m f e = never (ap (λ z. isOne z ks) e ∙ f) (is-one m)
-
 refused-number : {Read : Refusal → Type 0} {s : List ℕ} {short : Bool} {r : Refusal} → ((q : Refusal) → Read q → q .number ≡ 0 → ⊥)
     → RefusedAs Read s short r → r .number ≡ 0 → ⊥
-refused-number numbered (first (too-long h e)) z = omega (arith, z, ap (λ q. q .number) e)
-refused-number numbered (first (too-little h k e)) z = omega (arith, z, ap (λ q. q .number) e)
-refused-number numbered (first (high h k l e)) z = omega (arith, z, ap (λ q. q .number) e)
+refused-number {s = s} {short = short} {r = r} numbered (first f) z = first-number s short r f z
 refused-number {r = r} numbered (read f h) z = numbered r h z
-
-dependencies-number : (q : Refusal) → DependenciesRefusal q → q .number ≡ 0 → ⊥
-unfolding isOne
-dependencies-number q (argument o) = some-number (4 ∷ 5 ∷ 6 ∷ []) (o .number) refl
-dependencies-number q (no-prefix o) = some-number (7 ∷ []) (o .number) refl
-dependencies-number q (block-or-rows o) = some-number (8 ∷ 10 ∷ []) (o .number) refl
 
 -- the counts of a good answer in words, with more words behind
 module _ (s : List ℕ) (short : Bool) (d t u : List ℕ) {e f g : List ℕ} (l : Leaves (dependencies s short) d t u (parsedOf (dependencies s short)) e f g) where
@@ -226,12 +214,6 @@ words-read s store a b c d e f r = record {
   newest =
       told-either (NoHeader s revisionWord) (Met (metadataTurn s) (λ b. b .at) s revisionWord store begin) f (λ h. h .value .present) (r .newest);
 }
-
-metadata-number : (q : Refusal) → MetadataRefusal q → q .number ≡ 0 → ⊥
-unfolding isOne
-metadata-number q (no-value o) = some-number (4 ∷ []) (o .number) refl
-metadata-number q (no-byte o) = some-number (5 ∷ 6 ∷ []) (o .number) refl
-metadata-number q (no-name o) = some-number (9 ∷ []) (o .number) refl
 
 -- a good call is a good scan
 metadata-good : (s : List ℕ) (short : Bool) (m : Metadata) → metadata s short ≡ Metadata.good m → Metadata.scanned s ≡ Metadata.good m

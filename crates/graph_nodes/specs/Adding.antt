@@ -13,6 +13,7 @@ use Rattle.library_image.specs.Image.{mostImage}
 use Rattle.library_index.specs.Names.{among, namesIn, Indexed}
 use Rattle.library_items.specs.Items.{moduleKind, submoduleKind, importOnlyKind, firstSubKind, ItemOf, libraryOf}
 use Rattle.library_items.specs.Table.{itemIn, ItemFits}
+use Rattle.graph.specs.Graph.{tooManyNodes}
 use Rattle.graph.specs.Limits.{mostNodes}
 use Rattle.graph.specs.Nodes.{Mode, memb, wordNodes}
 use Rattle.graph_nodes.specs.declared.Grown.{Grown}
@@ -101,6 +102,11 @@ NodesAs mode TooMany s tab = mostNodes < length (wordsAt mode s)
 pub record Constructed (mode : Mode) (s tab : List ℕ) (r : Nodes) (after : List ℕ) : Type 0 where
   pub answer : NodesAs mode r s after
   pub kept : length after ≡ length tab
+
+-- its refusal's number, or 0
+unfoldable pub nodesNumber : Nodes → ℕ
+nodesNumber (Count n) = 0
+nodesNumber TooMany = tooManyNodes
 
 -- ---- a node by its name, and a name by its node
 

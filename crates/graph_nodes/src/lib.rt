@@ -12,10 +12,13 @@ ghost use Rattle.library_items.specs.Table.{itemIn, itemWord, Itemized};
 ghost use Rattle.graph.specs.Nodes.{passOver};
 ghost use Rattle.graph.specs.Numbers.{numberOf};
 ghost use Rattle.graph_nodes.specs.Adding.{nodeTable, isEntry, isSub, so, addName, addItem, namesHeld, Adds, AddsItem, Grew, Constructed, Stands};
-ghost use Rattle.graph_nodes.specs.Adding.{Numbered};
+ghost use Rattle.graph_nodes.specs.Adding.{nodesNumber, Numbered};
 
 // How many words the index of nodes has, with room for one too many.
 pub const NODE_TABLE: usize = 5123;
+
+// The refusal of this layer.
+pub const TOO_MANY_NODES: u32 = 30;
 
 // How many nodes there are now, and whether submodules that come now are added; or there are too many.
 pub enum Grown {
@@ -23,10 +26,20 @@ pub enum Grown {
     Full,
 }
 
-// How many nodes there are, or too many (refusal 30).
+// How many nodes there are, or too many.
 pub enum Nodes {
     Count(usize),
     TooMany,
+}
+
+// The number of its refusal, or 0.
+pub fn nodes_number(x: Nodes) -> u32
+    ensures { λ r. ⌜ r ≡ nodesNumber x ⌝ }
+{
+    match x {
+        Nodes::Count(_) => text::NO_REFUSAL,
+        Nodes::TooMany => TOO_MANY_NODES,
+    }
 }
 
 // A module or an import-only module.

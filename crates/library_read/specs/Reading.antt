@@ -8,7 +8,7 @@ use mathlib.Core.List.{List, [], _∷_, _++_}
 use lib.ListN.{length}
 use Rattle.library_form.specs.Form.{Ans, good, bad, bind, PlacedName}
 use Rattle.library_index.specs.Names.{newName, namesIn, Indexed}
-use Rattle.library_image.specs.Image.{mostImage, mostModules, Reader, counted}
+use Rattle.library_image.specs.Image.{imageBroken, mostImage, mostModules, Reader, counted}
 use Rattle.library_lists.specs.Lists.{readSeen, restAt}
 use Rattle.library_lists.specs.declared.Read.{Read}
 use Rattle.library_lists.specs.declared.Read.the-variants.{End, Wrong}
@@ -52,3 +52,8 @@ pub record Roomy (s tab : List ℕ) : Type 0 where
 pub record ReadAs (r : Read) (expected : Ans Unit) (tab after : List ℕ) : Type 0 where
   pub answer : readSeen r ≡ expected
   pub kept : length after ≡ length tab
+
+-- of an image: its refusal's number, or 0
+unfoldable pub readNumber : Read → ℕ
+readNumber (End n) = 0
+readNumber (Wrong p) = imageBroken

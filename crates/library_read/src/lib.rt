@@ -8,7 +8,7 @@ ghost use mathlib.Core.Bool.{true, false};
 ghost use mathlib.Core.List.{[]};
 ghost use Rattle.library_index.specs.Names.{Space};
 ghost use Rattle.library_image.specs.Image.{setAt, libraryAt, imageAt};
-ghost use Rattle.library_read.specs.Reading.{entriesAt, EntryTaken, Roomy, ReadAs};
+ghost use Rattle.library_read.specs.Reading.{entriesAt, EntryTaken, Roomy, ReadAs, readNumber};
 ghost use Rattle.library_lists.specs.Lists.{done, readSeen};
 
 // The refusal of this layer: an image that breaks its form.
@@ -114,4 +114,14 @@ pub fn read_image(s: &[u8]) -> Read
         return Read::Wrong(end);
     }
     read
+}
+
+// Of an image that was read: the number of its refusal, or 0.
+pub fn read_number(x: Read) -> u32
+    ensures { λ r. ⌜ r ≡ readNumber x ⌝ }
+{
+    match x {
+        Read::End(_) => 0,
+        Read::Wrong(_) => IMAGE_BROKEN,
+    }
 }

@@ -8,10 +8,12 @@ use lib.Dec.{eqb, leb}
 use lib.ListN.{length}
 use Rattle.text.specs.Bytes.{semicolon, openBrace, look}
 use Rattle.text.specs.Due.{dueAt}
+use Rattle.text.specs.Refusal.{noRefusal}
 use Rattle.text.specs.Scan.{gapEnd}
 use Rattle.text.specs.Words.{moduleKeyword, submoduleKeyword, belongsToKeyword, prefixKeyword, yangVersionKeyword, revisionKeyword}
 use Rattle.text.specs.declared.Due.{Due}
 use Rattle.text.specs.declared.Due.the-variants.{After, Not}
+use Rattle.text.specs.declared.Refusal.{Refusal}
 use Rattle.text_value.specs.Argument.{argumentAt}
 use Rattle.text_value.specs.Value.{valueAt, valueBytes}
 use Rattle.text_value.specs.declared.Argument.{Argument}
@@ -104,3 +106,10 @@ saidHere s at u hasPrefix = cond (leb (length s) at) (said (Done (record { at = 
 
 unfoldable pub saidAt : List ℕ → ℕ → ℕ → Bool → Said
 saidAt s at u hasPrefix = saidHere s (gapEnd s at) u hasPrefix
+
+-- its refusal, or none
+unfoldable pub heardRefusal : Heard → Refusal
+heardRefusal (Value k x c n) = noRefusal
+heardRefusal (Passed c) = noRefusal
+heardRefusal (Done c) = noRefusal
+heardRefusal (Refused r) = r

@@ -13,7 +13,7 @@ ghost use lib.Seq.{sets};
 ghost use Rattle.text.specs.Class.{classTable};
 ghost use Rattle.text_skip.specs.Skip.{skippedAt};
 ghost use Rattle.scan_header.specs.Header.{pastOf, pastStatement, dueFor, afterRevision, afterValue, passed, afterSkipped, fieldAt, laterPrefix};
-ghost use Rattle.scan_header.specs.Header.{statementSaid, saidAt};
+ghost use Rattle.scan_header.specs.Header.{statementSaid, saidAt, heardRefusal};
 
 // A value was read for a keyword; or something was passed that is not kept; or the scan is over; or a refusal.
 pub enum Heard {
@@ -26,6 +26,23 @@ pub enum Heard {
     Passed(Cursor),
     Done(Cursor),
     Refused(Refusal),
+}
+
+// The refusal of what was heard, or none.
+pub fn heard_refusal(x: Heard) -> Refusal
+    ensures { λ r. ⌜ r ≡ heardRefusal x ⌝ }
+{
+    match x {
+        Heard::Value {
+            keyword: _,
+            value: _,
+            next: _,
+            used: _,
+        } => text::no_refusal(),
+        Heard::Passed(_) => text::no_refusal(),
+        Heard::Done(_) => text::no_refusal(),
+        Heard::Refused(r) => r,
+    }
 }
 
 // Reads the statement, or skips the token, that stands after a gap. `prefixed`: a prefix was read before.

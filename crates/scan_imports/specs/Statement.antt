@@ -7,10 +7,12 @@ use mathlib.Core.List.{List, _++_}
 use lib.Dec.{eqb}
 use Rattle.text.specs.Bytes.{openBrace, semicolon, look}
 use Rattle.text.specs.Due.{dueHere}
+use Rattle.text.specs.Refusal.{noRefusal}
 use Rattle.text.specs.Scan.{gapEnd}
 use Rattle.text.specs.Words.{importKeyword, includeKeyword}
 use Rattle.text.specs.declared.Due.{Due}
 use Rattle.text.specs.declared.Due.the-variants.{After, Not}
+use Rattle.text.specs.declared.Refusal.{Refusal}
 use Rattle.text_value.specs.Value.{valueAt, valueBytes}
 use Rattle.text_value.specs.Argument.{argumentAt, lineAt}
 use Rattle.text_value.specs.declared.Argument.{Argument}
@@ -53,6 +55,11 @@ afterName s u bytes (RefusedValue r) = record { answer = NoImport r; bytes = byt
 unfoldable pub importAt : List ℕ → ℕ → ℕ → Left ParsedImport
 importAt s at u = afterName s u (valueBytes (valueAt s at)) (lineAt s at u importKeyword openBrace)
 
+-- its refusal, or none
+unfoldable pub importRefusal : ParsedImport → Refusal
+importRefusal (Import c n i) = noRefusal
+importRefusal (NoImport r) = r
+
 -- ---- an include
 
 unfoldable pub includeOf : Span → Block → ParsedInclude
@@ -79,3 +86,8 @@ afterValue s u bytes (RefusedValue r) = record { answer = NoInclude r; bytes = b
 
 unfoldable pub includeAt : List ℕ → ℕ → ℕ → Left ParsedInclude
 includeAt s at u = afterValue s u (valueBytes (valueAt s at)) (argumentAt s at u includeKeyword)
+
+-- its refusal, or none
+unfoldable pub includeRefusal : ParsedInclude → Refusal
+includeRefusal (Include c n i) = noRefusal
+includeRefusal (NoInclude r) = r

@@ -15,7 +15,7 @@ ghost use lib.Seq.{sets};
 ghost use Rattle.text.specs.Class.{classTable};
 ghost use Rattle.text.specs.Words.{includeKeyword};
 ghost use Rattle.scan_block.specs.Block.{blockAt};
-ghost use Rattle.scan_imports.specs.Statement.{ofBody, importAt, includeOf, includeAt};
+ghost use Rattle.scan_imports.specs.Statement.{ofBody, importAt, importRefusal, includeOf, includeAt, includeRefusal};
 
 // The refusal of an import closed without prefix.
 pub const NO_PREFIX: u32 = 7;
@@ -85,6 +85,20 @@ fn import_of(name: Span, body: Body) -> ParsedImport
         keyword: text::IMPORT,
         at: body.at,
     })
+}
+
+// The refusal of an import, or none.
+pub fn import_refusal(x: ParsedImport) -> Refusal
+    ensures { λ r. ⌜ r ≡ importRefusal x ⌝ }
+{
+    match x {
+        ParsedImport::Import {
+            next: _,
+            used: _,
+            import: _,
+        } => text::no_refusal(),
+        ParsedImport::NoImport(r) => r,
+    }
 }
 
 // An include with the cursor after it and the store's next place, or a refusal.
@@ -160,5 +174,19 @@ fn include_block(
             submodule_name: name,
             revision_date,
         },
+    }
+}
+
+// The refusal of an include, or none.
+pub fn include_refusal(x: ParsedInclude) -> Refusal
+    ensures { λ r. ⌜ r ≡ includeRefusal x ⌝ }
+{
+    match x {
+        ParsedInclude::Include {
+            next: _,
+            used: _,
+            include: _,
+        } => text::no_refusal(),
+        ParsedInclude::NoInclude(r) => r,
     }
 }

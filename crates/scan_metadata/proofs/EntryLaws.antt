@@ -11,12 +11,12 @@ use lib.Seq.{length-sets}
 use borrow.Author.Tests.{ltb-false}
 use Rattle.text.specs.Class.{classTable}
 use Rattle.text.specs.declared.Refusal.{Refusal}
-use Rattle.text_lent.specs.Lent.{lentAt}
+use Rattle.text_lent.specs.Lent.{lentAt, lentRefusal}
 use Rattle.text_lent.specs.Padded.{zeros, padded}
 use Rattle.text_lent.specs.declared.Lent.{Lent}
 use Rattle.text_lent.specs.declared.Lent.the-variants.{Fit, Unfit}
 use Rattle.text_lent.proofs.Clears.{written-zero, padded-none}
-use Rattle.text_lent.proofs.LentLaws.{fit-said}
+use Rattle.text_lent.proofs.LentLaws.{unfit-is, fit-said}
 use Rattle.scan_metadata.specs.Metadata.{Scan, good, bad, scanned, ifFit, metadata, refusedWith, answerOf, storedOf, keptOf}
 use Rattle.scan_metadata.specs.Promises.{Parses, Cleared, Leaves, Extracts}
 use Rattle.scan_metadata.specs.declared.YangModuleMetadata.{YangModuleMetadata}
@@ -83,7 +83,7 @@ module _ (s d : List ℕ) {e : List ℕ} (ee : e ≡ zeros (length d)) {short : 
       subst (λ x. Leaves x d r e′) (sym (scan-is h))
       (record { answer = w .answer; stored = w .stored ∙ ap (λ n. padded n (keptOf (scanned s))) as-long })
 
-  pub entry-refused : (q : Refusal) → lent ≡ Unfit q → {r : YangModuleMetadata} → r ≡ refusedWith q → Extracts s d r e
+  pub entry-refused : (q : Refusal) → lent ≡ Unfit q → {p : Refusal} → p ≡ lentRefusal lent → {r : YangModuleMetadata} → r ≡ refusedWith p → Extracts s d r e
   unfolding ifFit answerOf keptOf
-  entry-refused q h {r} a =
-      subst (λ x. Leaves x d r e) (sym (scan-is h)) (record { answer = a; stored = ee ∙ padded-none (length d) })
+  entry-refused q h f {r} a =
+      subst (λ x. Leaves x d r e) (sym (scan-is h)) (record { answer = a ∙ ap refusedWith (unfit-is h f); stored = ee ∙ padded-none (length d) })

@@ -18,7 +18,7 @@ use Rattle.scan_rows.proofs.Laws.{each-of}
 use Rattle.scan_rows.proofs.Values.{value-stored}
 use Rattle.scan_newest.specs.Newest.{Revision, Read, newest, newestFrom}
 use Rattle.scan_newest.proofs.NewestLaws.{newest-valued}
-use Rattle.scan_header.specs.Header.{saidAt}
+use Rattle.scan_header.specs.Header.{saidAt, heardRefusal}
 use Rattle.scan_header.specs.declared.Heard.{Heard}
 use Rattle.scan_header.specs.declared.Heard.the-variants.{Value, Passed, Done, Refused}
 use Rattle.scan_header.proofs.SaidLaws.{said-value, said-passed, said-done, said-room}
@@ -154,8 +154,8 @@ module _ {s d : List ℕ} where
           (ae ∙ ap (λ vs. endedWith vs used (c .at)) (j .held) ∙ ap (λ n. endedWith (valuesOf m) n (c .at)) (j .count) ∙ ended-is m (c .at))
           (same-stored (w .2) ∙ ap (sets d 0) (sym (stored-is m (c .at))))
 
-      pub loop-refused : (q : Refusal) → r ≡ Refused q → {a : YangModuleMetadata} → a ≡ refusedWith q → Parses s d a e′
-      unfolding answerOf storedOf
-      loop-refused q h ae =
+      pub loop-refused : (q : Refusal) → r ≡ Refused q → {p : Refusal} → p ≡ heardRefusal r → {a : YangModuleMetadata} → a ≡ refusedWith p → Parses s d a e′
+      unfolding answerOf storedOf heardRefusal
+      loop-refused q h f ae =
           loop-ends (bad q (j .read .bytes ++ heard s here .bytes))
-          (scan-refused s here q (step-answer h)) ae step-stored
+          (scan-refused s here q (step-answer h)) (ae ∙ ap refusedWith (f ∙ ap heardRefusal h)) step-stored

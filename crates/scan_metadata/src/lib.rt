@@ -43,10 +43,10 @@ pub fn extract_yang_metadata(s: &[u8], store: &mut [u8]) -> YangModuleMetadata
     let classes = text::classes();
     let short = store.len() < s.len();
     let lent = text_lent::check_lent(&classes, s, short);
-    match lent {
-        Lent::Fit => parse_cleared(&classes, s, store),
-        Lent::Unfit(r) => refused(r),
-    }
+    let Lent::Fit = lent else {
+        return refused(text_lent::lent_refusal(lent));
+    };
+    parse_cleared(&classes, s, store)
 }
 
 // The scan over zeros. A refusal clears what it wrote.
@@ -92,8 +92,8 @@ fn parse_metadata(classes: &[u8; 128], s: &[u8], store: &mut [u8]) -> YangModule
             Heard::Done(end) => {
                 return ended(values, used, end);
             }
-            Heard::Refused(r) => {
-                return refused(r);
+            Heard::Refused(_) => {
+                return refused(scan_header::heard_refusal(heard));
             }
         }
     }

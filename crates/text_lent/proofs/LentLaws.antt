@@ -1,6 +1,6 @@
 -- The checks of what is lent: each test that comes before leaves the next one to decide.
 -- Assumes nothing.
-use mathlib.Core.Path.{_≡_, refl, sym}
+use mathlib.Core.Path.{_≡_, refl, sym, ap, _∙_}
 use mathlib.Core.Bool.{Bool, true, false}
 use mathlib.Core.List.{List}
 use Prim.Native.Nat.{ℕ, _<_, _≤_}
@@ -12,7 +12,7 @@ use Rattle.text.specs.Scan.{runEnd}
 use Rattle.text.specs.declared.Refusal.{Refusal}
 use Rattle.text.specs.declared.Run.the-variants.{Low}
 use Rattle.text.proofs.Here.{by-test}
-use Rattle.text_lent.specs.Lent.{lentAt}
+use Rattle.text_lent.specs.Lent.{lentAt, lentRefusal}
 use Rattle.text_lent.specs.declared.Lent.{Lent}
 use Rattle.text_lent.specs.declared.Lent.the-variants.{Fit, Unfit}
 
@@ -35,6 +35,10 @@ module _ (s : List ℕ) (short : Bool) where
       pub lent-fit : length s ≤ at → Fit ≡ lentAt s short
       unfolding lentAt
       lent-fit h = rw (le-ltb 1048576 (length s) fits) (rw enough (rw (← e) (rw (le-ltb at (length s) h) refl)))
+
+pub unfit-is : {x : Lent} {r q : Refusal} → x ≡ Unfit r → q ≡ lentRefusal x → q ≡ r
+unfolding lentRefusal
+unfit-is h e = e ∙ ap lentRefusal h
 
 -- a text that is scanned: not too long, everything lent long enough
 unfit-not : {x : Lent} {r : Refusal} → x ≡ Unfit r → x ≡ Fit → ⊥

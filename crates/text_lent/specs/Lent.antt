@@ -6,8 +6,9 @@ use mathlib.Core.Bool.{Bool, cond}
 use mathlib.Core.List.{List}
 use lib.Dec.{ltb}
 use lib.ListN.{length}
-use Rattle.text.specs.Refusal.{textTooLong, lentTooShort, highByteMet}
+use Rattle.text.specs.Refusal.{noRefusal, textTooLong, lentTooShort, highByteMet}
 use Rattle.text.specs.Scan.{runEnd}
+use Rattle.text.specs.declared.Refusal.{Refusal}
 use Rattle.text.specs.declared.Run.the-variants.{Low}
 use Rattle.text_lent.specs.declared.Lent.{Lent}
 use Rattle.text_lent.specs.declared.Lent.the-variants.{Fit, Unfit}
@@ -21,3 +22,8 @@ lentAt s short =
     cond (ltb mostText (length s)) (Unfit (record { number = textTooLong; keyword = 0; at = 0 }))
     (cond short (Unfit (record { number = lentTooShort; keyword = 0; at = 0 }))
     (cond (ltb (runEnd Low s 0) (length s)) (Unfit (record { number = highByteMet; keyword = 0; at = runEnd Low s 0 })) Fit))
+
+-- its refusal, or none
+unfoldable pub lentRefusal : Lent → Refusal
+lentRefusal Fit = noRefusal
+lentRefusal (Unfit r) = r

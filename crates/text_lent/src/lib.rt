@@ -3,7 +3,7 @@ use text::Refusal;
 ghost use mathlib.Core.Path.{_≡_};
 ghost use lib.ListN.{length, take};
 ghost use Rattle.text.specs.Class.{classTable};
-ghost use Rattle.text_lent.specs.Lent.{lentAt};
+ghost use Rattle.text_lent.specs.Lent.{lentAt, lentRefusal};
 ghost use Rattle.text_lent.specs.Padded.{zeros};
 
 // The longest text.
@@ -81,4 +81,14 @@ pub fn check_lent(classes: &[u8; 128], s: &[u8], short: bool) -> Lent
         });
     }
     Lent::Fit
+}
+
+// The refusal of what was lent, or none.
+pub fn lent_refusal(x: Lent) -> Refusal
+    ensures { λ r. ⌜ r ≡ lentRefusal x ⌝ }
+{
+    match x {
+        Lent::Fit => text::no_refusal(),
+        Lent::Unfit(r) => r,
+    }
 }

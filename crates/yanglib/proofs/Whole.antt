@@ -19,11 +19,12 @@ use Rattle.library_bundle.specs.declared.Opened.the-variants.{Wrong as WrongBun
 use Rattle.library_lists.specs.Lists.{done, readSeen}
 use Rattle.library_lists.specs.declared.Read.{Read}
 use Rattle.library_lists.specs.declared.Read.the-variants.{End, Wrong}
+use Rattle.library_read.specs.Reading.{readNumber}
 use Rattle.library_items.specs.Table.{Itemized}
 use Rattle.graph.specs.Nodes.{Mode}
 use Rattle.text.specs.Refusal.{noRefusal}
 use Rattle.graph.specs.Limits.{mostNodes}
-use Rattle.graph_nodes.specs.Adding.{wordsAt, namesHeld, Holding, Constructed}
+use Rattle.graph_nodes.specs.Adding.{wordsAt, namesHeld, Holding, Constructed, nodesNumber}
 use Rattle.graph_nodes.specs.declared.Nodes.{Nodes}
 use Rattle.graph_nodes.specs.declared.Nodes.the-variants.{Count, TooMany}
 use Rattle.graph_nodes.proofs.Looking.{Bytes, as-held, held-entries}
@@ -68,13 +69,14 @@ module _ {mode : Mode} {s b btab : List ℕ} {texts : ℕ} (p : BothRead s b bta
     ready = record { reads = p .reads; bytes = all-bytes s bytes; result = refl }
 
     module _ {store imports includes levels edges nodes : List ℕ} (f : Lent b store imports includes levels edges) (h : LentNodes nodes) where
-      pub nodes-many : r ≡ TooMany → {a : Refusal} → a ≡ noRefusal
-          → Holds (drawResult mode s b) nodes edges store imports includes levels (Refused 30 0 a 0) nodes edges store imports includes levels
-      nodes-many e {a} z =
+      pub nodes-many : r ≡ TooMany → {number : ℕ} → number ≡ nodesNumber r → {a : Refusal} → a ≡ noRefusal
+          → Holds (drawResult mode s b) nodes edges store imports includes levels (Refused number 0 a 0) nodes edges store imports includes levels
+      unfolding nodesNumber
+      nodes-many e m z =
           let many : mostNodes < length (wordsAt mode s) = rw e at (c .answer) in
           let x = too-many s b (drawResult mode s b) ready many in
           record {
-            answer = ap (λ (a : Refusal). Refused 30 0 a 0) z ∙ sym (ap (λ (y : Result). y .answer) x);
+            answer = ap₂ (λ (i : ℕ) (a : Refusal). Refused i 0 a 0) (m ∙ ap nodesNumber e) z ∙ sym (ap (λ (y : Result). y .answer) x);
             nodes = h .zero ∙ no-nodes (length nodes) ∙ sym (ap (λ (y : Result). padded (length nodes) (nodeWords (y .nodes))) x);
             edges = f .edges-zero ∙ no-rows (length edges) ∙ sym (ap (λ (y : Result). padded (length edges) (rowWords (y .rows))) x);
             kept = kept-same store imports includes levels;
@@ -143,9 +145,10 @@ module _ (mode : Mode) (s b nodes edges store imports includes levels : List ℕ
     kept = kept-same store imports includes levels;
   }
 
-  pub no-image : {r : Read} {p : ℕ} {a : Refusal} → r ≡ Wrong p → readSeen r ≡ done (imageAt s) → a ≡ noRefusal
-      → Holds (graphed mode s b k) nodes edges store imports includes levels (Refused 20 0 a p) nodes edges store imports includes levels
-  no-image {r} e q z = refusing z (image-wrong mode s b k r e q)
+  pub no-image : {r : Read} {p number : ℕ} {a : Refusal} → r ≡ Wrong p → readSeen r ≡ done (imageAt s) → number ≡ readNumber (Wrong p) → a ≡ noRefusal
+      → Holds (graphed mode s b k) nodes edges store imports includes levels (Refused number 0 a p) nodes edges store imports includes levels
+  unfolding readNumber
+  no-image {r} {p} e q n z = refusing z (image-wrong mode s b k r e q ∙ ap (λ (i : ℕ). refusal i 0 noRefusal p) (sym n))
 
   pub no-bundle : {r : Read} {j : ℕ} {o : Opened} {tab : List ℕ} {p : ℕ} {a : Refusal} → r ≡ End j → readSeen r ≡ done (imageAt s) → OpenedAs b o tab
       → o ≡ WrongBundle p → a ≡ noRefusal

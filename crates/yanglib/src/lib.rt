@@ -15,10 +15,8 @@ ghost use Rattle.graph_tables.specs.Lengths.{lengthsOf};
 ghost use Rattle.graph_draw.specs.Draw.{BothRead, Lent};
 ghost use Rattle.yanglib.specs.Between.{LentNodes, drawResult, Holds};
 
-// The refusals of this layer.
+// The refusal of this layer.
 pub const LENT_TOO_SHORT: u32 = 22;
-
-pub const TOO_MANY_NODES: u32 = 30;
 
 // How many nodes and edges there are; or a refusal's number, entry, scan answer and place.
 pub enum Graphed {
@@ -49,8 +47,9 @@ fn draw(
     let mut table: [u32; library_items::TABLE] = [0; library_items::TABLE];
     let count = library_items::list_items(image, &mut table);
     let mut ntab: [u32; graph_nodes::NODE_TABLE] = [0; graph_nodes::NODE_TABLE];
-    let Nodes::Count(n) = graph_nodes::construct_nodes(image, &table, count, &mut ntab) else {
-        return Graphed::Refused(TOO_MANY_NODES, 0, text::no_refusal(), 0);
+    let made = graph_nodes::construct_nodes(image, &table, count, &mut ntab);
+    let Nodes::Count(n) = made else {
+        return Graphed::Refused(graph_nodes::nodes_number(made), 0, text::no_refusal(), 0);
     };
     let sizes = Sizes { texts, nodes: n };
     match graph_draw::draw_edges(
@@ -94,7 +93,7 @@ fn read_and_draw(
 {
     let read = library_read::read_image(image);
     if let Read::Wrong(p) = read {
-        return Graphed::Refused(library_read::IMAGE_BROKEN, 0, text::no_refusal(), p);
+        return Graphed::Refused(library_read::read_number(read), 0, text::no_refusal(), p);
     }
     let mut btab: [u32; library_bundle::TABLE] = [0; library_bundle::TABLE];
     match library_bundle::open(bundle, &mut btab) {

@@ -16,7 +16,7 @@ use Rattle.scan_rows.specs.Rows.{importSize, includeSize, mostRows, importWords
 use Rattle.scan_rows.specs.declared.Span.{Span}
 use Rattle.scan_rows.specs.declared.YangImport.{YangImport}
 use Rattle.scan_rows.specs.declared.YangInclude.{YangInclude}
-use Rattle.scan_imports.specs.Statement.{importAt, includeAt}
+use Rattle.scan_imports.specs.Statement.{importAt, importRefusal, includeAt, includeRefusal}
 use Rattle.scan_imports.specs.declared.ParsedImport.{ParsedImport}
 use Rattle.scan_imports.specs.declared.ParsedImport.the-variants.{Import as ReadImport, NoImport}
 use Rattle.scan_imports.specs.declared.ParsedInclude.{ParsedInclude}
@@ -78,9 +78,9 @@ module _ (s : List ℕ) (far : Sofar) (at : ℕ) (d t : List ℕ) where
     unfolding importStep importWordsOf importTable table importWords
     import-added c n i q fe = import-room-for q (record { answer = refl; stored = ee; written = fe })
 
-    pub import-not : (r : Refusal) → x ≡ NoImport r → AddsImport s far at d t (Stop r) e t
-    unfolding importStep importWordsOf importTable table
-    import-not r q = import-room-for q (record { answer = refl; stored = ee; written = refl })
+    pub import-not : (r : Refusal) → x ≡ NoImport r → {a : Refusal} → a ≡ importRefusal x → AddsImport s far at d t (Stop a) e t
+    unfolding importStep importWordsOf importTable table importRefusal
+    import-not r q h = import-room-for q (record { answer = ap Stop (h ∙ ap importRefusal q); stored = ee; written = refl })
 
 -- ---- an include
 
@@ -108,9 +108,9 @@ module _ (s : List ℕ) (far : Sofar) (at : ℕ) (d t : List ℕ) where
     unfolding includeStep includeWordsOf includeTable table includeWords
     include-added c n i q fe = include-room-for q (record { answer = refl; stored = ee; written = fe })
 
-    pub include-not : (r : Refusal) → x ≡ NoInclude r → AddsInclude s far at d t (Stop r) e t
-    unfolding includeStep includeWordsOf includeTable table
-    include-not r q = include-room-for q (record { answer = refl; stored = ee; written = refl })
+    pub include-not : (r : Refusal) → x ≡ NoInclude r → {a : Refusal} → a ≡ includeRefusal x → AddsInclude s far at d t (Stop a) e t
+    unfolding includeStep includeWordsOf includeTable table includeRefusal
+    include-not r q h = include-room-for q (record { answer = ap Stop (h ∙ ap includeRefusal q); stored = ee; written = refl })
 
 -- ---- a row holds words
 

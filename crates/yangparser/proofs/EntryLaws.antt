@@ -7,12 +7,12 @@ use Prim.Native.Nat.{ℕ, _*_, _<_, _≤_}
 use native.Mathlib.Omega.{arith}
 use lib.ListN.{length}
 use Rattle.text.specs.declared.Refusal.{Refusal}
-use Rattle.text_lent.specs.Lent.{lentAt}
+use Rattle.text_lent.specs.Lent.{lentAt, lentRefusal}
 use Rattle.text_lent.specs.Padded.{zeros, padded}
 use Rattle.text_lent.specs.declared.Lent.{Lent}
 use Rattle.text_lent.specs.declared.Lent.the-variants.{Fit, Unfit}
 use Rattle.text_lent.proofs.Clears.{written-zero, padded-none}
-use Rattle.text_lent.proofs.LentLaws.{fit-said}
+use Rattle.text_lent.proofs.LentLaws.{unfit-is, fit-said}
 use Rattle.scan_rows.specs.Rows.{importSize, includeSize, mostRows, importTable, includeTable, table}
 use Rattle.yangparser.specs.Dependencies.{Dependencies, none, importWordsOf, includeWordsOf, Scan, good, bad, scanned, ifFit, dependencies, parsedOf}
 use Rattle.yangparser.specs.Dependencies.{readOf, keptOf}
@@ -68,11 +68,11 @@ module _ (s : List ℕ) (else : Bool) (d t u : List ℕ) {short : Bool} (se : sh
   unfolding ifFit
   over-scanned h {r} {e} {f} {g} w = subst (λ x. Parses x d t u r e f g) (sym (scan-is h)) w
 
-  pub over-refused : (r : Refusal) → lent ≡ Unfit r → Scans s else d t u (Refused r) d t u
+  pub over-refused : (r : Refusal) → lent ≡ Unfit r → {q : Refusal} → q ≡ lentRefusal lent → Scans s else d t u (Refused q) d t u
   unfolding ifFit readOf parsedOf importWordsOf includeWordsOf importTable includeTable table
-  over-refused r h =
-      subst (λ x. Parses x d t u (Refused r) d t u) (sym (scan-is h))
-      (record { answer = refl; holds = record { stored = refl; imports = refl; includes = refl } })
+  over-refused r h {q} e =
+      subst (λ x. Parses x d t u (Refused q) d t u) (sym (scan-is h))
+      (record { answer = ap Refused (unfit-is h e); holds = record { stored = refl; imports = refl; includes = refl } })
 
 -- ---- the entry; d, t and u: what was lent, e, f and g: the same cleared, after the scan e′, f′ and g′
 

@@ -86,10 +86,10 @@ pub fn scan_over(
     let classes = text::classes();
     let unfit = scan_rows::too_short(short, s.len(), store.len(), imports.len(), includes.len());
     let lent = text_lent::check_lent(&classes, s, unfit);
-    match lent {
-        Lent::Fit => parse(&classes, s, store, imports, includes),
-        Lent::Unfit(r) => Parsed::Refused(r),
-    }
+    let Lent::Fit = lent else {
+        return Parsed::Refused(text_lent::lent_refusal(lent));
+    };
+    parse(&classes, s, store, imports, includes)
 }
 
 // Where the scan stands, the store's next place, and the rows so far.
@@ -222,19 +222,17 @@ fn add_import(
         return full(text::IMPORT, here);
     }
     let read = scan_imports::parse_import(here, classes, s, store, far.used);
-    match read {
-        ParsedImport::Import { next, used, import } => {
-            scan_rows::put_import(imports, rows, import);
-            let more = rows + 1;
-            Next::On(Sofar {
-                at: next.at,
-                used,
-                imports: more,
-                includes: far.includes,
-            })
-        }
-        ParsedImport::NoImport(r) => Next::Stop(r),
-    }
+    let ParsedImport::Import { next, used, import } = read else {
+        return Next::Stop(scan_imports::import_refusal(read));
+    };
+    scan_rows::put_import(imports, rows, import);
+    let more = rows + 1;
+    Next::On(Sofar {
+        at: next.at,
+        used,
+        imports: more,
+        includes: far.includes,
+    })
 }
 
 // Reads an include and writes its row; the 257th is refused.
@@ -256,21 +254,20 @@ fn add_include(
         return full(text::INCLUDE, here);
     }
     let read = scan_imports::parse_include(here, classes, s, store, far.used);
-    match read {
-        ParsedInclude::Include {
-            next,
-            used,
-            include,
-        } => {
-            scan_rows::put_include(includes, rows, include);
-            let more = rows + 1;
-            Next::On(Sofar {
-                at: next.at,
-                used,
-                imports: far.imports,
-                includes: more,
-            })
-        }
-        ParsedInclude::NoInclude(r) => Next::Stop(r),
-    }
+    let ParsedInclude::Include {
+        next,
+        used,
+        include,
+    } = read
+    else {
+        return Next::Stop(scan_imports::include_refusal(read));
+    };
+    scan_rows::put_include(includes, rows, include);
+    let more = rows + 1;
+    Next::On(Sofar {
+        at: next.at,
+        used,
+        imports: far.imports,
+        includes: more,
+    })
 }

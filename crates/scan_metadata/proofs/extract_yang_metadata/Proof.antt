@@ -6,6 +6,17 @@ use Rattle.scan_metadata.proofs.EntryLaws.{entry-cleared, entry-scanned
 use Rattle.scan_metadata.proofs.extract_yang_metadata.Statement.{statement}
 use Rattle.scan_metadata.proofs.extract_yang_metadata.Tie as tie
 
+returns : tie.Need-returns
+returns c =
+    let refusal = c .before in
+    let told = refusal .before in
+    let check = told .before .before in
+    let clear = check .before .before .before .before .before in
+    let a = clear .before .before .before .before .args in
+    let k = told .enum-told2 .given in
+    entry-refused (a .s .now) (a .store .now) (clear .clear-bytes .ensures) refl (check .check-lent .ensures) (k .0 .0) (k .1)
+    (refusal .lent-refusal .ensures) (c .refused .ensures)
+
 parse-cleared-requires : tie.Need-parse-cleared-requires
 parse-cleared-requires c κs =
     let told = c .before .before in
@@ -16,23 +27,14 @@ parse-cleared-requires c κs =
     entry-cleared (a .s .now) (a .store .now) (clear .clear-bytes .ensures) refl (check .check-lent .ensures) (told .enum-told .given .1)
     (classes .classes .ensures)
 
-returns : tie.Need-returns
-returns c =
+returns-2 : tie.Need-returns-2
+returns-2 c =
     let told = c .before .before .before .before .before in
     let check = told .before .before in
     let clear = check .before .before .before .before .before in
     let a = clear .before .before .before .before .args in
     entry-scanned (a .s .now) (a .store .now) (clear .clear-bytes .ensures) refl (check .check-lent .ensures) (told .enum-told .given .1)
     (c .before .before .parse-cleared .ensures)
-
-returns-2 : tie.Need-returns-2
-returns-2 c =
-    let lent = c .before .before in
-    let check = lent .before .before in
-    let clear = check .before .before .before .before .before in
-    let a = clear .before .before .before .before .args in
-    let k = lent .lent .given in
-    entry-refused (a .s .now) (a .store .now) (clear .clear-bytes .ensures) refl (check .check-lent .ensures) (k .0 .0) (k .1) (c .refused .ensures)
 
 pub extract-yang-metadata-spec : {M : Type 1} → statement M
 extract-yang-metadata-spec =
@@ -42,10 +44,11 @@ extract-yang-metadata-spec =
     (λ c κs. search needs)
     (λ c κs. search needs)
     (λ c. search needs)
-    parse-cleared-requires
     (λ c. search needs)
+    (λ c κs. search needs)
     (λ c κs. search needs)
     (λ c. search needs)
     returns
+    parse-cleared-requires
     (λ c. search needs)
     returns-2)

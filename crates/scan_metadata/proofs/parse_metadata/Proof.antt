@@ -99,8 +99,8 @@ returns-2 c =
     let at-loop = c .before .before .before .before .before .before .before .before .before in
     let j = at-loop .loop .inv in
     let h = hear .hear .ensures in
-    let k = c .before .before .heard4 .given in
-    loop-refused j refl (h .0) (h .1) (k .0 .0) (k .1) (c .refused .ensures)
+    let k = c .before .before .enum-told .given in
+    loop-refused j refl (h .0) (h .1) (k .0 .0) (k .1) (c .before .heard-refusal .ensures) (c .refused .ensures)
 
 pub parse-metadata-spec : {M : Type 1} → statement M
 parse-metadata-spec =
@@ -124,6 +124,7 @@ parse-metadata-spec =
     same-length
     returns
     (λ c. search needs)
+    (λ c κs. search needs)
     refused-requires
     same-length-2
     returns-2)

@@ -19,22 +19,23 @@ construct-nodes-requires c κs =
 returns : tie.Need-returns
 returns c =
     let no-refusal1 = c in
-    let enum-told1 = no-refusal1 .before in
+    let nodes-number1 = no-refusal1 .before in
+    let enum-told1 = nodes-number1 .before in
     let construct-nodes1 = enum-told1 .before .before .before in
     let shared-slice-known1 = construct-nodes1 .before .before .before .before .before .before .before .before .before .before .before .before .before .before
     in
     let start = shared-slice-known1 .before in
     nodes-many (start .pre .0) (construct-nodes1 .construct-nodes .ensures) (shared-slice-known1 .shared-slice-known .given) (start .pre .1) (start .pre .2)
-    (enum-told1 .enum-told .given .1) (no-refusal1 .no-refusal .ensures)
+    (enum-told1 .enum-told .given .1) (nodes-number1 .nodes-number .ensures) (no-refusal1 .no-refusal .ensures)
 
 draw-edges-requires : tie.Need-draw-edges-requires
 draw-edges-requires c κs =
-    let n1 = c .before .before .before .before .before .before .before .before in
-    let construct-nodes1 = n1 .before .before .before in
+    let made1 = c .before .before .before .before .before .before .before .before in
+    let construct-nodes1 = made1 .before .before .before in
     let list-items1 = construct-nodes1 .before .before .before .before in
     let shared-slice-known1 = list-items1 .before .before .before .before .before .before .before .before .before .before in
     let start = shared-slice-known1 .before in (
-      prepared (start .pre .0) (construct-nodes1 .construct-nodes .ensures) (shared-slice-known1 .shared-slice-known .given) (n1 .n .given .1)
+      prepared (start .pre .0) (construct-nodes1 .construct-nodes .ensures) (shared-slice-known1 .shared-slice-known .given) (made1 .made .given .1)
           (list-items1 .list-items .ensures .0),
       start .pre .1,
     )
@@ -42,38 +43,38 @@ draw-edges-requires c κs =
 put-nodes-requires : tie.Need-put-nodes-requires
 put-nodes-requires c κs =
     let draw-edges1 = c .before .before .before .before .before .before .before .before .before .before .before .before .before .before .before in
-    let n1 = draw-edges1 .before .before .before .before .before .before .before .before .before in
-    let construct-nodes1 = n1 .before .before .before in
+    let made1 = draw-edges1 .before .before .before .before .before .before .before .before .before in
+    let construct-nodes1 = made1 .before .before .before in
     let shared-slice-known1 = construct-nodes1 .before .before .before .before .before .before .before .before .before .before .before .before .before .before
     in
     let start = shared-slice-known1 .before in
     nodes-room (start .pre .0) (construct-nodes1 .construct-nodes .ensures) (shared-slice-known1 .shared-slice-known .given) (start .pre .1) (start .pre .2)
-    (n1 .n .given .1) (draw-edges1 .draw-edges .ensures)
+    (made1 .made .given .1) (draw-edges1 .draw-edges .ensures)
 
 returns-2 : tie.Need-returns-2
 returns-2 c =
     let number1 = c .before in
     let draw-edges1 = number1 .before .before .before .before .before .before .before .before .before .before .before .before in
-    let n1 = draw-edges1 .before .before .before .before .before .before .before .before .before in
-    let construct-nodes1 = n1 .before .before .before in
+    let made1 = draw-edges1 .before .before .before .before .before .before .before .before .before in
+    let construct-nodes1 = made1 .before .before .before in
     let shared-slice-known1 = construct-nodes1 .before .before .before .before .before .before .before .before .before .before .before .before .before .before
     in
     let start = shared-slice-known1 .before in
     held-refused (start .pre .0) (construct-nodes1 .construct-nodes .ensures) (shared-slice-known1 .shared-slice-known .given) (start .pre .1) (start .pre .2)
-    (n1 .n .given .1) (draw-edges1 .draw-edges .ensures) (number1 .number .given .1)
+    (made1 .made .given .1) (draw-edges1 .draw-edges .ensures) (number1 .number .given .1)
 
 returns-3 : tie.Need-returns-3
 returns-3 c =
     let put-nodes1 = c .before .before in
     let m1 = put-nodes1 .before .before .before .before in
     let draw-edges1 = m1 .before .before .before .before .before .before .before .before .before .before .before .before in
-    let n1 = draw-edges1 .before .before .before .before .before .before .before .before .before in
-    let construct-nodes1 = n1 .before .before .before in
+    let made1 = draw-edges1 .before .before .before .before .before .before .before .before .before in
+    let construct-nodes1 = made1 .before .before .before in
     let shared-slice-known1 = construct-nodes1 .before .before .before .before .before .before .before .before .before .before .before .before .before .before
     in
     let start = shared-slice-known1 .before in
     held-built (start .pre .0) (construct-nodes1 .construct-nodes .ensures) (shared-slice-known1 .shared-slice-known .given) (start .pre .1) (start .pre .2)
-    (n1 .n .given .1) (draw-edges1 .draw-edges .ensures) (m1 .m .given .1) (put-nodes1 .put-nodes .ensures)
+    (made1 .made .given .1) (draw-edges1 .draw-edges .ensures) (m1 .m .given .1) (put-nodes1 .put-nodes .ensures)
 
 pub draw-spec : {M : Type 1} → statement M
 draw-spec =
@@ -86,6 +87,7 @@ draw-spec =
     construct-nodes-requires
     (λ c. search needs)
     (λ c. search needs)
+    (λ c κs. search needs)
     (λ c κs. search needs)
     returns
     (λ c. search needs)

@@ -10,11 +10,12 @@ use Rattle.yanglib.proofs.read_and_draw.Tie as tie
 returns : tie.Need-returns
 returns c =
     let no-refusal1 = c in
-    let read1 = no-refusal1 .before .before in
+    let read-number1 = no-refusal1 .before in
+    let read1 = read-number1 .before .before in
     let read-image1 = read1 .before .before in
     let start = read-image1 .before .before .before .before .before .before .before .before .before in
     no-image passOver _ _ _ _ _ _ _ _ (start .pre .0) (start .pre .1) (read1 .read .given .1) (read-image1 .read-image .ensures)
-    (no-refusal1 .no-refusal .ensures)
+    (read-number1 .read-number .ensures) (no-refusal1 .no-refusal .ensures)
 
 longest-requires : tie.Need-longest-requires
 longest-requires c κs =
@@ -86,6 +87,7 @@ read-and-draw-spec =
     (tie.spec
     (λ c κs. search needs)
     (λ c. search needs)
+    (λ c κs. search needs)
     (λ c κs. search needs)
     returns
     (λ c. search needs)

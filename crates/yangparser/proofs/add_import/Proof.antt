@@ -9,14 +9,14 @@ use Rattle.yangparser.proofs.add_import.Tie as tie
 returns : tie.Need-returns
 returns c = search import-full
 
+returns-2 : tie.Need-returns-2
+returns-2 c = search import-not
+
 put-import-requires : tie.Need-put-import-requires
 put-import-requires c κs = (omega arith, search needs, search import-words-fit)
 
-returns-2 : tie.Need-returns-2
-returns-2 c = search import-added
-
 returns-3 : tie.Need-returns-3
-returns-3 c = search import-not
+returns-3 c = search import-added
 
 pub add-import-spec : {M : Type 1} → statement M
 add-import-spec =
@@ -26,11 +26,12 @@ add-import-spec =
     returns
     (λ c κs. search needs)
     (λ c. search needs)
+    (λ c. search needs)
+    (λ c κs. search needs)
+    (λ c. search needs)
+    returns-2
     put-import-requires
     (λ c. search needs)
     (λ c. search needs)
-    (λ c. search needs)
-    (λ c. search needs)
-    returns-2
     (λ c. search needs)
     returns-3)

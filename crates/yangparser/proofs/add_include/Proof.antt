@@ -9,14 +9,14 @@ use Rattle.yangparser.proofs.add_include.Tie as tie
 returns : tie.Need-returns
 returns c = search include-full
 
+returns-2 : tie.Need-returns-2
+returns-2 c = search include-not
+
 put-include-requires : tie.Need-put-include-requires
 put-include-requires c κs = (omega arith, search needs, search include-words-fit)
 
-returns-2 : tie.Need-returns-2
-returns-2 c = search include-added
-
 returns-3 : tie.Need-returns-3
-returns-3 c = search include-not
+returns-3 c = search include-added
 
 pub add-include-spec : {M : Type 1} → statement M
 add-include-spec =
@@ -26,11 +26,12 @@ add-include-spec =
     returns
     (λ c κs. search needs)
     (λ c. search needs)
+    (λ c. search needs)
+    (λ c κs. search needs)
+    (λ c. search needs)
+    returns-2
     put-include-requires
     (λ c. search needs)
     (λ c. search needs)
-    (λ c. search needs)
-    (λ c. search needs)
-    returns-2
     (λ c. search needs)
     returns-3)

@@ -5,6 +5,9 @@ use borrow.Author.Needs.{needs}
 use Rattle.yangparser.proofs.scan_over.Statement.{statement}
 use Rattle.yangparser.proofs.scan_over.Tie as tie
 
+returns : tie.Need-returns
+returns c = search over-refused
+
 parse-requires : tie.Need-parse-requires
 parse-requires c κs =
     let told = c .before .before .before .before in
@@ -16,11 +19,8 @@ parse-requires c κs =
     (short .too-short .ensures) (check .check-lent .ensures) (told .enum-told .given .1) in
     (classes .classes .ensures, k .0, k .1, k .2, k .3)
 
-returns : tie.Need-returns
-returns c = search over-scanned
-
 returns-2 : tie.Need-returns-2
-returns-2 c = search over-refused
+returns-2 c = search over-scanned
 
 pub scan-over-spec : {M : Type 1} → statement M
 scan-over-spec =
@@ -30,10 +30,11 @@ scan-over-spec =
     (λ c κs. search needs)
     (λ c κs. search needs)
     (λ c. search needs)
+    (λ c. search needs)
+    (λ c κs. search needs)
+    returns
     parse-requires
     (λ c. search needs)
     (λ c. search needs)
     (λ c. search needs)
-    (λ c. search needs)
-    returns
     returns-2)
