@@ -71,7 +71,7 @@ from_c_and_rust() {
     "$here/../examples/test.sh"
 }
 
-# The first three ask the original nothing.
+# The first three ask the original nothing. Where the original never ends, the texts wait for it: the others go on beside them.
 compared() {
     [ "$minor" -ge 88 ] || { skip "no Rust of 1.88 or newer" "the comparison"; return 0; }
     "$here/compare/build.sh"
@@ -79,7 +79,8 @@ compared() {
     "$compare" changes 3 24
     "$compare" orders 13 20000
     judged || return 0
-    "$compare" texts 7 10000
+    "$compare" texts 7 10000 >"$work/texts" 2>&1 &
+    texts=$!
     # shellcheck disable=SC2086
     "$compare" files 3 3 $real
     "$compare" finds 5 2000
@@ -90,6 +91,10 @@ compared() {
     "$compare" graph-of "$work/libyuma-base.image" "$work/libyuma-base.bundle"
     "$here/vectors/real-library.sh" "$work/real.image" "$work/real.bundle"
     "$compare" graph-of "$work/real.image" "$work/real.bundle"
+    status=0
+    wait "$texts" || status=$?
+    cat "$work/texts"
+    return "$status"
 }
 
 over() {

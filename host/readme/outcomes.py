@@ -3,7 +3,8 @@
 `equal`: the promise says by equations what is returned and what is left in each buffer that is lent to be written, and the right sides know neither.
 A field of `Views` (crates/demands/specs/OneOutcome.antt): the same, but of that view of what is returned. A field of `OneOutcome`: it
 speaks of the record that the promise is. `open`: the function stands in the page's table of what is left open. `system`: it is one of
-crates/replay, and speaks with the system; the page says what it promises."""
+crates/replay, and speaks with the system; the page says what it promises. The table under "Inner functions" names each public function that requires
+something, and no other."""
 import re
 import sys
 from pathlib import Path
@@ -23,11 +24,25 @@ def told():
             yield from (((crate, name), law) for name in names.split(", "))
 
 
+def clauses():
+    """function of a crate: its parameters and answer, and its clauses."""
+    for file in sorted((ROOT / "crates").glob("*/src/lib.rt")):
+        for name, head, text in PUBLIC.findall(file.read_text()):
+            yield (file.parts[-3], name), (head, text)
+
+
 def written():
     """function of a crate: its parameters and answer, and its promise."""
-    for file in sorted((ROOT / "crates").glob("*/src/lib.rt")):
-        for name, head, clauses in PUBLIC.findall(file.read_text()):
-            yield (file.parts[-3], name), (head, re.findall(r"ensures \{\s*λ (\w+)\.\s*⌜(.*?)⌝", clauses, re.S))
+    for key, (head, text) in clauses():
+        yield key, (head, re.findall(r"ensures \{\s*λ (\w+)\.\s*⌜(.*?)⌝", text, re.S))
+
+
+def required():
+    """What is wrong with the table of the functions that require something."""
+    part = PAGE.split("| crate | functions | they require |")[1].split("\n\n")[0]
+    told = {(crate, name) for crate, names in re.findall(r"^\| (\w+) \| ([\w, ]+) \|", part, re.M) for name in names.split(", ")}
+    there = {key for key, (_, text) in clauses() if "requires" in text}
+    return ["::".join(key) + (": it requires something, and the table does not have it" if key in there else ": it requires nothing") for key in sorted(told ^ there)]
 
 
 def conjuncts(promise):
@@ -104,7 +119,9 @@ def main():
             faults += [f"{name}: {law} of OneOutcome does not speak of {', '.join(sorted(lost))}"] if lost or not promises else []
     if faults:
         sys.exit("\n".join(["outcomes: of these functions docs/PROMISES.md does not say rightly why they have one outcome:", *faults]))
-    print(f"outcomes: docs/PROMISES.md says of each of the {len(functions)} public functions why it has one outcome")
+    if required():
+        sys.exit("\n".join(["outcomes: docs/PROMISES.md does not say rightly which functions require something:", *required()]))
+    print(f"outcomes: docs/PROMISES.md says of each of the {len(functions)} public functions why it has one outcome, and which require something")
 
 
 if __name__ == "__main__":
