@@ -17,7 +17,7 @@ TOPICS = [
     ("the order of registration", set(), ["nuvaleta/Orders"]),
     ("demand 1: which refusals a call can give; one outcome of each", set(), ["demands/Demand1", "demands/OneOutcome", "demands/Answers"]),
     ("demand 2: each value is the one behind its keyword; RFC 7950's quoted values; the newest revision", set(),
-     ["demands_values/Demand2", "demands_rfc/RfcEquality", "demands_rfc/RfcQuoted", "demands/Newest"]),
+     ["demands_values/Demand2", "demands_rfc/RfcEquality", "demands_rfc/RfcQuoted", "demands_scans/Newest"]),
     ("demand 3: which edges a graph has", set(), ["demands/Demand3", "demands/Demand3Needs"]),
     ("what an order is, by edges alone", set(), ["demands_order/Order", "demands/OrderCalls"]),
     ("document 01's starred examples", set(), ["demands/Starred"]),

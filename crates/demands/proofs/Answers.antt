@@ -37,10 +37,10 @@ use Rattle.graph_nodes.specs.Adding.{wordsAt, NodesAs, nodesNumber}
 use Rattle.graph_nodes.specs.declared.Nodes.{Nodes}
 use Rattle.graph_nodes.specs.declared.Nodes.the-variants.{Count, TooMany}
 use Rattle.host_words.specs.Words.{toldWords}
-use Rattle.demands.specs.Demand1.{FirstRefusal, too-little, DependenciesRefusal, MetadataRefusal}
+use Rattle.demands_scans.specs.Refusals.{FirstRefusal, too-little, DependenciesRefusal, MetadataRefusal}
 use Rattle.demands.specs.Answers.{Refuses, Answers}
-use Rattle.demands.proofs.ScanNumbers.{ImportedIs, IncludedIs, import-is, include-is, dependencies-number, LentIs, lent-is, first-unfit, first-number}
-use Rattle.demands.proofs.MetadataNumbers.{HeardIs, said-is, metadata-number}
+use Rattle.demands_scans.proofs.ScanNumbers.{ImportedIs, IncludedIs, import-is, include-is, dependencies-number, LentIs, lent-is, first-unfit, first-number}
+use Rattle.demands_scans.proofs.MetadataNumbers.{HeardIs, said-is, metadata-number}
 
 -- ---- an answer that is a refusal, and one that is none
 

@@ -1,11 +1,8 @@
 pub mod Graphing
-pub mod MetadataNumbers
 pub mod Needs
-pub mod NewestRight
 pub mod Numbers
 pub mod OrderCalls
 pub mod Outcomes
-pub mod ScanNumbers
 pub mod Standing
 pub mod Starred
 pub mod TablesRead

@@ -36,9 +36,9 @@ use Rattle.yanglib.specs.ToGraph.{Result, resultOf, graphed}
 use Rattle.graph_tables.specs.Lengths.{Lengths, tooShort}
 use Rattle.yanglib.specs.declared.Graphed.the-variants.{Built, Refused}
 use Rattle.demands.specs.Demand1.{GraphCause, image, bundle, lent, graph, GraphNumbers, Buildable, Demand1}
-use Rattle.demands.proofs.ScanNumbers.{isOne, one-of, is-one, dependencies-refused, dependencies-first}
+use Rattle.demands_scans.proofs.ScanNumbers.{isOne, one-of, is-one, dependencies-refused, dependencies-first}
 use Rattle.demands.proofs.Graphing.{graphHere, before, graph-reached, drawn}
-use Rattle.demands.proofs.MetadataNumbers.{metadata-refused, metadata-first}
+use Rattle.demands_scans.proofs.MetadataNumbers.{metadata-refused, metadata-first}
 use Rattle.demands.proofs.Zeros.{zeros-left}
 
 -- ---- finds and texts

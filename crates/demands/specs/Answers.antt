@@ -30,7 +30,7 @@ use Rattle.graph.specs.Nodes.{Mode}
 use Rattle.graph_nodes.specs.Adding.{wordsAt, Constructed, nodesNumber}
 use Rattle.graph_nodes.specs.declared.Nodes.{Nodes}
 use Rattle.host_words.specs.Words.{toldWords}
-use Rattle.demands.specs.Demand1.{FirstRefusal, DependenciesRefusal, MetadataRefusal}
+use Rattle.demands_scans.specs.Refusals.{FirstRefusal, DependenciesRefusal, MetadataRefusal}
 
 -- x: an answer; `No r`: the case of the refusal r; refusal: the definition that gives every case its refusal; Due: which refusals can come
 pub record Refuses {A : Type 0} (No : Refusal → A) (refusal : A → Refusal) (Due : Refusal → Type 0) (x : A) : Type 0 where

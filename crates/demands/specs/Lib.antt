@@ -1,4 +1,3 @@
-pub mod Newest
 pub mod OneOutcome
 pub mod Demand3
 pub mod Demand3Needs

@@ -36,9 +36,9 @@ use Rattle.scan_metadata.specs.Metadata.{Metadata, firstOf, valuesOf, Reading, 
 use Rattle.scan_metadata.proofs.ScanLaws.{scan-good}
 use Rattle.host_words.specs.Words.{recordWords}
 use Rattle.nuvaleta.specs.Words.{numberOf, answerWords}
-use Rattle.demands.specs.Demand1.{RefusedAs, first, read}
-use Rattle.demands.proofs.MetadataNumbers.{metadata-number, metadata-refused}
-use Rattle.demands.proofs.ScanNumbers.{dependencies-number, first-number, dependencies-refused}
+use Rattle.demands_scans.specs.Refusals.{RefusedAs, first, read}
+use Rattle.demands_scans.proofs.MetadataNumbers.{metadata-number, metadata-refused}
+use Rattle.demands_scans.proofs.ScanNumbers.{dependencies-number, first-number, dependencies-refused}
 use Rattle.demands_rfc.specs.Rfc.{reads, rfcValue}
 use Rattle.demands_rfc.specs.RfcDomain.{plainAt}
 use Rattle.demands_rfc.specs.RfcQuoted.{Quoted}

@@ -34,7 +34,7 @@ use Rattle.yangparser.proofs.FarLaws.{step-said}
 use Rattle.yangparser.proofs.ScanLaws.{Stands, stands-first, stands-step}
 use Rattle.demands_values.specs.Behind.{Either, Reaches, first, next, InBlock, NotInBlock, ImportRead, IncludeRead}
 use Rattle.demands_values.proofs.BehindLaws.{either-map, behind-more, block-more}
-use Rattle.demands_values.proofs.Walks.{turns-keep}
+use Rattle.demands_scans.proofs.Loops.{turns-keep}
 use Rattle.demands_values.proofs.RowLaws.{EachFrom, from-of, from-append}
 use Rattle.demands_values.proofs.StatementValues.{ImportHas, import-has, NoRevision, IncludeHas, include-has}
 

@@ -1,30 +1,17 @@
--- Loops, and where a scan stands: over each turn and at its end, what was met from there on, and which place was the first and which the last.
+-- Where a scan stands: over each turn and at its end, what was met from there on, and which place was the first and which the last.
 -- Assumes nothing.
-use Prim.Native.Nat.{ℕ, zero, suc, _<_, _≤_}
+use Prim.Native.Nat.{ℕ, _<_, _≤_}
 use mathlib.Core.Path.{_≡_, refl, sym, ap, subst, _∙_}
 use mathlib.Core.Logic.{_⊎_, inl, inr, ⊎-elim}
 use mathlib.Core.List.{List, _++_}
 use native.Mathlib.Omega.{arith}
 use Rattle.text.specs.Keyword.{matchAt}
 use Rattle.text.specs.Scan.{gapEnd}
-use Rattle.text.specs.Turns.{Turn, stop, on, after, turns}
+use Rattle.text.specs.Turns.{Turn, stop, on}
 use Rattle.text.specs.declared.Match.the-variants.{Not}
 use Rattle.scan_rows.specs.declared.Span.{Span}
 use Rattle.demands_values.specs.Behind.{Behind, Reaches, first, next, Unmet, UnmetBefore, UnmetBehind, Met, MetFirst, MetLast}
 use Rattle.demands_values.proofs.BehindLaws.{behind-more}
-
--- ---- a loop: what each turn keeps, and what a turn that stops gives of it, its answer has
-
-module _ {A R : Type 0} (step : A → Turn A R) (none-read : R) (I : A → Type 0) (Q : R → Type 0)
-    (keeps : (a b : A) → I a → step a ≡ on b → I b) (last : (a : A) (r : R) → I a → step a ≡ stop r → Q r) (default : Q none-read) where
-  pub turns-keep : (n : ℕ) (a : A) → I a → Q (turns step none-read n a)
-  unfolding turns
-  turns-keep zero a i = default
-  turns-keep (suc n) a i = go (step a) refl (turns-keep n)
-    where
-      go : (t : Turn A R) → step a ≡ t → ((b : A) → I b → Q (turns step none-read n b)) → Q (after (λ b. turns step none-read n b) t)
-      go (stop r) e h = last a r i e
-      go (on b) e h = h b (keeps a b i e)
 
 -- ---- the states that a loop comes to
 

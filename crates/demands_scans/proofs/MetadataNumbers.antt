@@ -40,8 +40,9 @@ use Rattle.scan_header.specs.declared.Heard.the-variants.{Value, Passed, Done, 
 use Rattle.scan_tag.specs.declared.Tag.{Tag}
 use Rattle.scan_tag.specs.declared.Tag.the-variants.{Statement}
 use Rattle.scan_metadata.specs.Metadata.{Metadata, nothing, Scan, good, bad, ended, afterHeard, metadataTurn, scanFrom, scanned, ifFit, metadata}
-use Rattle.demands.specs.Demand1.{FirstRefusal, Fits, RefusedAs, first, read, MetadataRefusal, no-value, no-byte, no-name}
-use Rattle.demands.proofs.ScanNumbers.{isOne, some-number, refusal, of, DueIs, ArgumentIs, due-is, value-is, turns-all, LentIs, lent-is, first-unfit}
+use Rattle.demands_scans.specs.Refusals.{FirstRefusal, Fits, RefusedAs, first, read, MetadataRefusal, no-value, no-byte, no-name}
+use Rattle.demands_scans.proofs.Loops.{turns-all}
+use Rattle.demands_scans.proofs.ScanNumbers.{isOne, some-number, refusal, of, DueIs, ArgumentIs, due-is, value-is, LentIs, lent-is, first-unfit}
 
 abbrev pub M : Refusal → Type 0
 M r = MetadataRefusal r

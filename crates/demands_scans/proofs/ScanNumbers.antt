@@ -1,7 +1,7 @@
 -- The refusals of a scan, by number and keyword: each comes from a place in the definitions that has both, and nothing on the way changes them. A block
 -- ends before its turns do.
 -- Assumes nothing.
-use Prim.Native.Nat.{ℕ, zero, suc, _+_, _-_}
+use Prim.Native.Nat.{ℕ, suc, _+_, _-_}
 use mathlib.Core.Path.{_≡_, refl, sym, ap, _∙_, subst}
 use mathlib.Core.Bool.{Bool, true, false, cond}
 use mathlib.Core.List.{List, [], _∷_, _++_, List·Memᴰ, List·Memᴰ·head, List·Memᴰ·tail}
@@ -13,7 +13,7 @@ use Rattle.text.specs.Bytes.{look}
 use Rattle.text.specs.Due.{dueNumber, dueHere, dueAt}
 use Rattle.text.specs.Keyword.{matchAt}
 use Rattle.text.specs.Scan.{gapEnd, runEnd}
-use Rattle.text.specs.Turns.{Turn, stop, on, after, turns}
+use Rattle.text.specs.Turns.{stop}
 use Rattle.text.specs.Words.{prefixWord, revisionDateWord}
 use Rattle.text.specs.declared.Due.{Due}
 use Rattle.text.specs.declared.Due.the-variants.{After, Not}
@@ -63,8 +63,9 @@ use Rattle.yangparser.specs.declared.Next.the-variants.{On, Done, Stop}
 use Rattle.yangparser.specs.declared.Sofar.{Sofar}
 use Rattle.scan_head.specs.declared.Head.{Head}
 use Rattle.scan_head.specs.declared.Head.the-variants.{Import, Include, Last, Other}
-use Rattle.demands.specs.Demand1.{OneOf, FirstRefusal, too-long, too-little, high, Fits, RefusedAs, first, read, DependenciesRefusal, argument, no-prefix}
-use Rattle.demands.specs.Demand1.{block-or-rows}
+use Rattle.demands_scans.specs.Refusals.{OneOf, FirstRefusal, too-long, too-little, high, Fits, RefusedAs, first, read, DependenciesRefusal, argument, no-prefix}
+use Rattle.demands_scans.specs.Refusals.{block-or-rows}
+use Rattle.demands_scans.proofs.Loops.{turns-all}
 
 -- ---- membership of numerals, by test
 
@@ -315,18 +316,6 @@ unfolding stepAt stepHere
 step-is s far =
     let g = gapEnd s (far .at) in
     by-test (leb (length s) g) (λ t. rw t tt) (λ t. rw t (head-is s far g (headAt s g)))
-
--- what holds of every answer of a turn holds of the loop's
-module _ {A R : Type 0} (step : A → Turn A R) (nothing-read : R) (P : R → Type 0)
-    (last : (a : A) (r : R) → step a ≡ stop r → P r) (default : P nothing-read) where
-  pub turns-all : (n : ℕ) (a : A) → P (turns step nothing-read n a)
-  unfolding turns
-  turns-all zero a = default
-  turns-all (suc n) a = go (step a) refl (turns-all n)
-    where
-      go : (t : Turn A R) → step a ≡ t → ((b : A) → P (turns step nothing-read n b)) → P (after (λ b. turns step nothing-read n b) t)
-      go (stop r) e h = last a r e
-      go (on b) e h = h b
 
 abbrev ScanIs : Deps.Scan → Type 0
 ScanIs (Deps.good d) = Unit {0}

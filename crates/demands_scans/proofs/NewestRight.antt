@@ -14,7 +14,7 @@ use Rattle.text_lent.specs.declared.Lent.{Lent}
 use Rattle.text_lent.specs.declared.Lent.the-variants.{Fit, Unfit}
 use Rattle.scan_metadata.specs.Metadata.{Metadata, Scan, good, scanned, ifFit, metadata}
 use Rattle.scan_metadata.proofs.ScanLaws.{Kept, scan-placed}
-use Rattle.demands.specs.Newest.{NewestIsRight, NewestRight}
+use Rattle.demands_scans.specs.Newest.{NewestIsRight, NewestRight}
 
 some-present : (rs : List Revision) → Each Read rs → (rs ≡ [] → ⊥) → Read (newest rs)
 some-present [] h n = absurd (n refl)

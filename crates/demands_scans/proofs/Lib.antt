@@ -1,0 +1,4 @@
+pub mod Loops
+pub mod ScanNumbers
+pub mod MetadataNumbers
+pub mod NewestRight
