@@ -1,6 +1,6 @@
 //! JSON, of which only the writing is needed: strings, lists, objects, and a refusal with all that is known of it.
 
-use nuvaleta::{By, Dependencies, Entry, Graph, Line, Listed, Metadata, Order, Refusal, ScanRefusal, Why};
+use nuvaleta::{About, By, Checked, Dependencies, Entry, Graph, Line, Listed, Meaning, Metadata, Order, Refusal, ScanRefusal, Warning, Why};
 
 /// A string. Every control byte is escaped, so that a value stays on one line.
 pub fn quoted(s: &str) -> String {
@@ -63,20 +63,56 @@ pub fn order(order: &Order) -> String {
     object(vec![("order", list(order.names.iter().map(|name| quoted(name))))])
 }
 
+pub fn texts(texts: &[About]) -> String {
+    object(vec![("texts", list(texts.iter().map(about)))])
+}
+
+fn about(about: &About) -> String {
+    let refused = |scan: &ScanRefusal| object(vec![("refused", scan_refusal(scan, scan.line(about.text).as_ref()))]);
+    object(vec![
+        ("name", quoted(about.name)),
+        ("bytes", about.text.len().to_string()),
+        ("metadata", about.metadata.as_ref().map_or_else(refused, metadata)),
+        ("dependencies", about.dependencies.as_ref().map_or_else(refused, dependencies)),
+        ("warnings", list(about.warnings.iter().map(|warning| object(of_warning(warning))))),
+    ])
+}
+
+fn of_warning(warning: &Warning) -> Fields {
+    vec![
+        ("kind", quoted(warning.kind.word())),
+        ("line", warning.line.to_string()),
+        ("column", warning.column.to_string()),
+        ("words", quoted(&warning.words)),
+    ]
+}
+
+pub fn checked(checked: &Checked) -> String {
+    let warning = |(text, warning): &(String, Warning)| object([vec![("text", quoted(text))], of_warning(warning)].concat());
+    object(vec![("faults", list(checked.faults.iter().map(refusal))), ("warnings", list(checked.warnings.iter().map(warning)))])
+}
+
 // ---- refusals
+
+/// What a number's refusals say first: the number, and words of its own; and last, what to do about it.
+fn with_advice(number: u32, words: String, known: Fields) -> String {
+    let mut fields = vec![("number", number.to_string()), ("words", quoted(&words))];
+    fields.extend(known);
+    fields.extend(Meaning::of(number).map(|meaning| ("advice", quoted(meaning.advice))));
+    object(fields)
+}
 
 /// What is known of a refusal, without the braces of `{"refused": ..}` around it.
 pub fn refusal(r: &Refusal) -> String {
-    let mut fields = vec![("number", r.number().to_string()), ("words", quoted(&r.words()))];
-    fields.extend(match r {
+    let known = match r {
         Refusal::ImageBroken { place, .. } | Refusal::BundleBroken { place, .. } | Refusal::ListWrong { place, .. } => {
             vec![("place", place.to_string())]
         }
         Refusal::Walk { entry, why } => [of_entry(entry), of_why(why)].concat(),
         Refusal::Ring(names) => vec![("ring", list(names.iter().map(|name| quoted(name))))],
         _ => Vec::new(),
-    });
-    object(fields)
+    };
+    with_advice(r.number(), r.words(), known)
 }
 
 fn of_entry(entry: &Entry) -> Fields {
@@ -124,9 +160,7 @@ fn of_scan(scan: &ScanRefusal, line: Option<&Line>) -> Fields {
 
 /// The refusal of a single text, as `refusal` has it.
 pub fn scan_refusal(scan: &ScanRefusal, line: Option<&Line>) -> String {
-    let mut fields = vec![("number", scan.number().to_string()), ("words", quoted(&scan.words()))];
-    fields.extend(of_scan(scan, line));
-    object(fields)
+    with_advice(scan.number(), scan.words(), of_scan(scan, line))
 }
 
 #[cfg(test)]

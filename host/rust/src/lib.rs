@@ -27,6 +27,7 @@
 
 #![deny(unsafe_code, missing_docs)]
 
+mod check;
 mod find;
 #[path = "../../vectors/src/form.rs"]
 #[allow(dead_code)] // a plain reader of the form, for the names and texts behind a refusal
@@ -34,6 +35,7 @@ mod form;
 mod graph;
 mod meaning;
 mod order;
+mod plain;
 pub mod raw;
 mod refusal;
 mod scan;
@@ -41,8 +43,10 @@ mod scan_refusal;
 #[allow(unsafe_code)]
 mod sys;
 mod walk;
+mod warning;
 mod words;
 
+pub use check::{check, texts, About, Checked};
 pub use find::{find_import_module, find_module, find_submodule, text, ImportModule};
 pub use graph::{graph, Buffers, Edge, Graph};
 pub use meaning::Meaning;
@@ -51,5 +55,6 @@ pub use raw::{BUNDLE_MOST, IMAGE_MOST, TEXT_MOST};
 pub use refusal::{By, Entry, Fault, Listed, Refusal, Spot, Why};
 pub use scan::{dependencies, metadata, Dependencies, Import, Include, Metadata};
 pub use scan_refusal::{Keyword, Line, ScanFault, ScanRefusal};
+pub use warning::{Warning, WarningKind};
 #[doc(hidden)] // for the command, which has no unsafe code
 pub use sys::is_terminal;

@@ -10,7 +10,7 @@ mod io;
 mod json;
 
 use args::Args;
-use io::{print, read, read_text, say};
+use io::{print, read_text, say};
 use nuvaleta::{Refusal, ScanRefusal, Spot};
 use std::fmt::Display;
 use std::process::ExitCode;
@@ -35,11 +35,13 @@ struct Command {
 
 const HELP: &str = include_str!("help/nuvaleta.txt");
 
-const COMMANDS: [Command; 6] = [
+const COMMANDS: [Command; 8] = [
     Command { name: "deps", help: include_str!("help/deps.txt"), options: &["--json"], run: deps },
     Command { name: "meta", help: include_str!("help/meta.txt"), options: &["--json"], run: meta },
     Command { name: "graph", help: include_str!("help/graph.txt"), options: &["--json"], run: graph },
     Command { name: "order", help: include_str!("help/order.txt"), options: &["--json", "--all", "--into"], run: order },
+    Command { name: "check", help: include_str!("help/check.txt"), options: &["--json"], run: check },
+    Command { name: "texts", help: include_str!("help/texts.txt"), options: &["--json"], run: texts },
     Command { name: "pack", help: include_str!("help/pack.txt"), options: &["--json"], run: pack },
     Command { name: "explain", help: include_str!("help/explain.txt"), options: &["--json", "--keyword", "--at"], run: explain::run },
 ];
@@ -96,15 +98,37 @@ fn meta(args: &Args) -> Ended {
     scanned(args, nuvaleta::metadata, json::metadata)
 }
 
-/// What is made of the graph of two files.
-fn drawn(args: &Args, made: fn(&Args, nuvaleta::Graph) -> Result<String, Refusal>) -> Ended {
+/// The image and the bundle of two files, of which one may be `-`, standard input.
+fn both(args: &Args) -> Result<[Vec<u8>; 2], Wrong> {
     let (image, bundle) = match args.words.as_slice() {
+        [image, bundle] if image == "-" && bundle == "-" => return Err(Wrong::Usage("one of the two alone can be standard input".to_string())),
         [image, bundle] => (image, bundle),
         _ => return usage(),
     };
-    let image = read(image, nuvaleta::IMAGE_MOST).map_err(Wrong::File)?;
-    let bundle = read(bundle, nuvaleta::BUNDLE_MOST).map_err(Wrong::File)?;
+    Ok([read_text(image, nuvaleta::IMAGE_MOST).map_err(Wrong::File)?, read_text(bundle, nuvaleta::BUNDLE_MOST).map_err(Wrong::File)?])
+}
+
+/// What is made of the graph of two files.
+fn drawn(args: &Args, made: fn(&Args, nuvaleta::Graph) -> Result<String, Refusal>) -> Ended {
+    let [image, bundle] = both(args)?;
     let told = nuvaleta::graph(&image, &bundle).and_then(|graph| made(args, graph));
+    Ok(end(args, told, json::refusal))
+}
+
+fn check(args: &Args) -> Ended {
+    let [image, bundle] = both(args)?;
+    let checked = nuvaleta::check(&image, &bundle);
+    Ok(print(u8::from(!checked.faults.is_empty()), &shaped(args, &checked, json::checked)))
+}
+
+fn texts(args: &Args) -> Ended {
+    let file = match args.words.as_slice() {
+        [file] => file,
+        _ => return usage(),
+    };
+    let bundle = read_text(file, nuvaleta::BUNDLE_MOST).map_err(Wrong::File)?;
+    let plainly = |texts: &[nuvaleta::About]| texts.iter().map(nuvaleta::About::to_string).collect::<String>();
+    let told = nuvaleta::texts(&bundle).map(|texts| if args.has("--json") { json::texts(&texts) + "\n" } else { plainly(&texts) });
     Ok(end(args, told, json::refusal))
 }
 

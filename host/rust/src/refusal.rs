@@ -2,7 +2,8 @@
 
 use crate::form::{self, Name, Set};
 use crate::raw::{BUNDLE_MOST, IMAGE_MOST};
-use crate::{walk, Buffers, Line, ScanRefusal};
+use crate::walk::Walk;
+use crate::{Buffers, Line, ScanRefusal};
 
 /// Why a look-up, a graph, an order or a list is refused. `Display` says it in words, and shows the line of a text or the ring.
 #[derive(Clone, Debug, PartialEq, Eq)]
@@ -197,7 +198,7 @@ pub(crate) struct Full<'a> {
     pub deviations: &'a [Name<'a>],
 }
 
-fn entries<'a>(sets: &'a [Set<'a>]) -> Vec<Full<'a>> {
+pub(crate) fn entries<'a>(sets: &'a [Set<'a>]) -> Vec<Full<'a>> {
     let mut out: Vec<Full> = Vec::new();
     for (i, set) in sets.iter().enumerate() {
         let mut add = |name: Name, import_only, augmenting, deviations| {
@@ -235,10 +236,13 @@ pub(crate) fn told(answer: [u32; 8], image: &[u8], bundle: &[u8], buffers: &mut 
     }
     let sets = form::read_image(image).unwrap_or_default();
     let full = entries(&sets).into_iter().nth(answer[1] as usize - 1).expect("an entry of the image");
-    let plain = Why::answered(answer);
+    let (entry, plain) = (full.entry.clone(), Why::answered(answer));
     let found = match plain.number() {
-        24..=27 => walk::end(&sets, bundle, buffers, &full).filter(|why| why.agrees(&plain)),
+        24..=27 => Walk::new(&sets, bundle, buffers, vec![full]).next(),
         _ => None,
     };
-    Refusal::Walk { entry: full.entry, why: found.unwrap_or(plain) }
+    match found {
+        Some(Refusal::Walk { entry, why }) if why.agrees(&plain) => Refusal::Walk { entry, why },
+        _ => Refusal::Walk { entry, why: plain },
+    }
 }
