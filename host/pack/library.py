@@ -150,7 +150,7 @@ class Xml:
 
 def not_a_library(root):
     """What is said of a root element without a library in it."""
-    errors = [(element.text or "").strip() for element in root.iter("{*}error-message")]
+    errors = [(element.text or "").strip() for element in root.iterfind(".//{*}error-message")]
     said = f"; it is an error: {errors[0]}" if errors else ""
     return Refused(f"no yang-library and no modules-state of the namespace {NAMESPACE} in the root element {local(root)}{said}")
 
