@@ -33,7 +33,7 @@ pub struct About<'a> {
 /// # Ok::<(), nuvaleta::Refusal>(())
 /// ```
 pub fn texts(bundle: &[u8]) -> Result<Vec<About<'_>>, Refusal> {
-    let texts = form::read_bundle(bundle).map_err(|place| form_broken(21, place as u32, bundle))?;
+    let texts = form::read_bundle(bundle).map_err(|place| form_broken(21, place as u32, bundle, None))?;
     Ok(texts.iter().map(|text| about(text.name.text, text.bytes)).collect())
 }
 
@@ -103,7 +103,13 @@ pub fn check(image: &[u8], bundle: &[u8]) -> Checked {
 /// Each fault, then each warning, then how many there are of both.
 impl Display for Checked {
     fn fmt(&self, f: &mut Formatter<'_>) -> fmt::Result {
-        self.faults.iter().try_for_each(|fault| writeln!(f, "{fault}"))?;
+        for (i, fault) in self.faults.iter().enumerate() {
+            writeln!(f, "{}", fault.told())?;
+            // what is to be done stands once behind faults of one kind
+            if self.faults.get(i + 1).map(Refusal::advice) != Some(fault.advice()) {
+                writeln!(f, "To do: {}", fault.advice())?;
+            }
+        }
         self.warnings.iter().try_for_each(|(text, warning)| writeln!(f, "warning: the text of {text}, {warning}"))?;
         writeln!(f, "{}, {}", counted(self.faults.len(), "fault"), counted(self.warnings.len(), "warning"))
     }

@@ -1,6 +1,6 @@
 //! JSON, of which only the writing is needed: strings, lists, objects, and a refusal with all that is known of it.
 
-use nuvaleta::{About, By, Checked, Dependencies, Entry, Graph, Line, Listed, Meaning, Metadata, Order, Refusal, ScanRefusal, Warning, Why};
+use nuvaleta::{About, By, Checked, Clash, Dependencies, Entry, Graph, Listed, Metadata, Order, Refusal, ScanRefusal, Spot, Warning, Why};
 
 /// A string. Every control byte is escaped, so that a value stays on one line.
 pub fn quoted(s: &str) -> String {
@@ -68,7 +68,7 @@ pub fn texts(texts: &[About]) -> String {
 }
 
 fn about(about: &About) -> String {
-    let refused = |scan: &ScanRefusal| object(vec![("refused", scan_refusal(scan, scan.line(about.text).as_ref()))]);
+    let refused = |scan: &ScanRefusal| object(vec![("refused", scan_refusal(scan, &Spot::of(about.name, scan, about.text)))]);
     object(vec![
         ("name", quoted(about.name)),
         ("bytes", about.text.len().to_string()),
@@ -94,11 +94,12 @@ pub fn checked(checked: &Checked) -> String {
 
 // ---- refusals
 
-/// What a number's refusals say first: the number, and words of its own; and last, what to do about it.
-fn with_advice(number: u32, words: String, known: Fields) -> String {
-    let mut fields = vec![("number", number.to_string()), ("words", quoted(&words))];
+/// A refusal: its number and words, what else is known, and last what was expected and found, and what to do.
+fn refused(number: u32, words: &str, known: Fields, clash: Option<Clash>, advice: &str) -> String {
+    let mut fields = vec![("number", number.to_string()), ("words", quoted(words))];
     fields.extend(known);
-    fields.extend(Meaning::of(number).map(|meaning| ("advice", quoted(meaning.advice))));
+    fields.extend(clash.into_iter().flat_map(|clash| [("expected", quoted(&clash.expected)), ("found", quoted(&clash.found))]));
+    fields.push(("advice", quoted(advice)));
     object(fields)
 }
 
@@ -112,7 +113,7 @@ pub fn refusal(r: &Refusal) -> String {
         Refusal::Ring(names) => vec![("ring", list(names.iter().map(|name| quoted(name))))],
         _ => Vec::new(),
     };
-    with_advice(r.number(), r.words(), known)
+    refused(r.number(), &r.words(), known, r.clash(), &r.advice())
 }
 
 fn of_entry(entry: &Entry) -> Fields {
@@ -128,7 +129,7 @@ fn of_why(why: &Why) -> Fields {
     match why {
         Why::Scan { scan, spot } => {
             let mut fields = vec![("scan", scan.number().to_string())];
-            fields.extend(of_scan(scan, spot.as_ref().and_then(|spot| spot.line.as_deref())));
+            fields.extend(of_scan(scan, spot.as_ref()));
             fields.extend(spot.as_ref().map(|spot| ("text", quoted(&spot.text))));
             fields
         }
@@ -150,17 +151,18 @@ fn of_listed(listed: &Listed) -> Fields {
 }
 
 /// The keyword and the place of a scan's refusal, as far as it has them.
-fn of_scan(scan: &ScanRefusal, line: Option<&Line>) -> Fields {
+fn of_scan(scan: &ScanRefusal, spot: Option<&Spot>) -> Fields {
     let mut fields = Vec::new();
     fields.extend(scan.keyword.map(|keyword| ("keyword", quoted(keyword.word()))));
     fields.extend(scan.position.map(|position| ("position", position.to_string())));
+    let line = spot.and_then(|spot| spot.line.as_deref());
     fields.extend(line.into_iter().flat_map(|line| [("line", line.number.to_string()), ("column", line.column.to_string())]));
     fields
 }
 
 /// The refusal of a single text, as `refusal` has it.
-pub fn scan_refusal(scan: &ScanRefusal, line: Option<&Line>) -> String {
-    with_advice(scan.number(), scan.words(), of_scan(scan, line))
+pub fn scan_refusal(scan: &ScanRefusal, spot: &Spot) -> String {
+    refused(scan.number(), &scan.words(), of_scan(scan, Some(spot)), spot.clash.clone(), scan.advice())
 }
 
 #[cfg(test)]

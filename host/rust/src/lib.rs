@@ -28,11 +28,13 @@
 #![deny(unsafe_code, missing_docs)]
 
 mod check;
+mod clash;
 mod find;
 #[path = "../../vectors/src/form.rs"]
 #[allow(dead_code)] // a plain reader of the form, for the names and texts behind a refusal
 mod form;
 mod graph;
+mod looks;
 mod meaning;
 mod order;
 mod plain;
@@ -47,8 +49,10 @@ mod warning;
 mod words;
 
 pub use check::{check, texts, About, Checked};
+pub use clash::Clash;
 pub use find::{find_import_module, find_module, find_submodule, text, ImportModule};
 pub use graph::{graph, Buffers, Edge, Graph};
+pub use looks::Looks;
 pub use meaning::Meaning;
 pub use order::Order;
 pub use raw::{BUNDLE_MOST, IMAGE_MOST, TEXT_MOST};

@@ -3,7 +3,7 @@
 use crate::form::{self, Name, Set};
 use crate::raw::{BUNDLE_MOST, IMAGE_MOST};
 use crate::walk::Walk;
-use crate::{Buffers, Line, ScanRefusal};
+use crate::{Buffers, Clash, Line, Looks, Meaning, ScanRefusal};
 
 /// Why a look-up, a graph, an order or a list is refused. `Display` says it in words, and shows the line of a text or the ring.
 #[derive(Clone, Debug, PartialEq, Eq)]
@@ -14,6 +14,8 @@ pub enum Refusal {
         place: usize,
         /// Whether the image is over [`crate::IMAGE_MOST`].
         too_long: bool,
+        /// What it seems to be instead.
+        looks: Option<Looks>,
     },
     /// 21: the bundle breaks its form.
     BundleBroken {
@@ -21,6 +23,8 @@ pub enum Refusal {
         place: usize,
         /// Whether the bundle is over [`crate::BUNDLE_MOST`].
         too_long: bool,
+        /// What it seems to be instead.
+        looks: Option<Looks>,
     },
     /// 22: with [`Buffers`] this does not come.
     LentTooShort,
@@ -134,6 +138,15 @@ pub struct Spot {
     pub text: String,
     /// The line, if the refusal has a place.
     pub line: Option<Box<Line>>,
+    /// What was expected there and what was found, where that is known.
+    pub clash: Option<Clash>,
+}
+
+impl Spot {
+    /// Where a text under this name was refused.
+    pub fn of(name: impl Into<String>, scan: &ScanRefusal, text: &[u8]) -> Spot {
+        Spot { text: name.into(), line: scan.line(text).map(Box::new), clash: scan.clash(text) }
+    }
 }
 
 impl Refusal {
@@ -149,6 +162,26 @@ impl Refusal {
             Refusal::OrderTooShort => 41,
             Refusal::ListWrong { .. } => 42,
             Refusal::TablesUnfit => 43,
+        }
+    }
+
+    /// What was expected and what was found instead, where that is known: in a text (25), or in the place of an image or a bundle (20, 21).
+    pub fn clash(&self) -> Option<Clash> {
+        let form = |expected: &str, looks: &Looks| Clash { expected: expected.to_string(), found: looks.to_string() };
+        match self {
+            Refusal::ImageBroken { looks, .. } => looks.as_ref().map(|looks| form("an image", looks)),
+            Refusal::BundleBroken { looks, .. } => looks.as_ref().map(|looks| form("a bundle", looks)),
+            Refusal::Walk { why: Why::Scan { spot: Some(spot), .. }, .. } => spot.clash.clone(),
+            _ => None,
+        }
+    }
+
+    /// What can be done about it: what [`Meaning`] has for the number, of a refused text for the scan refusal's.
+    pub fn advice(&self) -> String {
+        match self {
+            Refusal::ImageBroken { looks: Some(looks), .. } | Refusal::BundleBroken { looks: Some(looks), .. } => looks.advice(),
+            Refusal::Walk { why: Why::Scan { scan, .. }, .. } => scan.advice().to_string(),
+            _ => Meaning::of(self.number()).map_or("", |meaning| meaning.advice).to_string(),
         }
     }
 }
@@ -215,12 +248,12 @@ pub(crate) fn entries<'a>(sets: &'a [Set<'a>]) -> Vec<Full<'a>> {
     out
 }
 
-/// 20 or 21 at a place of an image or a bundle.
-pub(crate) fn form_broken(number: u32, place: u32, form: &[u8]) -> Refusal {
-    let place = place as usize;
+/// 20 or 21 at a place of an image or a bundle, which may have come with the other one.
+pub(crate) fn form_broken(number: u32, place: u32, form: &[u8], other: Option<&[u8]>) -> Refusal {
+    let (place, looks) = (place as usize, Looks::of(number, form, other));
     match number {
-        20 => Refusal::ImageBroken { place, too_long: form.len() > IMAGE_MOST },
-        21 => Refusal::BundleBroken { place, too_long: form.len() > BUNDLE_MOST },
+        20 => Refusal::ImageBroken { place, too_long: form.len() > IMAGE_MOST, looks },
+        21 => Refusal::BundleBroken { place, too_long: form.len() > BUNDLE_MOST, looks },
         _ => panic!("the archive answers {number} to a look-up, which the header does not have"),
     }
 }
@@ -228,8 +261,8 @@ pub(crate) fn form_broken(number: u32, place: u32, form: &[u8]) -> Refusal {
 /// What the eight words of an answer say of this image and this bundle.
 pub(crate) fn told(answer: [u32; 8], image: &[u8], bundle: &[u8], buffers: &mut Buffers) -> Refusal {
     match answer[0] {
-        20 => return form_broken(20, answer[5], image),
-        21 => return form_broken(21, answer[5], bundle),
+        20 => return form_broken(20, answer[5], image, Some(bundle)),
+        21 => return form_broken(21, answer[5], bundle, Some(image)),
         22 => return Refusal::LentTooShort,
         30 => return Refusal::TooManyNodes,
         _ => {}

@@ -119,7 +119,7 @@ impl<'a> Walk<'a> {
                 self.steps.extend(includes.into_iter().rev().map(|other| Step::Include(name.to_string(), other)));
             }
             Err(scan) => {
-                let spot = Some(Spot { text: name.to_string(), line: scan.line(text).map(Box::new) });
+                let spot = Some(Spot::of(name, &scan, text));
                 self.fault("", name, Why::Scan { scan, spot });
             }
         }
