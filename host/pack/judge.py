@@ -202,7 +202,8 @@ def library_problems(image, bundle, texts, files, told):
         if fault["number"] == 25 and (word, "no_module") in known:
             continue
         line, column = place(fault, texts.get(word))
-        found.append(Problem("error", "refused", fault["words"], word, files.get(word), fault["number"], line, column, fault.get("advice")))
+        more = f"; expected {fault['expected']}, found {fault['found']}" if fault.get("expected") and fault.get("found") else ""
+        found.append(Problem("error", "refused", fault["words"] + more, word, files.get(word), fault["number"], line, column, fault.get("advice")))
     return found
 
 
