@@ -39,7 +39,10 @@ class Role(NamedTuple):
     name: str
     revision: str = ""
     parent: str = None  # the module that lists a submodule
-    asked: str = "the library asks for"
+    by_file: bool = False  # it is known by its file alone, and may be a module or a submodule of any
+
+    def asks(self):
+        return "its file is named" if self.by_file else "the library asks for"
 
 
 # ---- the built command
@@ -132,15 +135,12 @@ def unlike(role, metadata):
     """(kind, words) of the first thing by which a text is not what it is to be; None if there is none."""
     own, parent, inside = metadata["name"], metadata["parent"], revisions(metadata)
     if own != role.name:
-        return "name", f"it calls itself {own}; {role.asked} {role.name}"
-    if role.parent is None and parent is not None and role.asked == Role(own).asked:
-        return "parent", f"it is a submodule of {parent}; {role.asked} a module"
-    if role.parent is not None and parent is None:
-        return "parent", f"it has no belongs-to; {role.asked} a submodule of {role.parent}"
-    if role.parent is not None and parent != role.parent:
-        return "parent", f"it belongs to {parent}; {role.asked} a submodule of {role.parent}"
+        return "name", f"it calls itself {own}; {role.asks()} {role.name}"
+    if not role.by_file and parent != role.parent:
+        is_, wanted = (f"it belongs to {parent}" if parent else "it has no belongs-to"), (f"a submodule of {role.parent}" if role.parent else "a module")
+        return "parent", f"{is_}; {role.asks()} {wanted}"
     if role.revision and role.revision not in inside:
-        return "revision", f"its revision is {' or '.join(inside) or '(none)'}; {role.asked} {role.revision}"
+        return "revision", f"its revision is {' or '.join(inside) or '(none)'}; {role.asks()} {role.revision}"
     return None
 
 
@@ -188,6 +188,16 @@ def place(fault, text):
     return (before.count(b"\n") + 1, found.start() - before.rfind(b"\n")) if found else (None, None)
 
 
+def fault_words(fault):
+    """The words of a fault with what else is known of it."""
+    words = fault["words"]
+    if fault.get("expected") and fault.get("found"):
+        words += f"; expected {fault['expected']}, found {fault['found']}"
+    if fault.get("ring"):
+        words += ": " + " before ".join(fault["ring"] + fault["ring"][:1])
+    return words
+
+
 def library_problems(image, bundle, texts, files, told):
     """All that an order would refuse, but for what has been told of a text already: that it is missing, or no YANG at all."""
     faults = walk(image, bundle)
@@ -202,8 +212,7 @@ def library_problems(image, bundle, texts, files, told):
         if fault["number"] == 25 and (word, "no_module") in known:
             continue
         line, column = place(fault, texts.get(word))
-        more = f"; expected {fault['expected']}, found {fault['found']}" if fault.get("expected") and fault.get("found") else ""
-        found.append(Problem("error", "refused", fault["words"] + more, word, files.get(word), fault["number"], line, column, fault.get("advice")))
+        found.append(Problem("error", "refused", fault_words(fault), word, files.get(word), fault["number"], line, column, fault.get("advice")))
     return found
 
 

@@ -60,7 +60,7 @@ class Shelf:
                 self.own.setdefault(word, {}).setdefault(revision, []).append(path)
 
     def called(self):
-        return ", ".join(self.folders + ([self.other.called()] if self.other else []))
+        return ", ".join(self.folders + (self.other.folders if self.other else [])) or "any folder, as none is given"
 
     def revisions(self, word):
         found = self.other.revisions(word) if self.other else {}
@@ -123,7 +123,7 @@ def from_folders(folders):
         raise Refused(f"no .yang file under {shelf.called()}")
     bundle = form.write_bundle(pile.texts, pile.files)
     told = judge.describe(bundle)
-    problems += pile.judged(told, {word: [Role(word, asked="its file is named")] for word in told})
+    problems += pile.judged(told, {word: [Role(word, by_file=True)] for word in told})
     parents = {word: one["metadata"].get("parent") for word, one in told.items()}
     for word, parent in parents.items():
         if parent is None:

@@ -90,7 +90,7 @@ class Texts(Told):
     def test_another_module(self):
         self.wrong("s.yang: it belongs to b; the library asks for a submodule of m", s=GOOD["s"].replace("belongs-to m", "belongs-to b"))
         self.wrong("s.yang: it has no belongs-to; the library asks for a submodule of m", s="module s { prefix s; revision 2024-01-02; }")
-        self.wrong("b.yang: it is a submodule of m; the library asks for a module", b="submodule b { belongs-to m { prefix m; } }")
+        self.wrong("b.yang: it belongs to m; the library asks for a module", b="submodule b { belongs-to m { prefix m; } }")
 
     def test_a_submodule_of_two(self):
         """One that two modules list belongs to one of them; that is told."""
@@ -209,7 +209,7 @@ class Order(Told):
     def test_a_ring(self):
         self.put("a.yang", "module a { prefix a; import b { prefix b; } }")
         self.put("b.yang", "module b { prefix b; import a { prefix a; } }")
-        self.refused(self.folder(), "refused 40: ")
+        self.refused(self.folder(), "refused 40: ", "in a ring: a before b before a\n")
 
     def test_imports_that_are_passed_over(self):
         self.put("a.yang", "module a { prefix a; }")
