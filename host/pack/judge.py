@@ -219,5 +219,6 @@ def library_problems(image, bundle, texts, files, told):
 def unread(told, files, found):
     """Warnings for texts that a scan refuses and that no walk reads."""
     known = {one.text for one in found if one.number == 25 or one.kind == "no_module"}
-    return [Problem("warning", "scan", f"a scan refuses it, though nothing reads it now: {why['words']}", word, files[word], None, why.get("line"), why.get("column"))
+    return [Problem("warning", "scan", f"a scan refuses it, though nothing reads it now: {why['words']}", word, files[word], None, why.get("line"),
+                    why.get("column"))
             for word, one in told.items() if word not in known for why in [one["dependencies"].get("refused")] if why]

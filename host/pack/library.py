@@ -64,7 +64,7 @@ def unchunked(data, at):
             raise Refused(f"{what}: neither this chunk nor the end of all, `##`, is there: the reply is cut off")
         head = CHUNK.match(data, at)
         if head is None:
-            raise Refused(f"{what}: it does not begin with `#`, its length and a line break: the length of the chunk before it is wrong, or lines were changed")
+            raise Refused(f"{what}: it does not begin with `#`, its length and a line break: the length before it is wrong, or lines were changed")
         size = int(head[1])
         part = data[head.end():head.end() + size]
         if len(part) < size:

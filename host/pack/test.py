@@ -38,12 +38,14 @@ class Form(Case):
 
     def test_places(self):
         for data, place in [("", 0), ("01", 1), ("11", 0), ("8100", 0), ("80808000", 0), ("010101 20 00000000", 2), ("01 01 02 6D", 2), ("01 01 00", 2),
-                            ("01 8104", 1), ("01 01 01 6D 41", 4), ("01 02 01 6D 000000 01 6D 000000 00", 7), ("01 00 01 01 69 00", 5), ("01 00 01 01 69 09", 5),
+                            ("01 8104", 1), ("01 01 01 6D 41", 4), ("01 02 01 6D 000000 01 6D 000000 00", 7), ("01 00 01 01 69 00", 5),
+                            ("01 00 01 01 69 09", 5),
                             ("01 00 01 01 69 01 02 01 73 01 73", 9), ("00 00", 1), ("01 01 8101", 2), ("01 01 80", 2)]:
             with self.assertRaises(Wrong) as wrong:
                 form.read_image(bytes.fromhex(data))
             self.assertEqual(wrong.exception.place, place, data)
-        for data, place in [("", 0), ("01", 1), ("8110", 0), ("01 01 6D", 3), ("01 01 6D 01", 3), ("01 01 6D 80808001", 3), ("02 01 6D 00 01 6D 00", 4), ("00 00", 1)]:
+        for data, place in [("", 0), ("01", 1), ("8110", 0), ("01 01 6D", 3), ("01 01 6D 01", 3), ("01 01 6D 80808001", 3), ("02 01 6D 00 01 6D 00", 4),
+                            ("00 00", 1)]:
             with self.assertRaises(Wrong) as wrong:
                 form.read_bundle(bytes.fromhex(data))
             self.assertEqual(wrong.exception.place, place, data)
@@ -107,7 +109,8 @@ class Limits(Case):
             def module(count):
                 return Module("mod")._replace(**{Module._fields[at]: self.many(count)})
             self.images([Set([module(64)])], [Set([module(65)])], "module mod", f"65 {kind}", "64")
-        self.images([Set([], [ImportOnly("imp", [self.many(64)])])], [Set([], [ImportOnly("imp", [[], self.many(65)])])], "import-only module imp, revision 2", "65", "64")
+        self.images([Set([], [ImportOnly("imp", [self.many(64)])])], [Set([], [ImportOnly("imp", [[], self.many(65)])])],
+                    "import-only module imp, revision 2", "65", "64")
 
     def test_revisions(self):
         self.images([Set([], [ImportOnly("imp", [[]] * 8)])], [Set([], [ImportOnly("imp", [[]] * 9)])], "imp", "9 revisions", "8")
@@ -222,8 +225,10 @@ class Documents(Case):
         hello = '<hello xmlns="urn:ietf:params:xml:ns:netconf:base:1.0"><capabilities/></hello>'
         data = text.encode()
         middle = data.index("é".encode()) + 1  # inside a character
-        return [data, data + b"]]>]]>", data + b"\n]]>]]>\n", f"{hello}]]>]]>\n{text}]]>]]>".encode(), self.chunks(text), self.chunks(text)[1:], self.chunks(text)[:-1],
-                self.chunks(text, 1, middle - 1, 7), self.chunks(text) + b"\n\n", f"{hello}]]>]]>".encode() + self.chunks(text, 100), self.chunks(hello) + self.chunks(text),
+        return [data, data + b"]]>]]>", data + b"\n]]>]]>\n", f"{hello}]]>]]>\n{text}]]>]]>".encode(), self.chunks(text), self.chunks(text)[1:],
+                self.chunks(text)[:-1],
+                self.chunks(text, 1, middle - 1, 7), self.chunks(text) + b"\n\n", f"{hello}]]>]]>".encode() + self.chunks(text, 100),
+                self.chunks(hello) + self.chunks(text),
                 f"{hello}\n]]>]]>\n\n".encode() + self.chunks(text, 5, 5)]
 
     def test_xml(self):
@@ -235,7 +240,8 @@ class Documents(Case):
         inner = XML[XML.index("<yang-library"):]
         other = STATE.replace("<name>k</name>", "<name>other</name>")
         declared = '<?xml version="1.0" encoding="UTF-8"?>\n'
-        self.same([inner + "\n" + other, other + inner, declared + inner + declared + other, f"<data>{inner}</data>\n<data>{other}</data>", inner + "]]>]]>" + other])
+        self.same([inner + "\n" + other, other + inner, declared + inner + declared + other, f"<data>{inner}</data>\n<data>{other}</data>",
+                   inner + "]]>]]>" + other])
 
     def test_names_of_xml(self):
         entity = XML.replace("<name>m</name>", "<name>&#109;</name>")
@@ -268,7 +274,8 @@ class Documents(Case):
             (good[:200], "chunk 3", "cut off"), (good[:90], "chunk 1: 100 bytes are told, and 84 are there"), (good[:-4], "chunk 4", "the reply is cut off"),
             (good.replace(b"#50", b"#49"), "chunk 3: it does not begin with"), (good.replace(b"#50", b"#51"), "chunk 3: it does not begin with"),
             (good.replace(b"#100", b"#99999"), "chunk 1: 99,999 bytes are told"), (good.replace(b"#100", b"#0"), "chunk 1: it does not begin with"),
-            (good.replace(b"#100", b"#0100"), "chunk 1: it does not begin with"), (good.replace(b"\n", b"\r\n"), "chunk"), (b"\n##\n", "no XML"), (b"#x\n<a/>", "chunk 1"),
+            (good.replace(b"#100", b"#0100"), "chunk 1: it does not begin with"), (good.replace(b"\n", b"\r\n"), "chunk"), (b"\n##\n", "no XML"),
+            (b"#x\n<a/>", "chunk 1"),
             (good + b"\n#5\nab", "chunk 1: 5 bytes are told, and 2 are there"), (STATE + "]]>]]><more", "no XML"), (STATE + "]]>]]>more", "no XML"),
         ]:
             self.refused(self.library(bad), "library: ", *words)
@@ -276,10 +283,12 @@ class Documents(Case):
     def test_roots_that_are_no_library(self):
         reply = "<rpc-reply xmlns='urn:n'><rpc-error><error-message xml:lang='en'> access denied </error-message></rpc-error></rpc-reply>"
         for bad, *words in [
-            (STATE + "<other/>", "in the root element other"), ("<other/>" + STATE, "in the root element other"), (STATE + "]]>]]><other/>]]>]]>", "root element other"),
+            (STATE + "<other/>", "in the root element other"), ("<other/>" + STATE, "in the root element other"),
+            (STATE + "]]>]]><other/>]]>]]>", "root element other"),
             (STATE + "more", "behind the root element modules-state: no XML"), (STATE + "<!-- more", "behind the root element modules-state: no XML"),
             (STATE + STATE, "2 modules-state elements"), (f"{XML[XML.index('<yang'):]}{STATE * 2}", "2 modules-state elements"),
-            (f"<data>{XML[XML.index('<yang'):] * 2}</data>", "2 yang-library elements"), ("<hello/>", "a hello alone"), (reply, "it is an error: access denied"),
+            (f"<data>{XML[XML.index('<yang'):] * 2}</data>", "2 yang-library elements"), ("<hello/>", "a hello alone"),
+            (reply, "it is an error: access denied"),
             ("<hello/>]]>]]>" + reply, "access denied"), (STATE + "<!DOCTYPE a>", "behind the root element"),
         ]:
             self.refused(self.library(bad), "library: ", *words)
@@ -290,10 +299,14 @@ class Documents(Case):
         for bad, *words in [
             (STATE.replace("<conformance-type> implement </conformance-type>", ""), "modules-state, module b: no conformance-type"),
             (STATE.replace(" implement ", "import-only"), "module b: its conformance-type is 'import-only'; implement or import is due"),
-            (STATE.replace("<name>b</name>", ""), "modules-state, module without a name"), (STATE.replace("<name>d</name><rev", "<rev"), "module m, a deviation without a name"),
-            (STATE.replace("<name>b</name>", "<name>m</name>"), "module m stands there twice"), (STATE.replace("2021-", "2020-"), "module i: revision 2020-01-01", "twice"),
-            (STATE.replace("<deviation><name>d</name>", "<deviation>d"), "a deviation without a name"), (state(deviation=["d"]), "deviation is not a list of objects"),
-            (state(**{"conformance-type": 1}), "conformance-type is not a string"), (state(submodules=[]), "where an object is due"), ({"modules-state": []}, "where an object"),
+            (STATE.replace("<name>b</name>", ""), "modules-state, module without a name"),
+            (STATE.replace("<name>d</name><rev", "<rev"), "module m, a deviation without a name"),
+            (STATE.replace("<name>b</name>", "<name>m</name>"), "module m stands there twice"),
+            (STATE.replace("2021-", "2020-"), "module i: revision 2020-01-01", "twice"),
+            (STATE.replace("<deviation><name>d</name>", "<deviation>d"), "a deviation without a name"),
+            (state(deviation=["d"]), "deviation is not a list of objects"),
+            (state(**{"conformance-type": 1}), "conformance-type is not a string"), (state(submodules=[]), "where an object is due"),
+            ({"modules-state": []}, "where an object"),
             ({"module": {}}, "module is not a list"), (state(submodule=[{}]), "module mod, a submodule without a name"),
         ]:
             self.refused(self.library(bad), *words)
@@ -307,11 +320,16 @@ class Documents(Case):
         def module(**members):
             return {"module-set": [{"name": "first", "module": [{"name": "mod", **members}]}]}
         for document, *words in [
-            ("", "neither XML nor JSON"), ("module m {", "neither"), ("[" * 100_000, "neither"), ("[]", "library: no JSON object"), ('"a"', "no JSON object"), ("<a", "no XML"), ("<a/>", "no yang-library"), ("{", "no JSON"), ("{}", "no ietf-yang-library:yang-library"),
-            ('{"a":' * 100_000, "no JSON"), (XML.replace("ietf-yang-library", "ietf-other"), "no yang-library"), ("<?xml version='1.0'?>", "no XML"), ("<!-- -->", "no XML"),
-            (XML.replace("<name>b</name>", ""), "set 1 (first)", "module without a name"), (XML.replace("<name>b</name>", "<name>b</name>" * 2), "name stands there 2 times"),
-            (XML.replace("<name>b</name>", "<name>m</name>"), "set 1 (first)", "module m", "twice"), (XML.replace("2021-", "2020-"), "module i", "2020-01-01", "twice"),
-            (XML.replace("<name>b</name>", "<name>b c</name>"), "set 1 (first)", "'b c'"), ({"yang-library": []}, "where an object"), ({"module-set": {}}, "not a list"),
+            ("", "neither XML nor JSON"), ("module m {", "neither"), ("[" * 100_000, "neither"), ("[]", "library: no JSON object"), ('"a"', "no JSON object"),
+            ("<a", "no XML"), ("<a/>", "no yang-library"), ("{", "no JSON"), ("{}", "no ietf-yang-library:yang-library"),
+            ('{"a":' * 100_000, "no JSON"), (XML.replace("ietf-yang-library", "ietf-other"), "no yang-library"), ("<?xml version='1.0'?>", "no XML"),
+            ("<!-- -->", "no XML"),
+            (XML.replace("<name>b</name>", ""), "set 1 (first)", "module without a name"),
+            (XML.replace("<name>b</name>", "<name>b</name>" * 2), "name stands there 2 times"),
+            (XML.replace("<name>b</name>", "<name>m</name>"), "set 1 (first)", "module m", "twice"),
+            (XML.replace("2021-", "2020-"), "module i", "2020-01-01", "twice"),
+            (XML.replace("<name>b</name>", "<name>b c</name>"), "set 1 (first)", "'b c'"), ({"yang-library": []}, "where an object"),
+            ({"module-set": {}}, "not a list"),
             ({"module-set": [1]}, "not a list of objects"), (module(deviation="d"), "deviation is not a list"), (module(deviation=[1]), "list of strings"),
             (module(revision=2024), "mod", "revision is not a string"), (module(submodule=[{}]), "mod, a submodule without a name"),
             ('{"module-set": [], "module-set": []}', "module-set"), ({"module-set": [], "ietf-yang-library:module-set": []}, "twice"),
@@ -329,8 +347,10 @@ class Show(Case):
         status, out, err = self.run_pack("show", self.put("image", form.write_image(ALL), self.top))
         self.assertEqual((status, err), (0, ""))
         self.assertEqual(out.splitlines(), [
-            "image of 45 bytes, 2 sets", "set 1: 3 modules, 2 import-only names", "  module m", "    submodules: s t", "    augmented by: a", "    deviations: d d",
-            "  module a", "  module d", "  import-only m: 2 revisions", "    revision 1, submodules: s", "    revision 2, submodules: s u", "  import-only i: 1 revision",
+            "image of 45 bytes, 2 sets", "set 1: 3 modules, 2 import-only names", "  module m", "    submodules: s t", "    augmented by: a",
+            "    deviations: d d",
+            "  module a", "  module d", "  import-only m: 2 revisions", "    revision 1, submodules: s", "    revision 2, submodules: s u",
+            "  import-only i: 1 revision",
             "set 2: 0 modules, 0 import-only names"])
 
     def test_show_bundle(self):
@@ -354,9 +374,11 @@ class Show(Case):
         image, bundle = self.put("i", form.write_image(ALL), self.top), self.put("b", form.write_bundle([("m", b"x" * 1_000), ("longer", b"")]), self.top)
         lists = {"submodules": [], "augmenting": [], "deviations": []}
         self.assertEqual(self.said(0, "show", "--json", image), {"bytes": 45, "sets": [
-            {"modules": [{"name": "m", "submodules": ["s", "t"], "augmenting": ["a"], "deviations": ["d", "d"]}, {"name": "a", **lists}, {"name": "d", **lists}],
+            {"modules": [{"name": "m", "submodules": ["s", "t"], "augmenting": ["a"], "deviations": ["d", "d"]}, {"name": "a", **lists},
+                         {"name": "d", **lists}],
              "import_only": [{"name": "m", "revisions": [["s"], ["s", "u"]]}, {"name": "i", "revisions": [[]]}]}, {"modules": [], "import_only": []}]})
-        self.assertEqual(self.said(0, "show-bundle", bundle, "--json"), {"bytes": 1_013, "texts": [{"name": "m", "bytes": 1_000}, {"name": "longer", "bytes": 0}]})
+        self.assertEqual(self.said(0, "show-bundle", bundle, "--json"),
+                         {"bytes": 1_013, "texts": [{"name": "m", "bytes": 1_000}, {"name": "longer", "bytes": 0}]})
         image, bundle = self.put("i", M_S_B[:-1], self.top), self.put("b", b"\1\1m\5abcd", self.top)
         self.assertEqual(self.said(1, "--json", "show", image), {"refused": {"number": 20, "words": "image wrong at 14", "place": 14}})
         self.assertEqual(self.said(1, "show-bundle", "--json", bundle), {"refused": {"number": 21, "words": "bundle wrong at 3", "place": 3}})
@@ -378,12 +400,18 @@ class Words(Case):
 
     def test_not_understood(self):
         for arguments, *words in [
-            ([], "usage: nuvaleta pack folder"), (["pack"], "pack is no command"), (["folder", "a", "b"], "usage: nuvaleta pack folder"), (["show", "--js", "a"], "show has no --js"),
-            (["folder", "a", "b", "c", "d"], "usage: "), (["library", "a", "b", "c"], "usage: nuvaleta pack library"), (["library", "a", "b", "c", "d", "e"], "usage: "),
-            (["show", "a", "b"], "usage: nuvaleta pack show [--json] IMAGE"), (["show", "--check", "a"], "show has no --check"), (["show-bundle", "--lenient", "a"], "has no --lenient"),
-            (["--all", "a"], "usage: nuvaleta pack --all"), (["--all", "a", "b", "c"], "usage: "), (["--all", "--check"], "usage: "), (["all", "a", "b"], "all is no command"),
-            (["library", "--check", "a"], "usage: "), (["library", "--check", "a", "b", "c"], "usage: "), (["folder", "--check"], "usage: "), (["folder", "--texts"], "needs a folder"),
-            (["library", "a", "b", "--texts"], "--texts needs a folder"), (["folder", "--texts", "a", "b"], "usage: "), (["show", "--texts", "a", "b"], "show has no --texts"),
+            ([], "usage: nuvaleta pack folder"), (["pack"], "pack is no command"), (["folder", "a", "b"], "usage: nuvaleta pack folder"),
+            (["show", "--js", "a"], "show has no --js"),
+            (["folder", "a", "b", "c", "d"], "usage: "), (["library", "a", "b", "c"], "usage: nuvaleta pack library"),
+            (["library", "a", "b", "c", "d", "e"], "usage: "),
+            (["show", "a", "b"], "usage: nuvaleta pack show [--json] IMAGE"), (["show", "--check", "a"], "show has no --check"),
+            (["show-bundle", "--lenient", "a"], "has no --lenient"),
+            (["--all", "a"], "usage: nuvaleta pack --all"), (["--all", "a", "b", "c"], "usage: "), (["--all", "--check"], "usage: "),
+            (["all", "a", "b"], "all is no command"),
+            (["library", "--check", "a"], "usage: "), (["library", "--check", "a", "b", "c"], "usage: "), (["folder", "--check"], "usage: "),
+            (["folder", "--texts"], "needs a folder"),
+            (["library", "a", "b", "--texts"], "--texts needs a folder"), (["folder", "--texts", "a", "b"], "usage: "),
+            (["show", "--texts", "a", "b"], "show has no --texts"),
             (["folder", "--", "--json"], "usage: "), (["\x1b"], "\\x1b is no command"),
         ]:
             self.refused(self.run_pack(*arguments), *words, due=2)
@@ -393,7 +421,8 @@ class Words(Case):
         self.put("m.yang", "module m {}")
         good = self.put("library", XML, self.top)
         gone = "no command: not a program that can be run; NUVALETA is to be"
-        for words in ["folder", self.dir, self.image, self.bundle], ["library", good, self.dir, self.image, self.bundle], ["folder", "--check", self.dir], ["--all", self.dir, self.image]:
+        for words in ["folder", self.dir, self.image, self.bundle], ["library", good, self.dir, self.image, self.bundle], ["folder", "--check",
+                self.dir], ["--all", self.dir, self.image]:
             if words[0] == "--all":
                 os.rename(good, os.path.join(self.dir, "r.xml"))
             self.refused(self.run_pack(*words), gone, due=2)

@@ -65,11 +65,16 @@ class Texts(Told):
     def test_no_module(self):
         for text, words in [
             ("", "no module or submodule statement: it is empty"), (" \n\t\n", "no module or submodule statement: it is empty"),
-            ("<!DOCTYPE html>\n<html>404", "no module or submodule statement: it looks like a page of HTML"), ("<HTML>module b {}", "no module or submodule statement: it looks like a page"),
-            (ENVELOPE, "no module or submodule statement: it looks like XML"), ('<?xml version="1.0"?>\n<module name="b"/>', "no module or submodule statement: it looks like XML"),
-            ('{"ietf-netconf-monitoring:data": "module b { prefix b; }"}', "no module or submodule statement: it looks like JSON"), ('"module b {}"', "no module or submodule statement: it looks like JSON"),
-            ("404: Not Found", "no module or submodule statement with a name; it begins with '404: Not Found'"), ("// module b {", "no module or submodule statement with a name"),
-            ("/* module b { } */", "no module or submodule statement with a name"), ("container b { module b { } }", "no module or submodule statement with a name"),
+            ("<!DOCTYPE html>\n<html>404", "no module or submodule statement: it looks like a page of HTML"),
+            ("<HTML>module b {}", "no module or submodule statement: it looks like a page"),
+            (ENVELOPE, "no module or submodule statement: it looks like XML"),
+            ('<?xml version="1.0"?>\n<module name="b"/>', "no module or submodule statement: it looks like XML"),
+            ('{"ietf-netconf-monitoring:data": "module b { prefix b; }"}', "no module or submodule statement: it looks like JSON"),
+            ('"module b {}"', "no module or submodule statement: it looks like JSON"),
+            ("404: Not Found", "no module or submodule statement with a name; it begins with '404: Not Found'"),
+            ("// module b {", "no module or submodule statement with a name"),
+            ("/* module b { } */", "no module or submodule statement with a name"),
+            ("container b { module b { } }", "no module or submodule statement with a name"),
             ("<rpc-reply>\xe9 import", "no module or submodule statement: it looks like XML"),
         ]:
             self.wrong(f"b.yang: {words}", b=text)
@@ -106,7 +111,8 @@ class Texts(Told):
         self.wrong(f"s: no text of revision 2024-01-02 in {self.dir}", s=None)
         self.wrong(f"j: no text in {self.dir}", j=None)
         self.wrong(f"i: no text of revision 2020-01-01 or 2021-01-01 in {self.dir}", i=None)
-        self.wrong(f"m: no text of revision 2024-01-01 in {self.dir}; of other revisions there are m@2023-01-01.yang", **{"m": None, "m@2023-01-01": GOOD["m"]})
+        self.wrong(f"m: no text of revision 2024-01-01 in {self.dir}; of other revisions there are m@2023-01-01.yang",
+                   **{"m": None, "m@2023-01-01": GOOD["m"]})
         self.wrong(f"b: no text in {self.dir}; the library tells no revision, and there are b@2020-01-01.yang, b@2021-01-01.yang",
                    **{"b": None, "b@2020-01-01": GOOD["b"], "b@2021-01-01": GOOD["b"]})
 
@@ -124,7 +130,8 @@ class Texts(Told):
         self.assertEqual((said[0], self.lines(said, "warning")[1:]), (0, ["b@2022-02-02.yang: its revision is (none), and its file's name says 2022-02-02"]))
         os.remove(self.image)
         os.remove(self.bundle)
-        self.wrong("m@2024-01-01.yang: its revision is 2023-01-01; the library asks for 2024-01-01", **{"m": None, "m@2024-01-01": GOOD["m"].replace("2024", "2023")})
+        self.wrong("m@2024-01-01.yang: its revision is 2023-01-01; the library asks for 2024-01-01",
+                   **{"m": None, "m@2024-01-01": GOOD["m"].replace("2024", "2023")})
 
     def test_what_cannot_be_read(self):
         """A text whose header is legal and which the metadata scan refuses is warned of; its imports are read."""
@@ -146,12 +153,15 @@ class Order(Told):
 
     def test_all_at_once(self):
         self.good(b=None, m="module m { prefix m;\n  include s;\n  include gone;\n\timport 'away' { prefix a; }\n revision 2024-01-01; }",
-                  d="module d { prefix d;\n import m { } }", k=b"module k { prefix k; contact '\xc3\xa9'; }", s=GOOD["s"].replace("revision", "import nowhere { prefix n; } revision"))
+                  d="module d { prefix d;\n import m { } }", k=b"module k { prefix k; contact '\xc3\xa9'; }",
+                  s=GOOD["s"].replace("revision", "import nowhere { prefix n; } revision"))
         said = self.library(XML)
         self.refused(said, "6 errors: nothing is written", "to do at 26: ", "to do at 27: ", "to do at 25: ")
         self.assertEqual(sorted(line.split(":")[0] for line in self.errors(said)), [
-            "b", "d.yang, line 2, column 14", "k.yang, line 1, column 31", "m.yang, line 3, column 3", "m.yang, line 4, column 2", "s.yang, line 1, column 42"])
-        for word in "refused 25: ", "refused 26: ", "refused 27: ", "import is closed without prefix", "128 or more", 'imports "away"', 'includes "gone"', 'imports "nowhere"':
+            "b", "d.yang, line 2, column 14", "k.yang, line 1, column 31", "m.yang, line 3, column 3", "m.yang, line 4, column 2",
+            "s.yang, line 1, column 42"])
+        for word in ["refused 25: ", "refused 26: ", "refused 27: ", "import is closed without prefix", "128 or more", 'imports "away"', 'includes "gone"',
+                     'imports "nowhere"']:
             self.assertIn(word, said[2])
 
     def test_json(self):
@@ -217,9 +227,11 @@ class Order(Told):
         self.put("c.yang", "module c { prefix c;\n  import/**/ a { prefix a; }\n  augment /a:x { }\n}")
         said = self.folder()
         self.assertEqual((said[0], self.errors(said)), (0, []))
-        self.assertEqual([line.split(":")[0] for line in self.lines(said, "warning")], ["b.yang, line 2, column 3", "c.yang, line 2, column 3", "c.yang, line 3, column 3"])
+        self.assertEqual([line.split(":")[0] for line in self.lines(said, "warning")],
+                         ["b.yang, line 2, column 3", "c.yang, line 2, column 3", "c.yang, line 3, column 3"])
         told = self.said(0, "folder", "--json", self.dir, self.image, self.bundle)
-        self.assertEqual([(w["kind"], w["text"], w["line"]) for w in told["warnings"]], [("passed_over", "b", 2), ("passed_over", "c", 2), ("augments", "c", 3)])
+        self.assertEqual([(w["kind"], w["text"], w["line"]) for w in told["warnings"]],
+                         [("passed_over", "b", 2), ("passed_over", "c", 2), ("augments", "c", 3)])
 
     def test_a_text_that_nothing_reads(self):
         self.good()
@@ -310,7 +322,8 @@ class Folder(Told):
         shutil.copy(os.path.join(self.dir, "m.yang"), third)
         library = self.put("library", XML, self.top)
         folders = ["--texts", more, "--texts", third]
-        for words in ["library", library, self.dir, self.image, self.bundle, *folders], ["library", *folders, "--texts", self.dir, library, self.image, self.bundle]:
+        for words in ["library", library, self.dir, self.image, self.bundle, *folders], ["library", *folders, "--texts", self.dir, library, self.image,
+                                                                                         self.bundle]:
             self.assertEqual(self.run_pack(*words)[0], 0)
             self.assertEqual(self.read(), (LIBRARY, [(n, GOOD[n].encode()) for n in "msbdijk"]))
         self.assertEqual(self.run_pack("folder", self.dir, *folders, self.image, self.bundle)[0], 0)
@@ -369,7 +382,8 @@ class Real(Told):
         for kind in "xml", "json":
             ran = subprocess.run(["yanglint", "-y", "-l", "-f", kind, path], capture_output=True, check=True)
             both = ran.stdout
-            one = re.sub(rb"(?s)<yang-library.*</yang-library>\n?", b"", both) if kind == "xml" else json.dumps({"modules-state": json.loads(both)["ietf-yang-library:modules-state"]}).encode()
+            one = re.sub(rb"(?s)<yang-library.*</yang-library>\n?", b"",
+                         both) if kind == "xml" else json.dumps({"modules-state": json.loads(both)["ietf-yang-library:modules-state"]}).encode()
             for document in both, one:
                 library = self.put("library", document, self.top)
                 self.assertEqual(self.run_pack("library", library, os.path.dirname(path), self.image, self.bundle)[::2], (0, ""))
@@ -404,7 +418,8 @@ class All(Told):
 
     def test_all(self):
         self.put("notes.txt", "no library", self.routers)
-        self.assertEqual(self.all(), (0, "east: image of 13 bytes, 1 set; bundle of 74 bytes, 2 texts\nwest: image of 8 bytes, 1 set; bundle of 26 bytes, 1 text\n",
+        self.assertEqual(self.all(),
+                         (0, "east: image of 13 bytes, 1 set; bundle of 74 bytes, 2 texts\nwest: image of 8 bytes, 1 set; bundle of 26 bytes, 1 text\n",
                                       "nuvaleta pack: 2 routers: 2 packed, 0 refused, 0 not readable\n"))
         self.assertEqual(self.made(), ["east.bundle", "east.image", "west.bundle", "west.image"])
         ordered = subprocess.run([pack.judge.command(), "order", "--all", self.out], capture_output=True, text=True, check=True).stdout
@@ -419,7 +434,8 @@ class All(Told):
         status, out, err = self.all()
         self.assertEqual((status, out.count("\n")), (1, 2))
         self.assertEqual(self.made(), ["east.bundle", "east.image", "west.bundle", "west.image"])
-        for begin, word in [("broken: error: ", f"{broken}: no yang-library"), ("broken: 1 error: nothing is written", ""), ("lost: error: gone: no text in ", ""),
+        for begin, word in [("broken: error: ", f"{broken}: no yang-library"), ("broken: 1 error: nothing is written", ""),
+                            ("lost: error: gone: no text in ", ""),
                             ("lost: 1 error: nothing is written; --lenient", ""), ("two: error: ", "two libraries of one router"),
                             ("unclosed: error: ", "b.yang, line 1, column 24: refused 25"), ("unclosed: to do at 25: ", "")]:
             self.assertTrue(any(line.startswith("nuvaleta pack: " + begin) and word in line for line in err.splitlines()), begin)
@@ -457,7 +473,8 @@ class All(Told):
         status, out, err = self.all("--json")
         lines = [json.loads(line) for line in out.splitlines()]
         self.assertEqual((status, err, [line.get("router") for line in lines]), (1, "", ["east", "lost", "west", None]))
-        self.assertEqual((lines[0]["image"]["file"], lines[1]["refused"]["number"], lines[1]["errors"][0]["kind"]), (os.path.join(self.out, "east.image"), 23, "missing"))
+        self.assertEqual((lines[0]["image"]["file"], lines[1]["refused"]["number"], lines[1]["errors"][0]["kind"]),
+                         (os.path.join(self.out, "east.image"), 23, "missing"))
         self.assertEqual(lines[3], {"summary": {"routers": 3, "packed": 2, "refused": 1, "not_readable": 0}})
 
     def test_two_texts_that_differ(self):
@@ -476,7 +493,8 @@ class Program(Case):
         words = [os.path.join(HERE, "pack"), "folder", self.dir, self.image, self.bundle]
         ran = subprocess.run(["sh", "-c", line, "sh", *words], capture_output=True, text=True, check=False)
         with open(self.image, "rb") as image, open(self.bundle, "rb") as bundle:
-            self.assertEqual((form.read_image(image.read()), form.read_bundle(bundle.read())), ([Set([Module("m")])], [("m", b"module m { prefix contact; import a; }")]))
+            self.assertEqual((form.read_image(image.read()), form.read_bundle(bundle.read())),
+                             ([Set([Module("m")])], [("m", b"module m { prefix contact; import a; }")]))
         self.assertEqual(sorted(os.listdir(self.top)), ["bundle", "image", "texts"])
         os.remove(self.image)
         os.remove(self.bundle)
