@@ -11,6 +11,16 @@ from typing import NamedTuple
 from form import Unusable
 
 SECONDS = 300  # texts that include each other many times can keep a walk from ever ending
+TO_DO = {  # what to do about what only packing knows; about a refusal the command tells it
+    "missing": "get the text from the router by get-schema, or name its folder by --texts",
+    "empty": "get the text anew",
+    "no_module": "get the text anew, and keep what is inside the envelope alone",
+    "name": "get the text of that name, or give the file the name that stands inside",
+    "revision": "get the text of that revision from the router: the imports of another may differ",
+    "parent": "get the text that this router has, or correct the library",
+    "passed_over": "quote the word that ends the scan or move it behind the imports, and put a blank behind import or include: the edge is missing otherwise",
+    "augments": "see to it that the import of that prefix is read, or list the text under augmented-by of the module: an edge may be missing otherwise",
+}
 PLACES = "../rust/build/release/nuvaleta", "../../bin/nuvaleta"  # from this folder: in a clone, in an install
 
 
@@ -25,13 +35,16 @@ class Problem(NamedTuple):
     column: int = None
     advice: str = None
 
+    def to_do(self):
+        return self.advice or TO_DO.get(self.kind)
+
     def said(self):
         place = f", line {self.line}, column {self.column}" if self.line else ""
         words = f"refused {self.number}: {self.words.replace(place, '', 1) if place else self.words}" if self.kind == "refused" else self.words
         return f"{self.file}{place}: {words}" if self.file else words
 
     def members(self):
-        return {name: value for name, value in self._asdict().items() if name != "level"}
+        return {**{name: value for name, value in self._asdict().items() if name != "level"}, "advice": self.to_do()}
 
 
 class Role(NamedTuple):

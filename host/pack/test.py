@@ -384,7 +384,8 @@ class Show(Case):
         self.assertEqual(self.said(1, "show-bundle", "--json", bundle), {"refused": {"number": 21, "words": "bundle wrong at 3", "place": 3}})
         words = f"{self.put('library', '<a/>', self.top)}: no yang-library and no modules-state of the namespace {library.NAMESPACE} in the root element a"
         told = self.said(1, "library", "--json", os.path.join(self.top, "library"), self.dir, self.image, self.bundle)
-        self.assertEqual((told["refused"], told["errors"][0]["words"], told["warnings"], told["notes"]), ({"number": None, "words": words}, words, [], []))
+        self.assertEqual((told["refused"], told["errors"][0]["words"], told["warnings"], told["notes"]),
+                         ({"number": None, "words": words, "file": None}, words, [], []))
 
 
 class Words(Case):

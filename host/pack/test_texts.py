@@ -173,7 +173,7 @@ class Order(Told):
                          {("missing", "b", 23, None, None), ("refused", "m", 27, 2, 3), ("refused", "d", 25, 2, 14)})
         self.assertEqual({e["file"] for e in told["errors"]}, {None, self.dir + "/m.yang", self.dir + "/d.yang"})
         self.assertTrue(all(e["words"] and ("advice" in e) for e in told["errors"]))
-        self.assertEqual(told["refused"], {key: told["errors"][0][key] for key in ("number", "words")})
+        self.assertEqual(told["refused"], {key: told["errors"][0][key] for key in ("number", "words", "file")})
         self.assertEqual([(w["kind"], w["text"]) for w in told["warnings"]], [("revisions", "i")])
         self.assertEqual((told["image"], told["bundle"]["texts"], told["notes"]), ({"bytes": 35, "sets": 1}, 6, []))
         told = self.said(0, "library", "--json", "--lenient", library, self.dir, self.image, self.bundle)
@@ -227,6 +227,7 @@ class Order(Told):
         self.put("c.yang", "module c { prefix c;\n  import/**/ a { prefix a; }\n  augment /a:x { }\n}")
         said = self.folder()
         self.assertEqual((said[0], self.errors(said)), (0, []))
+        self.assertEqual([line.split(":")[1] for line in said[2].splitlines() if " to do at " in line], [" to do at augments", " to do at passed over"])
         self.assertEqual([line.split(":")[0] for line in self.lines(said, "warning")],
                          ["b.yang, line 2, column 3", "c.yang, line 2, column 3", "c.yang, line 3, column 3"])
         told = self.said(0, "folder", "--json", self.dir, self.image, self.bundle)
@@ -308,7 +309,7 @@ class Folder(Told):
         self.put(b"in\x07/n@\xff.yang".decode(errors="surrogateescape"), b"module n {}")
         self.bundle += "\r"
         status, out, err = self.folder("--lenient")
-        self.assertEqual((status, len(out.splitlines()), len(err.splitlines())), (0, 2, 3))
+        self.assertEqual((status, len(out.splitlines()), len(err.splitlines())), (0, 2, 5))
         self.assertTrue(all(c.isprintable() or c == "\n" for c in out + err))
         for word in "in\\x07/m.yang: it calls itself m\\x1b[2J;", "belongs to n\\x00\\x7f,", "n@\\udcff.yang: its revision is (none)":
             self.assertIn(word, err)
@@ -526,7 +527,7 @@ class Program(Case):
         printed = f"{self.image}: 8 bytes, 1 set\n{self.bundle}: 42 bytes, 1 text\n"
         for stream, why in (">/dev/full", "No space left on device"), (">&-", "Bad file descriptor"):
             status, _, err = self.ran(stream)
-            self.assertEqual((status, err.splitlines(True)[1:]), (2, [f"nuvaleta pack: standard output: {why}\n"]))
+            self.assertEqual((status, err.splitlines(True)[2:]), (2, [f"nuvaleta pack: standard output: {why}\n"]))
         for stream in "2>/dev/full", "2>&-":
             self.assertEqual(self.ran(stream), (0, printed, ""))
         self.assertEqual(self.ran("| :")[0], 0)
