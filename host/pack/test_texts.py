@@ -2,6 +2,7 @@
 """Tests of host/pack over the built command: texts that are not what is asked for, all that an order would refuse, folders, libraries, many routers."""
 import json
 import os
+import random
 import re
 import shutil
 import subprocess
@@ -247,6 +248,50 @@ class Order(Told):
             self.put(f"s{i}.yang", f"submodule s{i} {{ belongs-to m {{ prefix m; }} " + f"include s{i + 1}; " * (256 if i < 8 else 0) + "}")
         with unittest.mock.patch.object(pack.judge, "SECONDS", 0.3):
             self.refused(self.folder(), "given up after 0.3 s: texts that include each other many times")
+
+
+class Drawn(Told):
+    """Libraries that are drawn, with texts that are missing, wrong or damaged: an order is refused exactly where packing tells a refusal or a missing text."""
+
+    def text(self, draw, word, names, parent):
+        lines = [f"belongs-to {parent} {{ prefix x; }}"] if parent else [f"namespace 'urn:{word}'; prefix x;"]
+        lines += [f"import {name} {{ prefix {name}; }}" for name in names if draw.random() < 0.15]
+        lines += [f"include {name};" for name in names if name[0] == "s" and draw.random() < 0.3]
+        text = f"{'submodule' if parent else 'module'} {word} {{\n " + "\n ".join(lines) + "\n}\n"
+        if draw.random() < 0.06:
+            at = draw.randrange(len(text))
+            text = text[:at] + draw.choice(["", ";", "{", '"', "/*", "\xe9", " contact "]) + text[at + draw.randint(0, 3):]
+        return text
+
+    def draw(self, seed):
+        """A library, and its texts."""
+        draw = random.Random(seed)
+        names = [f"m{i}" for i in range(draw.randint(1, 6))]
+        listed = {name: [f"s{i}{name}" for i in range(draw.choice([0, 0, 1, 2]))] for name in names}
+        known = sum(listed.values(), names) + ["gone", "sgone"] * (draw.random() < 0.2)
+        rows = [{"name": name, "conformance-type": draw.choice(["implement", "implement", "import"]), "submodule": [{"name": s} for s in listed[name]],
+                 "deviation": [{"name": draw.choice(known)}] * (draw.random() < 0.1)} for name in names]
+        texts = {word: self.text(draw, word, known, parent) for name in names for word, parent in [(name, None)] + [(s, name) for s in listed[name]]}
+        return {"modules-state": {"module": rows}}, {word: text for word, text in texts.items() if draw.random() < 0.97}
+
+    def test_drawn(self, seeds=range(60)):
+        command, told = pack.judge.command(), set()
+        for seed in seeds:
+            shutil.rmtree(self.dir)
+            document, texts = self.draw(seed)
+            for word, text in texts.items():
+                self.put(f"{word}.yang", text)
+            os.makedirs(self.dir, exist_ok=True)
+            checked = json.loads(self.library(document, "--json", "--check")[1])
+            self.assertEqual(self.library(document, "--lenient")[0], 0, seed)
+            ran = subprocess.run([command, "order", "--json", self.image, self.bundle], capture_output=True, text=True, check=False)
+            refused = json.loads(ran.stdout).get("refused", {}).get("number")
+            numbers = [one["number"] for one in checked["errors"] if one["kind"] in ("missing", "refused", "no_module")]
+            # A text that is no YANG is told as that, and a submodule that is missing though nothing includes it.
+            due = refused in numbers or refused == 25 and None in numbers if refused else set(numbers) <= {None, 24}
+            self.assertTrue(due, (seed, refused, checked["errors"]))
+            told.add(refused)
+        return told
 
 
 class Folder(Told):
