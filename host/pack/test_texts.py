@@ -217,6 +217,22 @@ class Order(Told):
         at = names.index("m599")
         self.assertEqual(ordered, [n for n in names[:at] if n != "m3"] + ["m599"] + (["m3"] if names.index("m3") < at else []) + names[at + 1:])
 
+    def test_more_names_than_a_list_takes(self):
+        """A module that is named once more in another set, with the rest of its list, has all edges, as the error advises."""
+        names = [f"m{i}" for i in range(66)]
+        for name in names:
+            self.put(f"{name}.yang", f"module {name} {{ prefix m; }}")
+        for kind in "augmented-by", "deviation":
+            rows = [{"name": name} for name in names]
+            self.refused(self.library({"module-set": [{"module": [{**rows[0], kind: names[1:]}, *rows[1:]]}]}), "65 ", "at most 64",
+                         "once more in another set")
+            document = {"module-set": [{"module": [{**rows[0], kind: names[1:65]}, *rows[1:]]}, {"module": [{**rows[0], kind: names[65:]}]}]}
+            self.assertEqual(self.library(document)[::2], (0, ""))
+            ran = subprocess.run([pack.judge.command(), "graph", "--json", self.image, self.bundle], capture_output=True, check=True)
+            self.assertEqual(sorted(json.loads(ran.stdout)["edges"]), [[0, i] for i in range(1, 66)])
+            os.remove(self.image)
+            os.remove(self.bundle)
+
     def test_a_ring(self):
         self.put("a.yang", "module a { prefix a; import b { prefix b; } }")
         self.put("b.yang", "module b { prefix b; import a { prefix a; } }")
