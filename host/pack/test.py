@@ -32,6 +32,17 @@ class Form(Case):
         for n in 0, 127, 128, 16_383, 16_384, 2_097_151:
             self.assertEqual(form.Reader(form.number(n), 3).number(0, form.NUMBER), n)
 
+    def test_limits_of_the_header(self):
+        """The limits here are those of the C header, and the number of routers that of `order --all`."""
+        with open(os.path.join(HERE, "..", "..", "include", "nuvaleta.h"), encoding="utf-8") as file:
+            header = {name: int(value) for name, value in re.findall(r"#define NUVALETA_(\w+)_MOST (\d+)u", file.read())}
+        own = {"SETS": form.SETS, "MODULES": form.MODULES, "LIST": form.LIST, "REVISIONS": form.REVISIONS, "NAME": form.NAME, "IMAGE": form.IMAGE,
+               "TEXTS": form.TEXTS, "NUMBER": form.TEXT, "BUNDLE": form.BUNDLE, "TEXT": form.SCANNED}
+        self.assertEqual({name: header[name] for name in own}, own)
+        self.assertIn(f"at most {header['NODES']:,} names", form.TO_DO["texts"])
+        with open(os.path.join(HERE, "..", "rust", "src", "all.rs"), encoding="utf-8") as file:
+            self.assertIn(f"const ROUTERS_MOST: usize = {pack.TOGETHER};", file.read())
+
     def test_document_example(self):
         self.assertEqual(form.read_image(M_S_B), [Set([Module("m", ["s"]), Module("b")])])
         self.assertEqual(form.write_image([Set([Module("m", ["s"]), Module("b")])]), M_S_B)
