@@ -8,7 +8,6 @@ import xml.etree.ElementTree as ET
 from typing import NamedTuple
 from xml.parsers import expat
 
-import form
 from form import ImportOnly, Module, Refused, Set
 
 MODULE = "ietf-yang-library"

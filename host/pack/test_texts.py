@@ -9,7 +9,7 @@ import subprocess
 import sys
 import unittest.mock
 
-from cases import BARE, HERE, LIBRARY, XML, Case, main, pack
+from cases import HERE, LIBRARY, XML, Case, main, pack
 import form
 from form import Module, Set
 
