@@ -114,28 +114,30 @@ def walk(image, bundle):
 # ---- one text
 
 
-def looks_like(text):
-    """What a text seems to be that is no YANG; None if its beginning does not tell."""
-    begin = text.lstrip(b" \t\r\n\f\v\xef\xbb\xbf")[:100].lower()
-    if not begin:
-        return "it is empty"
-    if begin.startswith((b"<!doctype html", b"<html")):
-        return "it looks like a page of HTML, as a server gives it for what it does not have"
-    if begin.startswith(b"<"):
-        return "it looks like XML: if the text is inside, take it out of its envelope"
-    if begin.startswith((b"{", b"[", b'"')):
-        return "it looks like JSON: if the text is inside, take it out of its envelope"
-    return None
+LOOKS = {  # what a text seems to be that begins so, whatever the case of its letters
+    b"<!doctype html": "a page of HTML, as a server gives it for what it does not have",
+    b"<html": "a page of HTML, as a server gives it for what it does not have",
+    b"<": "XML: if the text is inside, take it out of its envelope",
+    b"{": "JSON: if the text is inside, take it out of its envelope",
+    b"[": "JSON: if the text is inside, take it out of its envelope",
+    b'"': "JSON: if the text is inside, take it out of its envelope",
+    b"#": "a reply in NETCONF's chunks: take the text out of them",
+    b"\xff\xfe": "UTF-16: write it in ASCII",
+    b"\xfe\xff": "UTF-16: write it in ASCII",
+}
 
 
 def no_module(text, metadata):
-    """(kind, words) for a text that is no module or submodule at all."""
-    seems = looks_like(text)
-    if seems:
-        return "empty" if seems == "it is empty" else "no_module", f"no module or submodule statement: {seems}"
-    if metadata.get("refused", {}).get("number") == 9:
-        begin = text.strip().split(b"\n")[0][:40].decode("ascii", "backslashreplace")
-        return "no_module", f"no module or submodule statement with a name; it begins with {begin!r}"
+    """(kind, words) for a text that is no module or submodule at all. One that does not begin with that word or a comment is none, whatever a scan finds
+    further on."""
+    begin = text.lstrip(b" \t\r\n\f\v\xef\xbb\xbf")[:100]
+    if not begin:
+        return "empty", "no module or submodule statement: it is empty"
+    for lead, seems in LOOKS.items():
+        if begin.lower().startswith(lead):
+            return "no_module", f"no module or submodule statement: it looks like {seems}"
+    if metadata.get("refused", {}).get("number") == 9 or not re.match(rb"(sub)?module\b|/[/*]", begin):
+        return "no_module", f"no module or submodule statement; it begins with {begin.splitlines()[0][:40].decode('ascii', 'backslashreplace')!r}"
     return None
 
 
