@@ -198,7 +198,7 @@ def place(fault, text):
     """Line and column of a fault; those of an import or include that nothing resolves are looked for in its text."""
     if fault.get("line") or fault.get("by") not in ("import", "include") or text is None:
         return fault.get("line"), fault.get("column")
-    found = re.search(rb"\b%s\s+[\"']?%s\b" % (fault["by"].encode(), re.escape(fault["listed"].encode())), text)
+    found = re.search(rb"(?<![\w.-])%s\s+[\"']?%s(?![\w.:-])" % (fault["by"].encode(), re.escape(fault["listed"].encode())), text)
     before = text[:found.start()] if found else b""
     return (before.count(b"\n") + 1, found.start() - before.rfind(b"\n")) if found else (None, None)
 
