@@ -476,7 +476,8 @@ class Places(Case):
     def test_places(self):
         """Where an import or include stands in a text, for one that has no place of its own."""
         text = b"module m {\n my-import a; import a-b { }\n  import 'a' { }\tinclude\n a;\n}"
-        for fault, due in [({"by": "import", "listed": "a"}, (3, 3)), ({"by": "include", "listed": "a"}, (3, 18)), ({"by": "import", "listed": "a-b"}, (2, 15)),
+        for fault, due in [({"by": "import", "listed": "a"}, (3, 3)), ({"by": "include", "listed": "a"}, (3, 18)),
+                           ({"by": "import", "listed": "a-b"}, (2, 15)),
                            ({"by": "import", "listed": "b"}, (None, None)), ({"by": "deviation", "listed": "a"}, (None, None)),
                            ({"by": "import", "listed": "a", "line": 7, "column": 8}, (7, 8))]:
             self.assertEqual(pack.judge.place(fault, text), due, fault)
