@@ -1,5 +1,6 @@
 #!/bin/sh
-# test.sh: the crate's tests over the archive that host/archive has made, then the command: what it prints where, and its exit status.
+# test.sh: the crate's tests over the archive that host/archive has made, then the command: what it prints where, and its exit status; its warnings over
+# real modules.
 set -eu
 here=$(cd "$(dirname "$0")" && pwd)
 root=$(cd "$here/../.." && pwd)
@@ -371,6 +372,9 @@ expect 2 graph image none
 expect 2 --json order none bundle
 expect 2 check image none
 expect 2 texts none
+due 'nuvaleta: a b: Is a directory (os error 21): run `nuvaleta pack folder FOLDER IMAGE BUNDLE`\n'
+expect 2 order 'a b' bundle
+expect 2 texts 'a b'
 due 'nuvaleta: standard output: No space left on device (os error 28)\n'
 status=0
 "$nuvaleta" order image bundle >/dev/full 2>err || status=$?
@@ -394,4 +398,6 @@ mkdir -p fresh/target/staticlib
 [ "$(warnings)" = 0 ] || wrong "a warning with an archive"
 
 [ "$fails" = 0 ] || exit 1
+# shellcheck disable=SC2046
+"$here/test_real.py" $("$here/../vectors/real.sh")
 echo "rust: $(awk '/^test result: ok/ { n += $4 } END { print n }' tested) tests pass, the command prints and ends as it should"
