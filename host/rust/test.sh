@@ -112,6 +112,19 @@ looks 20 2 image 'an image' 'a bundle' 'the two are swapped: give the image firs
 expect 1 order bundle image
 echo '1 fault, 0 warnings' >>due
 expect 1 check bundle image
+{
+    printf '\001\001m\200\200\005'
+    head -c 81920 /dev/zero | tr '\000' ' '
+} >fat
+printf '\001\001\001m\000\000\000\000' >one
+cat >due <<'X1'
+refused 20: the image has more than 65,536 bytes
+expected an image, found a bundle
+To do: the two are swapped: give the image first, then the bundle
+X1
+expect 1 order fat one
+cp fat in
+expect 1 graph - one
 looks 21 1 bundle 'a bundle' 'an image' 'this looks like an image: give both files that `nuvaleta pack` wrote, the image first'
 expect 1 order image image
 expect 1 texts image

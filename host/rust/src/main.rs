@@ -110,13 +110,13 @@ fn both(args: &Args) -> Result<[Vec<u8>; 2], Wrong> {
         [image, bundle] => (image, bundle),
         _ => return usage(),
     };
-    Ok([half(image, nuvaleta::IMAGE_MOST)?, half(bundle, nuvaleta::BUNDLE_MOST)?])
+    Ok([half(image)?, half(bundle)?])
 }
 
-/// An image or a bundle; of a folder it is said how one is made.
-fn half(file: &OsStr, most: usize) -> Result<Vec<u8>, Wrong> {
+/// An image or a bundle, which may be the wrong one of the two; of a folder it is said how one is made.
+fn half(file: &OsStr) -> Result<Vec<u8>, Wrong> {
     let folder = |why: String| if Path::new(file).is_dir() { why + ": run `nuvaleta pack folder FOLDER IMAGE BUNDLE`" } else { why };
-    read(file, most).map_err(|why| Wrong::File(folder(why)))
+    read(file, nuvaleta::BUNDLE_MOST).map_err(|why| Wrong::File(folder(why)))
 }
 
 /// What is made of the graph of two files.
@@ -137,7 +137,7 @@ fn texts(args: &Args) -> Ended {
         [file] => file,
         _ => return usage(),
     };
-    let bundle = half(file, nuvaleta::BUNDLE_MOST)?;
+    let bundle = half(file)?;
     let plainly = |texts: &[nuvaleta::About]| texts.iter().map(nuvaleta::About::to_string).collect::<String>();
     let told = nuvaleta::texts(&bundle).map(|texts| if args.has("--json") { json::texts(&texts) + "\n" } else { plainly(&texts) });
     Ok(end(args, told, json::refusal))
