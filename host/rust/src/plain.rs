@@ -170,7 +170,6 @@ impl Reader<'_> {
             }
             self.at += 1;
         }
-        self.at = self.at.max(start + 1); // whatever it is, it is passed
         match stop(&self.text[start..self.at]) {
             Some(stop) if !self.in_block() => self.found.snags.push((start, Snag::Stop(stop))),
             _ => {}
@@ -191,7 +190,6 @@ impl Reader<'_> {
     fn strings(&mut self) -> Result<String, Open> {
         let mut value = self.string()?;
         loop {
-            let end = self.at;
             self.gap()?;
             if self.text.get(self.at) != Some(&b'+') {
                 return Ok(value);
@@ -199,7 +197,6 @@ impl Reader<'_> {
             self.at += 1;
             self.gap()?;
             if !self.text.get(self.at).map_or(false, |byte| is_quote(*byte)) {
-                self.at = end.max(self.at);
                 return Ok(value);
             }
             value += &self.string()?;
