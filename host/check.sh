@@ -69,6 +69,7 @@ from_c_and_rust() {
     "$here/rust/test.sh"
     "$here/rust/test_all.py"
     "$here/pack/test_texts.py"
+    "$here/libyang/test.py"
     "$here/../examples/test.sh"
 }
 
@@ -104,7 +105,7 @@ over() {
 }
 
 # All that two parts could both want to install, and the packages that the packing's tests look for.
-"$here/need" gcc g++ libc6-dev binutils make pkg-config python3 valgrind
+"$here/need" gcc g++ libc6-dev binutils make pkg-config python3 valgrind libyang2-dev libyang2-tools
 real=$("$here/vectors/real.sh")
 case $which in
 alone | over) "$which" ;;

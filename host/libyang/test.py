@@ -20,8 +20,8 @@ def run(*words):
 
 
 def gather(folder):
-    """All real modules, each under its name; of several revisions the last one listed."""
-    for path in run(os.path.join(HERE, "..", "vectors", "real.sh")).split():
+    """All real modules, each under its name; of several revisions the last one listed, but libyang's own before others, as its library names them."""
+    for path in sorted(run(os.path.join(HERE, "..", "vectors", "real.sh")).split(), key=lambda path: "/libyang/" in path):
         name = os.path.basename(path)[:-len(".yang")].split("@")[0]
         link = os.path.join(folder, name + ".yang")
         if os.path.lexists(link):
