@@ -77,10 +77,8 @@ struct Refused {
 
 impl Display for Refused {
     fn fmt(&self, f: &mut std::fmt::Formatter<'_>) -> std::fmt::Result {
-        write!(f, "refused {}: {}: {}", self.scan.number(), self.spot, self.scan.words())?;
-        self.spot.line.as_ref().map_or(Ok(()), |line| write!(f, "\n{line}"))?;
-        self.spot.clash.as_ref().map_or(Ok(()), |clash| write!(f, "\n{clash}"))?;
-        write!(f, "\nTo do: {}", self.scan.advice())
+        let Refused { scan, spot } = self;
+        write!(f, "refused {}: {spot}: {}{}\nTo do: {}", scan.number(), scan.words(), spot.shown(), scan.advice())
     }
 }
 

@@ -73,7 +73,7 @@ fn is_quote(byte: u8) -> bool {
 }
 
 /// Whether a name of the scans goes on with this byte.
-fn is_name(byte: u8) -> bool {
+pub(crate) fn is_name(byte: u8) -> bool {
     byte.is_ascii_alphanumeric() || b"_-.:".contains(&byte)
 }
 
