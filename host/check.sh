@@ -50,6 +50,7 @@ alone() {
     "$here/readme/outcomes.py"
     "$here/architecture/test.sh"
     "$here/archive/test.sh"
+    "$here/archive/test.py"
     "$here/pack/test.py"
     judged || return 0
     "$here/oracle/test.py"
