@@ -69,6 +69,7 @@ from_c_and_rust() {
     [ -n "$rust" ] || { skip "no Rust of 1.63 or newer" "the Rust crate and the command"; return 0; }
     "$here/rust/test.sh"
     "$here/rust/test_all.py"
+    "$here/package/test.py"
     "$here/../examples/test.sh"
 }
 

@@ -72,9 +72,11 @@ class Terminal:
         self.until(lambda _: False, wait)
         return self.status
 
+    def type(self, text):
+        os.write(self._fd, text.encode())
+
     def interrupt(self):
-        """Ctrl-C."""
-        os.write(self._fd, b"\x03")
+        self.type("\x03")  # Ctrl-C
 
     def kill(self):
         if self.status is None:
