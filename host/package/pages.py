@@ -57,7 +57,9 @@ def roff(text):
 
 
 def shown(lines):
-    return [".PP", ".nf", *map(roff, lines), ".fi"]
+    """Lines as they are, further to the left than the rest where they are wide: 80 columns are to be enough."""
+    indent = max(0, min(7, 80 - max(map(len, lines))))
+    return [".PP", f".in {indent}n", ".nf", *map(roff, lines), ".fi", ".in"]
 
 
 def breakable(line):

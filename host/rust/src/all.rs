@@ -1,9 +1,9 @@
 //! nuvaleta order --all FOLDER: the orders of registration of all routers of a folder, on all processors at hand. A router is a pair of files,
 //! NAME.image and NAME.bundle.
 
-use crate::io::{printed, put, read_into, say};
+use crate::io::{printed, put, say};
 use crate::json;
-use nuvaleta::{Buffers, Order, Refusal, BUNDLE_MOST, IMAGE_MOST};
+use crate::router::{order_within, shown, Bench, Outcome, Router, ENDINGS};
 use std::collections::BTreeMap;
 use std::ffi::{OsStr, OsString};
 use std::fs::{self, File};
@@ -12,13 +12,12 @@ use std::os::unix::ffi::OsStrExt;
 use std::path::Path;
 use std::process::ExitCode;
 use std::sync::atomic::{AtomicUsize, Ordering};
-use std::sync::mpsc::{self, Receiver, Sender};
+use std::sync::mpsc::{self, Receiver, RecvTimeoutError, Sender};
 use std::sync::{Condvar, Mutex};
 use std::thread;
 use std::time::{Duration, Instant};
 
 const ROUTERS_MOST: usize = 400;
-const ENDINGS: [&str; 2] = [".image", ".bundle"];
 /// More than nuvaleta::raw::STACK_MOST.
 const STACK: usize = 2 << 20;
 
@@ -27,11 +26,13 @@ struct Job<'a> {
     folder: &'a Path,
     into: Option<&'a Path>,
     json: bool,
+    /// After so many seconds a router is given up.
+    seconds: Option<u32>,
     /// By name: whether there is an image, and a bundle.
     routers: Vec<(OsString, [bool; 2])>,
 }
 
-pub fn run(folder: &OsStr, into: Option<&OsStr>, json: bool) -> ExitCode {
+pub fn run(folder: &OsStr, into: Option<&OsStr>, json: bool, seconds: Option<u32>) -> ExitCode {
     let (folder, into) = (Path::new(folder), into.map(Path::new));
     let routers = match routers(folder) {
         Ok(routers) => routers,
@@ -41,7 +42,7 @@ pub fn run(folder: &OsStr, into: Option<&OsStr>, json: bool) -> ExitCode {
         Some(into) if !into.is_dir() => {
             say(2, format!("nuvaleta: {}: {}", into.display(), if into.exists() { "no folder" } else { "no such folder" }))
         }
-        _ => all(&Job { folder, into, json, routers }),
+        _ => all(&Job { folder, into, json, seconds, routers }),
     }
 }
 
@@ -75,6 +76,7 @@ struct Tally {
     refused: usize,
     not_readable: usize,
     not_written: usize,
+    given_up: usize,
     schemas: usize,
     edges: usize,
 }
@@ -85,32 +87,6 @@ struct Done {
     out: String,
     err: String,
     tally: Tally,
-}
-
-/// A name on a line: control characters, backslashes and bytes that are not UTF-8 are escaped, so that no two names look the same.
-fn shown(name: &OsStr) -> String {
-    let escape = |c: char| if c.is_control() || c == '\\' { c.escape_default().to_string() } else { c.to_string() };
-    let (mut out, mut rest) = (String::new(), name.as_bytes());
-    loop {
-        let good = std::str::from_utf8(rest).map_or_else(|e| e.valid_up_to(), str::len);
-        out.extend(String::from_utf8_lossy(&rest[..good]).chars().map(escape));
-        match rest.get(good) {
-            Some(byte) => out += &format!("\\x{byte:02x}"),
-            None => return out,
-        }
-        rest = &rest[good + 1..];
-    }
-}
-
-/// A file, or so much of it that it is seen to be too long. What is no plain file, and might never end, is not opened.
-fn read(path: &Path, most: usize, out: &mut Vec<u8>) -> io::Result<()> {
-    out.clear();
-    let about = fs::metadata(path)?;
-    if !about.is_file() {
-        return Err(io::Error::new(io::ErrorKind::Other, "no plain file"));
-    }
-    out.reserve((about.len() as usize).min(most) + 1);
-    read_into(File::open(path)?, most, out)
 }
 
 /// Written beside its place and put there by renaming; `Err` says which file is not written.
@@ -131,9 +107,7 @@ fn write(into: &Path, router: &OsStr, text: &str, place: usize) -> Result<(), St
 struct Worker<'a> {
     job: &'a Job<'a>,
     told: &'a Told,
-    buffers: Buffers,
-    image: Vec<u8>,
-    bundle: Vec<u8>,
+    bench: Bench,
 }
 
 impl Worker<'_> {
@@ -153,61 +127,51 @@ impl Worker<'_> {
 
     fn one(&mut self, place: usize) -> Done {
         let (name, halves) = &self.job.routers[place];
-        if let Err(why) = self.read(name, *halves) {
-            return self.fault(name, "not_readable", &why, Tally { not_readable: 1, ..Tally::default() });
-        }
-        let graph = self.buffers.graph(&self.image, &self.bundle);
-        match graph.and_then(|graph| Ok((graph.order()?, graph.edges.len()))) {
-            Ok((order, edges)) => self.in_order(place, &order, edges),
-            Err(refusal) => self.refused(name, &refusal),
+        let router = Router { folder: self.job.folder, name, halves: *halves };
+        let outcome = match self.job.seconds {
+            Some(seconds) if *halves == [true; 2] => order_within(&router, seconds),
+            _ => self.bench.order(&router),
+        };
+        match outcome {
+            Outcome::InOrder { names, edges } => self.in_order(place, &names, edges),
+            Outcome::Refused { said, json } => self.refused(name, &said, json),
+            Outcome::NotReadable(why) => self.fault(name, "not_readable", &why, Tally { not_readable: 1, ..Tally::default() }),
+            Outcome::GivenUp(why) => self.fault(name, "given_up", &why, Tally { given_up: 1, ..Tally::default() }),
         }
     }
 
-    fn read(&mut self, name: &OsStr, halves: [bool; 2]) -> Result<(), String> {
-        let into = [(&mut self.image, IMAGE_MOST), (&mut self.bundle, BUNDLE_MOST)];
-        for (((out, most), there), ending) in into.into_iter().zip(halves).zip(ENDINGS) {
-            let mut file = name.to_os_string();
-            file.push(ending);
-            let told = |e: &dyn std::fmt::Display| format!("{}: {e}", shown(&file));
-            if !there {
-                return Err(told(&"no such file beside the other half"));
-            }
-            read(&self.job.folder.join(&file), most, out).map_err(|e| told(&e))?;
-        }
-        Ok(())
-    }
-
-    fn in_order(&self, place: usize, order: &Order, edges: usize) -> Done {
+    fn in_order(&self, place: usize, names: &str, edges: usize) -> Done {
         let name = &self.job.routers[place].0;
-        let written = self.job.into.map_or(Ok(()), |into| write(into, name, &order.to_string(), place));
+        let written = self.job.into.map_or(Ok(()), |into| write(into, name, names, place));
         if let Err(why) = written {
             return self.fault(name, "not_written", &why, Tally { not_written: 1, ..Tally::default() });
         }
         let out = match (self.job.json, self.job.into) {
-            (true, _) => self.object(name, "order", json::list(order.names.iter().map(|name| json::quoted(name)))),
+            (true, _) => self.object(name, "order", json::list(names.lines().map(json::quoted))),
             (false, Some(_)) => String::new(),
             (false, None) => {
                 let name = shown(name);
-                order.names.iter().flat_map(|schema| [&name, "\t", schema, "\n"]).collect()
+                names.lines().flat_map(|schema| [&name, "\t", schema, "\n"]).collect()
             }
         };
-        let tally = Tally { in_order: 1, schemas: order.names.len(), edges, ..Tally::default() };
+        let tally = Tally { in_order: 1, schemas: names.lines().count(), edges, ..Tally::default() };
         Done { out, err: String::new(), tally }
     }
 
-    fn refused(&self, name: &OsStr, refusal: &Refusal) -> Done {
+    fn refused(&self, name: &OsStr, said: &str, json: String) -> Done {
         let tally = Tally { refused: 1, ..Tally::default() };
         match self.job.json {
-            true => Done { out: self.object(name, "refused", json::refusal(refusal)), err: String::new(), tally },
-            false => Done { out: String::new(), err: format!("{}: {refusal}\n", shown(name)), tally },
+            true => Done { out: self.object(name, "refused", json), err: String::new(), tally },
+            false => Done { out: String::new(), err: format!("{}: {said}\n", shown(name)), tally },
         }
     }
 
     /// What the machine, not the library, stood in the way of.
     fn fault(&self, name: &OsStr, what: &'static str, why: &str, tally: Tally) -> Done {
+        let colon = if what == "given_up" { "" } else { ":" }; // "after 2 s" stands behind it
         match self.job.json {
             true => Done { out: self.object(name, what, json::quoted(why)), err: String::new(), tally },
-            false => Done { out: String::new(), err: format!("{}: {}: {why}\n", shown(name), what.replace('_', " ")), tally },
+            false => Done { out: String::new(), err: format!("{}: {}{colon} {why}\n", shown(name), what.replace('_', " ")), tally },
         }
     }
 
@@ -255,7 +219,7 @@ fn all(job: &Job) -> ExitCode {
     thread::scope(|scope| {
         let mut workers = 0;
         for _ in 0..processors {
-            let worker = Worker { job, told: &told, buffers: Buffers::new(), image: Vec::new(), bundle: Vec::new() };
+            let worker = Worker { job, told: &told, bench: Bench::new() };
             let (send, next) = (send.clone(), &next);
             workers += usize::from(thread::Builder::new().stack_size(STACK).spawn_scoped(scope, move || worker.run(next, send)).is_ok());
         }
@@ -282,16 +246,19 @@ impl Output<'_> {
     fn hear(&mut self, results: Receiver<(usize, Done)>, told: &Told) -> io::Result<()> {
         let mut waiting = BTreeMap::new();
         let mut count = 0;
-        for (place, done) in results {
-            waiting.insert(place, done);
+        loop {
+            self.progress.show(count, &self.job.routers);
+            match results.recv_timeout(self.progress.tick()) {
+                Ok((place, done)) => drop(waiting.insert(place, done)),
+                Err(RecvTimeoutError::Timeout) => {}
+                Err(RecvTimeoutError::Disconnected) => return Ok(()),
+            }
             while let Some(done) = waiting.remove(&count) {
                 self.tell(&done)?;
                 count += 1;
                 told.raise(count);
             }
-            self.progress.show(count, self.job.routers.len());
         }
-        Ok(())
     }
 
     fn tell(&mut self, done: &Done) -> io::Result<()> {
@@ -327,12 +294,13 @@ impl Tally {
         self.refused += other.refused;
         self.not_readable += other.not_readable;
         self.not_written += other.not_written;
+        self.given_up += other.given_up;
         self.schemas += other.schemas;
         self.edges += other.edges;
     }
 
     fn status(&self) -> u8 {
-        match (self.not_readable + self.not_written, self.refused) {
+        match (self.not_readable + self.not_written + self.given_up, self.refused) {
             (0, 0) => 0,
             (0, _) => 1,
             _ => 2,
@@ -340,9 +308,10 @@ impl Tally {
     }
 
     fn line(&self, routers: usize, took: Duration, processors: usize) -> String {
-        let not_written = if self.not_written == 0 { String::new() } else { format!(", {} not written", self.not_written) };
+        let rare = |count: usize, what: &str| if count == 0 { String::new() } else { format!(", {count} {what}") };
+        let more = rare(self.not_written, "not written") + &rare(self.given_up, "given up");
         format!(
-            "{}: {} in order, {} refused, {} not readable{not_written}; {}, {}; {:.2} s on {}",
+            "{}: {} in order, {} refused, {} not readable{more}; {}, {}; {:.2} s on {}",
             counted(routers, "router"), self.in_order, self.refused, self.not_readable, counted(self.schemas, "schema"),
             counted(self.edges, "edge"), took.as_secs_f64(), counted(processors, "processor"),
         )
@@ -351,7 +320,7 @@ impl Tally {
     fn object(&self, routers: usize, took: Duration, processors: usize) -> String {
         let counts = [
             ("routers", routers), ("in_order", self.in_order), ("refused", self.refused), ("not_readable", self.not_readable),
-            ("not_written", self.not_written), ("schemas", self.schemas), ("edges", self.edges), ("processors", processors),
+            ("not_written", self.not_written), ("given_up", self.given_up), ("schemas", self.schemas), ("edges", self.edges), ("processors", processors),
         ];
         let mut fields: Vec<_> = counts.iter().map(|(name, count)| (*name, count.to_string())).collect();
         fields.push(("seconds", format!("{:.3}", took.as_secs_f64())));
@@ -377,23 +346,42 @@ fn counted(n: usize, of: &str) -> String {
 struct Progress {
     on: bool,
     last: Option<Instant>,
+    /// How many were told of, and since when.
+    since: (usize, Instant),
     width: usize,
 }
+
+/// How often the line is written, and so much of a router's name stands in it.
+const TICK: Duration = Duration::from_millis(100);
+const NAME_PART: usize = 32;
 
 impl Progress {
     fn new(job: &Job) -> Progress {
         let prints = job.json || job.into.is_none();
-        Progress { on: nuvaleta::is_terminal(2) && !(prints && nuvaleta::is_terminal(1)), last: None, width: 0 }
+        let on = nuvaleta::is_terminal(2) && !(prints && nuvaleta::is_terminal(1));
+        Progress { on, last: None, since: (0, Instant::now()), width: 0 }
     }
 
-    fn show(&mut self, count: usize, of: usize) {
-        if !self.on || self.last.map_or(false, |last| last.elapsed() < Duration::from_millis(100)) {
+    /// So long a result is waited for before the line is written again.
+    fn tick(&self) -> Duration {
+        if self.on { TICK } else { Duration::from_secs(86_400) }
+    }
+
+    /// How many were told of, and the first one that was not: it is the oldest that is still worked on.
+    fn show(&mut self, count: usize, routers: &[(OsString, [bool; 2])]) {
+        if !self.on || self.last.map_or(false, |last| last.elapsed() < TICK) {
             return;
         }
-        let line = format!("{count} of {of} routers");
+        if self.since.0 != count {
+            self.since = (count, Instant::now());
+        }
+        let seconds = self.since.1.elapsed().as_secs();
+        let at = routers.get(count).map_or_else(String::new, |(name, _)| format!(", at {}", part(&shown(name))));
+        let long = if seconds > 0 { format!(" for {seconds} s") } else { String::new() };
+        let line = format!("{count} of {} routers{at}{long}", routers.len());
         self.last = Some(Instant::now());
-        self.width = self.width.max(line.len());
-        let _ = write!(io::stderr(), "\r{line}");
+        self.width = self.width.max(line.chars().count());
+        let _ = write!(io::stderr(), "\r{line:0$}", self.width);
     }
 
     fn clear(&mut self) {
@@ -402,4 +390,10 @@ impl Progress {
             self.width = 0;
         }
     }
+}
+
+/// The beginning of a name that is too long for the line.
+fn part(name: &str) -> String {
+    let begin: String = name.chars().take(NAME_PART).collect();
+    if begin.len() < name.len() { begin + ".." } else { begin }
 }

@@ -79,8 +79,8 @@ impl Asked {
                 let fault = ScanFault::ALL[number as usize - 1];
                 ScanRefusal { fault, keyword: self.keyword, position: None }.words()
             }
-            (20, Some(place)) => Refusal::ImageBroken { place, too_long: false }.words(),
-            (21, Some(place)) => Refusal::BundleBroken { place, too_long: false }.words(),
+            (20, Some(place)) => Refusal::ImageBroken { place, too_long: false, looks: None }.words(),
+            (21, Some(place)) => Refusal::BundleBroken { place, too_long: false, looks: None }.words(),
             (42, Some(place)) => format!("{} at place {place}, counted from 0", self.meaning.words()),
             _ => self.meaning.words(),
         }

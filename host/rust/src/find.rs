@@ -18,7 +18,7 @@ fn hit(what: LookUp, form: &[u8], name: &[u8]) -> Result<Option<[usize; 2]>, Ref
     let [number, place, found, first, second] = sys::look_up(what, form, name);
     match number {
         0 => Ok((found == 1).then_some([first as usize, second as usize])),
-        _ => Err(form_broken(number, place, form)),
+        _ => Err(form_broken(number, place, form, None)),
     }
 }
 

@@ -1,6 +1,6 @@
 //! JSON, of which only the writing is needed: strings, lists, objects, and a refusal with all that is known of it.
 
-use nuvaleta::{By, Dependencies, Entry, Graph, Line, Listed, Metadata, Order, Refusal, ScanRefusal, Why};
+use nuvaleta::{About, By, Checked, Clash, Dependencies, Entry, Graph, Listed, Metadata, Order, Refusal, ScanRefusal, Spot, Warning, Why};
 
 /// A string. Every control byte is escaped, so that a value stays on one line.
 pub fn quoted(s: &str) -> String {
@@ -63,20 +63,57 @@ pub fn order(order: &Order) -> String {
     object(vec![("order", list(order.names.iter().map(|name| quoted(name))))])
 }
 
+pub fn texts(texts: &[About]) -> String {
+    object(vec![("texts", list(texts.iter().map(about)))])
+}
+
+fn about(about: &About) -> String {
+    let refused = |scan: &ScanRefusal| object(vec![("refused", scan_refusal(scan, &Spot::of(about.name, scan, about.text)))]);
+    object(vec![
+        ("name", quoted(about.name)),
+        ("bytes", about.text.len().to_string()),
+        ("metadata", about.metadata.as_ref().map_or_else(refused, metadata)),
+        ("dependencies", about.dependencies.as_ref().map_or_else(refused, dependencies)),
+        ("warnings", list(about.warnings.iter().map(|warning| object(of_warning(warning))))),
+    ])
+}
+
+fn of_warning(warning: &Warning) -> Fields {
+    vec![
+        ("kind", quoted(warning.kind.word())),
+        ("line", warning.line.to_string()),
+        ("column", warning.column.to_string()),
+        ("words", quoted(&warning.words)),
+    ]
+}
+
+pub fn checked(checked: &Checked) -> String {
+    let warning = |(text, warning): &(String, Warning)| object([vec![("text", quoted(text))], of_warning(warning)].concat());
+    object(vec![("faults", list(checked.faults.iter().map(refusal))), ("warnings", list(checked.warnings.iter().map(warning)))])
+}
+
 // ---- refusals
+
+/// A refusal: its number and words, what else is known, and last what was expected and found, and what to do.
+fn refused(number: u32, words: &str, known: Fields, clash: Option<Clash>, advice: &str) -> String {
+    let mut fields = vec![("number", number.to_string()), ("words", quoted(words))];
+    fields.extend(known);
+    fields.extend(clash.into_iter().flat_map(|clash| [("expected", quoted(&clash.expected)), ("found", quoted(&clash.found))]));
+    fields.push(("advice", quoted(advice)));
+    object(fields)
+}
 
 /// What is known of a refusal, without the braces of `{"refused": ..}` around it.
 pub fn refusal(r: &Refusal) -> String {
-    let mut fields = vec![("number", r.number().to_string()), ("words", quoted(&r.words()))];
-    fields.extend(match r {
+    let known = match r {
         Refusal::ImageBroken { place, .. } | Refusal::BundleBroken { place, .. } | Refusal::ListWrong { place, .. } => {
             vec![("place", place.to_string())]
         }
         Refusal::Walk { entry, why } => [of_entry(entry), of_why(why)].concat(),
         Refusal::Ring(names) => vec![("ring", list(names.iter().map(|name| quoted(name))))],
         _ => Vec::new(),
-    });
-    object(fields)
+    };
+    refused(r.number(), &r.words(), known, r.clash(), &r.advice())
 }
 
 fn of_entry(entry: &Entry) -> Fields {
@@ -92,7 +129,7 @@ fn of_why(why: &Why) -> Fields {
     match why {
         Why::Scan { scan, spot } => {
             let mut fields = vec![("scan", scan.number().to_string())];
-            fields.extend(of_scan(scan, spot.as_ref().and_then(|spot| spot.line.as_deref())));
+            fields.extend(of_scan(scan, spot.as_ref()));
             fields.extend(spot.as_ref().map(|spot| ("text", quoted(&spot.text))));
             fields
         }
@@ -114,19 +151,18 @@ fn of_listed(listed: &Listed) -> Fields {
 }
 
 /// The keyword and the place of a scan's refusal, as far as it has them.
-fn of_scan(scan: &ScanRefusal, line: Option<&Line>) -> Fields {
+fn of_scan(scan: &ScanRefusal, spot: Option<&Spot>) -> Fields {
     let mut fields = Vec::new();
     fields.extend(scan.keyword.map(|keyword| ("keyword", quoted(keyword.word()))));
     fields.extend(scan.position.map(|position| ("position", position.to_string())));
+    let line = spot.and_then(|spot| spot.line.as_deref());
     fields.extend(line.into_iter().flat_map(|line| [("line", line.number.to_string()), ("column", line.column.to_string())]));
     fields
 }
 
 /// The refusal of a single text, as `refusal` has it.
-pub fn scan_refusal(scan: &ScanRefusal, line: Option<&Line>) -> String {
-    let mut fields = vec![("number", scan.number().to_string()), ("words", quoted(&scan.words()))];
-    fields.extend(of_scan(scan, line));
-    object(fields)
+pub fn scan_refusal(scan: &ScanRefusal, spot: &Spot) -> String {
+    refused(scan.number(), &scan.words(), of_scan(scan, Some(spot)), spot.clash.clone(), scan.advice())
 }
 
 #[cfg(test)]

@@ -27,13 +27,17 @@
 
 #![deny(unsafe_code, missing_docs)]
 
+mod check;
+mod clash;
 mod find;
 #[path = "../../vectors/src/form.rs"]
 #[allow(dead_code)] // a plain reader of the form, for the names and texts behind a refusal
 mod form;
 mod graph;
+mod looks;
 mod meaning;
 mod order;
+mod plain;
 pub mod raw;
 mod refusal;
 mod scan;
@@ -41,15 +45,20 @@ mod scan_refusal;
 #[allow(unsafe_code)]
 mod sys;
 mod walk;
+mod warning;
 mod words;
 
+pub use check::{check, texts, About, Checked};
+pub use clash::Clash;
 pub use find::{find_import_module, find_module, find_submodule, text, ImportModule};
 pub use graph::{graph, Buffers, Edge, Graph};
+pub use looks::Looks;
 pub use meaning::Meaning;
 pub use order::Order;
 pub use raw::{BUNDLE_MOST, IMAGE_MOST, TEXT_MOST};
 pub use refusal::{By, Entry, Fault, Listed, Refusal, Spot, Why};
 pub use scan::{dependencies, metadata, Dependencies, Import, Include, Metadata};
 pub use scan_refusal::{Keyword, Line, ScanFault, ScanRefusal};
+pub use warning::{Warning, WarningKind};
 #[doc(hidden)] // for the command, which has no unsafe code
 pub use sys::is_terminal;

@@ -9,10 +9,12 @@ mod explain;
 mod io;
 mod json;
 mod pack;
+mod router;
 
 use args::Args;
-use io::{print, read, read_text, say};
+use io::{print, read_text, say};
 use nuvaleta::{Refusal, ScanRefusal, Spot};
+use std::ffi::OsStr;
 use std::fmt::Display;
 use std::process::ExitCode;
 
@@ -28,7 +30,7 @@ type Ended = Result<ExitCode, Wrong>;
 
 struct Command {
     name: &'static str,
-    /// The first line is the usage line.
+    /// The lines before the first empty one are the usage.
     help: &'static str,
     options: &'static [&'static str],
     run: fn(&Args) -> Ended,
@@ -36,11 +38,13 @@ struct Command {
 
 const HELP: &str = include_str!("help/nuvaleta.txt");
 
-const COMMANDS: [Command; 6] = [
+const COMMANDS: [Command; 8] = [
     Command { name: "deps", help: include_str!("help/deps.txt"), options: &["--json"], run: deps },
     Command { name: "meta", help: include_str!("help/meta.txt"), options: &["--json"], run: meta },
     Command { name: "graph", help: include_str!("help/graph.txt"), options: &["--json"], run: graph },
-    Command { name: "order", help: include_str!("help/order.txt"), options: &["--json", "--all", "--into"], run: order },
+    Command { name: "order", help: include_str!("help/order.txt"), options: &["--json", "--all", "--into", "--seconds"], run: order },
+    Command { name: "check", help: include_str!("help/check.txt"), options: &["--json"], run: check },
+    Command { name: "texts", help: include_str!("help/texts.txt"), options: &["--json"], run: texts },
     Command { name: "pack", help: include_str!("help/pack.txt"), options: &["--json"], run: pack },
     Command { name: "explain", help: include_str!("help/explain.txt"), options: &["--json", "--keyword", "--at"], run: explain::run },
 ];
@@ -74,7 +78,9 @@ struct Refused {
 impl Display for Refused {
     fn fmt(&self, f: &mut std::fmt::Formatter<'_>) -> std::fmt::Result {
         write!(f, "refused {}: {}: {}", self.scan.number(), self.spot, self.scan.words())?;
-        self.spot.line.as_ref().map_or(Ok(()), |line| write!(f, "\n{line}"))
+        self.spot.line.as_ref().map_or(Ok(()), |line| write!(f, "\n{line}"))?;
+        self.spot.clash.as_ref().map_or(Ok(()), |clash| write!(f, "\n{clash}"))?;
+        write!(f, "\nTo do: {}", self.scan.advice())
     }
 }
 
@@ -84,9 +90,9 @@ fn scanned<T: Display>(args: &Args, scan: fn(&[u8]) -> Result<T, ScanRefusal>, j
         _ => return usage(),
     };
     let text = read_text(file, nuvaleta::TEXT_MOST).map_err(Wrong::File)?;
-    let refused = |scan: ScanRefusal| Refused { scan, spot: Spot { text: io::called(file), line: scan.line(&text).map(Box::new) } };
+    let refused = |scan: ScanRefusal| Refused { scan, spot: Spot::of(io::called(file), &scan, &text) };
     let told = scan(&text).map(|found| shaped(args, &found, json)).map_err(refused);
-    Ok(end(args, told, |refused| json::scan_refusal(&refused.scan, refused.spot.line.as_deref())))
+    Ok(end(args, told, |refused| json::scan_refusal(&refused.scan, &refused.spot)))
 }
 
 fn deps(args: &Args) -> Ended {
@@ -97,15 +103,37 @@ fn meta(args: &Args) -> Ended {
     scanned(args, nuvaleta::metadata, json::metadata)
 }
 
-/// What is made of the graph of two files.
-fn drawn(args: &Args, made: fn(&Args, nuvaleta::Graph) -> Result<String, Refusal>) -> Ended {
+/// The image and the bundle of two files, of which one may be `-`, standard input.
+fn both(args: &Args) -> Result<[Vec<u8>; 2], Wrong> {
     let (image, bundle) = match args.words.as_slice() {
+        [image, bundle] if image == "-" && bundle == "-" => return Err(Wrong::Usage("one of the two alone can be standard input".to_string())),
         [image, bundle] => (image, bundle),
         _ => return usage(),
     };
-    let image = read(image, nuvaleta::IMAGE_MOST).map_err(Wrong::File)?;
-    let bundle = read(bundle, nuvaleta::BUNDLE_MOST).map_err(Wrong::File)?;
+    Ok([read_text(image, nuvaleta::IMAGE_MOST).map_err(Wrong::File)?, read_text(bundle, nuvaleta::BUNDLE_MOST).map_err(Wrong::File)?])
+}
+
+/// What is made of the graph of two files.
+fn drawn(args: &Args, made: fn(&Args, nuvaleta::Graph) -> Result<String, Refusal>) -> Ended {
+    let [image, bundle] = both(args)?;
     let told = nuvaleta::graph(&image, &bundle).and_then(|graph| made(args, graph));
+    Ok(end(args, told, json::refusal))
+}
+
+fn check(args: &Args) -> Ended {
+    let [image, bundle] = both(args)?;
+    let checked = nuvaleta::check(&image, &bundle);
+    Ok(print(u8::from(!checked.faults.is_empty()), &shaped(args, &checked, json::checked)))
+}
+
+fn texts(args: &Args) -> Ended {
+    let file = match args.words.as_slice() {
+        [file] => file,
+        _ => return usage(),
+    };
+    let bundle = read_text(file, nuvaleta::BUNDLE_MOST).map_err(Wrong::File)?;
+    let plainly = |texts: &[nuvaleta::About]| texts.iter().map(nuvaleta::About::to_string).collect::<String>();
+    let told = nuvaleta::texts(&bundle).map(|texts| if args.has("--json") { json::texts(&texts) + "\n" } else { plainly(&texts) });
     Ok(end(args, told, json::refusal))
 }
 
@@ -115,10 +143,17 @@ fn graph(args: &Args) -> Ended {
 
 fn order(args: &Args) -> Ended {
     match (args.has("--all"), args.value("--into"), args.words.as_slice()) {
-        (true, into, [folder]) => Ok(all::run(folder, into, args.has("--json"))),
-        (false, None, _) => drawn(args, |args, graph| Ok(shaped(args, &graph.order()?, json::order))),
+        (true, into, [folder]) => Ok(all::run(folder, into, args.has("--json"), seconds(args)?)),
+        (false, None, _) if !args.has("--seconds") => drawn(args, |args, graph| Ok(shaped(args, &graph.order()?, json::order))),
         _ => usage(),
     }
+}
+
+/// What stands behind --seconds.
+fn seconds(args: &Args) -> Result<Option<u32>, Wrong> {
+    let number = |word: &OsStr| word.to_str().and_then(|word| word.parse().ok()).filter(|seconds| (1..=86_400).contains(seconds));
+    let wrong = |word: &OsStr| Wrong::Usage(format!("--seconds takes a number from 1 to 86400, not {}", word.to_string_lossy()));
+    args.value("--seconds").map(|word| number(word).ok_or_else(|| wrong(word))).transpose()
 }
 
 fn pack(_: &Args) -> Ended {
@@ -147,13 +182,13 @@ fn run(command: &Command, args: &Args) -> Ended {
     }
 }
 
-/// Says what is wrong, with the usage line if it is the words.
+/// Says what is wrong, with the usage if it is the words.
 fn wrong(why: Wrong, help: &str) -> ExitCode {
     match why {
         Wrong::File(why) => say(2, format!("nuvaleta: {why}")),
         Wrong::Usage(why) => {
             let why = if why.is_empty() { why } else { format!("nuvaleta: {why}\n") };
-            say(2, format!("{why}{}", help.lines().next().unwrap_or_default()))
+            say(2, format!("{why}{}", help.split("\n\n").next().unwrap_or_default()))
         }
     }
 }
@@ -176,6 +211,9 @@ fn main() -> ExitCode {
     let word = args.words.remove(0);
     if word == "help" {
         return help(&args.words).unwrap_or_else(|why| wrong(why, HELP));
+    }
+    if word == router::ALONE {
+        return router::alone(&args.words);
     }
     match COMMANDS.iter().find(|command| word == command.name) {
         Some(command) => run(command, &args).unwrap_or_else(|why| wrong(why, command.help)),

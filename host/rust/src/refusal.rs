@@ -2,7 +2,8 @@
 
 use crate::form::{self, Name, Set};
 use crate::raw::{BUNDLE_MOST, IMAGE_MOST};
-use crate::{walk, Buffers, Line, ScanRefusal};
+use crate::walk::Walk;
+use crate::{Buffers, Clash, Line, Looks, Meaning, ScanRefusal};
 
 /// Why a look-up, a graph, an order or a list is refused. `Display` says it in words, and shows the line of a text or the ring.
 #[derive(Clone, Debug, PartialEq, Eq)]
@@ -13,6 +14,8 @@ pub enum Refusal {
         place: usize,
         /// Whether the image is over [`crate::IMAGE_MOST`].
         too_long: bool,
+        /// What it seems to be instead.
+        looks: Option<Looks>,
     },
     /// 21: the bundle breaks its form.
     BundleBroken {
@@ -20,6 +23,8 @@ pub enum Refusal {
         place: usize,
         /// Whether the bundle is over [`crate::BUNDLE_MOST`].
         too_long: bool,
+        /// What it seems to be instead.
+        looks: Option<Looks>,
     },
     /// 22: with [`Buffers`] this does not come.
     LentTooShort,
@@ -133,6 +138,15 @@ pub struct Spot {
     pub text: String,
     /// The line, if the refusal has a place.
     pub line: Option<Box<Line>>,
+    /// What was expected there and what was found, where that is known.
+    pub clash: Option<Clash>,
+}
+
+impl Spot {
+    /// Where a text under this name was refused.
+    pub fn of(name: impl Into<String>, scan: &ScanRefusal, text: &[u8]) -> Spot {
+        Spot { text: name.into(), line: scan.line(text).map(Box::new), clash: scan.clash(text) }
+    }
 }
 
 impl Refusal {
@@ -148,6 +162,26 @@ impl Refusal {
             Refusal::OrderTooShort => 41,
             Refusal::ListWrong { .. } => 42,
             Refusal::TablesUnfit => 43,
+        }
+    }
+
+    /// What was expected and what was found instead, where that is known: in a text (25), or in the place of an image or a bundle (20, 21).
+    pub fn clash(&self) -> Option<Clash> {
+        let form = |expected: &str, looks: &Looks| Clash { expected: expected.to_string(), found: looks.to_string() };
+        match self {
+            Refusal::ImageBroken { looks, .. } => looks.as_ref().map(|looks| form("an image", looks)),
+            Refusal::BundleBroken { looks, .. } => looks.as_ref().map(|looks| form("a bundle", looks)),
+            Refusal::Walk { why: Why::Scan { spot: Some(spot), .. }, .. } => spot.clash.clone(),
+            _ => None,
+        }
+    }
+
+    /// What can be done about it: what [`Meaning`] has for the number, of a refused text for the scan refusal's.
+    pub fn advice(&self) -> String {
+        match self {
+            Refusal::ImageBroken { looks: Some(looks), .. } | Refusal::BundleBroken { looks: Some(looks), .. } => looks.advice(),
+            Refusal::Walk { why: Why::Scan { scan, .. }, .. } => scan.advice().to_string(),
+            _ => Meaning::of(self.number()).map_or("", |meaning| meaning.advice).to_string(),
         }
     }
 }
@@ -197,7 +231,7 @@ pub(crate) struct Full<'a> {
     pub deviations: &'a [Name<'a>],
 }
 
-fn entries<'a>(sets: &'a [Set<'a>]) -> Vec<Full<'a>> {
+pub(crate) fn entries<'a>(sets: &'a [Set<'a>]) -> Vec<Full<'a>> {
     let mut out: Vec<Full> = Vec::new();
     for (i, set) in sets.iter().enumerate() {
         let mut add = |name: Name, import_only, augmenting, deviations| {
@@ -214,12 +248,12 @@ fn entries<'a>(sets: &'a [Set<'a>]) -> Vec<Full<'a>> {
     out
 }
 
-/// 20 or 21 at a place of an image or a bundle.
-pub(crate) fn form_broken(number: u32, place: u32, form: &[u8]) -> Refusal {
-    let place = place as usize;
+/// 20 or 21 at a place of an image or a bundle, which may have come with the other one.
+pub(crate) fn form_broken(number: u32, place: u32, form: &[u8], other: Option<&[u8]>) -> Refusal {
+    let (place, looks) = (place as usize, Looks::of(number, form, other));
     match number {
-        20 => Refusal::ImageBroken { place, too_long: form.len() > IMAGE_MOST },
-        21 => Refusal::BundleBroken { place, too_long: form.len() > BUNDLE_MOST },
+        20 => Refusal::ImageBroken { place, too_long: form.len() > IMAGE_MOST, looks },
+        21 => Refusal::BundleBroken { place, too_long: form.len() > BUNDLE_MOST, looks },
         _ => panic!("the archive answers {number} to a look-up, which the header does not have"),
     }
 }
@@ -227,18 +261,21 @@ pub(crate) fn form_broken(number: u32, place: u32, form: &[u8]) -> Refusal {
 /// What the eight words of an answer say of this image and this bundle.
 pub(crate) fn told(answer: [u32; 8], image: &[u8], bundle: &[u8], buffers: &mut Buffers) -> Refusal {
     match answer[0] {
-        20 => return form_broken(20, answer[5], image),
-        21 => return form_broken(21, answer[5], bundle),
+        20 => return form_broken(20, answer[5], image, Some(bundle)),
+        21 => return form_broken(21, answer[5], bundle, Some(image)),
         22 => return Refusal::LentTooShort,
         30 => return Refusal::TooManyNodes,
         _ => {}
     }
     let sets = form::read_image(image).unwrap_or_default();
     let full = entries(&sets).into_iter().nth(answer[1] as usize - 1).expect("an entry of the image");
-    let plain = Why::answered(answer);
+    let (entry, plain) = (full.entry.clone(), Why::answered(answer));
     let found = match plain.number() {
-        24..=27 => walk::end(&sets, bundle, buffers, &full).filter(|why| why.agrees(&plain)),
+        24..=27 => Walk::new(&sets, bundle, buffers, vec![full]).next(),
         _ => None,
     };
-    Refusal::Walk { entry: full.entry, why: found.unwrap_or(plain) }
+    match found {
+        Some(Refusal::Walk { entry, why }) if why.agrees(&plain) => Refusal::Walk { entry, why },
+        _ => Refusal::Walk { entry, why: plain },
+    }
 }

@@ -1,6 +1,6 @@
 //! Why a text is refused, and where that is as a person counts it.
 
-use crate::meaning::said;
+use crate::meaning::{said, Meaning};
 use std::fmt::{self, Display, Formatter};
 
 /// Why a text is refused. `Display` says it in words, with the number and the place.
@@ -147,6 +147,11 @@ impl ScanRefusal {
     /// What is wrong, without number and place.
     pub fn words(&self) -> String {
         said(self.number(), self.keyword.map(Keyword::word))
+    }
+
+    /// What can be done about it.
+    pub fn advice(&self) -> &'static str {
+        Meaning::of(self.number()).map_or("", |meaning| meaning.advice)
     }
 
     /// Where it is in the text that was scanned.

@@ -1,6 +1,6 @@
 //! Refusals in words: what crate::meaning has for a number, with the names and places of this one.
 
-use crate::meaning::{said, Meaning};
+use crate::meaning::said;
 use crate::raw::NAME_MOST;
 use crate::refusal::{By, Entry, Fault, Listed, Refusal, Spot, Why};
 use std::fmt::{self, Display, Formatter};
@@ -22,25 +22,28 @@ impl Refusal {
         };
         said(self.number(), Some(&known))
     }
+
+    /// The number, the words, the line of a text or the edges of a ring, and what was expected and found: all but what can be done.
+    pub fn told(&self) -> String {
+        let shown = match self {
+            Refusal::Walk { why: Why::Scan { spot: Some(Spot { line: Some(line), .. }), .. }, .. } => format!("\n{line}"),
+            Refusal::Ring(names) => ring(names),
+            _ => String::new(),
+        };
+        let clash = self.clash().map_or_else(String::new, |clash| format!("\n{clash}"));
+        format!("refused {}: {}{shown}{clash}", self.number(), self.words())
+    }
 }
 
 impl Display for Refusal {
     fn fmt(&self, f: &mut Formatter<'_>) -> fmt::Result {
-        write!(f, "refused {}: {}", self.number(), self.words())?;
-        match self {
-            Refusal::Walk { why: Why::Scan { spot: Some(Spot { line: Some(line), .. }), .. }, .. } => write!(f, "\n{line}"),
-            Refusal::Ring(names) => ring(f, names),
-            _ => Ok(()),
-        }
+        write!(f, "{}\nTo do: {}", self.told(), self.advice())
     }
 }
 
-/// Each edge of a ring on a line of its own, then what can be done.
-fn ring(f: &mut Formatter<'_>, names: &[String]) -> fmt::Result {
-    for (name, next) in names.iter().zip(names.iter().cycle().skip(1)) {
-        write!(f, "\n    {name} before {next}")?;
-    }
-    write!(f, "\n{}", Meaning::of(40).map_or("", |meaning| meaning.advice))
+/// Each edge of a ring on a line of its own.
+fn ring(names: &[String]) -> String {
+    names.iter().zip(names.iter().cycle().skip(1)).map(|(name, next)| format!("\n    {name} before {next}")).collect()
 }
 
 impl Display for Fault {
@@ -75,7 +78,7 @@ impl Display for Why {
 }
 
 /// A name out of a text, which may be empty, of any length, and hold any byte below 128. Of a long one so much is said as an image's name can have.
-fn quoted(name: &str) -> String {
+pub(crate) fn quoted(name: &str) -> String {
     let said: String = name.chars().take(NAME_MOST).collect();
     format!("{said:?}{}", if said.len() < name.len() { ".." } else { "" })
 }
