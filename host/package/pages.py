@@ -77,7 +77,8 @@ def paragraphs(body):
 
 
 def usages(pages):
-    return [re.sub(r"\s+", " ", one) for page in pages for one in re.split(r" *\| *(?=nuvaleta )|\n *(?=nuvaleta )", page.usage)]
+    """Each form of each, in a line."""
+    return [re.sub(r"\s+", " ", form) for page in pages for form in re.split(r"\n *(?=nuvaleta )", page.usage)]
 
 
 def man_page(main, pages, version):
@@ -85,7 +86,7 @@ def man_page(main, pages, version):
     lines = [f'.\\" {MADE}', f'.TH NUVALETA 1 "" "nuvaleta {version}" "User Commands"', ".nh", ".ad l", ".SH NAME", f"nuvaleta \\- {roff(first[0].lower() + first[1:])}",
              ".SH SYNOPSIS", *shown(usages([main, *pages])), ".SH DESCRIPTION", *paragraphs(main.body), ".SH COMMANDS"]
     for page in pages:
-        lines += [f".SS {page.name}", *shown(page.usage.split("\n")), *paragraphs(page.body)]
+        lines += [f".SS {page.name}", *shown(usages([page])), *paragraphs(page.body)]
     return "\n".join(lines) + "\n"
 
 
