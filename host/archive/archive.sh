@@ -68,9 +68,10 @@ if ! flock -n 9; then
     answer_kept
 fi
 # Who asks for a kept one does not expect to wait.
-asks='some minutes'
-[ ! -t 2 ] || [ "$name" != nuvaleta ] || asks='about 7 minutes on two processors, 2 GB of memory and 200 MB of disk'
-[ -z "$kept" ] || echo "$name: proving and building, once; this takes $asks" >&2
+if [ -n "$kept" ]; then
+    echo "$name: proving and building, once; this takes some minutes" >&2
+    [ ! -t 2 ] || [ "$name" != nuvaleta ] || echo "$name: about 8 minutes on two processors, 4 GB of memory, 500 MB of disk" >&2
+fi
 
 # rt writes where the archive for x86-64 is. That one is put back where another one was asked for, and where this does not come to its end.
 put_back() { [ ! -f "$made.before" ] || mv "$made.before" "$made"; }

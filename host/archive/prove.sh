@@ -6,11 +6,12 @@ set -euo pipefail
 name=$1 say=$2
 shift 2
 all=$(($# + 1))
-live= clear=
+live='' clear=''
 [ ! -t 2 ] || [ "${TERM:-dumb}" = dumb ] || { live=yes && clear=$'\r\033[K'; }
 
 # rt begins crates in the background, where an interrupt does not reach them. So it has a process group of its own, which is ended as one.
 job=
+# shellcheck disable=SC2317
 stop() { # STATUS
     trap '' INT TERM HUP
     trap - EXIT
@@ -18,6 +19,10 @@ stop() { # STATUS
     if [ -n "$job" ]; then
         kill -TERM -- "-$job" 2>/dev/null || kill -TERM "$job" 2>/dev/null || :
         wait "$job" || :
+        for _ in {1..50}; do
+            kill -0 -- "-$job" 2>/dev/null || break
+            sleep 0.1
+        done
     fi
     exit "$1"
 }

@@ -222,7 +222,8 @@ class Archive(Repository):
     def test_a_proof_that_fails_is_shown(self):
         ran = self.run_piped(FAILS="middle")
         self.assertEqual((ran.returncode, ran.stdout), (1, ""))
-        self.assertEqual(ran.stderr.splitlines()[1:], ["fn low::f: proved", "rt: low proved (7 s)", "fn middle::f: proved", "rt: middle NOT PROVED (exit 1, 3 s)"])
+        said = ["fn low::f: proved", "rt: low proved (7 s)", "fn middle::f: proved", "rt: middle NOT PROVED (exit 1, 3 s)"]
+        self.assertEqual(ran.stderr.splitlines()[1:], said)
         self.assertFalse(self.archive.exists())
         terminal = self.on_terminal(*self.words(), FAILS="middle")
         self.assertEqual(terminal.end(10), 1)
@@ -244,7 +245,8 @@ chmod +x build/release/nuvaleta
 PACK = """#!/bin/sh
 echo "${NUVALETA:-none}: $*"
 """
-COPIED = ("nuvaleta", "host/archive/archive.sh", "host/archive/prove.sh", "host/archive/link.rs", "host/rust/built.sh", "host/rust/build.sh", "host/rust/Cargo.toml")
+COPIED = ["nuvaleta", *(f"host/archive/{name}" for name in ("archive.sh", "prove.sh", "link.rs")),
+          *(f"host/rust/{name}" for name in ("built.sh", "build.sh", "Cargo.toml"))]
 
 
 class Command(Repository):
@@ -306,7 +308,10 @@ class Command(Repository):
     def test_an_interrupt_leaves_nothing(self):
         terminal = self.on_terminal("./nuvaleta", "a", PAUSE="1")
         self.assertTrue(terminal.until(lambda _: any(call[0] == "cargo" for call in self.calls()), 10))
-        self.assertIn("nuvaleta: building the command, which takes some seconds", [line for _, line in terminal.lines])
+        lines = [line for _, line in terminal.lines]
+        self.assertRegex(lines[1], r"^nuvaleta: about \d+ minutes on two processors, \d+ GB of memory, \d+ MB of disk$")
+        self.assertEqual(lines[-1], "nuvaleta: building the command, which takes some seconds")
+        self.assertLessEqual(max(map(len, lines)), 80)
         terminal.interrupt()
         self.assertEqual(terminal.end(10), 130)
         self.assertEqual((self.left(), self.command.exists()), ([], False))

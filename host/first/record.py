@@ -21,7 +21,7 @@ PAGE = ROOT / "docs/first-order.md"
 CLONE = "git clone URL nuvaleta && cd nuvaleta"
 FIRST = "./nuvaleta order examples/core.image examples/core.bundle"
 COMMANDS = [FIRST, FIRST, "./nuvaleta pack library examples/core/library.xml examples/core r1.image r1.bundle", "./nuvaleta order r1.image r1.bundle"]
-MEANWHILE = re.compile(r"\d+ of \d+, |nuvaleta: (proving|building|waiting)")
+MEANWHILE = re.compile(r"\d+ of \d+, |nuvaleta: (proving|building|waiting|about)")
 HEAD = """# From a fresh clone to the first order
 
 What a person sees on a terminal, recorded by `host/first/record.py`. In front of each line stands the time after which it came, in minutes and seconds from the

@@ -1,7 +1,7 @@
 #!/usr/bin/env python3
-"""pages.py FOLDER: writes below FOLDER/share the man page of the command and its completions for bash and zsh, all made of the help pages: host/rust/src/help,
-and what `pack --help` prints. A page begins with its usage, up to the first empty line; there, and at the start of an indented line, options are told, each with
-the word for its value."""
+"""pages.py FOLDER: writes below FOLDER/share the man page of the command and its completions for bash and zsh, all made of the help pages: those of
+host/rust/src/help, and what `pack --help` prints. A page begins with its usage, up to the first empty line; there, and at the start of an indented line,
+options are told, each with the word for its value."""
 import re
 import subprocess
 import sys
@@ -83,8 +83,9 @@ def usages(pages):
 
 def man_page(main, pages, version):
     first = main.body.split(",")[0].split("\n")[0]
-    lines = [f'.\\" {MADE}', f'.TH NUVALETA 1 "" "nuvaleta {version}" "User Commands"', ".nh", ".ad l", ".SH NAME", f"nuvaleta \\- {roff(first[0].lower() + first[1:])}",
-             ".SH SYNOPSIS", *shown(usages([main, *pages])), ".SH DESCRIPTION", *paragraphs(main.body), ".SH COMMANDS"]
+    lines = [f'.\\" {MADE}', f'.TH NUVALETA 1 "" "nuvaleta {version}" "User Commands"', ".nh", ".ad l",
+             ".SH NAME", f"nuvaleta \\- {roff(first[0].lower() + first[1:])}", ".SH SYNOPSIS", *shown(usages([main, *pages])),
+             ".SH DESCRIPTION", *paragraphs(main.body), ".SH COMMANDS"]
     for page in pages:
         lines += [f".SS {page.name}", *shown(usages([page])), *paragraphs(page.body)]
     return "\n".join(lines) + "\n"
@@ -174,7 +175,8 @@ def quoted(text):
 def completions(main, pages):
     """Those for bash and for zsh."""
     others = {value for page in pages for value in page.options.values() if value} - FOLDERS - FILES
-    words = {"made": MADE, "commands": " ".join(page.name for page in pages), "options": " ".join(sorted({"--help", "--version", "--json"} | set(main.options))),
+    words = {"made": MADE, "commands": " ".join(page.name for page in pages),
+             "options": " ".join(sorted({"--help", "--version", "--json"} | set(main.options))),
              "folders": taking(pages, FOLDERS), "others": taking(pages, others)}
     about = told(main)
     bash = cases(pages, lambda page: f"options='{' '.join([*page.options, '--help'])}' names='{' '.join(page.names)}'")
@@ -187,7 +189,8 @@ def main(folder):
     version = re.search(r'^version = "(.*)"$', (HOST / "rust/Cargo.toml").read_text(), re.M)[1]
     whole, pages = read_pages()
     bash, zsh = completions(whole, pages)
-    for name, text in (("man/man1/nuvaleta.1", man_page(whole, pages, version)), ("bash-completion/completions/nuvaleta", bash), ("zsh/site-functions/_nuvaleta", zsh)):
+    made = {"man/man1/nuvaleta.1": man_page(whole, pages, version), "bash-completion/completions/nuvaleta": bash, "zsh/site-functions/_nuvaleta": zsh}
+    for name, text in made.items():
         file = Path(folder) / "share" / name
         file.parent.mkdir(parents=True, exist_ok=True)
         file.write_text(text)

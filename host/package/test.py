@@ -1,6 +1,6 @@
 #!/usr/bin/env python3
-"""test.py: what host/build and host/install put in place, from a folder that was moved: the command with pack, its man page and completions, the shared library,
-the CMake package; and what is there after an install that fails: nothing."""
+"""test.py: what host/build and host/install put in place, from a folder that was moved: the command with pack, its man page and completions, the shared
+library, the CMake package; and what is there after an install that fails: nothing."""
 import os
 import re
 import shutil
@@ -140,8 +140,9 @@ class Package(unittest.TestCase):
 
     def completed(self, *words):
         """What bash offers for the last of these words."""
-        script = f"source '{self.prefix}/share/bash-completion/completions/nuvaleta'; COMP_WORDS=(\"$@\"); COMP_CWORD=$(($# - 1)); _nuvaleta; printf '%s\\n' \"${{COMPREPLY[@]}}\""
-        ran = run("bash", "-uc", script, "bash", "nuvaleta", *words, cwd=ROOT / "examples", env=self.env)
+        file = self.prefix / "share/bash-completion/completions/nuvaleta"
+        script = 'source "$0"; COMP_WORDS=("$@"); COMP_CWORD=$(($# - 1)); _nuvaleta; printf "%s\\n" "${COMPREPLY[@]}"'
+        ran = run("bash", "-uc", script, file, "nuvaleta", *words, cwd=ROOT / "examples", env=self.env)
         self.assertEqual((ran.returncode, ran.stderr), (0, ""))
         return sorted(filter(None, ran.stdout.splitlines()))
 
