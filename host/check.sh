@@ -70,6 +70,7 @@ from_c_and_rust() {
     "$here/rust/test.sh"
     "$here/rust/test_all.py"
     "$here/package/test.py"
+    "$here/first/record.py" --check
     "$here/../examples/test.sh"
 }
 

@@ -7,10 +7,12 @@ commands of PAGE are run over what is built here, and must print what stands the
 import os
 import platform
 import re
+import resource
 import shutil
 import subprocess
 import sys
 import tempfile
+import textwrap
 from pathlib import Path
 
 sys.dont_write_bytecode = True
@@ -20,18 +22,17 @@ ROOT = Path(__file__).resolve().parents[2]
 PAGE = ROOT / "docs/first-order.md"
 CLONE = "git clone URL nuvaleta && cd nuvaleta"
 FIRST = "./nuvaleta order examples/core.image examples/core.bundle"
-COMMANDS = [FIRST, FIRST, "./nuvaleta pack library examples/core/library.xml examples/core r1.image r1.bundle", "./nuvaleta order r1.image r1.bundle"]
+COMMANDS = [FIRST, "./nuvaleta deps examples/core/acme-bgp@2024-04-10.yang",
+            "./nuvaleta pack library examples/core/library.xml examples/core r1.image r1.bundle", "./nuvaleta order r1.image r1.bundle"]
+COLUMNS = 80
 MEANWHILE = re.compile(r"\d+ of \d+, |nuvaleta: (proving|building|waiting|about)")
-HEAD = """# From a fresh clone to the first order
-
-What a person sees on a terminal, recorded by `host/first/record.py`. In front of each line stands the time after which it came, in minutes and seconds from the
-command's start. The machine: {machine}. `rt` and cargo were installed before.
-
-The first command proves the library and builds it. That is done once; it took {first}, {memory} of memory at most and {disk} of disk.
-"""
-LAST = """
-Beside the lines above a last one counts while it proves; after {after} it was `{held}`. On a pipe there is neither: one line says that it proves and builds.
-"""
+HEAD = [
+    "# From a fresh clone to the first order",
+    "What a person sees on a terminal, recorded by `host/first/record.py`. In front of each line stands the time after which it came, in minutes and seconds "
+    "from the command's start. The machine: {machine}. `rt` and cargo were installed before.",
+    "The first command proves the library and builds it. That is done once; it took {first}, {memory} of memory at most and {disk} of disk. {beside}"]
+LAST = ["Below the lines of the first command one more counts while it proves; after {after} it was `{held}`. On a pipe there is none of these: "
+        "one line says that it proves and builds."]
 
 
 def lasting(seconds):
@@ -81,7 +82,31 @@ def run(command, folder, memory=None):
 
 
 def block(command, lines):
-    return [f"$ {command}"] + [f"{int(after) // 60:4}:{int(after) % 60:02}  {line}".rstrip() for after, line in lines]
+    """The command and what it prints, each line as the terminal breaks it."""
+    made = [f"$ {command}"]
+    for after, line in lines:
+        pieces = [line[at:at + COLUMNS] for at in range(0, len(line), COLUMNS)] or [""]
+        made.append(f"{int(after) // 60:4}:{int(after) % 60:02}  {pieces[0]}".rstrip())
+        made += [f"         {piece}".rstrip() for piece in pieces[1:]]
+    return made
+
+
+class Beside:
+    """How much of the processors is taken by others from here on."""
+
+    def __init__(self):
+        self.before = self.read()
+
+    @staticmethod
+    def read():
+        ticks = [int(number) for number in Path("/proc/stat").read_text().split("\n")[0].split()[1:9]]
+        own = resource.getrusage(resource.RUSAGE_CHILDREN)
+        return sum(ticks) / os.sysconf("SC_CLK_TCK"), (ticks[3] + ticks[4]) / os.sysconf("SC_CLK_TCK"), own.ru_utime + own.ru_stime
+
+    def told(self):
+        every, idle, own = (now - then for now, then in zip(self.read(), self.before))
+        share = round(100 * max(0, every - idle - own) / every)
+        return "Nothing else ran beside it." if share < 5 else f"Other work took {share} % of the processors meanwhile: with nothing beside it takes less."
 
 
 def used(folder):
@@ -89,32 +114,43 @@ def used(folder):
     return int(told.split()[0]) / 1024
 
 
+def in_clone(folder):
+    """Runs all commands in a fresh clone. Answers the runs, and what the head of the page says of the first one."""
+    before, beside, memory, runs = used(folder), Beside(), Memory(), []
+    for command in COMMANDS:
+        ran = run(command, folder, None if runs else memory)
+        if ran.status != 0:
+            sys.exit(f"record: {command}: status {ran.status}\n" + "\n".join(line for _, line in ran.lines))
+        if not runs:
+            told = {"machine": machine(), "first": lasting(ran.seconds()), "memory": f"{memory.most / 1024 / 1024:.1f} GB", "beside": beside.told()}
+        runs.append(ran)
+    return runs, {**told, "disk": f"{used(folder) - before:.0f} MB"}
+
+
+def prose(paragraphs, told):
+    return "\n\n".join(textwrap.fill(one.format(**told), 159) for one in paragraphs) + "\n"
+
+
+def page_of(runs, told):
+    """The page as a whole."""
+    blocks = [block(CLONE, [])] + [block(command, ran.lines) + [f"({lasting(ran.seconds())})"] for command, ran in zip(COMMANDS, runs)]
+    text = prose(HEAD, told) + "".join("\n```console\n" + "\n".join(lines) + "\n```\n" for lines in blocks)
+    counted = {second: line for second, line in runs[0].held.items() if second <= 120 and " so far" in line}
+    if counted:
+        after = max(counted)
+        text += "\n" + prose(LAST, {"after": f"{after // 60}:{after % 60:02}", "held": counted[after]})
+    return text
+
+
 def record(page):
     room = tempfile.mkdtemp()
     try:
-        folder, memory, blocks = Path(room) / "nuvaleta", Memory(), []
-        cloned = run(f"git clone -q '{ROOT}' nuvaleta", room)
-        if cloned.status != 0:
-            sys.exit(f"record: git clone: {cloned.lines}")
-        blocks.append(block(CLONE, []))
-        before, runs = used(folder), []
-        for command in COMMANDS:
-            ran = run(command, folder, None if runs else memory)
-            if ran.status != 0:
-                sys.exit(f"record: {command}: status {ran.status}\n" + "\n".join(line for _, line in ran.lines))
-            runs.append(ran)
-            blocks.append(block(command, ran.lines) + [f"({lasting(ran.seconds())})"])
-        disk = used(folder) - before
+        subprocess.run(["git", "clone", "-q", str(ROOT), f"{room}/nuvaleta"], check=True)
+        runs, told = in_clone(Path(room) / "nuvaleta")
     finally:
         shutil.rmtree(room)
-    held = runs[0].held
-    after = max((second for second in held if second <= 120 and " so far" in held[second]), default=None)
-    head = HEAD.format(machine=machine(), first=lasting(runs[0].seconds()), memory=f"{memory.most / 1024 / 1024:.1f} GB", disk=f"{disk:.0f} MB")
-    text = head + "".join("\n```console\n" + "\n".join(lines) + "\n```\n" for lines in blocks)
-    if after is not None:
-        text += LAST.format(after=f"{after // 60}:{after % 60:02}", held=held[after])
-    page.write_text(text)
-    print(f"record: {page.name}: the first order after {lasting(runs[0].seconds())}")
+    page.write_text(page_of(runs, told))
+    print(f"record: {page.name}: the first order after {told['first']}")
 
 
 def recorded(page):
@@ -123,9 +159,11 @@ def recorded(page):
     for line in page.read_text().splitlines():
         if line.startswith("$ "):
             found.append((line[2:], []))
-        elif re.match(r" *\d+:\d\d(  |$)", line) and not MEANWHILE.match(line.split(None, 1)[-1]):
-            found[-1][1].append(re.sub(r"^ *\d+:\d\d(  )?", "", line))
-    return [(command, lines) for command, lines in found if command != CLONE]
+        elif re.match(r" *\d+:\d\d(  |$)", line):
+            found[-1][1].append(line[9:])
+        elif line.startswith(" " * 9):
+            found[-1][1][-1] += line[9:]
+    return [(command, [line for line in lines if not MEANWHILE.match(line)]) for command, lines in found if command != CLONE]
 
 
 def check(page):
@@ -138,7 +176,7 @@ def check(page):
         for command, lines in found:
             ran = run(command, room)
             printed = [line for _, line in ran.lines if not MEANWHILE.match(line)]
-            if ran.status != 0 or printed != lines:
+            if ran.status != 0 or ["".join(line.split()) for line in printed] != ["".join(line.split()) for line in lines]:
                 wrong.append(f"{command}: status {ran.status}, prints\n" + "\n".join(printed))
     for why in wrong:
         print(f"record: {page.name}: {why}", file=sys.stderr)

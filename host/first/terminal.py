@@ -18,7 +18,7 @@ class Terminal:
 
     def __init__(self, words, cwd=None, env=None):
         self.lines, self.last, self.held, self.status = [], "", {}, None
-        self._rest, self._began = b"", time.monotonic()
+        self._rest, self._began, self._ended = b"", time.monotonic(), None
         self.pid, self._fd = pty.fork()
         if self.pid == 0:
             try:
@@ -29,7 +29,8 @@ class Terminal:
         fcntl.ioctl(self._fd, termios.TIOCSWINSZ, struct.pack("HHHH", 24, 80, 0, 0))
 
     def seconds(self):
-        return time.monotonic() - self._began
+        """How long it has run, or ran."""
+        return (self._ended or time.monotonic()) - self._began
 
     def _took(self, data):
         """Carriage return, alone or with the sequence that clears a line, begins the line anew."""
@@ -64,6 +65,7 @@ class Terminal:
                 self._took(data)
             else:
                 self.status = os.waitstatus_to_exitcode(os.waitpid(self.pid, 0)[1])
+                self._ended = time.monotonic()
                 os.close(self._fd)
         return True
 
