@@ -18,7 +18,7 @@ valid() {
 "$here/../host/need" libyang2-tools || echo "examples: SKIPPED, no yanglint: whether the texts are valid"
 for router in edge core; do
     set -- "$here/$router"/library.*
-    "$here/../host/pack/pack" library "$1" "$here/$router" "$work/image" "$work/bundle" >/dev/null 2>&1 || fails=$((fails + 1))
+    "$here/../nuvaleta" pack library "$1" "$here/$router" "$work/image" "$work/bundle" >/dev/null 2>&1 || fails=$((fails + 1))
     same "$here/$router.image" "$work/image" "the image of $router, packed again,"
     same "$here/$router.bundle" "$work/bundle" "the bundle of $router, packed again,"
     ! command -v yanglint >/dev/null || valid "$router"

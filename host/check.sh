@@ -1,8 +1,8 @@
 #!/bin/sh
 # check.sh [alone | over]: the host's quick checks. `alone`: those that need no archive, so that they can run beside the proofs: the documents, the picture of
 # the crates, how an archive is made, the packing of images and bundles, and the recorded answers of the original Rust. `over`: what deps and meta print; the
-# archive from C, installed too, and under attack, the Rust crate and its command, the examples, the README's snippets; the port beside plain readings and
-# beside the original. With no word, both. What needs the NetGauze source, or a newer Rust, is skipped where that is not at hand, and says so.
+# archive from C, installed too, and under attack, the Rust crate and its command, packing with it, the examples, the README's snippets; the port beside plain
+# readings and beside the original. With no word, both. What needs the NetGauze source, or a newer Rust, is skipped where that is not at hand, and says so.
 set -eu
 here=$(cd "$(dirname "$0")" && pwd)
 cd "$here/.."
@@ -69,6 +69,7 @@ from_c_and_rust() {
     [ -n "$rust" ] || { skip "no Rust of 1.63 or newer" "the Rust crate and the command"; return 0; }
     "$here/rust/test.sh"
     "$here/rust/test_all.py"
+    "$here/pack/test_texts.py"
     "$here/package/test.py"
     "$here/first/record.py" --check
     "$here/../examples/test.sh"
@@ -89,7 +90,7 @@ compared() {
     "$compare" graphs 9 2000
     "$compare" sorts 13 5000
     yuma=$(dpkg -L libyuma-base | grep '/yuma/modules$')
-    "$here/pack/pack" folder "$yuma" "$work/libyuma-base.image" "$work/libyuma-base.bundle"
+    "$here/../nuvaleta" pack folder "$yuma" "$work/libyuma-base.image" "$work/libyuma-base.bundle"
     "$compare" graph-of "$work/libyuma-base.image" "$work/libyuma-base.bundle"
     "$here/vectors/real-library.sh" "$work/real.image" "$work/real.bundle"
     "$compare" graph-of "$work/real.image" "$work/real.bundle"
@@ -97,6 +98,7 @@ compared() {
 
 over() {
     archive=$("$here/archive/archive.sh" nuvaleta)
+    [ "$minor" -lt 63 ] || "$here/rust/built.sh" >/dev/null # both ask for it
     both from_c_and_rust compared
 }
 

@@ -25,7 +25,7 @@ link fuzz calls -fsanitize=fuzzer
 link planted planted -fsanitize=fuzzer
 link reached calls -no-pie "$build/reached.o"
 
-# Seeds beside those that fuzz.c makes: the beginnings of real modules; a library of the twelve shortest.
+# Seeds beside those that fuzz.c makes: the beginnings of real modules; a library of the twelve shortest, whose imports it does not have.
 real_seeds() { # TARGET FOLDER
     case $1 in
     scans)
@@ -36,7 +36,7 @@ real_seeds() { # TARGET FOLDER
     library)
         rm -rf "$build/few" && mkdir "$build/few"
         for file in $("$here/../vectors/real.sh" | xargs ls -Sr | sed -n 1,12p); do cp "$file" "$build/few/"; done
-        "$here/../pack/pack" folder "$build/few" "$build/few.image" "$build/few.bundle" >"$build/few.say" 2>&1 ||
+        "$here/../../nuvaleta" pack folder --lenient "$build/few" "$build/few.image" "$build/few.bundle" >"$build/few.say" 2>&1 ||
             { cat "$build/few.say" >&2; return 1; }
         size=$(wc -c <"$build/few.image")
         printf "\\0\\$(printf %03o $((size % 256)))\\$(printf %03o $((size / 256)))" | cat - "$build/few.image" "$build/few.bundle" >"$2/real"

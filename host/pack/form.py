@@ -8,6 +8,18 @@ from typing import NamedTuple
 SETS, MODULES, LIST, REVISIONS, NAME, IMAGE = 16, 512, 64, 8, 128, 65_536
 TEXTS, TEXT, BUNDLE = 2_048, 2_097_151, 16_777_216
 NUMBER = 2_097_151
+SCANNED = 1_048_576  # the longest text that a scan takes, shorter than what a bundle takes
+
+TO_DO = {
+    "sets": "put several of them together in the document: a graph does not depend on how its modules are spread over sets",
+    "submodules": "leave those out that nothing includes",
+    "augmenting modules": "name the module once more in another set, with the rest of the list",
+    "deviations": "name the module once more in another set, with the rest of the list",
+    "revisions": "keep those whose submodules differ: a bundle has one text under a name",
+    "texts": "leave those out that this router does not use: a graph has at most 1,024 names",
+}
+SHORTER_IMAGE = "leave modules out that are not registered, or pack each schema of the router on its own"
+SHORTER_TEXTS = "cut the longest texts behind their imports and includes: a graph needs no more of them"
 
 
 class Module(NamedTuple):
@@ -58,7 +70,7 @@ def number(n):
 
 def name(word, what):
     if not 1 <= len(word) <= NAME:
-        raise Refused(f"{what}: the name {word!r} has {len(word):,} characters; a name has 1 to {NAME}")
+        raise Refused(f"{what}: the name {word!r} has {len(word):,} characters; a name has 1 to {NAME}: rename it, or leave it out")
     if not all(33 <= ord(c) <= 126 for c in word):
         raise Refused(f"{what}: the name {word!r} has a character that is none of the bytes 33 to 126")
     return number(len(word)) + word.encode("ascii")
@@ -67,7 +79,7 @@ def name(word, what):
 def few(items, most, what, kind):
     """The number of items, if there are not too many."""
     if len(items) > most:
-        raise Refused(f"{what}: {len(items):,} {kind}; at most {most:,} are allowed")
+        raise Refused(f"{what}: {len(items):,} {kind}; at most {most:,} are allowed" + (f": {TO_DO[kind]}" if kind in TO_DO else ""))
     return number(len(items))
 
 
@@ -108,7 +120,7 @@ def write_image(sets, called=None):
     def add(piece, what):
         out.extend(piece)
         if len(out) > IMAGE:
-            raise Refused(f"image: {what} takes it over its {IMAGE:,} bytes")
+            raise Refused(f"image: {what} takes it over its {IMAGE:,} bytes: {SHORTER_IMAGE}")
 
     for at, one in enumerate(sets):
         where = called[at] if called else f"set {at + 1}"
@@ -133,11 +145,34 @@ def write_bundle(texts, files=None):
     for word, text in texts:
         out += name(word, what(word))
         if len(text) > TEXT:
-            raise Refused(f"{what(word)}: {len(text):,} bytes or more; at most {TEXT:,} are allowed")
+            raise Refused(f"{what(word)}: {len(text):,} bytes or more; at most {TEXT:,} are allowed, and a scan takes {SCANNED:,}: {SHORTER_TEXTS}")
         out += number(len(text)) + text
         if len(out) > BUNDLE:
-            raise Refused(f"bundle: {what(word)} takes it over its {BUNDLE:,} bytes")
+            raise Refused(f"bundle: {what(word)} takes it over its {BUNDLE:,} bytes: {SHORTER_TEXTS}")
     return bytes(out)
+
+
+# ---- more modules than a set takes
+
+
+def parts(items):
+    return [items[at:at + MODULES] for at in range(0, len(items), MODULES)] or [[]]
+
+
+def spread(sets, called):
+    """The same with no set over its limit, a word for each set, and a note for each that was spread. Modules come before import-only modules still, and so
+    the nodes of a graph keep their order."""
+    out, words, notes = [], [], []
+    for one, word in zip(sets, called):
+        differ([m.name for m in one.modules], word, "module")
+        modules, only = parts(one.modules), parts(one.import_only)
+        pieces = [Set(part) for part in modules[:-1]] + [Set(modules[-1], only[0])] + [Set([], part) for part in only[1:]]
+        out += pieces
+        words += [word] if len(pieces) == 1 else [f"{word}, part {at} of {len(pieces)}" for at in range(1, len(pieces) + 1)]
+        if len(pieces) > 1:
+            notes.append(f"{word}: {len(one.modules):,} modules and {len(one.import_only):,} import-only modules are spread over {len(pieces)} sets, "
+                         f"as a set has at most {MODULES} of each; the graph is the same")
+    return out, words, notes
 
 
 # ---- reading

@@ -1,29 +1,22 @@
-"""What people have: a folder of .yang files, and yang-library documents of RFC 8525 in XML or JSON.
-
-Both give a `Packed`: the sets, a word for each set, the texts, the file of each text, and warnings for a person.
-"""
-import json
+"""What people have: folders of .yang files, and the library of a router with the texts in such folders. Both give a `Packed`."""
 import os
-import re
-import xml.etree.ElementTree as ET
 from typing import NamedTuple
 
 import form
-from form import ImportOnly, Module, Refused, Set, Unusable
+import judge
+import library
+from form import Module, Refused, Set, Unusable
+from judge import Problem, Role
 
-LIBRARY = "ietf-yang-library"
-XMLNS = "{urn:ietf:params:xml:ns:yang:" + LIBRARY + "}"
-SCANNED = 1_048_576  # the longest text that a scan takes
 DOCUMENT = 67_108_864  # the longest library document that is read
-BY_IMPORT = "such an edge is there only where an import gives it"
 
 
 class Packed(NamedTuple):
+    image: bytes
     sets: list
-    called: list
+    bundle: bytes
     texts: list
-    files: dict
-    warnings: list
+    problems: list
 
 
 # ---- files
@@ -56,317 +49,159 @@ def read_file(path, most=form.TEXT):
         raise Unusable(f"{path}: {error.strerror}") from None
 
 
+class Shelf:
+    """The texts of some folders, and of another shelf: for each name the revisions in names of files, "" where there is none, and the files of each."""
+
+    def __init__(self, folders, other=None):
+        self.folders, self.own, self.other = folders, {}, other
+        for folder in folders:
+            for path in yang_files(folder):
+                word, _, revision = os.path.basename(path)[:-len(".yang")].partition("@")
+                self.own.setdefault(word, {}).setdefault(revision, []).append(path)
+
+    def called(self):
+        return ", ".join(self.folders + (self.other.folders if self.other else [])) or "any folder, as none is given"
+
+    def revisions(self, word):
+        found = self.other.revisions(word) if self.other else {}
+        for revision, paths in self.own.get(word, {}).items():
+            found[revision] = found.get(revision, []) + paths
+        return found
+
+    def one(self, paths, word):
+        """The first of several files, which must be the same text."""
+        for path in paths[1:]:
+            if read_file(path) != read_file(paths[0]):
+                raise Refused(f"{paths[0]} and {path}: both are the text of {word}, and they differ: take one of them away")
+        return paths[0]
+
+    def find(self, entry):
+        """The file of an entry's text: of its own revision, else the one without a revision, else, if the entry has no revision, the only one."""
+        there = self.revisions(entry.name)
+        ways = [entry.revision, ""] if entry.revision or "" in there or len(there) != 1 else list(there)
+        paths = next((there[way] for way in ways if way in there), None)
+        return paths and self.one(paths, entry.name)
+
+
 class Pile:
-    """Texts as they are read, and the warnings about them."""
+    """Texts as they are read, and where they come from."""
 
     def __init__(self):
-        self.texts, self.files, self.warnings, self.size = [], {}, [], 0
+        self.texts, self.files, self.size = [], {}, 0
 
     def add(self, word, path):
         text = read_file(path)
-        if len(text) > SCANNED:
-            self.warnings.append(f"{path}: over {SCANNED:,} bytes; it is packed, and every scan refuses it")
-        elif not text.isascii():
-            place = next(i for i, b in enumerate(text) if b >= 128)
-            self.warnings.append(f"{path}: byte {place:,} is 128 or more; it is packed, and every scan refuses it")
         self.texts.append((word, text))
         self.files[word] = path
         self.size += len(text)
         if self.size > form.BUNDLE:
-            raise Refused(f"bundle: text {word} ({path}) takes it over its {form.BUNDLE:,} bytes")
-        return text
+            raise Refused(f"bundle: text {word} ({path}) takes it over its {form.BUNDLE:,} bytes: {form.SHORTER_TEXTS}")
+
+    def judged(self, told, roles):
+        """What is wrong with each text by itself."""
+        return [problem for word, text in self.texts for problem in judge.text_problems(word, text, self.files[word], told[word], roles[word])]
+
+    def packed(self, sets, called, bundle, told, problems):
+        """All of it, with what is wrong with it as a whole."""
+        sets, called, notes = form.spread(sets, called)
+        image = form.write_image(sets, called)
+        found = problems + judge.library_problems(image, bundle, self.texts, self.files, problems)
+        found += judge.unread(told, self.files, found)
+        return Packed(image, sets, bundle, self.texts, [Problem("note", "spread", note) for note in notes] + found)
 
 
-# ---- a folder
-
-TOKEN = re.compile(r"""//[^\n]*|/\*.*?(?:\*/|\Z)|"(?:\\.|[^"\\])*(?:"|\Z)|'[^']*(?:'|\Z)|[{};]|(?:(?!//|/\*)[^\s{};"'])+""", re.S)
+# ---- folders
 
 
-def tokens(text):
-    for hit in TOKEN.finditer(text.decode("latin-1").removeprefix("\xef\xbb\xbf")):
-        if not hit[0].startswith(("//", "/*")):
-            yield hit[0]
-
-
-def begins(text):
-    """(keyword, name, parent) of a text, by a short look at it: `parent` is what a submodule belongs to. None if it is not understood."""
-    head, depth, last = [], 0, []
-    for token in tokens(text):
-        if depth == 0:
-            if token != "{":
-                head.append(token)
-                if len(head) > 2 or head[0] not in ("module", "submodule"):
-                    return None
-                continue
-            if len(head) != 2:
-                return None
-            if head[0] == "module":
-                return "module", head[1].strip("\"'"), None
-        elif depth == 1 and token in ("{", ";"):
-            if len(last) == 2 and last[0] == "belongs-to":
-                return "submodule", head[1].strip("\"'"), last[1].strip("\"'")
-        if token in ("{", "}", ";"):
-            depth += {"{": 1, "}": -1, ";": 0}[token]
-            last = []
-            if depth == 0:
-                return None
-        else:
-            last.append(token)
-    return None
-
-
-def files_by_name(folder):
-    files = {}
-    for path in yang_files(folder):
-        word = re.split(r"@|\.yang$", os.path.basename(path))[0]
-        form.name(word, path)
-        if word in files:
-            raise Refused(f"{files[word]} and {path}: both are {word}; a bundle has one text under a name")
-        files[word] = path
-    if not files:
-        raise Refused(f"no .yang file under {folder}")
-    return files
-
-
-def from_folder(folder):
-    files, pile, modules, parents = files_by_name(folder), Pile(), {}, {}
-    for word in sorted(files):
-        told = begins(pile.add(word, files[word]))
-        if told is None:
-            raise Refused(f"{files[word]}: not understood; it begins neither as `module NAME {{` nor as `submodule NAME {{` with a `belongs-to`")
-        keyword, own, parent = told
-        if own != word:
-            pile.warnings.append(f"{files[word]}: calls itself {own}; it is packed as {word}, after its file")
-        if keyword == "module":
+def from_folders(folders):
+    shelf, pile, modules, problems = Shelf(folders), Pile(), {}, []
+    for word, files in sorted(shelf.own.items()):
+        paths = [path for same in files.values() for path in same]
+        form.name(word, paths[0])
+        pile.add(word, shelf.one(paths, word))
+    if not pile.texts:
+        raise Refused(f"no .yang file under {shelf.called()}")
+    bundle = form.write_bundle(pile.texts, pile.files)
+    told = judge.describe(bundle)
+    problems += pile.judged(told, {word: [Role(word, by_file=True)] for word in told})
+    parents = {word: one["metadata"].get("parent") for word, one in told.items()}
+    for word, parent in parents.items():
+        if parent is None:
             modules[word] = []
-        else:
-            parents[word] = parent
     for word, parent in parents.items():
         if parent in modules:
             modules[parent].append(word)
-        else:
-            pile.warnings.append(f"{files[word]}: belongs to {parent}, which is no module of this folder; its text is packed, and no module lists it")
-    pile.warnings.append(f"{folder}: which modules augment or deviate from which cannot be told from texts alone: "
-                         f"those lists are empty, and {BY_IMPORT}")
-    return Packed([Set([Module(word, own) for word, own in modules.items()])], [folder], pile.texts, pile.files, pile.warnings)
+        elif parent is not None:
+            words = f"it belongs to {parent}, which is no module here; its text is packed, and no module lists it"
+            problems.append(Problem("warning", "parent", words, word, pile.files[word]))
+    return pile.packed([Set([Module(word, own) for word, own in modules.items()])], [shelf.called()], bundle, told, problems)
 
 
-# ---- a yang-library document, as plain rows whatever it was written in
+# ---- a library
 
 
-class Entry(NamedTuple):
-    name: str
-    revision: str
-    submodules: list  # of entries
-    augmenting: list
-    deviations: list
-
-
-class Rows(NamedTuple):
-    name: str
-    modules: list
-    import_only: list
-
-
-class Tree(ET.TreeBuilder):
-    def doctype(self, _name, _public, _system):
-        raise Refused("a DOCTYPE; a library document has none, and one that does is not read")
-
-
-class Xml:
-    """An element of the document: its children by name, in the namespace of RFC 8525."""
-
-    def __init__(self, element):
-        self.element = element
-
-    def rows(self, word):
-        return [Xml(child) for child in self.element.findall(XMLNS + word)]
-
-    def leaves(self, word, anywhere=False):
-        found = self.element.findall(("{*}" if anywhere else XMLNS) + word)
-        return [(child.text or "").strip() for child in found]
-
-    def leaf(self, word, what):
-        found = self.leaves(word)
-        if len(found) > 1:
-            raise Refused(f"{what}: {word} stands there {len(found)} times")
-        return found[0] if found else ""
-
-
-class Json:
-    """An object of the document: its members by name, with or without the prefix of RFC 8525's module."""
-
-    def __init__(self, members):
-        if not isinstance(members, dict):
-            raise Refused(f"{json.dumps(members)[:40]} stands where an object is due")
-        self.members = members
-
-    def member(self, word, anywhere=False):
-        found = [v for k, v in self.members.items() if k in (word, f"{LIBRARY}:{word}") or anywhere and k.endswith(":" + word)]
-        if len(found) > 1:
-            raise Refused(f"{word} stands twice in one object")
-        return found[0] if found else None
-
-    def items(self, word, kind, anywhere=False):
-        found = self.member(word, anywhere)
-        if found is None:
-            return []
-        if not isinstance(found, list) or not all(isinstance(item, kind) for item in found):
-            raise Refused(f"{word} is not a list of {'objects' if kind is dict else 'strings'}")
-        return found
-
-    def rows(self, word):
-        return [Json(item) for item in self.items(word, dict)]
-
-    def leaves(self, word, anywhere=False):
-        return [item.strip() for item in self.items(word, str, anywhere)]
-
-    def leaf(self, word, what):
-        found = self.member(word)
-        if found is None:
-            return ""
-        if not isinstance(found, str):
-            raise Refused(f"{what}: {word} is not a string")
-        return found.strip()
-
-
-def xml_library(data):
-    parser = ET.XMLParser(target=Tree())
-    try:
-        for at in range(0, len(data), 4_096):
-            parser.feed(data[at:at + 4_096])
-        root = parser.close()
-    except ET.ParseError as error:
-        raise Refused(f"no XML: {error}") from None
-    except (LookupError, ValueError):
-        raise Refused("no XML that can be read: its declaration has an encoding that is not known here") from None
-    found = list(root.iter(XMLNS + "yang-library"))
-    if len(found) > 1:
-        raise Refused(f"{len(found)} yang-library elements; one is due")
-    if not found:
-        old = " (modules-state of RFC 7895 has no module sets)" if root.find(".//{*}modules-state") is not None or root.tag.endswith("}modules-state") else ""
-        raise Refused(f"no yang-library element of the namespace {XMLNS[1:-1]}{old}")
-    return Xml(found[0])
-
-
-def json_library(data):
-    def once(pairs):
-        members = dict(pairs)
-        if len(members) != len(pairs):
-            raise Refused("a member stands twice in one object: " + next(k for i, (k, _) in enumerate(pairs) if k in dict(pairs[:i])))
-        return members
-
-    try:
-        top = Json(json.loads(data, object_pairs_hook=once))
-    except (ValueError, RecursionError) as error:
-        raise Refused(f"no JSON: {error}") from None
-    for _ in range(2):
-        if top.member("yang-library") is not None:
-            return Json(top.member("yang-library"))
-        if top.member("module-set") is not None:
-            return top
-        if top.member("data", anywhere=True) is not None:
-            top = Json(top.member("data", anywhere=True))
-    raise Refused(f"no {LIBRARY}:yang-library, and no module-set")
-
-
-def neither(data):
-    """What is said of a document that begins neither as XML nor as an object."""
-    try:
-        json.loads(data)
-    except (ValueError, RecursionError):
-        return Refused("neither XML nor JSON")
-    return Refused("no JSON object")
-
-
-def library_rows(data):
-    """The sets of a yang-library document in XML or JSON."""
-    first = data.lstrip(b"\xef\xbb\xbf\xfe\xff\0 \t\r\n")[:1]
-    if first not in (b"<", b"{"):
-        raise neither(data)
-    library = xml_library(data) if first == b"<" else json_library(data)
-
-    def entry(row, what, outer=True):
-        word = row.leaf("name", what)
-        if not word:
-            raise Refused(f"{what} without a name")
-        what = f"{what} {word}"
-        return Entry(word, row.leaf("revision", what), [entry(r, f"{what}, a submodule", False) for r in row.rows("submodule")] if outer else [],
-                     row.leaves("augmented-by", anywhere=True), row.leaves("deviation"))
-
-    sets = []
-    for at, row in enumerate(library.rows("module-set"), 1):
-        word = row.leaf("name", f"set {at}")
-        what = f"set {at} ({word})" if word else f"set {at}"
-        sets.append(Rows(what, [entry(r, f"{what}, module") for r in row.rows("module")],
-                         [entry(r, f"{what}, import-only module") for r in row.rows("import-only-module")]))
-    return sets
-
-
-def to_set(rows):
-    only = {}
-    for entry in rows.import_only:
-        revisions = only.setdefault(entry.name, {})
-        if entry.revision in revisions:
-            raise Refused(f"{rows.name}, import-only module {entry.name}: revision {entry.revision or '(none)'} stands there twice")
-        revisions[entry.revision] = [s.name for s in entry.submodules]
-    return Set([Module(m.name, [s.name for s in m.submodules], m.augmenting, m.deviations) for m in rows.modules],
-               [ImportOnly(word, list(revisions.values())) for word, revisions in only.items()])
-
-
-def text_file(entry, files):
-    """The file of an entry's text: of its own revision, else the one without a revision, else, if the entry has no revision, the only one."""
-    stems = [f"{entry.name}@{entry.revision}"] if entry.revision else []
-    others = [stem for stem in files if stem.startswith(entry.name + "@")]
-    for stem in stems + [entry.name] + (others if len(others) == 1 and not entry.revision else []):
-        found = files.get(stem, [])
-        if len(found) > 1:
-            raise Refused(f"{found[0]} and {found[1]}: both are the text of {entry.name}")
-        if found:
-            return found[0]
-    return None
-
-
-def no_text(word, revisions, files, folder):
-    """The warning that none of the files is the text of a name, of which these revisions are asked for."""
-    others = ", ".join(sorted(os.path.basename(paths[0]) for stem, paths in files.items() if stem.startswith(word + "@")))
-    if "" in revisions:
-        wanted, there = "no text", f"; the library tells no revision, and there are {others}"
-    else:
-        wanted, there = f"no text of revision {' or '.join(revisions)}", f"; of other revisions there are {others}"
-    return f"{word}: {wanted} in {folder}{there if others else ''}; the bundle is without it"
-
-
-def library_texts(all_rows, folder):
-    files, pile, asked = {}, Pile(), {}
-    for file in yang_files(folder):
-        files.setdefault(os.path.basename(file)[:-len(".yang")], []).append(file)
+def asked_for(all_rows):
+    """By name, what the library asks for, in its order: the entries with the module of a submodule, each once."""
+    asked = {}
     for rows in all_rows:
         for module in rows.modules + rows.import_only:
-            for entry in [module] + module.submodules:
-                asked.setdefault(entry.name, {}).setdefault(entry.revision, entry)
-    for word, entries in asked.items():
-        file = next(filter(None, (text_file(entry, files) for entry in entries.values())), None)
-        if file is None:
-            pile.warnings.append(no_text(word, entries, files, folder))
+            for entry, parent in [(module, None)] + [(submodule, module.name) for submodule in module.submodules]:
+                asked.setdefault(entry.name, {})[Role(entry.name, entry.revision, parent)] = entry
+    return asked
+
+
+def missing(word, roles, shelf):
+    """What is said of a name without a text."""
+    wanted = list(dict.fromkeys(role.revision for role in roles))
+    others = ", ".join(sorted(os.path.basename(path) for paths in shelf.revisions(word).values() for path in paths))
+    if "" in wanted:
+        words, there = "no text", f"; the library tells no revision, and there are {others}"
+    else:
+        words, there = f"no text of revision {' or '.join(wanted)}", f"; of other revisions there are {others}"
+    number = 23 if any(role.parent is None for role in roles) else 24
+    return Problem("error", "missing", f"{word}: {words} in {shelf.called()}{there if others else ''}", word, number=number)
+
+
+def library_texts(asked, shelf):
+    """The texts that are asked for, and what is wrong with the choice."""
+    pile, problems = Pile(), []
+    for word, roles in asked.items():
+        path = next(filter(None, map(shelf.find, roles.values())), None)
+        if path is None:
+            problems.append(missing(word, roles, shelf))
             continue
-        if len(entries) > 1:
-            told = ", ".join(revision or "(none)" for revision in entries)
-            pile.warnings.append(f"{word}: revisions {told} are asked for, and a bundle has one text under a name; it is {file}")
-        pile.add(word, file)
-    return pile
+        revisions = list(dict.fromkeys(role.revision or "(none)" for role in roles))
+        if len(revisions) > 1:
+            words = f"revisions {', '.join(revisions)} of {word} are asked for, and a bundle has one text under a name: this one"
+            problems.append(Problem("warning", "revisions", words, word, path))
+        pile.add(word, path)
+    return pile, problems
 
 
-def from_library(path, folder):
+def lost_lists(all_rows):
+    """Warnings for lists of import-only modules, which an image has no place for."""
+    return [Problem("warning", "lists", f"{rows.name}, import-only module {one.name}: it is augmented by or deviated from by {', '.join(names)}; "
+                    "an image has no such lists of import-only modules, and no edge comes of them")
+            for rows in all_rows for one in rows.import_only for names in [one.augmenting + one.deviations] if names]
+
+
+def read_library(path):
+    """The rows, the sets and the words for them of a library document."""
     data = read_file(path, DOCUMENT)
     try:
         if len(data) > DOCUMENT:
             raise Refused(f"a document of over {DOCUMENT:,} bytes is not read")
-        all_rows = library_rows(data)
-        sets = [to_set(rows) for rows in all_rows]
+        all_rows = library.read(data)
+        return all_rows, [library.to_set(rows) for rows in all_rows], [rows.name for rows in all_rows]
     except Refused as error:
         raise Refused(f"{path}: {error}") from None
-    pile = library_texts(all_rows, folder)
-    if not any(module.augmenting for one in sets for module in one.modules):
-        pile.warnings.append(f"{path}: no augmented-by in the document: which modules augment which is not known, and {BY_IMPORT}")
-    return Packed(sets, [rows.name for rows in all_rows], pile.texts, pile.files, pile.warnings)
+
+
+def from_library(path, shelf):
+    all_rows, sets, called = read_library(path)
+    form.write_image(*form.spread(sets, called)[:2])  # what cannot be written at all is told first
+    asked = asked_for(all_rows)
+    pile, problems = library_texts(asked, shelf)
+    bundle = form.write_bundle(pile.texts, pile.files)
+    told = judge.describe(bundle)
+    return pile.packed(sets, called, bundle, told, lost_lists(all_rows) + problems + pile.judged(told, asked))

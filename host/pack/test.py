@@ -1,124 +1,26 @@
 #!/usr/bin/env python3
-"""Tests of host/pack: the writer beside the reader, every limit, the same library in XML and JSON, broken bytes, real modules."""
-import contextlib
-import importlib.machinery
-import importlib.util
-import io
+"""Tests of host/pack that need nothing built: the writer beside the reader, every limit, one library in every form, broken documents and bytes, words."""
+import itertools
 import json
 import os
 import re
-import shutil
 import subprocess
 import sys
-import tempfile
-import unittest
+import unittest.mock
 
-sys.dont_write_bytecode = True
-HERE = os.path.dirname(os.path.abspath(__file__))
-sys.path.insert(0, HERE)
-import form  # noqa: E402
-import sources  # noqa: E402
-from form import ImportOnly, Module, Refused, Set, Wrong  # noqa: E402
+from cases import BARE, BARE_STATE, HERE, LIBRARY, M_S_B, STATE, XML, Case, main, pack
+import form
+import library
+from form import ImportOnly, Module, Refused, Set, Wrong
 
-loader = importlib.machinery.SourceFileLoader("pack", os.path.join(HERE, "pack"))
-pack = importlib.util.module_from_spec(importlib.util.spec_from_loader("pack", loader))
-loader.exec_module(pack)
-
-M_S_B = bytes.fromhex("01 02 01 6D 01 01 73 00 00 01 62 00 00 00 00")
+os.environ["NUVALETA"] = os.path.join(HERE, "no command")
 ALL = [Set([Module("m", ["s", "t"], ["a"], ["d", "d"]), Module("a"), Module("d")], [ImportOnly("m", [["s"], ["s", "u"]]), ImportOnly("i", [[]])]), Set()]
-
-XML = """<?xml version="1.0" encoding="UTF-8"?>
-<yang-library xmlns="urn:ietf:params:xml:ns:yang:ietf-yang-library">
-  <module-set><name>first</name>
-    <module><name>m</name><revision>2024-01-01</revision><namespace>urn:m</namespace>
-      <submodule><name>s</name><revision>2024-01-02</revision></submodule><feature>f</feature>
-      <deviation>d</deviation>
-      <augmented-by xmlns="urn:ietf:params:xml:ns:yang:ietf-yang-library-augmentedby"> b </augmented-by></module>
-    <module><name>b</name><namespace>urn:b</namespace></module>
-    <module><name>d</name><namespace>urn:d</namespace></module>
-    <import-only-module><name>i</name><revision>2020-01-01</revision><namespace>urn:i</namespace><submodule><name>j</name></submodule></import-only-module>
-    <import-only-module><name>k</name><revision></revision><namespace>urn:k</namespace></import-only-module>
-    <import-only-module><name>i</name><revision>2021-01-01</revision><namespace>urn:i</namespace></import-only-module>
-  </module-set>
-  <module-set><name>second</name></module-set>
-  <schema><name>all</name><module-set>first</module-set></schema>
-  <content-id>1</content-id>
-</yang-library>
-"""
-BARE = {
-    "module-set": [
-        {"name": "first",
-         "module": [
-             {"name": "m", "revision": "2024-01-01", "namespace": "urn:m", "submodule": [{"name": "s", "revision": "2024-01-02"}], "feature": ["f"],
-              "deviation": ["d"], "ietf-yang-library-augmentedby:augmented-by": ["b"]},
-             {"name": "b", "namespace": "urn:b"}, {"name": "d", "namespace": "urn:d"}],
-         "import-only-module": [
-             {"name": "i", "revision": "2020-01-01", "namespace": "urn:i", "submodule": [{"name": "j"}]},
-             {"name": "k", "revision": "", "namespace": "urn:k"}, {"name": "i", "revision": "2021-01-01", "namespace": "urn:i"}]},
-        {"name": "second"}],
-    "schema": [{"name": "all", "module-set": ["first"]}],
-    "content-id": "1"}
-LIBRARY = [Set([Module("m", ["s"], ["b"], ["d"]), Module("b"), Module("d")], [ImportOnly("i", [["j"], []]), ImportOnly("k", [[]])]), Set()]
 
 
 def prefixed(value):
     if isinstance(value, dict):
         return {k if ":" in k else "ietf-yang-library:" + k: prefixed(v) for k, v in value.items()}
     return [prefixed(v) for v in value] if isinstance(value, list) else value
-
-
-def real_modules():
-    """The files that host/vectors/real.sh lists; none if its packages are not installed."""
-    with open(os.path.join(HERE, "..", "vectors", "real.sh"), encoding="utf-8") as file:
-        packages = re.search(r'/need" (.*)', file.read())[1].split()
-    try:
-        listed = subprocess.run(["dpkg", "-L", *packages], capture_output=True, text=True, check=True).stdout
-    except (OSError, subprocess.CalledProcessError):
-        return []
-    return sorted({line for line in listed.splitlines() if line.endswith(".yang") and os.path.isfile(line)})
-
-
-class Case(unittest.TestCase):
-    def setUp(self):
-        held = tempfile.TemporaryDirectory(prefix="pack-")
-        self.addCleanup(held.cleanup)
-        self.top = held.name
-        self.image, self.bundle, self.dir = (os.path.join(self.top, n) for n in ("image", "bundle", "texts"))
-        os.mkdir(self.dir)
-
-    def put(self, path, text, top=None):
-        path = os.path.join(top or self.dir, path)
-        os.makedirs(os.path.dirname(path), exist_ok=True)
-        with open(path, "wb") as file:
-            file.write(text if isinstance(text, bytes) else text.encode())
-        return path
-
-    def run_pack(self, *arguments):
-        """Exit status, standard output, standard error."""
-        out, err = io.StringIO(), io.StringIO()
-        with contextlib.redirect_stdout(out), contextlib.redirect_stderr(err):
-            status = pack.main(list(arguments))
-        return status, out.getvalue(), err.getvalue()
-
-    def folder(self):
-        return self.run_pack("folder", self.dir, self.image, self.bundle)
-
-    def library(self, document, name="library"):
-        if isinstance(document, dict):
-            document = json.dumps(document)
-        return self.run_pack("library", self.put(name, document, self.top), self.dir, self.image, self.bundle)
-
-    def read(self):
-        with open(self.image, "rb") as image, open(self.bundle, "rb") as bundle:
-            return form.read_image(image.read()), form.read_bundle(bundle.read())
-
-    def refused(self, said, *words, due=1):
-        """It ends with this status, it says these words on standard error, and nothing is written."""
-        status, out, err = said
-        self.assertEqual((status, out), (due, ""))
-        for word in words:
-            self.assertIn(word, err)
-        self.assertEqual([n for n in os.listdir(self.top) if n not in ("texts", "library")], [])
 
 
 class Form(Case):
@@ -136,12 +38,14 @@ class Form(Case):
 
     def test_places(self):
         for data, place in [("", 0), ("01", 1), ("11", 0), ("8100", 0), ("80808000", 0), ("010101 20 00000000", 2), ("01 01 02 6D", 2), ("01 01 00", 2),
-                            ("01 8104", 1), ("01 01 01 6D 41", 4), ("01 02 01 6D 000000 01 6D 000000 00", 7), ("01 00 01 01 69 00", 5), ("01 00 01 01 69 09", 5),
+                            ("01 8104", 1), ("01 01 01 6D 41", 4), ("01 02 01 6D 000000 01 6D 000000 00", 7), ("01 00 01 01 69 00", 5),
+                            ("01 00 01 01 69 09", 5),
                             ("01 00 01 01 69 01 02 01 73 01 73", 9), ("00 00", 1), ("01 01 8101", 2), ("01 01 80", 2)]:
             with self.assertRaises(Wrong) as wrong:
                 form.read_image(bytes.fromhex(data))
             self.assertEqual(wrong.exception.place, place, data)
-        for data, place in [("", 0), ("01", 1), ("8110", 0), ("01 01 6D", 3), ("01 01 6D 01", 3), ("01 01 6D 80808001", 3), ("02 01 6D 00 01 6D 00", 4), ("00 00", 1)]:
+        for data, place in [("", 0), ("01", 1), ("8110", 0), ("01 01 6D", 3), ("01 01 6D 01", 3), ("01 01 6D 80808001", 3), ("02 01 6D 00 01 6D 00", 4),
+                            ("00 00", 1)]:
             with self.assertRaises(Wrong) as wrong:
                 form.read_bundle(bytes.fromhex(data))
             self.assertEqual(wrong.exception.place, place, data)
@@ -205,7 +109,8 @@ class Limits(Case):
             def module(count):
                 return Module("mod")._replace(**{Module._fields[at]: self.many(count)})
             self.images([Set([module(64)])], [Set([module(65)])], "module mod", f"65 {kind}", "64")
-        self.images([Set([], [ImportOnly("imp", [self.many(64)])])], [Set([], [ImportOnly("imp", [[], self.many(65)])])], "import-only module imp, revision 2", "65", "64")
+        self.images([Set([], [ImportOnly("imp", [self.many(64)])])], [Set([], [ImportOnly("imp", [[], self.many(65)])])],
+                    "import-only module imp, revision 2", "65", "64")
 
     def test_revisions(self):
         self.images([Set([], [ImportOnly("imp", [[]] * 8)])], [Set([], [ImportOnly("imp", [[]] * 9)])], "imp", "9 revisions", "8")
@@ -243,165 +148,168 @@ class Limits(Case):
         left = 16_777_216 - len(form.write_bundle(texts)) - 6
         self.both(form.write_bundle, texts + [("z7", bytes(left))], texts + [("z7", bytes(left + 1))], "text z7", "16,777,216")
 
-    def test_nothing_is_written(self):
-        for n in self.many(65):
-            self.put(f"{n}.yang", f"submodule {n} {{ belongs-to mod {{ prefix p; }} }}")
-        self.put("mod.yang", "module mod { }")
-        self.refused(self.folder(), "module mod", "65 submodules", "64")
-
-    def test_files_are_named(self):
-        path = self.put("long.yang", b"module long {" + bytes(2_097_152))
-        self.refused(self.folder(), path, "2,097,151")
-        os.remove(path)
-        path = self.put("n" * 129 + ".yang", "module m {}")
-        self.refused(self.folder(), path, "128")
-        os.remove(path)
-        for i in range(9):
-            path = self.put(f"n{i}.yang", b"module n%d {" % i + bytes(2_000_000))
-        self.refused(self.folder(), path, "16,777,216")
-
-
-class Folder(Case):
-    def test_folder(self):
-        texts = {
-            "m@2024-01-01.yang": 'module m {\n  include s; description "submodule x { belongs-to y; }";\n}\n',
-            "in/s.yang": '/* module x { } */ // submodule y {\nsubmodule "s" {\n  yang-version 1.1; /* belongs-to q; */\n  x { belongs-to n; }\n  belongs-to \'m\' { prefix p; }\n}',
-            "in/deep/t.yang": "submodule t{belongs-to m{prefix p;}}",
-            "n.yang": "module n{}",
-        }
-        for path, text in texts.items():
-            self.put(path, text)
-        self.put("other.txt", "not a module")
-        status, out, err = self.folder()
-        self.assertEqual((status, err), (0, f"nuvaleta pack: {self.dir}: which modules augment or deviate from which cannot be told from texts alone: "
-                                            "those lists are empty, and such an edge is there only where an import gives it\n"))
-        self.assertIn("1 set", out)
-        self.assertIn("4 texts", out)
-        sets, bundle = self.read()
-        self.assertEqual(sets, [Set([Module("m", ["s", "t"]), Module("n")])])
-        self.assertEqual(dict(bundle), {os.path.basename(p).split("@")[0].removesuffix(".yang"): t.encode() for p, t in texts.items()})
-        self.assertEqual(sorted(os.listdir(self.top)), ["bundle", "image", "texts"])
-
-    def test_two_files_of_one_name(self):
-        paths = [self.put("m.yang", "module m {}"), self.put("in/m@2024-01-01.yang", "module m {}")]
-        self.refused(self.folder(), *paths)
-
-    def test_not_understood(self):
-        for text in "", "// module x {", "container x {", "module {", "module a b {", "module x", "submodule s { }", "submodule s { x { belongs-to m; } } belongs-to m;", "/* module x {", '"module x {':
-            self.refused((self.put("odd.yang", text), self.folder())[1], "odd.yang", "not understood")
-
-    def test_warnings(self):
-        self.put("s.yang", "submodule s { belongs-to away { prefix p; } }")
-        self.put("m.yang", "module other { }")
-        self.put("u.yang", "module u { contact é; }")
-        self.put("w.yang", b"module w {" + b" " * 1_048_576)
-        status, _, err = self.folder()
-        self.assertEqual((status, len(err.splitlines())), (0, 5))
-        for word in "belongs to away", "calls itself other", "u.yang: byte 19", "w.yang: over 1,048,576 bytes", "augment or deviate":
-            self.assertEqual(err.count(word), 1, word)
-        sets, bundle = self.read()
-        self.assertEqual(sets, [Set([Module("m"), Module("u"), Module("w")])])
-        self.assertEqual([n for n, _ in bundle], ["m", "s", "u", "w"])
-
-    def test_what_is_not_there(self):
-        self.refused(self.run_pack("folder", self.dir + "x", self.image, self.bundle), "no such folder", due=2)
-        self.put("m.yang", "module m {}")
-        path = os.path.join(self.top, "no", "bundle")
-        self.refused(self.run_pack("folder", self.dir, self.image, path), f"nuvaleta pack: {path}: No such file or directory\n", due=2)
-        self.refused(self.run_pack("folder", self.dir, self.image, self.dir), f"{self.dir}: not a file", due=2)
-        self.refused(self.run_pack("folder", self.dir, self.image, self.image), "two files", due=2)
-        self.refused(self.run_pack("folder", "--json", self.dir, self.image, self.dir), "not a file", due=2)
-        self.refused(self.run_pack("library", self.image, self.dir, self.image, self.bundle), f"{self.image}: No such file", due=2)
-        self.refused(self.run_pack("library", self.put("library", XML, self.top), self.dir + "x", self.image, self.bundle), "no such folder", due=2)
-        os.symlink("nowhere", os.path.join(self.dir, "x.yang"))
-        self.refused(self.folder(), "x.yang", due=2)
-
-    def test_an_empty_folder(self):
-        self.put("m.yang.txt", "module m {}")
-        self.refused(self.folder(), f"no .yang file under {self.dir}\n")
-
-    def test_control_bytes(self):
-        self.put("m\x1b\n.yang", "")
-        self.refused(self.folder(), "m\\x1b\\n.yang")
-        os.remove(os.path.join(self.dir, "m\x1b\n.yang"))
-        self.put("in\x07/m.yang", "submodule m\x1b[2J { belongs-to n\x00\x7f { prefix p; } }")
-        self.put(b"in\x07/n@\xff.yang".decode(errors="surrogateescape"), b"module n\xff {}")
-        self.bundle += "\r"
-        status, out, err = self.folder()
-        self.assertEqual((status, len(out.splitlines()), len(err.splitlines())), (0, 2, 5))
-        self.assertTrue(all(c.isprintable() or c == "\n" for c in out + err))
-        for word in "in\\x07/m.yang: calls itself m\\x1b[2J;", "belongs to n\\x00\\x7f,", "n@\\udcff.yang: calls itself n\xff;":
-            self.assertIn(word, err)
-        self.assertIn("bundle\\r: ", out)
-
-    def test_real_modules(self):
-        files = real_modules()
-        if not files:
-            self.skipTest("the packages of host/vectors/real.sh are not installed")
-        first = {}
-        for path in files:
-            first.setdefault(re.split(r"@|\.yang$", os.path.basename(path))[0], path)
-        for path in first.values():
-            shutil.copy(path, self.dir)
-        self.assertEqual(self.folder()[0], 0)
-        sets, bundle = self.read()
-        self.assertEqual([n for n, _ in bundle], sorted(first))
-        listed = [n for m in sets[0].modules for n in [m.name] + m.submodules]
-        self.assertEqual(sorted(listed), sorted(first))
-        status, out, _ = self.run_pack("show", self.image)
-        self.assertEqual(status, 0)
-        self.assertEqual(out.count("\n  module "), len(sets[0].modules))
-        status, out, _ = self.run_pack("show-bundle", self.bundle)
-        self.assertEqual((status, out.count("\n")), (0, len(first) + 1))
-
-
-class Library(Case):
-    def test_same_bytes(self):
-        inner = XML[XML.index("<yang-library"):]
-        entity = inner.replace("<name>m</name>", "<name>&#109;</name>")
-        prefix = inner.replace(' xmlns="urn:ietf:params:xml:ns:yang:ietf-yang-library"', ' xmlns:l="urn:ietf:params:xml:ns:yang:ietf-yang-library"')
-        prefix = re.sub(r"(</?)(?!augmented-by)([a-z])", r"\1l:\2", prefix)
-        documents = [
-            XML, entity, prefix, XML.replace("UTF-8", "UTF-16").encode("utf-16"), b"\xef\xbb\xbf" + XML.encode(), f"<data xmlns='urn:x'>{inner}</data>",
-            f"<rpc-reply xmlns='urn:ietf:params:xml:ns:netconf:base:1.0' message-id='1'><data>{inner}</data></rpc-reply>",
-            BARE, {"yang-library": BARE}, {"ietf-yang-library:yang-library": BARE}, {"data": {"ietf-yang-library:yang-library": BARE}}, {"data": BARE},
-            {"ietf-restconf:data": {"ietf-yang-library:yang-library": prefixed(BARE)}}, prefixed(BARE), "\n " + json.dumps(BARE), "\ufeff" + json.dumps(BARE),
-        ]
-        images = set()
-        for document in documents:
-            self.assertEqual(self.library(document)[0], 0, document)
-            self.assertEqual(self.read(), (LIBRARY, []))
-            with open(self.image, "rb") as file:
-                images.add(file.read())
-        self.assertEqual(len(images), 1)
-
-    def test_texts(self):
-        self.put("m.yang", "no")
-        self.put("m@2023-01-01.yang", "no")
-        self.put("m@2024-01-01.yang", "m")
-        self.put("s.yang", "s")
-        self.put("in/b@2022-02-02.yang", "b")
-        self.put("d@2022-02-02.yang", "no")
-        self.put("d@2023-02-02.yang", "no")
-        self.put("i@2021-01-01.yang", "i")
-        status, _, err = self.library(XML)
-        self.assertEqual(status, 0)
-        self.assertEqual(self.read()[1], [("m", b"m"), ("s", b"s"), ("b", b"b"), ("i", b"i")])
-        lines = err.splitlines()
-        self.assertEqual(len(lines), 4)
-        for line, words in zip(lines, [("d: no text", "d@2022-02-02.yang, d@2023-02-02.yang"), ("i: revisions 2020-01-01, 2021-01-01", "i@2021-01-01.yang"),
-                                       ("j: no text in ",), (f"k: no text in {self.dir}; the bundle is without it",)]):
+    def test_what_to_do(self):
+        """Each error of a limit says what can be done."""
+        for write, bad, *words in [
+            (form.write_image, [Set()] * 17, "at most 16", "put several of them together"),
+            (form.write_image, [Set([Module("m", self.many(65))])], "at most 64", "nothing includes"),
+            (form.write_image, [Set([Module("m", [], self.many(65))])], "at most 64", "once more in another set"),
+            (form.write_image, [Set([Module("m", [], [], self.many(65))])], "at most 64", "once more in another set"),
+            (form.write_image, [Set([], [ImportOnly("i", [[]] * 9)])], "at most 8", "one text under a name"),
+            (form.write_image, [Set([Module("n" * 129)])], "1 to 128", "rename it"),
+            (form.write_image, [Set([Module(f"{i:0128}") for i in range(512)])], "65,536", "leave modules out"),
+            (form.write_bundle, [(n, b"") for n in self.many(2_049)], "at most 2,048", "1,024 names"),
+            (form.write_bundle, [("m", bytes(2_097_152))], "2,097,151", "1,048,576", "cut the longest texts"),
+            (form.write_bundle, [(n, bytes(2_097_151)) for n in self.many(9)], "16,777,216", "cut the longest texts"),
+        ]:
+            with self.assertRaises(Refused) as refused:
+                write(bad)
             for word in words:
-                self.assertIn(word, line)
+                self.assertIn(word, str(refused.exception))
 
-    def test_another_revision_is_no_text(self):
-        self.put("m@2023-01-01.yang", "no")
-        self.assertIn("m: no text of revision 2024-01-01", self.library(XML)[2])
-        self.assertEqual(self.read()[1], [])
 
-    def test_two_files_of_one_entry(self):
-        paths = [self.put("m.yang", "1"), self.put("in/m.yang", "2")]
-        self.refused(self.library(XML), *paths)
+class Spread(Case):
+    """A set of more modules than a set takes: the entries come in the same order."""
+
+    def entries(self, sets):
+        return [m for one in sets for m in one.modules], [m for one in sets for m in one.import_only]
+
+    def test_spread(self):
+        for modules, only, due in [(0, 0, 1), (512, 512, 1), (513, 0, 2), (0, 513, 2), (513, 513, 3), (1_024, 1, 2), (1_025, 1_025, 5), (512, 513, 2)]:
+            one = Set([Module(f"m{i}", [f"s{i}"]) for i in range(modules)], [ImportOnly(f"i{i}", [[]]) for i in range(only)])
+            sets, called, notes = form.spread([Set([Module("x")]), one], ["first", "big"])
+            self.assertEqual((len(sets), len(notes), called[:1]), (1 + due, due > 1, ["first"]))
+            self.assertEqual(self.entries(sets[1:]), (one.modules, one.import_only))
+            self.assertEqual(form.read_image(form.write_image(sets, called)), sets)
+            walked = [name for s in sets[1:] for name in [m.name for m in s.modules] + [m.name for m in s.import_only]]
+            self.assertEqual(walked, [m.name for m in one.modules + one.import_only])
+            if due > 1:
+                self.assertEqual(called[-1], f"big, part {due} of {due}")
+                for word in f"big: {modules:,} modules and {only:,} import-only modules", f"over {due} sets", "512", "the graph is the same":
+                    self.assertIn(word, notes[0])
+
+    def test_refused(self):
+        with self.assertRaises(Refused) as refused:
+            form.spread([Set([Module(f"m{i % 600}") for i in range(601)])], ["big"])
+        self.assertIn("big: module m0 stands there twice", str(refused.exception))
+        many = {"module-set": [{"module": [{"name": f"m{i}"} for i in range(512 * 16 + 1)]}]}
+        self.refused(self.library(many), "17 sets", "16", "put several of them together")
+
+
+class Documents(Case):
+    """One library in every form that a router gives it in."""
+
+    def image_of(self, document):
+        data = document if isinstance(document, bytes) else (json.dumps(document) if isinstance(document, dict) else document).encode()
+        return form.write_image([library.to_set(rows) for rows in library.read(data)])
+
+    def same(self, documents):
+        due = form.write_image(LIBRARY)
+        for document in documents:
+            self.assertEqual(self.image_of(document), due, document)
+
+    def chunks(self, text, *lengths):
+        """NETCONF 1.1's framing, in chunks of these lengths and one of the rest."""
+        out, rest = b"", text.encode() if isinstance(text, str) else text
+        for length in lengths + (len(rest),):
+            part, rest = rest[:length], rest[length:]
+            out += b"\n#%d\n" % len(part) + part if part else b""
+        return out + b"\n##\n"
+
+    def envelopes(self, inner):
+        reply = '<rpc-reply xmlns="urn:ietf:params:xml:ns:netconf:base:1.0" message-id="1">'
+        return [inner, f"<data xmlns='urn:x'>{inner}</data>", f"<data>{inner}</data>", f"{reply}<data>{inner}</data></rpc-reply>",
+                f'<?xml version="1.0"?>\n<!-- r1 -->{reply}<data>{inner}</data></rpc-reply>\n<!-- end -->', f"\n  {inner}\n"]
+
+    def framings(self, text):
+        hello = '<hello xmlns="urn:ietf:params:xml:ns:netconf:base:1.0"><capabilities/></hello>'
+        data = text.encode()
+        middle = data.index("é".encode()) + 1  # inside a character
+        return [data, data + b"]]>]]>", data + b"\n]]>]]>\n", f"{hello}]]>]]>\n{text}]]>]]>".encode(), self.chunks(text), self.chunks(text)[1:],
+                self.chunks(text)[:-1],
+                self.chunks(text, 1, middle - 1, 7), self.chunks(text) + b"\n\n", f"{hello}]]>]]>".encode() + self.chunks(text, 100),
+                self.chunks(hello) + self.chunks(text),
+                f"{hello}\n]]>]]>\n\n".encode() + self.chunks(text, 5, 5)]
+
+    def test_xml(self):
+        inner = XML[XML.index("<yang-library"):]
+        for one in inner, STATE, inner + STATE, STATE + "\n<!-- x -->" + inner:
+            self.same(framed for text in self.envelopes(one) for framed in self.framings(text))
+
+    def test_roots(self):
+        inner = XML[XML.index("<yang-library"):]
+        other = STATE.replace("<name>k</name>", "<name>other</name>")
+        declared = '<?xml version="1.0" encoding="UTF-8"?>\n'
+        self.same([inner + "\n" + other, other + inner, declared + inner + declared + other, f"<data>{inner}</data>\n<data>{other}</data>",
+                   inner + "]]>]]>" + other])
+
+    def test_names_of_xml(self):
+        entity = XML.replace("<name>m</name>", "<name>&#109;</name>")
+        prefixes = []
+        for text in XML[XML.index("<yang-library"):], STATE:
+            moved = text.replace(' xmlns="urn:ietf:params:xml:ns:yang:ietf-yang-library"', ' xmlns:l="urn:ietf:params:xml:ns:yang:ietf-yang-library"')
+            prefixes.append(re.sub(r"(</?)(?!augmented-by)([a-z])", r"\1l:\2", moved))
+        self.same([XML, entity, *prefixes, XML.replace("UTF-8", "UTF-16").encode("utf-16"), b"\xef\xbb\xbf" + XML.encode()])
+
+    def test_json(self):
+        for kind, bare in ("yang-library", BARE), ("modules-state", BARE_STATE):
+            for one in bare, prefixed(bare):
+                named = [one] + [{prefix + kind: one} for prefix in ("", "ietf-yang-library:")]
+                for value in named + [{data: inner} for data, inner in itertools.product(("data", "ietf-restconf:data"), named)]:
+                    text = json.dumps(value)
+                    self.same([value, "\n " + text, "\ufeff" + text, text.encode("utf-16")])
+        other = {**BARE_STATE, "module": BARE_STATE["module"][:1]}
+        both = {"ietf-yang-library:modules-state": other, "ietf-yang-library:yang-library": BARE}
+        self.same([both, {"data": both}])
+
+    def test_draft(self):
+        """Drafts of RFC 7895 have a container around the submodules."""
+        boxed = re.sub(r"<submodule>.*?</submodule>", r"<submodules>\g<0></submodules>", STATE)
+        rows = [{**{k: v for k, v in row.items() if k != "submodule"}, "submodules": {"submodule": row.get("submodule", [])}} for row in BARE_STATE["module"]]
+        self.same([boxed, {"modules-state": {"module": rows}}])
+
+    def test_framing_that_is_broken(self):
+        good = self.chunks(STATE, 100, 50)
+        for bad, *words in [
+            (good[:200], "chunk 3", "cut off"), (good[:90], "chunk 1: 100 bytes are told, and 84 are there"), (good[:-4], "chunk 4", "the reply is cut off"),
+            (good.replace(b"#50", b"#49"), "chunk 3: it does not begin with"), (good.replace(b"#50", b"#51"), "chunk 3: it does not begin with"),
+            (good.replace(b"#100", b"#99999"), "chunk 1: 99,999 bytes are told"), (good.replace(b"#100", b"#0"), "chunk 1: it does not begin with"),
+            (good.replace(b"#100", b"#0100"), "chunk 1: it does not begin with"), (good.replace(b"\n", b"\r\n"), "chunk"), (b"\n##\n", "no XML"),
+            (b"#x\n<a/>", "chunk 1"),
+            (good + b"\n#5\nab", "chunk 1: 5 bytes are told, and 2 are there"), (STATE + "]]>]]><more", "no XML"), (STATE + "]]>]]>more", "no XML"),
+        ]:
+            self.refused(self.library(bad), "library: ", *words)
+
+    def test_roots_that_are_no_library(self):
+        reply = "<rpc-reply xmlns='urn:n'><rpc-error><error-message xml:lang='en'> access denied </error-message></rpc-error></rpc-reply>"
+        for bad, *words in [
+            (STATE + "<other/>", "in the root element other"), ("<other/>" + STATE, "in the root element other"),
+            (STATE + "]]>]]><other/>]]>]]>", "root element other"),
+            (STATE + "more", "behind the root element modules-state: no XML"), (STATE + "<!-- more", "behind the root element modules-state: no XML"),
+            (STATE + STATE, "2 modules-state elements"), (f"{XML[XML.index('<yang'):]}{STATE * 2}", "2 modules-state elements"),
+            (f"<data>{XML[XML.index('<yang'):] * 2}</data>", "2 yang-library elements"), ("<hello/>", "a hello alone"),
+            (reply, "it is an error: access denied"),
+            ("<hello/>]]>]]>" + reply, "access denied"), (STATE + "<!DOCTYPE a>", "behind the root element"),
+        ]:
+            self.refused(self.library(bad), "library: ", *words)
+
+    def test_states_that_are_broken(self):
+        def state(**members):
+            return {"modules-state": {"module": [{"name": "mod", "conformance-type": "implement", **members}]}}
+        for bad, *words in [
+            (STATE.replace("<conformance-type> implement </conformance-type>", ""), "modules-state, module b: no conformance-type"),
+            (STATE.replace(" implement ", "import-only"), "module b: its conformance-type is 'import-only'; implement or import is due"),
+            (STATE.replace("<name>b</name>", ""), "modules-state, module without a name"),
+            (STATE.replace("<name>d</name><rev", "<rev"), "module m, a deviation without a name"),
+            (STATE.replace("<name>b</name>", "<name>m</name>"), "module m stands there twice"),
+            (STATE.replace("2021-", "2020-"), "module i: revision 2020-01-01", "twice"),
+            (STATE.replace("<deviation><name>d</name>", "<deviation>d"), "a deviation without a name"),
+            (state(deviation=["d"]), "deviation is not a list of objects"),
+            (state(**{"conformance-type": 1}), "conformance-type is not a string"), (state(submodules=[]), "where an object is due"),
+            ({"modules-state": []}, "where an object"),
+            ({"module": {}}, "module is not a list"), (state(submodule=[{}]), "module mod, a submodule without a name"),
+        ]:
+            self.refused(self.library(bad), *words)
 
     def test_doctype(self):
         at = XML.index("<yang-library")
@@ -412,17 +320,21 @@ class Library(Case):
         def module(**members):
             return {"module-set": [{"name": "first", "module": [{"name": "mod", **members}]}]}
         for document, *words in [
-            ("", "neither XML nor JSON"), ("module m {", "neither"), ("[" * 100_000, "neither"), ("[]", "library: no JSON object"), ('"a"', "no JSON object"), ("<a", "no XML"), ("<a/>", "no yang-library"), ("{", "no JSON"), ("{}", "no ietf-yang-library:yang-library"),
-            ('{"a":' * 100_000, "no JSON"), (XML.replace("ietf-yang-library", "ietf-other"), "no yang-library"),
-            ("<modules-state xmlns='urn:ietf:params:xml:ns:yang:ietf-yang-library'/>", "RFC 7895"), (f"<data>{XML[XML.index('<yang'):] * 2}</data>", "2 yang-library"),
-            (XML.replace("<name>b</name>", ""), "set 1 (first)", "module without a name"), (XML.replace("<name>b</name>", "<name>b</name>" * 2), "name stands there 2 times"),
-            (XML.replace("<name>b</name>", "<name>m</name>"), "set 1 (first)", "module m", "twice"), (XML.replace("2021-", "2020-"), "module i", "2020-01-01", "twice"),
-            (XML.replace("<name>b</name>", "<name>b c</name>"), "set 1 (first)", "'b c'"), ({"yang-library": []}, "where an object"), ({"module-set": {}}, "not a list"),
+            ("", "neither XML nor JSON"), ("module m {", "neither"), ("[" * 100_000, "neither"), ("[]", "library: no JSON object"), ('"a"', "no JSON object"),
+            ("<a", "no XML"), ("<a/>", "no yang-library"), ("{", "no JSON"), ("{}", "no ietf-yang-library:yang-library"),
+            ('{"a":' * 100_000, "no JSON"), (XML.replace("ietf-yang-library", "ietf-other"), "no yang-library"), ("<?xml version='1.0'?>", "no XML"),
+            ("<!-- -->", "no XML"),
+            (XML.replace("<name>b</name>", ""), "set 1 (first)", "module without a name"),
+            (XML.replace("<name>b</name>", "<name>b</name>" * 2), "name stands there 2 times"),
+            (XML.replace("<name>b</name>", "<name>m</name>"), "set 1 (first)", "module m", "twice"),
+            (XML.replace("2021-", "2020-"), "module i", "2020-01-01", "twice"),
+            (XML.replace("<name>b</name>", "<name>b c</name>"), "set 1 (first)", "'b c'"), ({"yang-library": []}, "where an object"),
+            ({"module-set": {}}, "not a list"),
             ({"module-set": [1]}, "not a list of objects"), (module(deviation="d"), "deviation is not a list"), (module(deviation=[1]), "list of strings"),
             (module(revision=2024), "mod", "revision is not a string"), (module(submodule=[{}]), "mod, a submodule without a name"),
             ('{"module-set": [], "module-set": []}', "module-set"), ({"module-set": [], "ietf-yang-library:module-set": []}, "twice"),
             (module(deviation=["d"] * 65), "module mod", "65 deviations", "64"), ({"module-set": [{"name": "x"}] * 17}, "17 sets", "16"),
-            (b"{\xff}", "no JSON"),
+            (b"{\xff}", "no JSON"), (json.dumps(BARE) * 2, "no JSON: Extra data"),
         ]:
             self.refused(self.library(document), *words)
 
@@ -430,21 +342,15 @@ class Library(Case):
         for encoding in "bogus", "utf-7", "utf-32", "hex", "idna", "punycode", "undefined", "x" * 5_000:
             self.refused(self.library(XML.replace("UTF-8", encoding)), "library: no XML", "encoding that is not known")
 
-    def test_no_augmented_by(self):
-        without = re.sub(r"<augmented-by.*</augmented-by>", "", XML)
-        told = "library: no augmented-by in the document: which modules augment which is not known, and such an edge is there only where an import gives it\n"
-        for document, due in (XML, 0), (without, 1), (BARE, 0), ({"module-set": [{"module": [{"name": "m", "augmented-by": []}]}]}, 1):
-            status, _, err = self.library(document)
-            self.assertEqual((status, err.count(told), err.count("augmented-by")), (0, due, due))
-
-
 class Show(Case):
     def test_show(self):
         status, out, err = self.run_pack("show", self.put("image", form.write_image(ALL), self.top))
         self.assertEqual((status, err), (0, ""))
         self.assertEqual(out.splitlines(), [
-            "image of 45 bytes, 2 sets", "set 1: 3 modules, 2 import-only names", "  module m", "    submodules: s t", "    augmented by: a", "    deviations: d d",
-            "  module a", "  module d", "  import-only m: 2 revisions", "    revision 1, submodules: s", "    revision 2, submodules: s u", "  import-only i: 1 revision",
+            "image of 45 bytes, 2 sets", "set 1: 3 modules, 2 import-only names", "  module m", "    submodules: s t", "    augmented by: a",
+            "    deviations: d d",
+            "  module a", "  module d", "  import-only m: 2 revisions", "    revision 1, submodules: s", "    revision 2, submodules: s u",
+            "  import-only i: 1 revision",
             "set 2: 0 modules, 0 import-only names"])
 
     def test_show_bundle(self):
@@ -455,9 +361,6 @@ class Show(Case):
         path = self.put("empty", b"\0", self.top)
         self.assertEqual(self.run_pack("show", path), (0, "image of 1 byte, 0 sets\n", ""))
         self.assertEqual(self.run_pack("show-bundle", path), (0, "bundle of 1 byte, 0 texts\n", ""))
-        library = self.put("library", '{"module-set": []}', self.top)
-        status, out, _ = self.run_pack("library", library, self.dir, self.image, self.bundle)
-        self.assertEqual((status, out), (0, f"{self.image}: 1 byte, 0 sets\n{self.bundle}: 1 byte, 0 texts\n"))
 
     def test_broken(self):
         self.assertEqual(self.run_pack("show", self.put("image", M_S_B[:-1], self.top)), (1, "", "nuvaleta pack: image wrong at 14\n"))
@@ -468,58 +371,104 @@ class Show(Case):
             self.assertEqual(self.run_pack(*words, self.dir), (2, "", f"nuvaleta pack: {self.dir}: Is a directory\n"))
 
     def test_json(self):
-        def said(due, *arguments):
-            status, out, err = self.run_pack(*arguments)
-            self.assertEqual((status, err, out.count("\n")), (due, "", 1))
-            return json.loads(out)
-
         image, bundle = self.put("i", form.write_image(ALL), self.top), self.put("b", form.write_bundle([("m", b"x" * 1_000), ("longer", b"")]), self.top)
         lists = {"submodules": [], "augmenting": [], "deviations": []}
-        self.assertEqual(said(0, "show", "--json", image), {"bytes": 45, "sets": [
-            {"modules": [{"name": "m", "submodules": ["s", "t"], "augmenting": ["a"], "deviations": ["d", "d"]}, {"name": "a", **lists}, {"name": "d", **lists}],
+        self.assertEqual(self.said(0, "show", "--json", image), {"bytes": 45, "sets": [
+            {"modules": [{"name": "m", "submodules": ["s", "t"], "augmenting": ["a"], "deviations": ["d", "d"]}, {"name": "a", **lists},
+                         {"name": "d", **lists}],
              "import_only": [{"name": "m", "revisions": [["s"], ["s", "u"]]}, {"name": "i", "revisions": [[]]}]}, {"modules": [], "import_only": []}]})
-        self.assertEqual(said(0, "show-bundle", bundle, "--json"), {"bytes": 1_013, "texts": [{"name": "m", "bytes": 1_000}, {"name": "longer", "bytes": 0}]})
+        self.assertEqual(self.said(0, "show-bundle", bundle, "--json"),
+                         {"bytes": 1_013, "texts": [{"name": "m", "bytes": 1_000}, {"name": "longer", "bytes": 0}]})
         image, bundle = self.put("i", M_S_B[:-1], self.top), self.put("b", b"\1\1m\5abcd", self.top)
-        self.assertEqual(said(1, "--json", "show", image), {"refused": {"number": 20, "words": "image wrong at 14", "place": 14}})
-        self.assertEqual(said(1, "show-bundle", "--json", bundle), {"refused": {"number": 21, "words": "bundle wrong at 3", "place": 3}})
-        self.put("m.yang", 'module m { contact "\xe9"; }')
-        made = {"image": {"file": self.image, "bytes": 8, "sets": 1}, "bundle": {"file": self.bundle, "bytes": 30, "texts": 1}}
-        told = said(0, "folder", "--json", self.dir, self.image, self.bundle)
-        first, last = told.pop("warnings")
-        self.assertIn("byte 20 is 128 or more", first)
-        self.assertIn("augment or deviate", last)
-        self.assertEqual(told, made)
-        library = self.put("library", json.dumps(BARE), self.top)
-        told = said(0, "library", "--json", library, self.dir, self.image, self.bundle)
-        self.assertEqual((told["image"]["sets"], told["bundle"]["texts"], len(told["warnings"])), (2, 1, 7))
-        self.put("s.yang", "")
-        words = f"{self.dir}/s.yang: not understood; it begins neither as `module NAME {{` nor as `submodule NAME {{` with a `belongs-to`"
-        self.assertEqual(said(1, "folder", "--json", self.dir, self.image, self.bundle), {"refused": {"number": None, "words": words}})
+        self.assertEqual(self.said(1, "--json", "show", image), {"refused": {"number": 20, "words": "image wrong at 14", "place": 14}})
+        self.assertEqual(self.said(1, "show-bundle", "--json", bundle), {"refused": {"number": 21, "words": "bundle wrong at 3", "place": 3}})
+        words = f"{self.put('library', '<a/>', self.top)}: no yang-library and no modules-state of the namespace {library.NAMESPACE} in the root element a"
+        told = self.said(1, "library", "--json", os.path.join(self.top, "library"), self.dir, self.image, self.bundle)
+        self.assertEqual((told["refused"], told["errors"][0]["words"], told["warnings"], told["notes"]), ({"number": None, "words": words}, words, [], []))
 
-    def test_words(self):
-        for arguments, due in [(["--help"], 0), ([], 2), (["pack"], 2), (["folder", "a", "b"], 2), (["show", "--js", "a"], 2)] + [([c, "--help"], 0) for c in pack.COMMANDS]:
-            out, err = io.StringIO(), io.StringIO()
-            with self.assertRaises(SystemExit) as end, contextlib.redirect_stdout(out), contextlib.redirect_stderr(err):
-                pack.main(arguments)
-            self.assertEqual(end.exception.code, due, arguments)
-            said, silent = (out, err) if due == 0 else (err, out)
-            self.assertTrue(said.getvalue().startswith("usage: nuvaleta pack "), arguments)
-            self.assertEqual(silent.getvalue(), "")
+
+class Words(Case):
+    def test_help(self):
+        page = open(os.path.join(HERE, "help.txt"), encoding="ascii").read()
+        self.assertTrue(all(len(line) <= 80 for line in page.splitlines()))
+        for words in ["--help"], ["-h"], ["folder", "--help"], ["show", "x", "-h"], ["--all", "--help"]:
+            self.assertEqual(self.run_pack(*words), (0, page, ""))
+        for command, told in pack.COMMANDS.items():
+            for word in (command, *told.options):
+                self.assertRegex(page, rf"(?m)^  (\S.* )?{word}\b")
+            self.assertTrue(len(f"usage: nuvaleta pack {told.usage}") <= 80)
+
+    def test_not_understood(self):
+        for arguments, *words in [
+            ([], "usage: nuvaleta pack folder"), (["pack"], "pack is no command"), (["folder", "a", "b"], "usage: nuvaleta pack folder"),
+            (["show", "--js", "a"], "show has no --js"),
+            (["folder", "a", "b", "c", "d"], "usage: "), (["library", "a", "b", "c"], "usage: nuvaleta pack library"),
+            (["library", "a", "b", "c", "d", "e"], "usage: "),
+            (["show", "a", "b"], "usage: nuvaleta pack show [--json] IMAGE"), (["show", "--check", "a"], "show has no --check"),
+            (["show-bundle", "--lenient", "a"], "has no --lenient"),
+            (["--all", "a"], "usage: nuvaleta pack --all"), (["--all", "a", "b", "c"], "usage: "), (["--all", "--check"], "usage: "),
+            (["all", "a", "b"], "all is no command"),
+            (["library", "--check", "a"], "usage: "), (["library", "--check", "a", "b", "c"], "usage: "), (["folder", "--check"], "usage: "),
+            (["folder", "--texts"], "needs a folder"),
+            (["library", "a", "b", "--texts"], "--texts needs a folder"), (["folder", "--texts", "a", "b"], "usage: "),
+            (["show", "--texts", "a", "b"], "show has no --texts"),
+            (["folder", "--", "--json"], "usage: "), (["\x1b"], "\\x1b is no command"),
+        ]:
+            self.refused(self.run_pack(*arguments), *words, due=2)
+
+    def test_what_is_not_there(self):
+        """The built command is looked for only where texts are read, and its absence is told."""
+        self.put("m.yang", "module m {}")
+        good = self.put("library", XML, self.top)
+        gone = "no command: not a program that can be run; NUVALETA is to be"
+        for words in ["folder", self.dir, self.image, self.bundle], ["library", good, self.dir, self.image, self.bundle], ["folder", "--check",
+                self.dir], ["--all", self.dir, self.image]:
+            if words[0] == "--all":
+                os.rename(good, os.path.join(self.dir, "r.xml"))
+            self.refused(self.run_pack(*words), gone, due=2)
+        with unittest.mock.patch.dict(os.environ), unittest.mock.patch.object(pack.judge, "PLACES", ("nowhere", "..")):
+            del os.environ["NUVALETA"]
+            self.refused(self.folder(), "the built command, which reads the texts, is not there: `./nuvaleta pack ..` in the clone builds it first", due=2)
+        for stand_in in "exit 3", "echo '{}'", "echo 'x'; exit 1", "echo too old >&2; exit 2", "printf '{\"texts\":[]}'; kill $$":
+            path = os.path.join(self.dir, "stand-in")
+            self.put("stand-in", f"#!/bin/sh\n{stand_in}\n")
+            os.chmod(path, 0o755)
+            with unittest.mock.patch.dict(os.environ, NUVALETA=path):
+                self.refused(self.folder(), "too old" if "old" in stand_in else "build", due=2)
+
+    def test_files_and_folders(self):
+        self.refused(self.run_pack("folder", self.dir + "x", self.image, self.bundle), "no such folder", due=2)
+        self.refused(self.run_pack("folder", self.dir, self.image, self.bundle, "--texts", self.dir + "x"), "no such folder", due=2)
+        self.refused(self.run_pack("folder", self.dir, self.image, self.image), "two files", due=2)
+        self.refused(self.run_pack("library", self.image, self.dir, self.image, self.bundle), f"{self.image}: No such file", due=2)
+        self.refused(self.run_pack("library", self.put("library", XML, self.top), self.dir + "x", self.image, self.bundle), "no such folder", due=2)
+        self.refused(self.run_pack("--all", self.dir + "x", self.image), "No such file", due=2)
+        self.refused(self.run_pack("--all", self.dir, self.image), "no router; one is a file NAME.xml or NAME.json", due=2)
+        self.put("m.yang.txt", "module m {}")
+        self.refused(self.folder(), f"no .yang file under {self.dir}\n")
+        self.put("n" * 129 + ".yang", "module m {}")
+        self.refused(self.folder(), "n" * 129 + ".yang", "128")
+        os.remove(os.path.join(self.dir, "n" * 129 + ".yang"))
+        path = self.put("long.yang", b"module long {" + bytes(2_097_152))
+        self.refused(self.folder(), path, "2,097,151")
+        os.remove(path)
+        for i in range(9):
+            path = self.put(f"n{i}.yang", b"module n%d {" % i + bytes(2_000_000))
+        self.refused(self.folder(), path, "16,777,216")
+        os.symlink("nowhere", os.path.join(self.dir, "x.yang"))
+        self.refused(self.folder(), "x.yang", due=2)
 
 
 class Program(Case):
-    """What standard output and standard error lead to."""
+    """What standard output and standard error lead to; from where it is called."""
 
     def setUp(self):
         super().setUp()
-        self.put("m.yang", "module m {}")
         self.good, self.bad = self.put("good", M_S_B, self.top), self.put("bad", M_S_B[:-1], self.top)
-        self.pack = ["folder", self.dir, self.image, self.bundle]
 
-    def ran(self, streams, *words):
+    def ran(self, streams, *words, program=os.path.join(HERE, "pack")):
         """Exit status, standard output, standard error, where the shell's redirections leave them."""
-        line = f'exec "$@" {streams}'
-        ran = subprocess.run(["sh", "-c", line, "sh", os.path.join(HERE, "pack"), *words], capture_output=True, text=True, check=False)
+        ran = subprocess.run(["sh", "-c", f'exec "$@" {streams}', "sh", program, *words], capture_output=True, text=True, check=False, cwd=self.dir)
         return ran.returncode, ran.stdout, ran.stderr
 
     def broken(self, stream, *words):
@@ -531,34 +480,25 @@ class Program(Case):
         os.close(writer)
         return ran.returncode, ran.stdout, ran.stderr
 
-    def written(self):
-        """Both files are there, and nothing beside them; they are taken away."""
-        self.assertEqual(self.read(), ([Set([Module("m")])], [("m", b"module m {}")]))
-        os.remove(self.image)
-        os.remove(self.bundle)
-        self.assertEqual(sorted(os.listdir(self.top)), ["bad", "good", "texts"])
-
     def test_open(self):
         shown = "image of 15 bytes, 1 set\nset 1: 2 modules, 0 import-only names\n  module m\n    submodules: s\n  module b\n"
-        self.assertEqual(self.ran("", "show", self.good), (0, shown, ""))
+        link = os.path.join(self.top, "link")
+        os.symlink(os.path.join(HERE, "pack"), link)
+        for program in os.path.join(HERE, "pack"), link:
+            self.assertEqual(self.ran("", "show", self.good, program=program), (0, shown, ""))
+            self.assertEqual(self.ran("", "--help", program=program)[::2], (0, ""))
         self.assertEqual(self.ran("", "show", self.bad), (1, "", "nuvaleta pack: image wrong at 14\n"))
         self.assertEqual(self.ran("")[:2], (2, ""))
 
     def test_full_or_closed_output(self):
         for stream, why in (">/dev/full", "No space left on device"), (">&-", "Bad file descriptor"):
             told = f"nuvaleta pack: standard output: {why}\n"
-            for words in ["show", self.good], ["show", "--json", self.bad], ["show-bundle", "--json", self.good], ["--help"], ["show", "--help"]:
+            for words in ["show", self.good], ["show", "--json", self.bad], ["show-bundle", "--json", self.good], ["--help"]:
                 self.assertEqual(self.ran(stream, *words), (2, "", told), words)
             self.assertEqual(self.ran(stream, "show", self.bad), (1, "", "nuvaleta pack: image wrong at 14\n"))
-            status, _, err = self.ran(stream, *self.pack)
-            self.assertEqual((status, err.splitlines(True)[1:]), (2, [told]))
-            self.written()
 
     def test_full_or_closed_error(self):
         for stream in "2>/dev/full", "2>&-":
-            status, out, err = self.ran(stream, *self.pack)
-            self.assertEqual((status, out, err), (0, f"{self.image}: 8 bytes, 1 set\n{self.bundle}: 15 bytes, 1 text\n", ""))
-            self.written()
             self.assertEqual(self.ran(stream, "show", self.bad), (1, "", ""))
             self.assertEqual(self.ran(stream, "show", self.good + "x"), (2, "", ""))
             self.assertEqual(self.ran(stream, "shew"), (2, "", ""))
@@ -571,22 +511,7 @@ class Program(Case):
         self.assertEqual(self.broken("stdout", "--help"), (0, None, ""))
         self.assertEqual(self.broken("stderr", "show", self.bad), (1, "", None))
         self.assertEqual(self.broken("stderr", "shew"), (2, "", None))
-        for stream in "stdout", "stderr":
-            self.assertEqual(self.broken(stream, *self.pack)[0], 0)
-            self.written()
-
-
-def main():
-    said = io.StringIO()
-    result = unittest.TextTestRunner(stream=said).run(unittest.defaultTestLoader.loadTestsFromModule(sys.modules[__name__]))
-    failed = len(result.failures) + len(result.errors)
-    if failed:
-        print(said.getvalue())
-    for _, reason in result.skipped:
-        print(f"pack: SKIPPED, {reason}")
-    print(f"pack: {result.testsRun} tests, {failed} failed")
-    return failed != 0
 
 
 if __name__ == "__main__":
-    sys.exit(main())
+    sys.exit(main(__name__))

@@ -10,4 +10,4 @@ for file in $files; do
     name=${name%.yang}
     ln -sf "$file" "$work/${name%%@*}.yang"
 done
-"$here/../pack/pack" folder "$work" "$1" "$2"
+"$here/../../nuvaleta" pack folder "$work" "$1" "$2"

@@ -1,0 +1,313 @@
+"""A router's library as it hands it out: yang-library of RFC 8525 or modules-state of RFC 7895, in XML or JSON, bare, in its envelope or in NETCONF's framing.
+
+Whatever it was written in, it becomes a list of Rows, one for each module set, and then the sets of an image.
+"""
+import json
+import re
+import xml.etree.ElementTree as ET
+from typing import NamedTuple
+from xml.parsers import expat
+
+import form
+from form import ImportOnly, Module, Refused, Set
+
+MODULE = "ietf-yang-library"
+NAMESPACE = "urn:ietf:params:xml:ns:yang:" + MODULE
+XMLNS = "{" + NAMESPACE + "}"
+KINDS = "yang-library", "modules-state"  # where a document has both, the first one is taken: servers of RFC 8525 give the same library in both forms
+WHITE = b" \t\r\n"
+
+
+class Entry(NamedTuple):
+    name: str
+    revision: str
+    submodules: list = []  # of entries
+    augmenting: list = []
+    deviations: list = []
+
+
+class Rows(NamedTuple):
+    name: str
+    modules: list
+    import_only: list
+
+
+# ---- NETCONF's framing (RFC 6242)
+
+END = b"]]>]]>"
+CHUNK = re.compile(rb"\n#([1-9][0-9]{0,9})\n")
+GAP = re.compile(rb"[ \t\r\n]*?(?=\n#|[^ \t\r\n]|\Z)")
+
+
+def messages(data):
+    """The messages of a session without their framing: behind each its end marker, or all in chunks. A document without framing is one message."""
+    if data.startswith(b"#"):
+        data = b"\n" + data  # the line break before the first chunk is easily lost when a reply is saved
+    found, at = [], GAP.match(data).end()
+    while at < len(data):
+        if data.startswith(b"\n#", at):
+            message, at = unchunked(data, at)
+        else:
+            end = data.find(END, at)
+            message, at = (data[at:], len(data)) if end < 0 else (data[at:end], end + len(END))
+        found.append(message)
+        at = GAP.match(data, at).end()
+    return found
+
+
+def unchunked(data, at):
+    """The message in the chunks from here on, and the place behind it."""
+    parts = []
+    while not re.compile(rb"\n##(\n|\Z)").match(data, at):
+        what = f"chunked framing, chunk {len(parts) + 1}"
+        if at >= len(data):
+            raise Refused(f"{what}: neither this chunk nor the end of all, `##`, is there: the reply is cut off")
+        head = CHUNK.match(data, at)
+        if head is None:
+            raise Refused(f"{what}: it does not begin with `#`, its length and a line break: the length before it is wrong, or lines were changed")
+        size = int(head[1])
+        part = data[head.end():head.end() + size]
+        if len(part) < size:
+            raise Refused(f"{what}: {size:,} bytes are told, and {len(part):,} are there: the reply is cut off, or the length is wrong")
+        parts.append(part)
+        at = head.end() + size
+    return b"".join(parts), at + 4
+
+
+# ---- XML
+
+
+class Root:
+    """Reads one root element; what stands behind it is left over."""
+
+    def __init__(self, data):
+        self.builder, self.depth, self.element, self.rest = ET.TreeBuilder(), 0, None, b""
+        parser = expat.ParserCreate(None, "}")
+        parser.buffer_text = True
+        parser.StartElementHandler, parser.EndElementHandler = self.start, self.end
+        parser.CharacterDataHandler, parser.StartDoctypeDeclHandler = self.builder.data, self.doctype
+        try:
+            parser.Parse(data, True)
+        except expat.ExpatError as error:
+            if self.element is None:
+                raise Refused(f"no XML: {error}") from None
+            self.rest = data[parser.ErrorByteIndex:]
+        except (LookupError, ValueError):
+            raise Refused("no XML that can be read: its declaration has an encoding that is not known here") from None
+
+    def start(self, word, _):
+        self.depth += 1
+        self.builder.start("{" + word if "}" in word else word, {})
+
+    def end(self, word):
+        self.depth -= 1
+        closed = self.builder.end("{" + word if "}" in word else word)
+        if self.depth == 0:
+            self.element = closed
+
+    def doctype(self, *_):
+        raise Refused("a DOCTYPE; a library document has none, and one that does is not read")
+
+
+def roots(message):
+    """The root elements of a message: one, or several one behind the other, as yanglint prints them."""
+    found, rest = [], message.lstrip(WHITE)
+    while rest or not found:
+        try:
+            root = Root(rest)
+        except Refused as why:
+            raise Refused(f"behind the root element {local(found[-1])}: {why}" if found else str(why)) from None
+        found.append(root.element)
+        rest = root.rest
+    return found
+
+
+def local(element):
+    return element.tag.rpartition("}")[2]
+
+
+class Xml:
+    """An element of the document: its children by name, in the namespace of the library."""
+
+    def __init__(self, element):
+        self.element = element
+
+    def rows(self, word):
+        return [Xml(child) for child in self.element.findall(XMLNS + word)]
+
+    inner = rows
+
+    def leaves(self, word, anywhere=False):
+        found = self.element.findall(("{*}" if anywhere else XMLNS) + word)
+        return [(child.text or "").strip() for child in found]
+
+    def leaf(self, word, what):
+        found = self.leaves(word)
+        if len(found) > 1:
+            raise Refused(f"{what}: {word} stands there {len(found)} times")
+        return found[0] if found else ""
+
+
+def not_a_library(root):
+    """What is said of a root element without a library in it."""
+    errors = [(element.text or "").strip() for element in root.iterfind(".//{*}error-message")]
+    said = f"; it is an error: {errors[0]}" if errors else ""
+    return Refused(f"no yang-library and no modules-state of the namespace {NAMESPACE} in the root element {local(root)}{said}")
+
+
+def xml_library(data):
+    """The kind of the library, and its element."""
+    found = {kind: [] for kind in KINDS}
+    for root in (root for message in messages(data) for root in roots(message)):
+        inside = {kind: list(root.iter(XMLNS + kind)) for kind in KINDS}
+        if not any(inside.values()) and local(root) != "hello":
+            raise not_a_library(root)
+        for kind in KINDS:
+            found[kind] += inside[kind]
+    for kind in KINDS:
+        if len(found[kind]) > 1:
+            raise Refused(f"{len(found[kind])} {kind} elements; one is due")
+    for kind in KINDS:
+        if found[kind]:
+            return kind, Xml(found[kind][0])
+    raise Refused("a hello alone; the reply with the library is not there")
+
+
+# ---- JSON
+
+
+class Json:
+    """An object of the document: its members by name, with or without the prefix of the library's module."""
+
+    def __init__(self, members):
+        if not isinstance(members, dict):
+            raise Refused(f"{json.dumps(members)[:40]} stands where an object is due")
+        self.members = members
+
+    def member(self, word, anywhere=False):
+        found = [v for k, v in self.members.items() if k in (word, f"{MODULE}:{word}") or anywhere and k.endswith(":" + word)]
+        if len(found) > 1:
+            raise Refused(f"{word} stands twice in one object")
+        return found[0] if found else None
+
+    def items(self, word, kind, anywhere=False):
+        found = self.member(word, anywhere)
+        if found is None:
+            return []
+        if not isinstance(found, list) or not all(isinstance(item, kind) for item in found):
+            raise Refused(f"{word} is not a list of {'objects' if kind is dict else 'strings'}")
+        return found
+
+    def rows(self, word):
+        return [Json(item) for item in self.items(word, dict)]
+
+    def inner(self, word):
+        found = self.member(word)
+        return [] if found is None else [Json(found)]
+
+    def leaves(self, word, anywhere=False):
+        return [item.strip() for item in self.items(word, str, anywhere)]
+
+    def leaf(self, word, what):
+        found = self.member(word)
+        if found is None:
+            return ""
+        if not isinstance(found, str):
+            raise Refused(f"{what}: {word} is not a string")
+        return found.strip()
+
+
+def once(pairs):
+    members = dict(pairs)
+    if len(members) != len(pairs):
+        raise Refused("a member stands twice in one object: " + next(k for i, (k, _) in enumerate(pairs) if k in dict(pairs[:i])))
+    return members
+
+
+def json_library(data):
+    """The kind of the library, and its object: named, or known by the list that it has."""
+    try:
+        top = Json(json.loads(data, object_pairs_hook=once))
+    except (ValueError, RecursionError) as error:
+        raise Refused(f"no JSON: {error}") from None
+    for _ in range(2):
+        for kind, rows in zip(KINDS, ("module-set", "module")):
+            if top.member(kind) is not None:
+                return kind, Json(top.member(kind))
+            if top.member(rows) is not None:
+                return kind, top
+        if top.member("data", anywhere=True) is not None:
+            top = Json(top.member("data", anywhere=True))
+    raise Refused(f"no {MODULE}:yang-library or {MODULE}:modules-state, and no module-set or module")
+
+
+# ---- what both say
+
+
+def named(row, what):
+    """Name and revision of an entry."""
+    word = row.leaf("name", what)
+    if not word:
+        raise Refused(f"{what} without a name")
+    return Entry(word, row.leaf("revision", f"{what} {word}"))
+
+
+def entry(row, what, state=False):
+    """A module's entry. In a modules-state a deviation is an entry too, and drafts of RFC 7895 have a container around the submodules."""
+    own = named(row, what)
+    what = f"{what} {own.name}"
+    submodules = row.rows("submodule") + [inner for box in row.inner("submodules") for inner in box.rows("submodule")]
+    deviations = [named(r, f"{what}, a deviation").name for r in row.rows("deviation")] if state else row.leaves("deviation")
+    return own._replace(submodules=[named(r, f"{what}, a submodule") for r in submodules],
+                        augmenting=row.leaves("augmented-by", anywhere=True), deviations=deviations)
+
+
+def yang_library(library):
+    sets = []
+    for at, row in enumerate(library.rows("module-set"), 1):
+        word = row.leaf("name", f"set {at}")
+        what = f"set {at} ({word})" if word else f"set {at}"
+        sets.append(Rows(what, [entry(r, f"{what}, module") for r in row.rows("module")],
+                         [entry(r, f"{what}, import-only module") for r in row.rows("import-only-module")]))
+    return sets
+
+
+def modules_state(state):
+    rows = Rows("modules-state", [], [])
+    for row in state.rows("module"):
+        one = entry(row, "modules-state, module", state=True)
+        what = f"modules-state, module {one.name}"
+        kind = row.leaf("conformance-type", what)
+        if kind not in ("implement", "import"):
+            raise Refused(f"{what}: its conformance-type is {kind!r}; implement or import is due" if kind else f"{what}: no conformance-type")
+        (rows.modules if kind == "implement" else rows.import_only).append(one)
+    return [rows]
+
+
+def neither(data):
+    """What is said of a document that begins neither as XML nor as an object."""
+    try:
+        json.loads(data)
+    except (ValueError, RecursionError):
+        return Refused("neither XML nor JSON")
+    return Refused("no JSON object")
+
+
+def read(data):
+    """The rows of a library document."""
+    first = data.lstrip(b"\xef\xbb\xbf\xfe\xff\0" + WHITE)[:1]
+    if first not in (b"<", b"{", b"#"):
+        raise neither(data)
+    kind, library = json_library(data) if first == b"{" else xml_library(data)
+    return yang_library(library) if kind == "yang-library" else modules_state(library)
+
+
+def to_set(rows):
+    only = {}
+    for one in rows.import_only:
+        revisions = only.setdefault(one.name, {})
+        if one.revision in revisions:
+            raise Refused(f"{rows.name}, import-only module {one.name}: revision {one.revision or '(none)'} stands there twice")
+        revisions[one.revision] = [s.name for s in one.submodules]
+    return Set([Module(m.name, [s.name for s in m.submodules], m.augmenting, m.deviations) for m in rows.modules],
+               [ImportOnly(word, list(revisions.values())) for word, revisions in only.items()])
