@@ -251,7 +251,7 @@ COPIED = ["nuvaleta", *(f"host/archive/{name}" for name in ("archive.sh", "prove
 
 class Command(Repository):
     FILES = {"crates.txt": "nuvaleta:\n", "crates/nuvaleta/src/lib.rt": "nuvaleta", "host/pack/pack": PACK, "host/rust/src/main.rs": "main",
-             "host/rust/src/help/nuvaleta.txt": "all\n", "host/rust/src/help/pack.txt": "no\n", "host/rust/src/help/novel.txt": "usage: nuvaleta novel\n"}
+             "host/rust/src/help/nuvaleta.txt": "all\n", "host/rust/src/help/pack.txt": "usage: nuvaleta pack\n", "host/rust/src/help/novel.txt": "usage: nuvaleta novel\n"}
 
     def setUp(self):
         super().setUp()
@@ -292,16 +292,17 @@ class Command(Repository):
         for words in (("help", "novel"), ("novel", "--help"), ("novel", "-h")):
             self.expect(0, "usage: nuvaleta novel\n", *words)
         self.expect(0, "all\n", "help")
-        self.expect(0, "none: --help\n", "help", "pack")
+        for words in (("help", "pack"), ("pack", "--help"), ("pack", "-h")):
+            self.expect(0, "usage: nuvaleta pack\n", *words)
         self.assertEqual(self.calls(), [])
         for words in (("help", "nuvaleta"), ("help", "../help/novel"), ("help", "none"), ("none", "--help"), ("help",  "novel", "novel")):
             self.expect(0, f"1: {' '.join(words)}\n", *words)  # which it is for the command to refuse
 
     def test_packing_has_the_command(self):
-        for words in ("", "show x", "show-bundle x --json", "folder --help", "--help", "library -h", "nonsense"):
+        for words in ("", "show x", "show-bundle x --json", "folder --help", "--json --help", "library -h", "nonsense"):
             self.expect(0, f"none: {words}\n", "pack", *words.split())
         self.assertEqual(self.calls(), [])
-        for words in ("folder a b c", "library a b c d", "--all a b", "all a b", "--json folder a"):
+        for words in ("folder a b c", "library a b c d", "--all a b", "--json folder a"):
             self.expect(0, f"{self.command}: {words}\n", "pack", *words.split())
         self.expect(0, f"{self.command}: folder a --json\n", "--json", "pack", "folder", "a")
 

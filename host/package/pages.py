@@ -1,9 +1,8 @@
 #!/usr/bin/env python3
-"""pages.py FOLDER: writes below FOLDER/share the man page of the command and its completions for bash and zsh, all made of the help pages: those of
-host/rust/src/help, and what `pack --help` prints. A page begins with its usage, up to the first empty line; there, and at the start of an indented line,
-options are told, each with the word for its value."""
+"""pages.py FOLDER: writes below FOLDER/share the man page of the command and its completions for bash and zsh, all made of the help pages,
+host/rust/src/help. A page begins with its usage, up to the first empty line; there, and at the start of an indented line, options are told, each with the
+word for its value."""
 import re
-import subprocess
 import sys
 from collections import namedtuple
 from pathlib import Path
@@ -33,7 +32,6 @@ def read_page(name, text):
 def read_pages():
     """The page of the command as a whole, and those of its commands, in the order in which that one has them."""
     texts = {file.stem: file.read_text() for file in (HOST / "rust/src/help").glob("*.txt")}
-    texts["pack"] = subprocess.run([str(HOST / "pack/pack"), "--help"], capture_output=True, text=True, check=True).stdout
     main = read_page("", texts.pop("nuvaleta"))
     listed = re.findall(r"^  ([a-z]+)\b", main.body, re.M)
     return main, [read_page(name, texts[name]) for name in sorted(texts, key=lambda name: (listed.index(name) if name in listed else len(listed), name))]

@@ -14,8 +14,6 @@ fn words(mut given: Vec<OsString>) -> Option<Vec<OsString>> {
     } else if at(0, "--json") && at(1, "pack") {
         given.drain(..2);
         given.push("--json".into());
-    } else if at(0, "help") && at(1, "pack") && given.len() == 2 {
-        given = vec!["--help".into()];
     } else {
         return None;
     }
