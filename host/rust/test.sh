@@ -15,22 +15,22 @@ wrong() {
     fails=$((fails + 1))
     echo "rust: nuvaleta $1; on standard output:" && cat out && echo "on standard error:" && cat err
 }
-# STATUS, then the words; standard input is the file `in`. The file `due` is to be printed on standard output at status 0 and for a refusal as JSON, else
-# on standard error, and nothing on the other.
+# STATUS, then the words; standard input is the file `in`. The file `due` is to be printed on standard output at status 0, for a refusal as JSON and by
+# check, else on standard error, and nothing on the other.
 expect() {
     wanted=$1
     shift
     status=0
     "$nuvaleta" "$@" <in >out 2>err || status=$?
     said=err silent=out
-    case "$wanted $*" in 0* | 1*--json*) said=out silent=err ;; esac
+    case "$wanted $*" in 0* | 1*--json* | '1 check '*) said=out silent=err ;; esac
     [ "$status" = "$wanted" ] && cmp -s "$said" due && [ ! -s "$silent" ] || wrong "$*: status $status, expected $wanted"
 }
 due() {
     # shellcheck disable=SC2059
     printf "$@" >due
 }
-usage() { sed -n 1p "$here/src/help/$1.txt"; }
+usage() { sed '/^$/,$d' "$here/src/help/$1.txt"; }
 : >in
 
 # The first graph of document 01, then with s closed too early.
@@ -49,21 +49,71 @@ cat >due <<'X1'
 refused 25: module m (set 1, entry 1): the text of s, line 2, column 11: an import is closed without prefix (scan refusal 7, byte 11)
     import b{}
               ^
+expected prefix NAME; before the end of the block, found }
+To do: write `prefix NAME;` inside the braces of the import
 X1
 expect 1 graph image closed
 expect 1 order image closed
 words='module m (set 1, entry 1): the text of s, line 2, column 11: an import is closed without prefix (scan refusal 7, byte 11)'
 entry='"entry":1,"set":1,"import_only":false,"name":"m"'
-echo "{\"refused\":{\"number\":25,\"words\":\"$words\",$entry,\"scan\":7,\"keyword\":\"import\",\"position\":11,\"line\":2,\"column\":11,\"text\":\"s\"}}" >due
+clash='"expected":"prefix NAME; before the end of the block","found":"}","advice":"write `prefix NAME;` inside the braces of the import"'
+scan='"scan":7,"keyword":"import","position":11,"line":2,"column":11,"text":"s"'
+echo "{\"refused\":{\"number\":25,\"words\":\"$words\",$entry,$scan,$clash}}" >due
 expect 1 order image --json closed
 printf '\003\001m\012include z;\001s\000\001b\000' >unknown
 words='module m (set 1, entry 1): the text of m includes \"z\", which is no submodule of a module'
-echo "{\"refused\":{\"number\":27,\"words\":\"$words\",$entry,\"by\":\"include\",\"listed\":\"z\",\"text\":\"m\"}}" >due
+advice='"advice":"list the submodule under its module in the library, or correct the name. Submodules of import-only modules do not count"'
+echo "{\"refused\":{\"number\":27,\"words\":\"$words\",$entry,\"by\":\"include\",\"listed\":\"z\",\"text\":\"m\",$advice}}" >due
 expect 1 graph image unknown --json
-echo 'refused 21: the bundle breaks its form at byte 0' >due
+due 'refused 21: the bundle breaks its form at byte 0\nexpected a bundle, found nothing\nTo do: this is empty: make it anew by `nuvaleta pack`\n'
 expect 1 graph image /dev/null
-echo '{"refused":{"number":21,"words":"the bundle breaks its form at byte 0","place":0}}' >due
+clash='"expected":"a bundle","found":"nothing","advice":"this is empty: make it anew by `nuvaleta pack`"'
+echo "{\"refused\":{\"number\":21,\"words\":\"the bundle breaks its form at byte 0\",\"place\":0,$clash}}" >due
 expect 1 order image /dev/null --json
+
+# One of the two from standard input.
+cp bundle in
+due 'b\ns\nm\n'
+expect 0 order image -
+due '0 faults, 0 warnings\n'
+expect 0 check image -
+cp image in
+expect 0 check - bundle
+due '{"nodes":["m","s","b"],"edges":[[2,0],[1,0],[2,1]]}\n'
+expect 0 graph --json - bundle
+for command in graph order check; do
+    due "nuvaleta: one of the two alone can be standard input\n$(usage $command)\n"
+    expect 2 "$command" - -
+done
+
+# What is given for an image or a bundle and is none.
+echo '<yang-library xmlns="urn:ietf:params:xml:ns:yang:ietf-yang-library"/>' >library.xml
+echo '{"ietf-yang-library:yang-library":{}}' >library.json
+printf 'module m {\n}\n' >m.yang
+both='which makes an image and a bundle of'
+looks() { # NUMBER PLACE WHAT EXPECTED FOUND ADVICE
+    printf 'refused %s: the %s breaks its form at byte %s\nexpected %s, found %s\nTo do: %s\n' "$1" "$3" "$2" "$4" "$5" "$6" >due
+}
+looks 20 0 image 'an image' 'an XML document' \
+    "this looks like an XML document: run \`nuvaleta pack library FILE TEXTS IMAGE BUNDLE\`, $both a router's library and a folder of texts"
+expect 1 order library.xml bundle
+expect 1 graph library.xml bundle
+looks 20 0 image 'an image' 'a JSON document' \
+    "this looks like a JSON document: run \`nuvaleta pack library FILE TEXTS IMAGE BUNDLE\`, $both a router's library and a folder of texts"
+expect 1 order library.json bundle
+advice="this looks like a YANG text: run \`nuvaleta pack folder FOLDER IMAGE BUNDLE\`, $both a folder of texts"
+looks 21 1 bundle 'a bundle' 'a YANG text' "$advice"
+expect 1 order image m.yang
+clash="\"expected\":\"a bundle\",\"found\":\"a YANG text\",\"advice\":\"$advice\""
+echo "{\"refused\":{\"number\":21,\"words\":\"the bundle breaks its form at byte 1\",\"place\":1,$clash}}" >due
+expect 1 texts --json m.yang
+looks 20 2 image 'an image' 'a bundle' 'the two are swapped: give the image first, then the bundle'
+expect 1 order bundle image
+echo '1 fault, 0 warnings' >>due
+expect 1 check bundle image
+looks 21 1 bundle 'a bundle' 'an image' 'this looks like an image: give both files that `nuvaleta pack` wrote, the image first'
+expect 1 order image image
+expect 1 texts image
 
 # Two modules that import each other, and one that lists itself as a deviation.
 printf '\001\002\001m\000\000\000\001b\000\000\000\000' >pair
@@ -72,19 +122,70 @@ cat >due <<'X1'
 refused 40: no order of registration: 2 schemas wait for each other in a ring
     m before b
     b before m
-in each line the second imports, includes, augments or deviates from the first: one of these has to go
+To do: in each line the second imports, includes, augments or deviates from the first: one of these has to go
 X1
 expect 1 order pair texts
-due '{"refused":{"number":40,"words":"no order of registration: 2 schemas wait for each other in a ring","ring":["m","b"]}}\n'
+advice='"advice":"in each line the second imports, includes, augments or deviates from the first: one of these has to go"'
+ring="{\"number\":40,\"words\":\"no order of registration: 2 schemas wait for each other in a ring\",\"ring\":[\"m\",\"b\"],$advice}"
+echo "{\"refused\":$ring}" >due
 expect 1 order pair texts --json
+echo "{\"faults\":[$ring],\"warnings\":[]}" >due
+expect 1 check pair texts --json
 printf '\001\001\001m\000\000\001\001m\000' >self
 printf '\001\001m\000' >empty
 cat >due <<'X1'
 refused 40: no order of registration: a schema waits for itself
     m before m
-in each line the second imports, includes, augments or deviates from the first: one of these has to go
+To do: in each line the second imports, includes, augments or deviates from the first: one of these has to go
 X1
 expect 1 order self empty
+
+# All faults at once, and what each text says of itself.
+printf '\003\001m\074import x{prefix x;}contact c;include z;import b\n {prefix b;}\001s\013\nimport b{}\001t\000' >faulty
+cat >due <<'X1'
+refused 26: module m (set 1, entry 1): the text of m imports "x", which is neither a module nor an import-only module
+To do: add the module to the library, as an import-only module if it is not implemented, or correct the name. A submodule can be included only
+refused 23: module b (set 1, entry 2): the bundle has no text under its name
+To do: put its text into the bundle, or take it out of the library
+warning: the text of m, line 1, column 30: include "z" is passed over: the scan ends at the word contact in line 1
+warning: the text of m, line 1, column 40: import "b" is passed over: the scan ends at the word contact in line 1
+2 faults, 2 warnings
+X1
+expect 1 check image faulty
+words='module b (set 1, entry 2): the bundle has no text under its name'
+advice='put its text into the bundle, or take it out of the library'
+missing="{\"number\":23,\"words\":\"$words\",\"entry\":2,\"set\":1,\"import_only\":false,\"name\":\"b\",\"advice\":\"$advice\"}"
+printf '\002\001m\026contact c;include\n"z";\001s\000' >missing
+warning='"kind":"passed_over","line":1,"column":11,"words":"include \"z\" is passed over: the scan ends at the word contact in line 1"'
+echo "{\"faults\":[$missing],\"warnings\":[{\"text\":\"m\",$warning}]}" >due
+expect 1 check --json image missing
+printf '\002\001m\054module m{contact c;augment /x:y{}include s;}\001s\012import b{}' >said
+cat >due <<'X1'
+m, 44 bytes
+    name: m
+    Imports (0):
+    Includes (0):
+    warning: line 1, column 20: it augments "/x:y", and no import that was read has the prefix "x"
+    warning: line 1, column 34: include "s" is passed over: the scan ends at the word contact in line 1
+s, 10 bytes
+    refused 9: line 1, column 11: no module or submodule with a name
+    refused 7: line 1, column 11: an import is closed without prefix
+X1
+expect 0 texts said
+cp said in
+expect 0 texts -
+"$nuvaleta" texts --json said >out 2>err || wrong "texts --json said"
+python3 - out <<'X1' || wrong "texts --json said"
+import json, sys
+m, s = json.load(open(sys.argv[1]))["texts"]
+assert (m["name"], m["bytes"], m["metadata"]["name"], m["dependencies"]) == ("m", 44, "m", {"imports": [], "includes": []}), m
+augments, passed = m["warnings"]
+assert (augments["kind"], augments["line"], augments["column"]) == ("augments", 1, 20), m
+assert (passed["kind"], passed["line"], passed["column"], sorted(passed)) == ("passed_over", 1, 34, ["column", "kind", "line", "words"]), m
+assert (s["metadata"]["refused"]["number"], s["dependencies"]["refused"]["number"], s["warnings"]) == (9, 7, []), s
+refused = s["dependencies"]["refused"]
+assert (refused["keyword"], refused["position"], refused["line"], refused["column"], refused["found"]) == ("import", 10, 1, 11, "}"), s
+X1
 
 # One text, from a file with a blank in its path, another folder and standard input: as the proved programs print it.
 mkdir 'a b'
@@ -105,17 +206,32 @@ expect 0 --json deps -
 printf 'include "\\"\\\\\\n\\t\001/\177";' >in
 due '{"imports":[],"includes":[{"name":"\\"\\\\\\n\\t\\u0001/\\u007f","revision":null}]}\n'
 expect 0 deps --json -
-due 'refused 9: standard input, line 1, column 23: no module or submodule with a name\n    include "\\"\\\\\\n\\t?/?";\n%26s^\n' ''
+{
+    printf 'refused 9: standard input, line 1, column 23: no module or submodule with a name\n    include "\\"\\\\\\n\\t?/?";\n%26s^\n' ''
+    echo 'expected module NAME { or submodule NAME {, found the end of the text'
+    nouns='container, list, leaf, grouping, typedef, identity, augment, rpc or notification'
+    echo "To do: write \`module NAME {\` or \`submodule NAME {\` before the first $nouns"
+} >due
 expect 1 meta -
 printf 'module m {\n\timport b{}\n}\n' >early.yang
-due 'refused 7: early.yang, line 2, column 12: an import is closed without prefix\n     import b{}\n               ^\n'
+cat >due <<'X1'
+refused 7: early.yang, line 2, column 12: an import is closed without prefix
+     import b{}
+               ^
+expected prefix NAME; before the end of the block, found }
+To do: write `prefix NAME;` inside the braces of the import
+X1
 expect 1 deps early.yang
-due '{"refused":{"number":7,"words":"an import is closed without prefix","keyword":"import","position":22,"line":2,"column":12}}\n'
+clash='"expected":"prefix NAME; before the end of the block","found":"}","advice":"write `prefix NAME;` inside the braces of the import"'
+echo "{\"refused\":{\"number\":7,\"words\":\"an import is closed without prefix\",\"keyword\":\"import\",\"position\":22,\"line\":2,\"column\":12,$clash}}" >due
 expect 1 deps early.yang --json
+printf 'module m { import a; }' >semicolon.yang
+"$nuvaleta" deps semicolon.yang >out 2>err && wrong "deps semicolon.yang" || :
+sed -n 4p err | grep -qx 'expected { after import a, found ;' || wrong "deps semicolon.yang"
 head -c 1048577 /dev/zero >long.yang
-due 'refused 1: long.yang: more than 1,048,576 bytes\n'
+due 'refused 1: long.yang: more than 1,048,576 bytes\nTo do: split the text: this is the most that is scanned\n'
 expect 1 deps long.yang
-due '{"refused":{"number":1,"words":"more than 1,048,576 bytes"}}\n'
+due '{"refused":{"number":1,"words":"more than 1,048,576 bytes","advice":"split the text: this is the most that is scanned"}}\n'
 expect 1 --json meta long.yang
 
 # Numbers explained. From here on mostly by the binary itself, as the script calls it.
@@ -154,6 +270,14 @@ done
 for number in 11 19 32 39 44 4294967303 99999999999999999999; do
     due "nuvaleta: no call answers $number: the numbers are 0 to 10, 20 to 31 and 40 to 43\n$(usage explain)\n"
     expect 2 explain $number
+done
+
+# Every help page fits a terminal of 80 columns.
+awk 'length > 80 { print FILENAME ", line " FNR ": " length " columns"; wide = 1 } END { exit wide }' "$here"/src/help/*.txt >out || wrong "help"
+[ -s "$here/src/help/texts.txt" ] || wrong "help texts"
+for page in "$here"/src/help/*.txt; do
+    name=$(basename "$page" .txt)
+    [ "$name" = nuvaleta ] || "$nuvaleta" "$name" --help | cmp -s - "$page" || wrong "$name --help"
 done
 
 # Help, from the command and, in a clone where nothing is built, from the script alone.
@@ -229,7 +353,7 @@ for pair in '8 module' '10 revision' '23 import' '9 module' '4 yang-version' '5 
 done
 due 'nuvaleta: early.yang: there is no byte 26, it has 25\n'
 expect 2 explain 7 --at 26 early.yang
-for command in deps meta graph order explain; do
+for command in deps meta texts graph order check explain; do
     due "$(usage $command)\n"
     expect 2 "$command"
     expect 2 "$command" image bundle texts
@@ -237,9 +361,16 @@ done
 due "$(usage order)\n"
 expect 2 order --into x image bundle
 expect 2 order --all image bundle
+expect 2 order --seconds 1 image bundle
+for seconds in 0 x -1 86401 1.5 ''; do
+    due "nuvaleta: --seconds takes a number from 1 to 86400, not $seconds\n$(usage order)\n"
+    expect 2 order --all . --seconds "$seconds"
+done
 due 'nuvaleta: none: No such file or directory (os error 2)\n'
 expect 2 graph image none
 expect 2 --json order none bundle
+expect 2 check image none
+expect 2 texts none
 due 'nuvaleta: standard output: No space left on device (os error 28)\n'
 status=0
 "$nuvaleta" order image bundle >/dev/full 2>err || status=$?

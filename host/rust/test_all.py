@@ -18,7 +18,8 @@ sys.path.insert(0, os.path.join(HERE, "..", "pack"))
 import form  # noqa: E402
 from form import Module, Set  # noqa: E402
 
-SUMMARY = r"([\d,]+) routers?: (\d+) in order, (\d+) refused, (\d+) not readable(?:, (\d+) not written)?; ([\d,]+) schemas?, ([\d,]+) edges?; \d+\.\d\d s on (\d+) processors?\n"
+SUMMARY = (r"([\d,]+) routers?: (\d+) in order, (\d+) refused, (\d+) not readable(?:, (\d+) not written)?(?:, (\d+) given up)?; ([\d,]+) schemas?, "
+           r"([\d,]+) edges?; \d+\.\d\d s on (\d+) processors?\n")
 
 
 def line(count):
@@ -33,17 +34,27 @@ def pair(m, b):
     return form.write_image([Set([Module("m"), Module("b")])]), form.write_bundle([("m", m), ("b", b)])
 
 
+def endless():
+    """Nine small texts that include the next one 256 times: nobody sees the end of their walk."""
+    names = [f"s{i}" for i in range(1, 9)]
+    texts = [(own, b"include %s;" % after.encode() * 256) for own, after in zip(["m", *names], names)] + [(names[-1], b"")]
+    return form.write_image([Set([Module("m", names)])]), form.write_bundle(texts)
+
+
 RING = pair(b"import b{prefix b;}", b"import m{prefix m;}")
 CLOSED = pair(b"import b{}", b"")
 RING_SAID = """refused 40: no order of registration: 2 schemas wait for each other in a ring
     m before b
     b before m
-in each line the second imports, includes, augments or deviates from the first: one of these has to go
+To do: in each line the second imports, includes, augments or deviates from the first: one of these has to go
 """
 CLOSED_SAID = """refused 25: module m (set 1, entry 1): the text of m, line 1, column 11: an import is closed without prefix (scan refusal 7, byte 10)
     import b{}
               ^
+expected prefix NAME; before the end of the block, found }
+To do: write `prefix NAME;` inside the braces of the import
 """
+ANEW = "To do: make it anew by `nuvaleta pack`. The place is the start of the first wrong number or name, or the first byte too many"
 # Names that would break a line, or look like another one; in the order of their bytes.
 ODD = {b"l\nm\t": r"l\nm\t", rb"l\nm\t": r"l\\nm\\t", b"n\xc3\xa9\xfe\xc3": r"né\xfe\xc3", b"n\xc3\xa9\xff": r"né\xff"}
 
@@ -87,7 +98,7 @@ class Case(unittest.TestCase):
         hit = re.search(r"(?:^|\n)" + SUMMARY + r"\Z", err)
         self.assertTrue(hit, err)
         rest = err[:hit.start() + 1] if hit.start() or err.startswith("\n") else ""
-        return [int((n or "0").replace(",", "")) for n in hit.groups()[:7]], rest
+        return [int((n or "0").replace(",", "")) for n in hit.groups()[:8]], rest
 
 
 class Routers(Case):
@@ -116,11 +127,13 @@ class Routers(Case):
         self.assertEqual(status, 2)
         self.assertEqual(out, "a\tm002\na\tm001\na\tm000\nj k\tm001\nj k\tm000\n" + "".join(f"{name}\tm000\n" for name in ODD.values()))
         counts, rest = self.summary(err)
-        self.assertEqual(counts, [14, 6, 4, 4, 0, 9, 3])
+        self.assertEqual(counts, [14, 6, 4, 4, 0, 0, 9, 3])
         self.assertEqual(rest, f"""b: {RING_SAID}c: {CLOSED_SAID}d: not readable: d.bundle: no such file beside the other half
 e: not readable: e.image: no such file beside the other half
 f: refused 20: the image breaks its form at byte 1
+{ANEW}
 g: refused 20: the image has more than 65,536 bytes
+{ANEW}
 h: not readable: h.image: no plain file
 i: not readable: i.bundle: no plain file
 """)
@@ -138,12 +151,12 @@ i: not readable: i.bundle: no plain file
         summary = said[-1]["summary"]
         self.assertGreaterEqual(summary.pop("seconds"), 0)
         self.assertIn(summary.pop("processors"), range(1, 1_025))
-        self.assertEqual(summary, {"routers": 14, "in_order": 6, "refused": 4, "not_readable": 4, "not_written": 0, "schemas": 9, "edges": 3})
+        self.assertEqual(summary, {"routers": 14, "in_order": 6, "refused": 4, "not_readable": 4, "not_written": 0, "given_up": 0, "schemas": 9, "edges": 3})
 
     def test_status(self):
         self.router("a", *line(1)[:2])
         status, out, err = self.run_it()
-        self.assertEqual((status, out, self.summary(err)), (0, "a\tm000\n", ([1, 1, 0, 0, 0, 1, 0], "")))
+        self.assertEqual((status, out, self.summary(err)), (0, "a\tm000\n", ([1, 1, 0, 0, 0, 0, 1, 0], "")))
         self.router("b", *RING)
         self.assertEqual(self.run_it()[0], 1)
         self.put("c.image", b"")
@@ -154,7 +167,7 @@ i: not readable: i.bundle: no plain file
         due = self.lines([500 - 7 * i for i in range(60)])
         status, out, err = self.run_it()
         self.assertEqual((status, out == due), (0, True))
-        self.assertEqual(self.summary(err), ([60, 60, 0, 0, 0, due.count("\n"), due.count("\n") - 60], ""))
+        self.assertEqual(self.summary(err), ([60, 60, 0, 0, 0, 0, due.count("\n"), due.count("\n") - 60], ""))
         for at in 0, 31, 59:
             files = [os.path.join(self.folder, f"r{at:03}.{kind}") for kind in ("image", "bundle")]
             one = subprocess.run([COMMAND, "order", *files], capture_output=True, text=True, check=True).stdout
@@ -171,7 +184,7 @@ i: not readable: i.bundle: no plain file
         status, out, err = self.run_it("--into", self.into)
         self.assertEqual((status, out), (2, ""))
         counts, rest = self.summary(err)
-        self.assertEqual(counts, [14, 5, 4, 4, 1, 6, 1])
+        self.assertEqual(counts, [14, 5, 4, 4, 1, 0, 6, 1])
         self.assertTrue(rest.startswith(f"a: not written: {self.into}/a.order: Is a directory (os error 21)\n"), rest)
         self.assertEqual(sorted(os.listdir(os.fsencode(self.into))), [b"a.order", b"j k.order", *(name + b".order" for name in ODD)])
         with open(os.path.join(self.into, "j k.order"), encoding="ascii") as file:
@@ -193,7 +206,7 @@ i: not readable: i.bundle: no plain file
         self.folder = folder
         due = self.lines([1] * 400)
         status, out, err = self.run_it()
-        self.assertEqual((status, out, self.summary(err)), (0, due, ([400, 400, 0, 0, 0, 400, 0], "")))
+        self.assertEqual((status, out, self.summary(err)), (0, due, ([400, 400, 0, 0, 0, 0, 400, 0], "")))
         self.lines([1] * 401)
         self.assertEqual(self.run_it(), (2, "", f"nuvaleta: {folder}: more than 400 routers; at most 400 are done at once\n"))
 
@@ -233,11 +246,53 @@ i: not readable: i.bundle: no plain file
         self.assertEqual(len(os.listdir(self.into)), 100)
 
 
+class Seconds(Case):
+    """Each router in a process of its own, which is ended when its time is up."""
+
+    def test_given_up(self):
+        self.router("a", *line(3)[:2])
+        self.router("b c", *endless())
+        self.router("d", *RING)
+        self.router("-e", *line(1)[:2])
+        begun = time.monotonic()
+        status, out, err = self.run_it("--seconds", "1")
+        self.assertIn(round(time.monotonic() - begun), range(1, 20))
+        self.assertEqual((status, out), (2, "-e\tm000\na\tm002\na\tm001\na\tm000\n"))
+        self.assertEqual(self.summary(err), ([4, 2, 1, 0, 0, 1, 4, 2], f"b c: given up after 1 s\nd: {RING_SAID}"))
+        status, out, err = self.run_it("--seconds", "1", "--json", "--into", self.into)
+        said = [json.loads(one) for one in out.splitlines()]
+        self.assertEqual((status, err, said[2]), (2, "", {"router": "b c", "given_up": "after 1 s"}))
+        self.assertEqual((said[3]["refused"]["number"], said[-1]["summary"]["given_up"]), (40, 1))
+        self.assertEqual(sorted(os.listdir(self.into)), ["-e.order", "a.order"])
+
+    def test_as_without(self):
+        """With time enough all is told as without --seconds, word for word."""
+        Routers.mixed(self)
+        for words in (), ("--json",), ("--into", self.into):
+            plain, timed = self.run_it(*words), self.run_it("--seconds", "50", *words)
+            alike = [(status, *(re.sub(r'\d\.\d+ s on|"seconds":\d+\.\d+', "", text) for text in told)) for status, *told in (plain, timed)]
+            self.assertEqual(alike[0], alike[1])
+
+    def test_no_process(self):
+        """A program that is not found under its own path any more starts no process: that is told of each router."""
+        self.router("a", *line(1)[:2])
+        with open(COMMAND, "rb") as file, open(os.memfd_create("gone"), "wb") as gone:
+            gone.write(file.read())
+            gone.flush()
+            with open(f"/proc/self/fd/{gone.fileno()}", "rb") as there:
+                gone.close()  # what is open for writing cannot be run
+                words = [f"/proc/self/fd/{there.fileno()}", "order", "--all", self.folder, "--seconds", "5"]
+                ran = subprocess.run(words, capture_output=True, text=True, check=False, timeout=60, pass_fds=[there.fileno()])
+        self.assertEqual((ran.returncode, ran.stdout), (2, ""))
+        self.assertEqual(self.summary(ran.stderr)[0], [1, 0, 0, 0, 0, 1, 0, 0])
+        self.assertRegex(ran.stderr, r"\Aa: given up since no process can be started: No such file or directory \(os error 2\)\n")
+
+
 class Terminal(Case):
-    def on_terminal(self, out, status=1):
+    def on_terminal(self, out, status=1, words=()):
         """What is written to a terminal that is standard error, and if `out` is None standard output too."""
         reader, writer = pty.openpty()
-        with subprocess.Popen([COMMAND, "order", "--all", self.folder], stdout=writer if out is None else out, stderr=writer) as ran:
+        with subprocess.Popen([COMMAND, "order", "--all", self.folder, *words], stdout=writer if out is None else out, stderr=writer) as ran:
             os.close(writer)
             said = b""
             while True:
@@ -274,6 +329,18 @@ class Terminal(Case):
         self.assertRegex(self.left(said), r"\Ar100x: " + re.escape(RING_SAID) + SUMMARY + r"\Z")
         took = float(re.search(r"(\d+\.\d\d) s on", said)[1])
         self.assertLessEqual(said.count(" of 201 routers"), 2 + 10 * took)
+
+    def test_at_which(self):
+        """The line names the oldest router that is still worked on, and for how long; nothing of it is left in the end."""
+        long = "r001 " + "long" * 20
+        self.lines([1] * 30)
+        os.remove(os.path.join(self.folder, "r001.image"))
+        os.remove(os.path.join(self.folder, "r001.bundle"))
+        self.router(long, *endless())
+        said = self.on_terminal(subprocess.DEVNULL, 2, ["--seconds", "2"])
+        self.assertIn(f"\r1 of 30 routers, at {long[:32]}.. for 1 s", said)
+        self.assertRegex(self.left(said), re.escape(f"{long}: given up after 2 s\n") + SUMMARY + r"\Z")
+        self.assertLessEqual(max(len(part) for part in re.split(r"[\r\n]", said) if " of 30 " in part), 79)
 
     def test_none(self):
         self.lines([2] * 20)

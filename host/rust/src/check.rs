@@ -24,7 +24,7 @@ pub struct About<'a> {
 /// What every text of a bundle says of itself, in the order of the bundle; or refusal 21.
 ///
 /// ```
-/// let bundle = b"\x01\x01m\x3fmodule m { prefix contact;\n  import base { prefix b; }\n}         ";
+/// let bundle = b"\x01\x01m\x38module m { prefix contact;\n  import base { prefix b; }\n}";
 /// let texts = nuvaleta::texts(bundle)?;
 /// assert_eq!(texts[0].metadata.as_ref().expect("a good scan").name(), "m");
 /// assert_eq!(texts[0].dependencies.as_ref().expect("a good scan").imports().len(), 0);

@@ -1,6 +1,6 @@
 //! What a file seems to be that was given for an image or a bundle and is none.
 
-use crate::form;
+use crate::{form, plain};
 use std::fmt::{self, Display, Formatter};
 
 /// What a thing seems to be that breaks the form of an image or a bundle. `Display` says it in words.
@@ -47,20 +47,25 @@ impl Looks {
     }
 }
 
-/// The documents that are known by how they begin, and a text by the metadata scan.
+/// So much of a file is looked at for bytes that no document has and every image and bundle.
+const BEGIN: usize = 256;
+
+/// The documents, which are known by how they begin.
 fn document(form: &[u8]) -> Option<Looks> {
     let form = form.strip_prefix(b"\xef\xbb\xbf").unwrap_or(form);
-    let white = |byte: &u8| byte.is_ascii_whitespace();
-    let start = form.iter().position(|byte| !white(byte)).unwrap_or(form.len());
-    let behind = form[start..].iter().skip(1).find(|byte| !white(byte)).copied().unwrap_or(b' ');
-    match form.get(start)? {
-        b'<' if behind.is_ascii_alphabetic() || b"?!/".contains(&behind) => Some(Looks::Xml),
-        b'#' if behind.is_ascii_digit() && form.contains(&b'<') => Some(Looks::Xml),
+    let white = |byte: &u8| matches!(byte, 9 | 10 | 13 | 32);
+    if form.iter().take(BEGIN).any(|byte| *byte < 32 && !white(byte)) {
+        return None;
+    }
+    let start = form.iter().position(|byte| !white(byte))?;
+    let next = form.get(start + 1).copied().unwrap_or_default();
+    let behind = form[start + 1..].iter().find(|byte| !white(byte)).copied().unwrap_or_default();
+    match form[start] {
+        b'<' if next.is_ascii_alphabetic() || b"?!".contains(&next) => Some(Looks::Xml),
+        b'#' if next.is_ascii_digit() && form.contains(&b'<') => Some(Looks::Xml), // RFC 6242's chunks
         b'{' | b'[' if b"{[\"}]".contains(&behind) => Some(Looks::Json),
-        _ => {
-            let ascii: Vec<u8> = form.iter().take(crate::TEXT_MOST).map(|byte| byte & 127).collect();
-            crate::metadata(&ascii).is_ok().then_some(Looks::Yang)
-        }
+        _ if ["module", "submodule"].map(str::as_bytes).contains(&plain::first_word(form)) => Some(Looks::Yang),
+        _ => None,
     }
 }
 

@@ -41,6 +41,14 @@ pub(crate) fn search(text: &[u8]) -> Found {
     }
 }
 
+/// The word behind the first gap; none if there is another thing.
+pub(crate) fn first_word(text: &[u8]) -> &[u8] {
+    let mut reader = Reader { text, at: 0, inside: Vec::new(), found: Found::default() };
+    let start = reader.gap().map_or(text.len(), |()| reader.at);
+    let length = text[start..].iter().position(|byte| !is_name(*byte)).unwrap_or(text.len() - start);
+    &text[start..start + length]
+}
+
 const STOPS: [&str; 4] = ["organization", "contact", "description", "reference"];
 /// The keywords that a search for words looks for.
 const KEYWORDS: [&str; 4] = ["import", "include", "augment", "prefix"];
@@ -51,8 +59,8 @@ type Open = (usize, &'static str);
 struct Reader<'a> {
     text: &'a [u8],
     at: usize,
-    /// The keywords of the blocks around this place.
-    inside: Vec<String>,
+    /// The keywords of the blocks around this place, and whether the scan skips the statements of such a block whole.
+    inside: Vec<(String, bool)>,
     found: Found,
 }
 
@@ -89,7 +97,7 @@ impl Reader<'_> {
             match self.text.get(self.at) {
                 None => return Ok(()),
                 Some(b'}') => drop(self.inside.pop()),
-                Some(b'{') => self.inside.push(String::new()),
+                Some(b'{') => self.inside.push((String::new(), false)),
                 Some(b';') => {}
                 Some(quote) if is_quote(*quote) => {
                     self.string()?;
@@ -136,11 +144,13 @@ impl Reader<'_> {
                 lossy(&self.text[start..self.at])
             }
         };
-        let inside = self.inside.last().cloned().unwrap_or_default();
+        let inside = self.inside.last().map_or_else(String::new, |(keyword, _)| keyword.clone());
         self.found.statements.push(Statement { at, end, keyword: keyword.clone(), argument, inside });
         self.gap()?;
         if self.text.get(self.at) == Some(&b'{') {
-            self.inside.push(keyword);
+            // behind a comment right behind the keyword the scan does not know the statement
+            let skipped = (keyword == "import" || keyword == "include") && self.text[end] != b'/';
+            self.inside.push((keyword, skipped));
             self.at += 1;
         }
         Ok(())
@@ -167,9 +177,9 @@ impl Reader<'_> {
         }
     }
 
-    /// Whether this is the block of an import or include, where the scan skips whole statements.
+    /// Whether this is in the block of an import or include.
     fn in_block(&self) -> bool {
-        self.inside.iter().any(|keyword| keyword == "import" || keyword == "include")
+        self.inside.iter().any(|(_, skipped)| *skipped)
     }
 
     /// Strings with `+` between them, as one value.

@@ -1,6 +1,6 @@
 //! Whatever is lent, every function answers: bytes of all kinds, damaged images and bundles, graphs and lists that no image gives.
 
-use nuvaleta::{dependencies, find_import_module, find_module, find_submodule, graph, metadata, text, Edge, Graph, Line, Refusal};
+use nuvaleta::{check, dependencies, find_import_module, find_module, find_submodule, graph, metadata, text, Edge, Graph, Line, Refusal};
 use vectors::libraries;
 use vectors::rng::Rng;
 use vectors::texts;
@@ -40,6 +40,7 @@ fn damaged_libraries() {
         }
         let list: Vec<usize> = (0..r.below(9)).map(|_| r.below(9)).collect();
         seen[through(graph(&image, &bundle), &list) as usize] += 1;
+        assert!(check(&image, &bundle).to_string().lines().last().map_or(false, |line| line.contains(" fault")));
     }
     assert!([0, 20, 21, 23, 24, 25, 26, 27, 40].iter().all(|number| seen[*number] > 0), "{seen:?}");
 }
@@ -63,12 +64,21 @@ fn any_bytes() {
         let (some, name) = (bytes(&mut r, 60), bytes(&mut r, 4));
         through(graph(&some, &name), &[]);
         through(graph(b"\0", &some), &[]);
+        assert!(check(&some, &name).to_string().contains(" fault"));
+        let mut one = [b"\x01\x01t", &[some.len() as u8][..]].concat();
+        one.extend(&some);
+        let about = nuvaleta::texts(&one).expect("a bundle");
+        assert!(about.len() == 1 && about[0].to_string().starts_with(&format!("t, {} byte", some.len())));
         let finds = [find_module(&some, &name).err(), find_submodule(&some, &name).err(), find_import_module(&some, &name).err()];
         assert!(finds.iter().flatten().all(|refusal| refusal.number() == 20));
         assert!(text(&some, &name).map_or_else(|refusal| refusal.number() == 21, |found| found.map_or(true, |found| found.len() < some.len())));
         let line = Line::at(&some, r.below(99));
         assert!(line.number > 0 && line.column > line.at && line.to_string().ends_with('^'));
         let mut text = texts::any(&mut r).into_bytes();
+        let of_text = libraries::of(&[], &[("t", std::str::from_utf8(&text).expect("a string"))]).bundle();
+        let lines = text.split(|byte| *byte == b'\n').count();
+        let warnings = &nuvaleta::texts(&of_text).expect("a bundle")[0].warnings;
+        assert!(warnings.iter().all(|warning| warning.line <= lines && warning.column > 0 && !warning.words.is_empty()));
         let place = r.below(text.len() + 1);
         text.insert(place, 128 + r.below(128) as u8);
         let refusals = [dependencies(&text).expect_err("a high byte"), metadata(&text).expect_err("a high byte")];

@@ -22,7 +22,7 @@ fn said(nodes: usize, edges: &[[usize; 2]]) -> String {
     made(nodes, edges).order().expect_err("a ring").to_string()
 }
 
-const TO_DO: &str = "in each line the second imports, includes, augments or deviates from the first: one of these has to go";
+const TO_DO: &str = "To do: in each line the second imports, includes, augments or deviates from the first: one of these has to go";
 
 #[test]
 fn first_example() {
@@ -69,7 +69,7 @@ fn a_ring_of_imports() {
 #[test]
 fn lists() {
     let some = made(4, &[[3, 1], [1, 0], [1, 2]]);
-    let said = |list: &[usize]| some.check(list).map_err(|refusal| refusal.to_string());
+    let said = |list: &[usize]| some.check(list).map_err(|refusal| refusal.told());
     let wrong = |place: usize, what: &str| Err(format!("refused 42: the list is wrong at place {place}, counted from 0: {what}"));
     assert_eq!(said(&[3, 1, 0, 2]), Ok(()));
     assert_eq!(said(&[3, 1, 2, 0]), Ok(()));
@@ -80,7 +80,7 @@ fn lists() {
     assert_eq!(said(&[3, 4, 1, 0]), wrong(1, "4 is no node"));
     assert_eq!(said(&[3, usize::MAX]), wrong(1, &format!("{} is no node", usize::MAX)));
     assert_eq!(said(&[3, 2, 1, 0]), wrong(1, "c must be registered after b"));
-    assert_eq!(made(1, &[[0, 0]]).check(&[0]).expect_err("a ring").to_string(), wrong(0, "a waits for itself").unwrap_err());
+    assert_eq!(made(1, &[[0, 0]]).check(&[0]).expect_err("a ring").told(), wrong(0, "a waits for itself").unwrap_err());
     assert_eq!(made(0, &[]).check(&[]), Ok(()));
 }
 
@@ -94,8 +94,8 @@ fn unfit() {
     assert_eq!(most(2, 8_193).check(&[]), Err(Refusal::TablesUnfit));
     assert_eq!(made(2, &[[0, 2]]).order(), Err(Refusal::TablesUnfit));
     let told = "refused 43: more than 1,024 nodes or 8,192 edges, or an edge with a number that is no node";
-    assert_eq!(made(2, &[[usize::MAX, 0]]).order().expect_err("a refusal").to_string(), told);
-    assert_eq!(Refusal::OrderTooShort.to_string(), "refused 41: the order table is too short");
+    assert_eq!(made(2, &[[usize::MAX, 0]]).order().expect_err("a refusal").told(), told);
+    assert_eq!(Refusal::OrderTooShort.told(), "refused 41: the order table is too short");
 }
 
 /// The order of a generated library's graph is accepted; a ring has a node or more, none of them twice, and its edges are edges.

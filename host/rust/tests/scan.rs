@@ -99,6 +99,47 @@ fn in_words() {
     assert_eq!(meta(b"yang-version 1.1"), "the text ends before the byte required after yang-version and its value (scan refusal 6, byte 16)");
 }
 
+/// What was expected at the place of a refusal, and what was found there.
+#[test]
+fn expected_and_found() {
+    let of = |refusal: ScanRefusal, text: &[u8]| refusal.clash(text).map_or_else(String::new, |clash| clash.to_string());
+    let deps = |text: &str| of(dependencies(text.as_bytes()).expect_err("a refusal"), text.as_bytes());
+    let meta = |text: &str| of(metadata(text.as_bytes()).expect_err("a refusal"), text.as_bytes());
+    assert_eq!(deps("module m { import a; }"), "expected { after import a, found ;");
+    assert_eq!(deps("import 'a' + 'b' ;"), "expected { after import 'a' + 'b', found ;");
+    assert_eq!(deps("import a /* ; */ leaf"), "expected { after import and its value, found leaf", "no value is seen behind a comment");
+    assert_eq!(deps("import import x"), "expected { after import import, found x");
+    assert_eq!(deps("import \"an import b\";"), "expected { after import \"an import b\", found ;");
+    assert_eq!(deps(&format!("import {}\u{1}", "n".repeat(41))), format!("expected {{ after import {}.., found byte 0x01", "n".repeat(40)));
+    assert_eq!(deps("include a}"), "expected ; or { after include a, found }");
+    assert_eq!(deps("include a // b"), "expected ; or { after include and its value, found the end of the text");
+    assert_eq!(deps("import a{prefix b{}}"), "expected ; after prefix b, found {");
+    assert_eq!(deps("import a{prefix b;revision-date c d}"), "expected ; after revision-date c, found d");
+    assert_eq!(deps("module import {}"), "expected a name or a string after import, found {");
+    assert_eq!(deps("import a{prefix ;"), "expected a name or a string after prefix, found ;");
+    assert_eq!(deps("include 'a{prefix b;}"), "expected a name or a string after include, found a string that is not closed");
+    assert_eq!(deps("import 'a'{prefix b;}import"), "expected a name or a string after import, found the end of the text");
+    assert_eq!(deps("import a{}"), "expected prefix NAME; before the end of the block, found }");
+    assert_eq!(deps("import a{prefix b;"), "expected } at the end of the block of the import, found the end of the text");
+    assert_eq!(deps("leaf \u{2019}x"), "expected a byte below 128, found \u{2019}, byte 0xe2");
+    assert_eq!(of(dependencies(b"a\xff").expect_err("a refusal"), b"a\xff"), "expected a byte below 128, found byte 0xff");
+    assert_eq!(deps(&"include a;".repeat(257)), "", "the words say it all");
+    assert_eq!(deps(&" ".repeat(nuvaleta::TEXT_MOST + 1)), "");
+    assert_eq!(meta("module m;"), "expected { after module m, found ;");
+    assert_eq!(meta("module m{namespace urn:x/y;}"), "expected ; after namespace urn:x, found /");
+    assert_eq!(meta("module m{revision 2024-01-01 x"), "expected ; or { after revision 2024-01-01, found x");
+    assert_eq!(meta("<html>404</html>"), "expected module NAME { or submodule NAME {, found the end of the text");
+    assert_eq!(meta("// none\ncontainer c;"), "expected module NAME { or submodule NAME {, found container");
+}
+
+/// Of a long text that holds the keyword everywhere the value is looked for in a short time.
+#[test]
+fn expected_in_a_long_text() {
+    let text = format!("{}\u{1}\"", "import \"a".repeat(100_000));
+    let refusal = ScanRefusal { fault: ScanFault::OtherByte, keyword: Some(Keyword::Import), position: Some(text.len()) };
+    assert_eq!(refusal.clash(text.as_bytes()).expect("a clash").to_string(), "expected { after import and its value, found the end of the text");
+}
+
 #[test]
 fn numbers_and_meanings() {
     assert!(ScanFault::ALL.iter().map(|fault| fault.number()).eq(1..=10));
@@ -157,6 +198,7 @@ fn generated() {
             Err(refusal) => {
                 seen[0] += 1;
                 place(refusal);
+                assert_eq!(refusal.clash(text.as_bytes()).is_some(), refusal.number() != 10, "{text:?}");
             }
         }
         match metadata(text.as_bytes()) {
