@@ -87,7 +87,7 @@ def differ(words, what, kind):
     seen = set()
     for word in words:
         if word in seen:
-            raise Refused(f"{what}: {kind} {word} stands there twice; in one place names differ")
+            raise Refused(f"{what}: {kind} {word} stands there twice; in one place names differ: leave one of them out")
         seen.add(word)
 
 

@@ -202,6 +202,8 @@ def from_library(path, shelf):
     form.write_image(*form.spread(sets, called)[:2])  # what cannot be written at all is told first
     asked = asked_for(all_rows)
     pile, problems = library_texts(asked, shelf)
+    if not asked:
+        problems.append(Problem("error", "no_modules", f"{path}: a library without any module; it may be the answer to a filter that asked for less"))
     bundle = form.write_bundle(pile.texts, pile.files)
     told = judge.describe(bundle)
     return pile.packed(sets, called, bundle, told, lost_lists(all_rows) + problems + pile.judged(told, asked))

@@ -343,8 +343,10 @@ class Folder(Told):
         self.refused(self.run_pack("folder", "--json", self.dir, self.image, self.dir), "not a file", due=2)
 
     def test_an_empty_library(self):
-        status, out, err = self.library('{"module-set": []}')
-        self.assertEqual((status, out, err), (0, f"{self.image}: 1 byte, 0 sets\n{self.bundle}: 1 byte, 0 texts\n", ""))
+        for document in '{"module-set": []}', "<modules-state xmlns='urn:ietf:params:xml:ns:yang:ietf-yang-library'><module-set-id/></modules-state>":
+            self.refused(self.library(document), "error: ", "library: a library without any module")
+        status, out, _ = self.library('{"module-set": []}', "--lenient")
+        self.assertEqual((status, out), (0, f"{self.image}: 1 byte, 0 sets\n{self.bundle}: 1 byte, 0 texts\n"))
 
 
 class Real(Told):
@@ -486,7 +488,26 @@ class All(Told):
 
 
 class Program(Case):
-    """What standard output and standard error lead to changes no file."""
+    """What standard output and standard error lead to changes no file; where the command is found."""
+
+    def test_an_install(self):
+        """Below a PREFIX, called by a link from elsewhere, without the clone."""
+        away = os.path.join(self.top, "prefix", "libexec", "nuvaleta")
+        shutil.copytree(HERE, away, ignore=lambda _, names: [n for n in names if n.startswith(("test", "cases", "README", "__"))])
+        os.makedirs(os.path.join(self.top, "prefix", "bin"))
+        os.symlink(pack.judge.command(), os.path.join(self.top, "prefix", "bin", "nuvaleta"))
+        link = os.path.join(self.top, "link")
+        os.symlink(os.path.join(away, "pack"), link)
+        self.put("m.yang", "module m { }")
+        alone = {name: value for name, value in os.environ.items() if name != "NUVALETA"}
+        for words, due in [(["folder", "texts", "image", "bundle"], "image: 8 bytes, 1 set\nbundle: 16 bytes, 1 text\n"),
+                           (["folder", "--check", "texts"], "0 errors, 0 warnings\n")]:
+            ran = subprocess.run([link, *words], capture_output=True, text=True, check=False, cwd=self.top, env=alone)
+            self.assertEqual((ran.returncode, ran.stdout, ran.stderr), (0, due, ""))
+        self.assertEqual(subprocess.run([link, "--help"], capture_output=True, check=False).returncode, 0)
+        os.remove(os.path.join(self.top, "prefix", "bin", "nuvaleta"))
+        ran = subprocess.run([link, "folder", "--check", self.dir], capture_output=True, text=True, check=False, env=alone)
+        self.assertEqual((ran.returncode, "the built command, which reads the texts, is not there" in ran.stderr), (2, True))
 
     def ran(self, streams):
         line = f'exec "$@" {streams}'
