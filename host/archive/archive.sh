@@ -8,6 +8,7 @@
 # has the compiler count which parts of the code are reached, for a fuzzer. Such archives are for tests and measurements only.
 set -eu
 unset CDPATH
+exec </dev/null # what is read there is not for rt
 here=$(cd "$(dirname "$0")" && pwd)
 kept='' covered=''
 [ "${1:-}" != --kept ] || { kept=yes && shift; }

@@ -169,7 +169,7 @@ class Package(unittest.TestCase):
             self.assertLessEqual(usage, set(self.completed(name, "-")), name)
 
     def test_completion_in_zsh(self):
-        if run(HOST / "need", "zsh").returncode != 0:
+        if not shutil.which("zsh") and run(HOST / "need", "zsh").returncode != 0:
             self.without("zsh", "its completion")
         helps = self.helps()
         self.assertEqual(self.offered(""), sorted(helps))
@@ -182,9 +182,9 @@ class Package(unittest.TestCase):
         terminal = Terminal(["zsh", "-fi"], cwd=ROOT / "examples", env={**self.env, "FPATH_OWN": f"{self.prefix}/share/zsh/site-functions"})
         self.addCleanup(terminal.kill)
         terminal.type("fpath=($FPATH_OWN $fpath); autoload -Uz compinit; compinit -u -D; PS1='> '; echo re''ady\n")
-        self.assertTrue(terminal.until(lambda one: any(line.endswith("ready") for _, line in one.lines), 20))
+        self.assertTrue(terminal.until(lambda one: any(line.endswith("ready") for _, line in one.lines), 60))
         terminal.type("nuvaleta expl\t")
-        self.assertTrue(terminal.until(lambda one: "explain" in one.last, 10), terminal.last)
+        self.assertTrue(terminal.until(lambda one: "explain" in one.last, 60), terminal.last)
 
     # ---- the library
 

@@ -3,6 +3,7 @@
 # changed it needs neither cargo nor rt: beside the command stands a sum of what it was built from, as that was before, and of itself.
 set -eu
 unset CDPATH
+exec </dev/null # what is read there is for the command
 cd "$(dirname "$0")"
 archive=$(cd ../.. && host/archive/archive.sh --kept nuvaleta)
 command=$PWD/build/release/nuvaleta
