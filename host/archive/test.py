@@ -183,9 +183,15 @@ class Archive(Repository):
         self.assertEqual(terminal.held, {})
         self.assertEqual([line for _, line in terminal.lines][1], "1 of 3, low, 7 s")
 
+    def text_of_archive(self):
+        try:
+            return self.archive.read_text()
+        except FileNotFoundError:
+            return None
+
     def interrupted(self, seen, how, processor="x86_64"):
         """A call that is ended once `seen` is true leaves no process and no archive but the one that was there; the next one goes through."""
-        before = self.archive.read_text() if self.archive.exists() else None
+        before = self.text_of_archive()
         terminal = self.on_terminal(*self.words(processor), PAUSE="30")
         self.assertTrue(terminal.until(seen, WAIT))
         how(terminal)
@@ -193,11 +199,11 @@ class Archive(Repository):
         self.assertEqual(self.left(), [])
         there = sorted(str(path.relative_to(self.archive.parent)) for path in self.archive.parent.rglob("*") if path.is_file())
         self.assertEqual(there, [] if before is None else ["libprobe.a", "libprobe.a.sums"])
-        self.assertEqual(self.archive.read_text() if self.archive.exists() else None, before)
+        self.assertEqual(self.text_of_archive(), before)
 
     def test_an_interrupt_leaves_nothing(self):
         def half(_):
-            return self.archive.exists() and self.archive.read_text() == "half\n"
+            return self.text_of_archive() == "half\n"
 
         def proving(terminal):
             return "proved" in terminal.last
