@@ -262,7 +262,8 @@ COPIED = ["nuvaleta", *(f"host/archive/{name}" for name in ("archive.sh", "prove
 
 class Command(Repository):
     FILES = {"crates.txt": "nuvaleta:\n", "crates/nuvaleta/src/lib.rt": "nuvaleta", "host/pack/pack": PACK, "host/rust/src/main.rs": "main",
-             "host/rust/src/help/nuvaleta.txt": "all\n", "host/rust/src/help/pack.txt": "usage: nuvaleta pack\n", "host/rust/src/help/novel.txt": "usage: nuvaleta novel\n"}
+             "host/rust/src/help/nuvaleta.txt": "all\n", "host/rust/src/help/pack.txt": "usage: nuvaleta pack\n",
+             "host/rust/src/help/novel.txt": "usage: nuvaleta novel\n"}
 
     def setUp(self):
         super().setUp()
