@@ -103,6 +103,15 @@ class Package(unittest.TestCase):
         self.assertEqual((ran.returncode, ran.stderr), (1, "install: target/made has nothing to install: host/build makes it\n"))
         self.assertFalse((self.room / "d").exists())
 
+    def test_without_a_new_rust_the_library_alone(self):
+        (self.room / "rustc").write_text("#!/bin/sh\necho 'rustc 1.62.1 (old)'\n")
+        (self.room / "rustc").chmod(0o755)
+        self.addCleanup(run, HOST / "build")
+        ran = run(HOST / "build", env={**os.environ, "PATH": f"{self.room}:{os.environ['PATH']}"})
+        self.assertEqual((ran.returncode, ran.stderr), (0, "build: no cargo of Rust 1.63 or newer: without the command\n"))
+        run(HOST / "install", self.room / "e")
+        self.assertEqual(there(self.room / "e"), [name for name in there(self.prefix) if name.startswith(("include/", "lib/"))])
+
     # ---- the command
 
     def test_the_command_and_pack(self):
