@@ -1,5 +1,6 @@
 #!/bin/sh
-# test.sh: the crate's tests over the archive that host/archive has made, then the command: what it prints where, and its exit status.
+# test.sh: the crate's tests over the archive that host/archive has made, then the command: what it prints where, and its exit status; its warnings over
+# real modules.
 set -eu
 here=$(cd "$(dirname "$0")" && pwd)
 root=$(cd "$here/../.." && pwd)
@@ -111,6 +112,19 @@ looks 20 2 image 'an image' 'a bundle' 'the two are swapped: give the image firs
 expect 1 order bundle image
 echo '1 fault, 0 warnings' >>due
 expect 1 check bundle image
+{
+    printf '\001\001m\200\200\005'
+    head -c 81920 /dev/zero | tr '\000' ' '
+} >fat
+printf '\001\001\001m\000\000\000\000' >one
+cat >due <<'X1'
+refused 20: the image has more than 65,536 bytes
+expected an image, found a bundle
+To do: the two are swapped: give the image first, then the bundle
+X1
+expect 1 order fat one
+cp fat in
+expect 1 graph - one
 looks 21 1 bundle 'a bundle' 'an image' 'this looks like an image: give both files that `nuvaleta pack` wrote, the image first'
 expect 1 order image image
 expect 1 texts image
@@ -371,6 +385,9 @@ expect 2 graph image none
 expect 2 --json order none bundle
 expect 2 check image none
 expect 2 texts none
+due 'nuvaleta: a b: Is a directory (os error 21): run `nuvaleta pack folder FOLDER IMAGE BUNDLE`\n'
+expect 2 order 'a b' bundle
+expect 2 texts 'a b'
 due 'nuvaleta: standard output: No space left on device (os error 28)\n'
 status=0
 "$nuvaleta" order image bundle >/dev/full 2>err || status=$?
@@ -394,4 +411,6 @@ mkdir -p fresh/target/staticlib
 [ "$(warnings)" = 0 ] || wrong "a warning with an archive"
 
 [ "$fails" = 0 ] || exit 1
+# shellcheck disable=SC2046
+"$here/test_real.py" $("$here/../vectors/real.sh")
 echo "rust: $(awk '/^test result: ok/ { n += $4 } END { print n }' tested) tests pass, the command prints and ends as it should"

@@ -56,8 +56,8 @@ impl Display for About<'_> {
             self.dependencies.as_ref().map_or_else(refused, Dependencies::to_string),
         ];
         let twice = self.metadata.as_ref().err() == self.dependencies.as_ref().err() && self.metadata.is_err();
-        let lines = metadata.lines().chain(if twice { "" } else { dependencies.as_str() }.lines()).filter(|line| !line.is_empty());
-        lines.into_iter().try_for_each(|line| writeln!(f, "    {line}"))?;
+        let mut lines = metadata.lines().chain(if twice { "" } else { dependencies.as_str() }.lines()).filter(|line| !line.is_empty());
+        lines.try_for_each(|line| writeln!(f, "    {line}"))?;
         self.warnings.iter().try_for_each(|warning| writeln!(f, "    warning: {warning}"))
     }
 }
@@ -73,7 +73,7 @@ pub struct Checked {
 
 /// All that [`crate::graph`] and [`crate::Graph::order`] would refuse of a library, one after the other: each text that is missing (23, 24) or refused (25)
 /// once, each name that is unknown (26, 27) once for the text or list that has it. If the graph is refused for something else, that comes behind them, and
-/// if it is drawn and has no order, its ring. There is no fault exactly if there is an order.
+/// if it is drawn and has no order, its ring. There is no fault exactly if there is an order. It draws the graph, and so may take as long as that.
 ///
 /// ```
 /// let image = b"\x01\x02\x01m\x00\x00\x00\x01b\x00\x00\x00\x00"; // the modules m and b

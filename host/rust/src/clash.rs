@@ -1,5 +1,6 @@
 //! What was expected at the place of a refusal, and what was found there. Both are read off the text and the place alone.
 
+use crate::plain::is_name;
 use crate::{Keyword, ScanFault, ScanRefusal};
 use std::fmt::{self, Display, Formatter};
 
@@ -56,10 +57,6 @@ fn byte_after(keyword: Keyword) -> &'static str {
     }
 }
 
-fn is_name(byte: &u8) -> bool {
-    byte.is_ascii_alphanumeric() || b"_-.:".contains(byte)
-}
-
 fn cut(bytes: &[u8]) -> String {
     let part = String::from_utf8_lossy(&bytes[..bytes.len().min(PART)]);
     format!("{part}{}", if bytes.len() > PART { ".." } else { "" })
@@ -68,7 +65,7 @@ fn cut(bytes: &[u8]) -> String {
 /// The byte at a place, or the whole name that begins there.
 fn byte(text: &[u8], at: usize) -> String {
     let rest = &text[at..];
-    let name = rest.iter().take_while(|byte| is_name(byte)).count();
+    let name = rest.iter().take_while(|byte| is_name(**byte)).count();
     match rest.first() {
         None => "the end of the text".to_string(),
         Some(_) if name > 0 => cut(&rest[..name]),
@@ -96,16 +93,17 @@ fn high(text: &[u8], at: usize) -> String {
 
 /// What ended the metadata scan: the end, or the word before the place.
 fn ended(text: &[u8], at: usize) -> String {
-    let word = text[..at].iter().rev().take_while(|byte| is_name(byte)).count();
+    let word = text[..at].iter().rev().take_while(|byte| is_name(**byte)).count();
     if at == text.len() || word == 0 { "the end of the text".to_string() } else { cut(&text[at - word..at]) }
 }
 
 /// What stands between a keyword and a place, without blanks around it, for the last such words before the place, the last one first.
 fn behind<'a>(text: &'a [u8], keyword: &'a str, at: usize) -> impl Iterator<Item = &'a [u8]> {
     let before = &text[..at];
+    let in_name = move |byte: Option<&u8>| byte.map_or(false, |byte| is_name(*byte));
     let is_word = move |start: &usize| {
-        let end = start + keyword.len();
-        before[*start..].starts_with(keyword.as_bytes()) && !before[..*start].last().map_or(false, is_name) && !before.get(end).map_or(false, is_name)
+        let (head, rest) = before.split_at(*start);
+        rest.starts_with(keyword.as_bytes()) && !in_name(head.last()) && !in_name(rest.get(keyword.len()))
     };
     (0..at).rev().filter(is_word).take(WORDS).map(move |start| trimmed(&before[start + keyword.len()..]))
 }
@@ -126,6 +124,6 @@ fn trimmed(bytes: &[u8]) -> &[u8] {
 /// Whether this is a name alone, or strings alone, on one line.
 fn is_value(bytes: &[u8]) -> bool {
     let quoted = |quote: u8| bytes.len() > 1 && bytes[0] == quote && bytes[bytes.len() - 1] == quote;
-    let plain = !bytes.is_empty() && bytes.iter().all(is_name);
+    let plain = !bytes.is_empty() && bytes.iter().copied().all(is_name);
     plain || ((quoted(b'"') || quoted(b'\'')) && bytes.iter().all(|byte| (32..127).contains(byte)))
 }

@@ -1,7 +1,7 @@
 //! nuvaleta explain NUMBER [--keyword K] [--at PLACE [FILE]]: what a number means, where its place is, and what to do about it.
 
 use crate::args::Args;
-use crate::io::{called, print, read_text};
+use crate::io::{called, print, read};
 use crate::{json, usage, Ended, Wrong};
 use nuvaleta::{Keyword, Line, Meaning, Refusal, ScanFault, ScanRefusal};
 use std::ffi::OsStr;
@@ -120,7 +120,7 @@ fn place(number: u32, file: &OsStr, at: usize) -> Result<Place, Wrong> {
         return wrong("the place of 42 is one in a list, not in a FILE".to_string());
     }
     let name = called(file);
-    let read = read_text(file, nuvaleta::BUNDLE_MOST).map_err(Wrong::File)?;
+    let read = read(file, nuvaleta::BUNDLE_MOST).map_err(Wrong::File)?;
     if at > read.len() {
         return Err(Wrong::File(format!("{name}: there is no byte {at}, it has {}", read.len())));
     }

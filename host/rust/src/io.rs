@@ -29,20 +29,16 @@ pub fn printed(status: u8, ended: io::Result<()>) -> ExitCode {
     }
 }
 
-/// A file, or so much of it that it is seen to be too long; `Err` says which one cannot be read.
+/// A file, or for `-` standard input, or so much of it that it is seen to be too long; `Err` says which one cannot be read.
 pub fn read(file: &OsStr, most: usize) -> Result<Vec<u8>, String> {
-    std::fs::File::open(file).and_then(|open| read_some(open, most)).map_err(|e| format!("{}: {e}", file.to_string_lossy()))
+    let read = match file == "-" {
+        true => read_some(io::stdin().lock(), most),
+        false => std::fs::File::open(file).and_then(|open| read_some(open, most)),
+    };
+    read.map_err(|e| format!("{}: {e}", called(file)))
 }
 
-/// The same, where `-` is standard input.
-pub fn read_text(file: &OsStr, most: usize) -> Result<Vec<u8>, String> {
-    match file == "-" {
-        true => read_some(io::stdin().lock(), most).map_err(|e| format!("{}: {e}", called(file))),
-        false => read(file, most),
-    }
-}
-
-/// What a file that `read_text` takes is called.
+/// What a file that `read` takes is called.
 pub fn called(file: &OsStr) -> String {
     if file == "-" { "standard input".to_string() } else { file.to_string_lossy().into_owned() }
 }

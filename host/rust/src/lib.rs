@@ -3,8 +3,8 @@
 //! and scans single texts.
 //!
 //! The work is done by the proved code of crates/nuvaleta. What is here owns the buffers that it is lent, gives the answers names, and says a refusal
-//! in words. No function panics, whatever the input. A graph uses less than [`raw::STACK_MOST`] (416 KiB) of the calling thread's stack, every other
-//! call less than 40 KiB. All but [`raw`], which is the header as it is, is without `unsafe`.
+//! in words. No function panics, whatever the input. A graph, and so [`check`], uses less than [`raw::STACK_MOST`] (416 KiB) of the
+//! calling thread's stack, every other call less than 40 KiB. All but [`raw`], which is the header as it is, is without `unsafe`.
 //!
 //! ```
 //! // A module m with the submodule s, and b, which both of them import.

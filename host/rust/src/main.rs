@@ -12,10 +12,11 @@ mod pack;
 mod router;
 
 use args::Args;
-use io::{print, read_text, say};
+use io::{print, read, say};
 use nuvaleta::{Refusal, ScanRefusal, Spot};
 use std::ffi::OsStr;
 use std::fmt::Display;
+use std::path::Path;
 use std::process::ExitCode;
 
 /// What keeps a command from its work.
@@ -77,10 +78,8 @@ struct Refused {
 
 impl Display for Refused {
     fn fmt(&self, f: &mut std::fmt::Formatter<'_>) -> std::fmt::Result {
-        write!(f, "refused {}: {}: {}", self.scan.number(), self.spot, self.scan.words())?;
-        self.spot.line.as_ref().map_or(Ok(()), |line| write!(f, "\n{line}"))?;
-        self.spot.clash.as_ref().map_or(Ok(()), |clash| write!(f, "\n{clash}"))?;
-        write!(f, "\nTo do: {}", self.scan.advice())
+        let Refused { scan, spot } = self;
+        write!(f, "refused {}: {spot}: {}{}\nTo do: {}", scan.number(), scan.words(), spot.shown(), scan.advice())
     }
 }
 
@@ -89,7 +88,7 @@ fn scanned<T: Display>(args: &Args, scan: fn(&[u8]) -> Result<T, ScanRefusal>, j
         [file] => file,
         _ => return usage(),
     };
-    let text = read_text(file, nuvaleta::TEXT_MOST).map_err(Wrong::File)?;
+    let text = read(file, nuvaleta::TEXT_MOST).map_err(Wrong::File)?;
     let refused = |scan: ScanRefusal| Refused { scan, spot: Spot::of(io::called(file), &scan, &text) };
     let told = scan(&text).map(|found| shaped(args, &found, json)).map_err(refused);
     Ok(end(args, told, |refused| json::scan_refusal(&refused.scan, &refused.spot)))
@@ -110,7 +109,13 @@ fn both(args: &Args) -> Result<[Vec<u8>; 2], Wrong> {
         [image, bundle] => (image, bundle),
         _ => return usage(),
     };
-    Ok([read_text(image, nuvaleta::IMAGE_MOST).map_err(Wrong::File)?, read_text(bundle, nuvaleta::BUNDLE_MOST).map_err(Wrong::File)?])
+    Ok([half(image)?, half(bundle)?])
+}
+
+/// An image or a bundle, which may be the wrong one of the two; of a folder it is said how one is made.
+fn half(file: &OsStr) -> Result<Vec<u8>, Wrong> {
+    let folder = |why: String| if Path::new(file).is_dir() { why + ": run `nuvaleta pack folder FOLDER IMAGE BUNDLE`" } else { why };
+    read(file, nuvaleta::BUNDLE_MOST).map_err(|why| Wrong::File(folder(why)))
 }
 
 /// What is made of the graph of two files.
@@ -131,7 +136,7 @@ fn texts(args: &Args) -> Ended {
         [file] => file,
         _ => return usage(),
     };
-    let bundle = read_text(file, nuvaleta::BUNDLE_MOST).map_err(Wrong::File)?;
+    let bundle = half(file)?;
     let plainly = |texts: &[nuvaleta::About]| texts.iter().map(nuvaleta::About::to_string).collect::<String>();
     let told = nuvaleta::texts(&bundle).map(|texts| if args.has("--json") { json::texts(&texts) + "\n" } else { plainly(&texts) });
     Ok(end(args, told, json::refusal))

@@ -59,8 +59,8 @@ type Open = (usize, &'static str);
 struct Reader<'a> {
     text: &'a [u8],
     at: usize,
-    /// The keywords of the blocks around this place, and whether the scan skips the statements of such a block whole.
-    inside: Vec<(String, bool)>,
+    /// The keyword of each block around this place, and of how many of these blocks, up to this one, the scan skips the statements whole.
+    inside: Vec<(String, usize)>,
     found: Found,
 }
 
@@ -73,7 +73,7 @@ fn is_quote(byte: u8) -> bool {
 }
 
 /// Whether a name of the scans goes on with this byte.
-fn is_name(byte: u8) -> bool {
+pub(crate) fn is_name(byte: u8) -> bool {
     byte.is_ascii_alphanumeric() || b"_-.:".contains(&byte)
 }
 
@@ -97,7 +97,7 @@ impl Reader<'_> {
             match self.text.get(self.at) {
                 None => return Ok(()),
                 Some(b'}') => drop(self.inside.pop()),
-                Some(b'{') => self.inside.push((String::new(), false)),
+                Some(b'{') => self.open(String::new(), false),
                 Some(b';') => {}
                 Some(quote) if is_quote(*quote) => {
                     self.string()?;
@@ -150,7 +150,7 @@ impl Reader<'_> {
         if self.text.get(self.at) == Some(&b'{') {
             // behind a comment right behind the keyword the scan does not know the statement
             let skipped = (keyword == "import" || keyword == "include") && self.text[end] != b'/';
-            self.inside.push((keyword, skipped));
+            self.open(keyword, skipped);
             self.at += 1;
         }
         Ok(())
@@ -170,23 +170,26 @@ impl Reader<'_> {
             }
             self.at += 1;
         }
-        self.at = self.at.max(start + 1); // whatever it is, it is passed
         match stop(&self.text[start..self.at]) {
             Some(stop) if !self.in_block() => self.found.snags.push((start, Snag::Stop(stop))),
             _ => {}
         }
     }
 
+    fn open(&mut self, keyword: String, skipped: bool) {
+        let around = self.inside.last().map_or(0, |(_, count)| *count);
+        self.inside.push((keyword, around + usize::from(skipped)));
+    }
+
     /// Whether this is in the block of an import or include.
     fn in_block(&self) -> bool {
-        self.inside.iter().any(|(_, skipped)| *skipped)
+        self.inside.last().map_or(false, |(_, count)| *count > 0)
     }
 
     /// Strings with `+` between them, as one value.
     fn strings(&mut self) -> Result<String, Open> {
         let mut value = self.string()?;
         loop {
-            let end = self.at;
             self.gap()?;
             if self.text.get(self.at) != Some(&b'+') {
                 return Ok(value);
@@ -194,7 +197,6 @@ impl Reader<'_> {
             self.at += 1;
             self.gap()?;
             if !self.text.get(self.at).map_or(false, |byte| is_quote(*byte)) {
-                self.at = end.max(self.at);
                 return Ok(value);
             }
             value += &self.string()?;

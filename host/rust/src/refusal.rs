@@ -147,6 +147,12 @@ impl Spot {
     pub fn of(name: impl Into<String>, scan: &ScanRefusal, text: &[u8]) -> Spot {
         Spot { text: name.into(), line: scan.line(text).map(Box::new), clash: scan.clash(text) }
     }
+
+    /// The line with its mark, and what was expected and found, each behind a line break.
+    pub fn shown(&self) -> String {
+        let line = self.line.as_ref().map_or_else(String::new, |line| format!("\n{line}"));
+        line + &self.clash.as_ref().map_or_else(String::new, |clash| format!("\n{clash}"))
+    }
 }
 
 impl Refusal {

@@ -3,6 +3,7 @@
 use crate::plain::{self, Found, Snag, Statement};
 use crate::words::quoted;
 use crate::{Dependencies, Line};
+use std::collections::HashSet;
 use std::fmt::{self, Display, Formatter};
 
 /// What a plain search of a text found that the scan's answer does not have. It may be a false alarm: the words say what was seen.
@@ -46,46 +47,70 @@ impl Display for Warning {
 /// The warnings of a text, of which the scan read these dependencies, in the order of the text.
 pub(crate) fn warnings(text: &[u8], read: &Dependencies) -> Vec<Warning> {
     let found = plain::search(text);
-    let own = own_prefixes(&found);
+    let (own, causes) = (own_prefixes(&found), Causes::of(text, &found));
     let words = |statement: &Statement| match statement.keyword.as_str() {
-        "import" => passed_over(text, &found, statement, read.imports().any(|import| import.name == statement.argument)),
-        "include" => passed_over(text, &found, statement, read.includes().any(|include| include.name == statement.argument)),
-        "augment" => augments(statement, |prefix| own.contains(&prefix) || read.imports().any(|import| import.prefix == prefix)),
+        "import" => passed_over(text, &causes, statement, read.imports().any(|import| import.name == statement.argument)),
+        "include" => passed_over(text, &causes, statement, read.includes().any(|include| include.name == statement.argument)),
+        "augment" => augments(statement, |prefix| own.contains(prefix) || read.imports().any(|import| import.prefix == prefix)),
         _ => None,
     };
-    let one = |statement: &Statement| {
-        let (kind, words) = words(statement)?;
-        let line = Line::at(text, statement.at);
-        Some(Warning { kind, line: line.number, column: line.column, words })
-    };
-    found.statements.iter().filter_map(one).collect()
+    // statements stand in the order of the text, so its lines are counted once
+    let (mut line, mut start, mut counted) = (1, 0, 0);
+    let mut out = Vec::new();
+    for statement in &found.statements {
+        if let Some((kind, words)) = words(statement) {
+            for (i, _) in text[counted..statement.at].iter().enumerate().filter(|(_, byte)| **byte == b'\n') {
+                line += 1;
+                start = counted + i + 1;
+            }
+            counted = statement.at;
+            out.push(Warning { kind, line, column: statement.at - start + 1, words });
+        }
+    }
+    out
 }
 
 /// The prefixes that a module or submodule gives to its own module.
-fn own_prefixes(found: &Found) -> Vec<&str> {
+fn own_prefixes(found: &Found) -> HashSet<&str> {
     let own = |s: &&Statement| s.keyword == "prefix" && ["module", "submodule", "belongs-to", ""].contains(&s.inside.as_str());
     found.statements.iter().filter(own).map(|s| s.argument.as_str()).collect()
 }
 
-fn passed_over(text: &[u8], found: &Found, statement: &Statement, was_read: bool) -> Option<(WarningKind, String)> {
+fn passed_over(text: &[u8], causes: &Causes, statement: &Statement, was_read: bool) -> Option<(WarningKind, String)> {
     let Statement { keyword, argument, .. } = statement;
-    let words = || format!("{keyword} {} is passed over: {}", quoted(argument), cause(text, found, statement));
+    let words = || format!("{keyword} {} is passed over: {}", quoted(argument), causes.of_one(text, statement));
     // without an argument it is no statement, or the scan has refused the text
     (!was_read && !argument.is_empty()).then(|| (WarningKind::PassedOver, words()))
 }
 
-/// What seems to keep the scan from a statement.
-fn cause(text: &[u8], found: &Found, statement: &Statement) -> String {
-    let line = |at: usize| Line::at(text, at).number;
-    let first = |wanted: fn(&Snag) -> bool| found.snags.iter().find(|(at, snag)| *at < statement.at && wanted(snag));
-    let snag = first(|snag| matches!(snag, Snag::Stop(_))).or_else(|| first(|_| true));
-    match (found.open, snag) {
-        (Some((at, what)), _) => format!("a {what} that opens in line {} does not end, and this was found by a search for words alone", line(at)),
-        _ if text.get(statement.end) == Some(&b'/') => format!("a comment stands right behind the word {}", statement.keyword),
-        (_, Some((at, Snag::Stop(word)))) => format!("the scan ends at the word {word} in line {}", line(*at)),
-        (_, Some((at, Snag::Backslash))) => format!("a string before it, in line {}, ends behind a backslash", line(*at)),
-        (_, Some((at, Snag::Quote))) => format!("a quote before it, in line {}, stands inside a word", line(*at)),
-        (_, None) => "why is not plain".to_string(),
+/// What seems to keep the scan from statements of a text, in words; a snag with its place.
+struct Causes {
+    open: Option<String>,
+    /// The first word that ends the scan, and the first snag of any kind.
+    snags: [Option<(usize, String)>; 2],
+}
+
+impl Causes {
+    fn of(text: &[u8], found: &Found) -> Causes {
+        let line = |at: usize| Line::at(text, at).number;
+        let words = |(at, snag): &(usize, Snag)| match snag {
+            Snag::Stop(word) => (*at, format!("the scan ends at the word {word} in line {}", line(*at))),
+            Snag::Backslash => (*at, format!("a string before it, in line {}, ends behind a backslash", line(*at))),
+            Snag::Quote => (*at, format!("a quote before it, in line {}, stands inside a word", line(*at))),
+        };
+        let open = |(at, what)| format!("a {what} that opens in line {} does not end, and this was found by a search for words alone", line(at));
+        let stop = found.snags.iter().find(|(_, snag)| matches!(snag, Snag::Stop(_)));
+        Causes { open: found.open.map(open), snags: [stop.map(words), found.snags.first().map(words)] }
+    }
+
+    fn of_one(&self, text: &[u8], statement: &Statement) -> String {
+        let snag = self.snags.iter().flatten().find(|(at, _)| *at < statement.at);
+        match (&self.open, snag) {
+            (Some(words), _) => words.clone(),
+            _ if text.get(statement.end) == Some(&b'/') => format!("a comment stands right behind the word {}", statement.keyword),
+            (_, Some((_, words))) => words.clone(),
+            (_, None) => "why is not plain".to_string(),
+        }
     }
 }
 

@@ -26,12 +26,11 @@ impl Refusal {
     /// The number, the words, the line of a text or the edges of a ring, and what was expected and found: all but what can be done.
     pub fn told(&self) -> String {
         let shown = match self {
-            Refusal::Walk { why: Why::Scan { spot: Some(Spot { line: Some(line), .. }), .. }, .. } => format!("\n{line}"),
+            Refusal::Walk { why: Why::Scan { spot: Some(spot), .. }, .. } => spot.shown(),
             Refusal::Ring(names) => ring(names),
-            _ => String::new(),
+            _ => self.clash().map_or_else(String::new, |clash| format!("\n{clash}")),
         };
-        let clash = self.clash().map_or_else(String::new, |clash| format!("\n{clash}"));
-        format!("refused {}: {}{shown}{clash}", self.number(), self.words())
+        format!("refused {}: {}{shown}", self.number(), self.words())
     }
 }
 

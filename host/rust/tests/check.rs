@@ -171,6 +171,11 @@ fn looks() {
         long.push(0);
         assert_eq!([looks(&long, &bundle), looks(&image, &long)], [None; 2]);
     }
+    // nor is one whose first bytes are those of a JSON document: 123 texts, a name of 34 bytes
+    let mut many = Library { texts: (0..122).map(|i| (format!("n{i}"), String::new())).collect(), ..Library::default() };
+    many.texts.insert("a".repeat(34), "module m { }".to_string());
+    let long = [many.bundle(), vec![0]].concat();
+    assert_eq!((&long[..2], looks(&image, &long)), (&b"{\""[..], None));
     let swapped = graph(&bundle, &image).expect_err("a refusal").to_string();
     assert!(swapped.ends_with("\nexpected an image, found a bundle\nTo do: the two are swapped: give the image first, then the bundle"), "{swapped}");
 }
