@@ -11,6 +11,16 @@ from typing import NamedTuple
 from form import Unusable
 
 SECONDS = 300  # texts that include each other many times can keep a walk from ever ending
+TO_DO = {  # what to do about what only packing knows; about a refusal the command tells it
+    "missing": "get the text from the router by get-schema, or name its folder by --texts",
+    "empty": "get the text anew",
+    "no_module": "get the text anew, and keep what is inside the envelope alone",
+    "name": "get the text of that name, or give the file the name that stands inside",
+    "revision": "get the text of that revision from the router: the imports of another may differ",
+    "parent": "get the text that this router has, or correct the library",
+    "passed_over": "quote the word that ends the scan or move it behind the imports, and put a blank behind import or include: the edge is missing otherwise",
+    "augments": "see to it that the import of that prefix is read, or list the text under augmented-by of the module: an edge may be missing otherwise",
+}
 PLACES = "../rust/build/release/nuvaleta", "../../bin/nuvaleta"  # from this folder: in a clone, in an install
 
 
@@ -25,13 +35,16 @@ class Problem(NamedTuple):
     column: int = None
     advice: str = None
 
+    def to_do(self):
+        return self.advice or TO_DO.get(self.kind)
+
     def said(self):
         place = f", line {self.line}, column {self.column}" if self.line else ""
         words = f"refused {self.number}: {self.words.replace(place, '', 1) if place else self.words}" if self.kind == "refused" else self.words
         return f"{self.file}{place}: {words}" if self.file else words
 
     def members(self):
-        return {name: value for name, value in self._asdict().items() if name != "level"}
+        return {**{name: value for name, value in self._asdict().items() if name != "level"}, "advice": self.to_do()}
 
 
 class Role(NamedTuple):
@@ -101,28 +114,30 @@ def walk(image, bundle):
 # ---- one text
 
 
-def looks_like(text):
-    """What a text seems to be that is no YANG; None if its beginning does not tell."""
-    begin = text.lstrip(b" \t\r\n\f\v\xef\xbb\xbf")[:100].lower()
-    if not begin:
-        return "it is empty"
-    if begin.startswith((b"<!doctype html", b"<html")):
-        return "it looks like a page of HTML, as a server gives it for what it does not have"
-    if begin.startswith(b"<"):
-        return "it looks like XML: if the text is inside, take it out of its envelope"
-    if begin.startswith((b"{", b"[", b'"')):
-        return "it looks like JSON: if the text is inside, take it out of its envelope"
-    return None
+LOOKS = {  # what a text seems to be that begins so, whatever the case of its letters
+    b"<!doctype html": "a page of HTML, as a server gives it for what it does not have",
+    b"<html": "a page of HTML, as a server gives it for what it does not have",
+    b"<": "XML: if the text is inside, take it out of its envelope",
+    b"{": "JSON: if the text is inside, take it out of its envelope",
+    b"[": "JSON: if the text is inside, take it out of its envelope",
+    b'"': "JSON: if the text is inside, take it out of its envelope",
+    b"#": "a reply in NETCONF's chunks: take the text out of them",
+    b"\xff\xfe": "UTF-16: write it in ASCII",
+    b"\xfe\xff": "UTF-16: write it in ASCII",
+}
 
 
 def no_module(text, metadata):
-    """(kind, words) for a text that is no module or submodule at all."""
-    seems = looks_like(text)
-    if seems:
-        return "empty" if seems == "it is empty" else "no_module", f"no module or submodule statement: {seems}"
-    if metadata.get("refused", {}).get("number") == 9:
-        begin = text.strip().split(b"\n")[0][:40].decode("ascii", "backslashreplace")
-        return "no_module", f"no module or submodule statement with a name; it begins with {begin!r}"
+    """(kind, words) for a text that is no module or submodule at all. One that does not begin with that word or a comment is none, whatever a scan finds
+    further on."""
+    begin = text.lstrip(b" \t\r\n\f\v\xef\xbb\xbf")[:100]
+    if not begin:
+        return "empty", "no module or submodule statement: it is empty"
+    for lead, seems in LOOKS.items():
+        if begin.lower().startswith(lead):
+            return "no_module", f"no module or submodule statement: it looks like {seems}"
+    if metadata.get("refused", {}).get("number") == 9 or not re.match(rb"(sub)?module\b|/[/*]", begin):
+        return "no_module", f"no module or submodule statement; it begins with {begin.splitlines()[0][:40].decode('ascii', 'backslashreplace')!r}"
     return None
 
 
@@ -183,7 +198,7 @@ def place(fault, text):
     """Line and column of a fault; those of an import or include that nothing resolves are looked for in its text."""
     if fault.get("line") or fault.get("by") not in ("import", "include") or text is None:
         return fault.get("line"), fault.get("column")
-    found = re.search(rb"\b%s\s+[\"']?%s\b" % (fault["by"].encode(), re.escape(fault["listed"].encode())), text)
+    found = re.search(rb"(?<![\w.-])%s\s+[\"']?%s(?![\w.:-])" % (fault["by"].encode(), re.escape(fault["listed"].encode())), text)
     before = text[:found.start()] if found else b""
     return (before.count(b"\n") + 1, found.start() - before.rfind(b"\n")) if found else (None, None)
 

@@ -8,7 +8,6 @@ import xml.etree.ElementTree as ET
 from typing import NamedTuple
 from xml.parsers import expat
 
-import form
 from form import ImportOnly, Module, Refused, Set
 
 MODULE = "ietf-yang-library"
@@ -16,6 +15,7 @@ NAMESPACE = "urn:ietf:params:xml:ns:yang:" + MODULE
 XMLNS = "{" + NAMESPACE + "}"
 KINDS = "yang-library", "modules-state"  # where a document has both, the first one is taken: servers of RFC 8525 give the same library in both forms
 WHITE = b" \t\r\n"
+ROOTS = 16  # more than this in one message are not read
 
 
 class Entry(NamedTuple):
@@ -36,6 +36,7 @@ class Rows(NamedTuple):
 
 END = b"]]>]]>"
 CHUNK = re.compile(rb"\n#([1-9][0-9]{0,9})\n")
+CHUNKS_END = re.compile(rb"\n##(\n|\Z)")
 GAP = re.compile(rb"[ \t\r\n]*?(?=\n#|[^ \t\r\n]|\Z)")
 
 
@@ -58,7 +59,7 @@ def messages(data):
 def unchunked(data, at):
     """The message in the chunks from here on, and the place behind it."""
     parts = []
-    while not re.compile(rb"\n##(\n|\Z)").match(data, at):
+    while not CHUNKS_END.match(data, at):
         what = f"chunked framing, chunk {len(parts) + 1}"
         if at >= len(data):
             raise Refused(f"{what}: neither this chunk nor the end of all, `##`, is there: the reply is cut off")
@@ -113,6 +114,8 @@ def roots(message):
     """The root elements of a message: one, or several one behind the other, as yanglint prints them."""
     found, rest = [], message.lstrip(WHITE)
     while rest or not found:
+        if len(found) == ROOTS:
+            raise Refused(f"more than {ROOTS} root elements one behind the other")
         try:
             root = Root(rest)
         except Refused as why:

@@ -190,7 +190,7 @@ def read_library(path):
     data = read_file(path, DOCUMENT)
     try:
         if len(data) > DOCUMENT:
-            raise Refused(f"a document of over {DOCUMENT:,} bytes is not read")
+            raise Refused(f"a document of over {DOCUMENT:,} bytes is not read: ask the router for the library alone")
         all_rows = library.read(data)
         return all_rows, [library.to_set(rows) for rows in all_rows], [rows.name for rows in all_rows]
     except Refused as error:

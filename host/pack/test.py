@@ -32,6 +32,17 @@ class Form(Case):
         for n in 0, 127, 128, 16_383, 16_384, 2_097_151:
             self.assertEqual(form.Reader(form.number(n), 3).number(0, form.NUMBER), n)
 
+    def test_limits_of_the_header(self):
+        """The limits here are those of the C header, and the number of routers that of `order --all`."""
+        with open(os.path.join(HERE, "..", "..", "include", "nuvaleta.h"), encoding="utf-8") as file:
+            header = {name: int(value) for name, value in re.findall(r"#define NUVALETA_(\w+)_MOST (\d+)u", file.read())}
+        own = {"SETS": form.SETS, "MODULES": form.MODULES, "LIST": form.LIST, "REVISIONS": form.REVISIONS, "NAME": form.NAME, "IMAGE": form.IMAGE,
+               "TEXTS": form.TEXTS, "NUMBER": form.TEXT, "BUNDLE": form.BUNDLE, "TEXT": form.SCANNED}
+        self.assertEqual({name: header[name] for name in own}, own)
+        self.assertIn(f"at most {header['NODES']:,} names", form.TO_DO["texts"])
+        with open(os.path.join(HERE, "..", "rust", "src", "all.rs"), encoding="utf-8") as file:
+            self.assertIn(f"const ROUTERS_MOST: usize = {pack.TOGETHER};", file.read())
+
     def test_document_example(self):
         self.assertEqual(form.read_image(M_S_B), [Set([Module("m", ["s"]), Module("b")])])
         self.assertEqual(form.write_image([Set([Module("m", ["s"]), Module("b")])]), M_S_B)
@@ -286,7 +297,8 @@ class Documents(Case):
             (STATE + "<other/>", "in the root element other"), ("<other/>" + STATE, "in the root element other"),
             (STATE + "]]>]]><other/>]]>]]>", "root element other"),
             (STATE + "more", "behind the root element modules-state: no XML"), (STATE + "<!-- more", "behind the root element modules-state: no XML"),
-            (STATE + STATE, "2 modules-state elements"), (f"{XML[XML.index('<yang'):]}{STATE * 2}", "2 modules-state elements"),
+            (STATE + STATE, "2 modules-state elements"), ("<hello/>" * 17, "more than 16 root elements"),
+            (f"{XML[XML.index('<yang'):]}{STATE * 2}", "2 modules-state elements"),
             (f"<data>{XML[XML.index('<yang'):] * 2}</data>", "2 yang-library elements"), ("<hello/>", "a hello alone"),
             (reply, "it is an error: access denied"),
             ("<hello/>]]>]]>" + reply, "access denied"), (STATE + "<!DOCTYPE a>", "behind the root element"),
@@ -384,7 +396,8 @@ class Show(Case):
         self.assertEqual(self.said(1, "show-bundle", "--json", bundle), {"refused": {"number": 21, "words": "bundle wrong at 3", "place": 3}})
         words = f"{self.put('library', '<a/>', self.top)}: no yang-library and no modules-state of the namespace {library.NAMESPACE} in the root element a"
         told = self.said(1, "library", "--json", os.path.join(self.top, "library"), self.dir, self.image, self.bundle)
-        self.assertEqual((told["refused"], told["errors"][0]["words"], told["warnings"], told["notes"]), ({"number": None, "words": words}, words, [], []))
+        self.assertEqual((told["refused"], told["errors"][0]["words"], told["warnings"], told["notes"]),
+                         ({"number": None, "words": words, "file": None}, words, [], []))
 
 
 class Words(Case):
@@ -457,6 +470,18 @@ class Words(Case):
         self.refused(self.folder(), path, "16,777,216")
         os.symlink("nowhere", os.path.join(self.dir, "x.yang"))
         self.refused(self.folder(), "x.yang", due=2)
+
+
+class Places(Case):
+    def test_places(self):
+        """Where an import or include stands in a text, for one that has no place of its own."""
+        text = b"module m {\n my-import a; import a-b { }\n  import 'a' { }\tinclude\n a;\n}"
+        for fault, due in [({"by": "import", "listed": "a"}, (3, 3)), ({"by": "include", "listed": "a"}, (3, 18)),
+                           ({"by": "import", "listed": "a-b"}, (2, 15)),
+                           ({"by": "import", "listed": "b"}, (None, None)), ({"by": "deviation", "listed": "a"}, (None, None)),
+                           ({"by": "import", "listed": "a", "line": 7, "column": 8}, (7, 8))]:
+            self.assertEqual(pack.judge.place(fault, text), due, fault)
+        self.assertEqual(pack.judge.place({"by": "import", "listed": "a"}, None), (None, None))
 
 
 class Program(Case):

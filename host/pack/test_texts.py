@@ -2,13 +2,14 @@
 """Tests of host/pack over the built command: texts that are not what is asked for, all that an order would refuse, folders, libraries, many routers."""
 import json
 import os
+import random
 import re
 import shutil
 import subprocess
 import sys
 import unittest.mock
 
-from cases import BARE, HERE, LIBRARY, XML, Case, main, pack
+from cases import HERE, LIBRARY, XML, Case, main, pack
 import form
 from form import Module, Set
 
@@ -71,10 +72,15 @@ class Texts(Told):
             ('<?xml version="1.0"?>\n<module name="b"/>', "no module or submodule statement: it looks like XML"),
             ('{"ietf-netconf-monitoring:data": "module b { prefix b; }"}', "no module or submodule statement: it looks like JSON"),
             ('"module b {}"', "no module or submodule statement: it looks like JSON"),
-            ("404: Not Found", "no module or submodule statement with a name; it begins with '404: Not Found'"),
-            ("// module b {", "no module or submodule statement with a name"),
-            ("/* module b { } */", "no module or submodule statement with a name"),
-            ("container b { module b { } }", "no module or submodule statement with a name"),
+            ("404: Not Found", "no module or submodule statement; it begins with '404: Not Found'"),
+            ("// module b {", "no module or submodule statement; it begins with "),
+            ("/* module b { } */", "no module or submodule statement; it begins with "),
+            ("container b { module b { } }", "no module or submodule statement; it begins with "),
+            ("\n#24\nmodule b { prefix b; im\n#20\nport m { prefix m; } }\n##\n",
+             "no module or submodule statement: it looks like a reply in NETCONF's chunks"),
+            ("HTTP/1.1 200 OK\n\nmodule b { }", "no module or submodule statement; it begins with 'HTTP/1.1 200 OK'"),
+            ("modules { module b { } }", "no module or submodule statement; it begins with 'modules {"),
+            ("module b { }".encode("utf-16"), "no module or submodule statement: it looks like UTF-16"),
             ("<rpc-reply>\xe9 import", "no module or submodule statement: it looks like XML"),
         ]:
             self.wrong(f"b.yang: {words}", b=text)
@@ -173,7 +179,7 @@ class Order(Told):
                          {("missing", "b", 23, None, None), ("refused", "m", 27, 2, 3), ("refused", "d", 25, 2, 14)})
         self.assertEqual({e["file"] for e in told["errors"]}, {None, self.dir + "/m.yang", self.dir + "/d.yang"})
         self.assertTrue(all(e["words"] and ("advice" in e) for e in told["errors"]))
-        self.assertEqual(told["refused"], {key: told["errors"][0][key] for key in ("number", "words")})
+        self.assertEqual(told["refused"], {key: told["errors"][0][key] for key in ("number", "words", "file")})
         self.assertEqual([(w["kind"], w["text"]) for w in told["warnings"]], [("revisions", "i")])
         self.assertEqual((told["image"], told["bundle"]["texts"], told["notes"]), ({"bytes": 35, "sets": 1}, 6, []))
         told = self.said(0, "library", "--json", "--lenient", library, self.dir, self.image, self.bundle)
@@ -216,6 +222,22 @@ class Order(Told):
         at = names.index("m599")
         self.assertEqual(ordered, [n for n in names[:at] if n != "m3"] + ["m599"] + (["m3"] if names.index("m3") < at else []) + names[at + 1:])
 
+    def test_more_names_than_a_list_takes(self):
+        """A module that is named once more in another set, with the rest of its list, has all edges, as the error advises."""
+        names = [f"m{i}" for i in range(66)]
+        for name in names:
+            self.put(f"{name}.yang", f"module {name} {{ prefix m; }}")
+        for kind in "augmented-by", "deviation":
+            rows = [{"name": name} for name in names]
+            self.refused(self.library({"module-set": [{"module": [{**rows[0], kind: names[1:]}, *rows[1:]]}]}), "65 ", "at most 64",
+                         "once more in another set")
+            document = {"module-set": [{"module": [{**rows[0], kind: names[1:65]}, *rows[1:]]}, {"module": [{**rows[0], kind: names[65:]}]}]}
+            self.assertEqual(self.library(document)[::2], (0, ""))
+            ran = subprocess.run([pack.judge.command(), "graph", "--json", self.image, self.bundle], capture_output=True, check=True)
+            self.assertEqual(sorted(json.loads(ran.stdout)["edges"]), [[0, i] for i in range(1, 66)])
+            os.remove(self.image)
+            os.remove(self.bundle)
+
     def test_a_ring(self):
         self.put("a.yang", "module a { prefix a; import b { prefix b; } }")
         self.put("b.yang", "module b { prefix b; import a { prefix a; } }")
@@ -227,6 +249,7 @@ class Order(Told):
         self.put("c.yang", "module c { prefix c;\n  import/**/ a { prefix a; }\n  augment /a:x { }\n}")
         said = self.folder()
         self.assertEqual((said[0], self.errors(said)), (0, []))
+        self.assertEqual([line.split(":")[1] for line in said[2].splitlines() if " to do at " in line], [" to do at augments", " to do at passed over"])
         self.assertEqual([line.split(":")[0] for line in self.lines(said, "warning")],
                          ["b.yang, line 2, column 3", "c.yang, line 2, column 3", "c.yang, line 3, column 3"])
         told = self.said(0, "folder", "--json", self.dir, self.image, self.bundle)
@@ -246,6 +269,50 @@ class Order(Told):
             self.put(f"s{i}.yang", f"submodule s{i} {{ belongs-to m {{ prefix m; }} " + f"include s{i + 1}; " * (256 if i < 8 else 0) + "}")
         with unittest.mock.patch.object(pack.judge, "SECONDS", 0.3):
             self.refused(self.folder(), "given up after 0.3 s: texts that include each other many times")
+
+
+class Drawn(Told):
+    """Libraries that are drawn, with texts that are missing, wrong or damaged: an order is refused exactly where packing tells a refusal or a missing text."""
+
+    def text(self, draw, word, names, parent):
+        lines = [f"belongs-to {parent} {{ prefix x; }}"] if parent else [f"namespace 'urn:{word}'; prefix x;"]
+        lines += [f"import {name} {{ prefix {name}; }}" for name in names if draw.random() < 0.15]
+        lines += [f"include {name};" for name in names if name[0] == "s" and draw.random() < 0.3]
+        text = f"{'submodule' if parent else 'module'} {word} {{\n " + "\n ".join(lines) + "\n}\n"
+        if draw.random() < 0.06:
+            at = draw.randrange(len(text))
+            text = text[:at] + draw.choice(["", ";", "{", '"', "/*", "\xe9", " contact "]) + text[at + draw.randint(0, 3):]
+        return text
+
+    def draw(self, seed):
+        """A library, and its texts."""
+        draw = random.Random(seed)
+        names = [f"m{i}" for i in range(draw.randint(1, 6))]
+        listed = {name: [f"s{i}{name}" for i in range(draw.choice([0, 0, 1, 2]))] for name in names}
+        known = sum(listed.values(), names) + ["gone", "sgone"] * (draw.random() < 0.2)
+        rows = [{"name": name, "conformance-type": draw.choice(["implement", "implement", "import"]), "submodule": [{"name": s} for s in listed[name]],
+                 "deviation": [{"name": draw.choice(known)}] * (draw.random() < 0.1)} for name in names]
+        texts = {word: self.text(draw, word, known, parent) for name in names for word, parent in [(name, None)] + [(s, name) for s in listed[name]]}
+        return {"modules-state": {"module": rows}}, {word: text for word, text in texts.items() if draw.random() < 0.97}
+
+    def test_drawn(self, seeds=range(60)):
+        command, told = pack.judge.command(), set()
+        for seed in seeds:
+            shutil.rmtree(self.dir)
+            document, texts = self.draw(seed)
+            for word, text in texts.items():
+                self.put(f"{word}.yang", text)
+            os.makedirs(self.dir, exist_ok=True)
+            checked = json.loads(self.library(document, "--json", "--check")[1])
+            self.assertEqual(self.library(document, "--lenient")[0], 0, seed)
+            ran = subprocess.run([command, "order", "--json", self.image, self.bundle], capture_output=True, text=True, check=False)
+            refused = json.loads(ran.stdout).get("refused", {}).get("number")
+            numbers = [one["number"] for one in checked["errors"] if one["kind"] in ("missing", "refused", "no_module")]
+            # A text that is no YANG is told as that, and a submodule that is missing though nothing includes it.
+            due = refused in numbers or refused == 25 and None in numbers if refused else set(numbers) <= {None, 24}
+            self.assertTrue(due, (seed, refused, checked["errors"]))
+            told.add(refused)
+        return told
 
 
 class Folder(Told):
@@ -308,7 +375,7 @@ class Folder(Told):
         self.put(b"in\x07/n@\xff.yang".decode(errors="surrogateescape"), b"module n {}")
         self.bundle += "\r"
         status, out, err = self.folder("--lenient")
-        self.assertEqual((status, len(out.splitlines()), len(err.splitlines())), (0, 2, 3))
+        self.assertEqual((status, len(out.splitlines()), len(err.splitlines())), (0, 2, 5))
         self.assertTrue(all(c.isprintable() or c == "\n" for c in out + err))
         for word in "in\\x07/m.yang: it calls itself m\\x1b[2J;", "belongs to n\\x00\\x7f,", "n@\\udcff.yang: its revision is (none)":
             self.assertIn(word, err)
@@ -526,7 +593,7 @@ class Program(Case):
         printed = f"{self.image}: 8 bytes, 1 set\n{self.bundle}: 42 bytes, 1 text\n"
         for stream, why in (">/dev/full", "No space left on device"), (">&-", "Bad file descriptor"):
             status, _, err = self.ran(stream)
-            self.assertEqual((status, err.splitlines(True)[1:]), (2, [f"nuvaleta pack: standard output: {why}\n"]))
+            self.assertEqual((status, err.splitlines(True)[2:]), (2, [f"nuvaleta pack: standard output: {why}\n"]))
         for stream in "2>/dev/full", "2>&-":
             self.assertEqual(self.ran(stream), (0, printed, ""))
         self.assertEqual(self.ran("| :")[0], 0)
