@@ -50,6 +50,7 @@ alone() {
     "$here/readme/outcomes.py"
     "$here/architecture/test.sh"
     "$here/archive/test.sh"
+    "$here/archive/test.py"
     "$here/pack/test.py"
     judged || return 0
     "$here/oracle/test.py"
@@ -69,17 +70,19 @@ from_c_and_rust() {
     "$here/rust/test.sh"
     "$here/rust/test_all.py"
     "$here/pack/test_texts.py"
-    "$here/libyang/test.py"
+    "$here/package/test.py"
+    "$here/first/record.py" --check
     "$here/../examples/test.sh"
 }
 
-# The first three ask the original nothing. Where the original never ends, the texts wait for it: the others go on beside them.
+# The first four ask the original nothing. Where the original never ends, the texts wait for it: the others go on beside them.
 compared() {
     [ "$minor" -ge 88 ] || { skip "no Rust of 1.88 or newer" "the comparison"; return 0; }
     "$here/compare/build.sh"
     "$compare" edges
     "$compare" changes 3 24
     "$compare" orders 13 20000
+    "$here/libyang/test.py"
     judged || return 0
     "$compare" texts 7 10000 >"$work/texts" 2>&1 &
     texts=$!
@@ -101,6 +104,7 @@ compared() {
 
 over() {
     archive=$("$here/archive/archive.sh" nuvaleta)
+    [ "$minor" -lt 63 ] || "$here/rust/built.sh" >/dev/null # both ask for it
     both from_c_and_rust compared
 }
 

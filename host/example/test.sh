@@ -17,8 +17,9 @@ fail() { echo "example: $*" >&2; exit 1; }
 # Installed over an older file, twice; staged; in a relative place; by wrong words. Then it is moved.
 "$here/../build" >/dev/null
 has_all() { # FOLDER
-    found=$(cd "$1" && find . -type f | sort | tr '\n' ' ')
-    [ "$found" = './include/nuvaleta.h ./lib/libnuvaleta.a ./lib/pkgconfig/nuvaleta.pc ' ] || fail "installed are $found"
+    (cd "$1" && find . ! -type d | sort) >"$work/found"
+    (cd "$here/../../target/made" && find . ! -type d | sort) >"$work/due"
+    cmp -s "$work/found" "$work/due" || fail "installed are $(cat "$work/found")"
     cmp "$here/../../include/nuvaleta.h" "$1/include/nuvaleta.h"
 }
 prefix="$work/a prefix"

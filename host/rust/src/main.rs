@@ -8,6 +8,7 @@ mod args;
 mod explain;
 mod io;
 mod json;
+mod pack;
 mod router;
 
 use args::Args;
@@ -198,6 +199,9 @@ fn wrong(why: Wrong, help: &str) -> ExitCode {
 }
 
 fn main() -> ExitCode {
+    if let Some(ended) = pack::run(std::env::args_os().skip(1).collect()) {
+        return ended;
+    }
     let mut args = match Args::read(std::env::args_os().skip(1)) {
         Ok(args) => args,
         Err(why) => return wrong(Wrong::Usage(why), HELP),
