@@ -49,7 +49,7 @@ def machine():
 
 
 class Memory:
-    """The most memory that the processes below one had at the same time."""
+    """The most memory that the processes below one took together: of all that are there at a time, the most that each has had so far."""
 
     def __init__(self):
         self.most = 0
@@ -61,8 +61,8 @@ class Memory:
                 text = status.read_text()
             except OSError:
                 continue
-            values = dict(re.findall(r"^(Pid|PPid|RssAnon):\s*(\d+)", text, re.M))
-            above[int(values["Pid"])], own[int(values["Pid"])] = int(values["PPid"]), int(values.get("RssAnon", 0))
+            values = dict(re.findall(r"^(Pid|PPid|VmHWM):\s*(\d+)", text, re.M))
+            above[int(values["Pid"])], own[int(values["Pid"])] = int(values["PPid"]), int(values.get("VmHWM", 0))
 
         def below(one):
             while one in above and one != pid:
@@ -75,7 +75,7 @@ class Memory:
 def run(command, folder, memory=None):
     """Runs a command on a terminal, as a shell does, to its end."""
     ran = Terminal(["sh", "-c", command], cwd=folder)
-    while not ran.until(lambda _: False, 2) and ran.status is None:
+    while not ran.until(lambda _: False, 0.5) and ran.status is None:
         if memory:
             memory.look(ran.pid)
     return ran
@@ -106,7 +106,7 @@ class Beside:
     def told(self):
         every, idle, own = (now - then for now, then in zip(self.read(), self.before))
         share = round(100 * max(0, every - idle - own) / every)
-        return "Nothing else ran beside it." if share < 5 else f"Other work took {share} % of the processors meanwhile: with nothing beside it takes less."
+        return f"Other work took {share} % of the processors meanwhile" + (": with nothing beside it takes less." if share >= 5 else ".")
 
 
 def used(folder):
