@@ -23,17 +23,19 @@ class Packed(NamedTuple):
 
 
 def yang_files(folder):
-    """Every *.yang under the folder, in the order of their paths."""
+    """Every *.yang under the folder, the ending in any case of its letters, in the order of their paths. Links to folders are followed, none in a circle."""
     if not os.path.isdir(folder):
         raise Unusable(f"{folder}: no such folder")
 
     def fail(error):
         raise Unusable(f"{error.filename}: {error.strerror}")
 
-    found = []
-    for at, folders, names in os.walk(folder, onerror=fail):
-        folders.sort()
-        found += [os.path.join(at, n) for n in names if n.endswith(".yang")]
+    found, seen = [], {os.path.realpath(folder)}
+    for at, folders, names in os.walk(folder, onerror=fail, followlinks=True):
+        below = {n: os.path.realpath(os.path.join(at, n)) for n in sorted(folders)}
+        folders[:] = [n for n, path in below.items() if path not in seen]
+        seen.update(below.values())
+        found += [os.path.join(at, n) for n in names if n.lower().endswith(".yang")]
     for path in found:
         if not os.path.isfile(path):
             raise Unusable(f"{path}: no file that can be read")

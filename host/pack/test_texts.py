@@ -335,6 +335,20 @@ class Folder(Told):
         self.assertEqual(dict(bundle), {os.path.basename(p).split("@")[0].removesuffix(".yang"): t.encode() for p, t in texts.items()})
         self.assertEqual(sorted(os.listdir(self.top)), ["bundle", "image", "texts"])
 
+    def test_links_and_endings(self):
+        """A linked folder is looked through, one that leads in a circle once; the ending may have letters of any case."""
+        self.put("a.yang", "module a { prefix a; }")
+        self.put("B@2024-01-01.YANG", "module B { prefix b; import a { prefix a; } revision 2024-01-01; }")
+        self.put("in/c.yang", "module c { prefix c; import a { prefix a; } }", os.path.join(self.top, "else"))
+        for link, to in ("linked", os.path.join(self.top, "else")), ("circle", self.dir), ("again", os.path.join(self.top, "else", "in")):
+            os.symlink(to, os.path.join(self.dir, link))
+        status, _, err = self.folder()
+        self.assertEqual((status, err), (0, ""))
+        self.assertEqual([n for n, _ in self.read()[1]], ["B", "a", "c"])
+        os.symlink(os.path.join(self.top, "gone"), os.path.join(self.dir, "d.Yang"))
+        status, _, err = self.folder()
+        self.assertEqual((status, err), (2, f"nuvaleta pack: {self.dir}/d.Yang: no file that can be read\n"))
+
     def test_two_files_of_one_name(self):
         paths = [self.put("m.yang", "module m {}"), self.put("in/m@2024-01-01.yang", "module m { }")]
         self.refused(self.folder(), *paths, "they differ: take one of them away")
