@@ -19,6 +19,7 @@ TO_DO = {  # what to do about what only packing knows; about a refusal the comma
     "revision": "get the text of that revision from the router: the imports of another may differ",
     "parent": "get the text that this router has, or correct the library",
     "passed_over": "quote the word that ends the scan or move it behind the imports, and put a blank behind import or include: the edge is missing otherwise",
+    "not_included": "get the texts that this router has, as a module includes all its submodules; or take the submodule out of the library",
     "augments": "see to it that the import of that prefix is read, or list the text under augmented-by of the module: an edge may be missing otherwise",
 }
 PLACES = "../rust/build/release/nuvaleta", "../../bin/nuvaleta"  # from this folder: in a clone, in an install
@@ -237,3 +238,23 @@ def unread(told, files, found):
     return [Problem("warning", "scan", f"a scan refuses it, though nothing reads it now: {why['words']}", word, files[word], None, why.get("line"),
                     why.get("column"))
             for word, one in told.items() if word not in known for why in [one["dependencies"].get("refused")] if why]
+
+
+def not_included(entries, told, files):
+    """Warnings for submodules with imports or includes that no walk reads, though it reads the module that they belong to."""
+    seen, due = set(), list(entries)
+    while due:
+        word = due.pop()
+        if word not in seen and word in told:
+            seen.add(word)
+            due += names(told[word], "includes")
+    scanned = {word for word, one in told.items() if "refused" not in one["dependencies"]}
+    lost = {word: names(told[word], "imports") + names(told[word], "includes") for word in files if word in scanned - seen}
+    return [Problem("warning", "not_included", f"no text that is read includes it, so its own imports and includes give no edge: {', '.join(words)}",
+                    word, files[word])
+            for word, words in lost.items() if words and told[word]["metadata"].get("parent") in scanned]
+
+
+def names(one, kind):
+    """Of one text the names of its imports or includes, as far as they are read."""
+    return [row["name"] for row in one["dependencies"].get(kind, [])]

@@ -108,7 +108,8 @@ class Pile:
         sets, called, notes = form.spread(sets, called)
         image = form.write_image(sets, called)
         found = problems + judge.library_problems(image, bundle, self.texts, self.files, problems)
-        found += judge.unread(told, self.files, found)
+        entries = [one.name for part in sets for one in part.modules + part.import_only]
+        found += judge.unread(told, self.files, found) + judge.not_included(entries, told, self.files)
         return Packed(image, sets, bundle, self.texts, [Problem("note", "spread", note) for note in notes] + found)
 
 

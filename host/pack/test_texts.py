@@ -263,6 +263,17 @@ class Order(Told):
         self.assertEqual((said[0], self.lines(said, "warning")[1:]),
                          (0, ["j.yang, line 1, column 54: a scan refuses it, though nothing reads it now: an import is closed without prefix"]))
 
+    def test_a_submodule_that_nothing_includes(self):
+        """Its imports give no edge, which is told; not where its module cannot be read, as that is told."""
+        import_, words = "import b { prefix b; }", "s.yang: no text that is read includes it, so its own imports and includes give no edge: b"
+        self.good(m=GOOD["m"].replace("include s;", ""), s=GOOD["s"].replace("revision", import_ + " revision"))
+        said = self.library(XML)
+        self.assertEqual((said[0], self.lines(said, "warning")), (0, [TWO, words]))
+        self.assertIn("to do at not included: get the texts", said[2])
+        self.assertEqual(self.lines(self.folder(), "warning"), [words])
+        self.put("m.yang", GOOD["m"].replace("include s;", "import n { }"))
+        self.assertNotIn(words, self.lines(self.library(XML), "warning"))
+
     def test_a_walk_that_does_not_end(self):
         self.put("m.yang", "module m { " + "include s1; " * 256 + "}")
         for i in range(1, 9):
