@@ -195,11 +195,17 @@ def text_problems(word, text, path, told, roles):
 # ---- a whole library
 
 
+COMMENT = rb"//[^\n]*(?:\n|\Z)|/\*(?:[^*]|\*(?!/))*(?:\*/|\Z)"  # what never ends goes on to the end, so that a search takes one turn
+STRING = rb"\"(?:\\.|[^\"\\])*(?:\"|\\?\Z)|'[^']*(?:'|\Z)"
+
+
 def place(fault, text):
     """Line and column of a fault; those of an import or include that nothing resolves are looked for in its text."""
     if fault.get("line") or fault.get("by") not in ("import", "include") or text is None:
         return fault.get("line"), fault.get("column")
-    found = re.search(rb"(?<![\w.-])%s\s+[\"']?%s(?![\w.:-])" % (fault["by"].encode(), re.escape(fault["listed"].encode())), text)
+    keyword, name = fault["by"].encode(), re.escape(fault["listed"].encode())
+    statement = rb"(?P<statement>(?<![\w.-])%s(?:\s|%s)+[\"']?%s(?![\w.:-]))" % (keyword, COMMENT, name)
+    found = next((one for one in re.finditer(b"|".join((COMMENT, statement, STRING)), text, re.DOTALL) if one["statement"]), None)
     before = text[:found.start()] if found else b""
     return (before.count(b"\n") + 1, found.start() - before.rfind(b"\n")) if found else (None, None)
 

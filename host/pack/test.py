@@ -483,6 +483,15 @@ class Places(Case):
             self.assertEqual(pack.judge.place(fault, text), due, fault)
         self.assertEqual(pack.judge.place({"by": "import", "listed": "a"}, None), (None, None))
 
+    def test_places_in_comments_and_strings(self):
+        """What stands in a comment or a string is no statement. A long text of beginnings that never end is gone through once."""
+        import_ = {"by": "import", "listed": "a"}
+        for lead in "// import a\n", "/* import a */\n", "x 'import a';\n", 'x "\\"import a";\n', "/*/ import a */\n":
+            self.assertEqual(pack.judge.place(import_, f"m {{ {lead} import a {{".encode()), (2, 2), lead)
+        self.assertEqual(pack.judge.place(import_, b"m {\n import // b\n /**/ a {"), (2, 2))
+        for part in b"/*", b'"\\', b"'", b"//", b"import //", b"import /**/", b"import ":
+            self.assertEqual(pack.judge.place(import_, b"x " + part * 100_000), (None, None), part)
+
 
 class Program(Case):
     """What standard output and standard error lead to; from where it is called."""
