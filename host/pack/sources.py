@@ -189,24 +189,25 @@ def lost_lists(all_rows):
 
 
 def read_library(path):
-    """The rows, the sets and the words for them of a library document."""
+    """The rows of a library document, the sets, the words for them, and warnings."""
     data = read_file(path, DOCUMENT)
     try:
         if len(data) > DOCUMENT:
             raise Refused(f"a document of over {DOCUMENT:,} bytes is not read: ask the router for the library alone")
-        all_rows = library.read(data)
-        return all_rows, [library.to_set(rows) for rows in all_rows], [rows.name for rows in all_rows]
+        all_rows, warnings = library.read(data)
+        sets, called = [library.to_set(rows) for rows in all_rows], [rows.name for rows in all_rows]
+        form.write_image(*form.spread(sets, called)[:2])  # what cannot be written at all is told first
+        return all_rows, sets, called, [Problem("warning", "not_read", f"{path}: {words}") for words in warnings]
     except Refused as error:
         raise Refused(f"{path}: {error}") from None
 
 
 def from_library(path, shelf):
-    all_rows, sets, called = read_library(path)
-    form.write_image(*form.spread(sets, called)[:2])  # what cannot be written at all is told first
+    all_rows, sets, called, warnings = read_library(path)
     asked = asked_for(all_rows)
     pile, problems = library_texts(asked, shelf)
     if not asked:
         problems.append(Problem("error", "no_modules", f"{path}: a library without any module; it may be the answer to a filter that asked for less"))
     bundle = form.write_bundle(pile.texts, pile.files)
     told = judge.describe(bundle)
-    return pile.packed(sets, called, bundle, told, lost_lists(all_rows) + problems + pile.judged(told, asked))
+    return pile.packed(sets, called, bundle, told, warnings + lost_lists(all_rows) + problems + pile.judged(told, asked))

@@ -212,7 +212,7 @@ class Documents(Case):
 
     def image_of(self, document):
         data = document if isinstance(document, bytes) else (json.dumps(document) if isinstance(document, dict) else document).encode()
-        return form.write_image([library.to_set(rows) for rows in library.read(data)])
+        return form.write_image([library.to_set(rows) for rows in library.read(data)[0]])
 
     def same(self, documents):
         due = form.write_image(LIBRARY)
@@ -272,6 +272,46 @@ class Documents(Case):
         other = {**BARE_STATE, "module": BARE_STATE["module"][:1]}
         both = {"ietf-yang-library:modules-state": other, "ietf-yang-library:yang-library": BARE}
         self.same([both, {"data": both}])
+
+    def warned(self, document, *due):
+        """The library is read with these warnings, beginnings of them."""
+        data = (json.dumps(document) if isinstance(document, dict) else document).encode()
+        found = library.read(data)[1]
+        self.assertEqual([words[:len(begin)] for words, begin in zip(found, due)] + found[len(due):], list(due), document)
+
+    def test_what_is_not_read(self):
+        """A thing under another namespace, module or name than a library has, of which an edge may come, is told; what vendors add is not."""
+        def sets(row, **more):
+            return {"module-set": [{"name": "s", "module": [{"name": "m", **row}, {"name": "n", **row}]}], **more}
+        vendors = sets({"acme:size": 1, "@name": {}}, checksum="1"), XML.replace("<feature>", "<x xmlns='u'/><feature>")
+        for good in XML, STATE, BARE, BARE_STATE, prefixed(BARE), *vendors:
+            self.warned(good)
+        of, no = "is not read, as it is not of ietf-yang-library", "is not read, as it is no name that a library has"
+        self.warned(XML.replace("<deviation>", "<deviation xmlns='urn:x'>"), f"yang-library, module-set first, module m: deviation {of}")
+        self.warned(XML.replace("<module>", "<module xmlns=''>", 1), f"yang-library, module-set first: module {of}")
+        self.warned(XML.replace("<submodule>", "<submodule xmlns='urn:x'>"),
+                    f"yang-library, module-set first, import-only-module i: submodule {of}; there are 2")
+        self.warned(STATE.replace("deviation>", "deviations>"), f"modules-state, module m: deviations {no}")
+        self.warned(sets({"x:deviation": ["d"]}), f"yang-library, module-set s, module m: deviation {of}; there are 2 of them")
+        self.warned(sets({"Deviation": ["d"]}, **{"acme:module-set": []}), f"yang-library: module-set {of}",
+                    f"yang-library, module-set s, module m: Deviation {no}")
+
+    def test_an_error_beside_a_library(self):
+        reply = "<rpc-reply><data>{}</data><rpc-error><error-message> too much </error-message></rpc-error></rpc-reply>".format(STATE)
+        self.warned(reply, "the reply has an error beside the library, which may be cut short: too much")
+
+    def test_two_forms(self):
+        """The first form that has a module is taken; what the other one has besides is told."""
+        empty, inner = "<yang-library xmlns='urn:ietf:params:xml:ns:yang:ietf-yang-library'/>", XML[XML.index("<yang-library"):]
+        self.same([empty + STATE, STATE + empty, {"yang-library": {}, "modules-state": BARE_STATE},
+                   {"modules-state": BARE_STATE, "yang-library": {"module-set": []}}])
+        self.warned(empty + STATE)
+        self.warned(inner + STATE)
+        for name in "k", "m":
+            more = STATE.replace(f"<name>{name}</name>", f"<name>{name}2</name>")
+            self.warned(more + inner, f"modules-state, which is not taken, has modules that are not in yang-library: {name}2")
+        self.warned(inner + STATE.replace(" implement ", "?"), "modules-state, which is not taken, cannot be read: modules-state, module b: its conf")
+        self.warned({"modules-state": {"module": []}, "yang-library": {}})
 
     def test_draft(self):
         """Drafts of RFC 7895 have a container around the submodules."""
@@ -338,9 +378,9 @@ class Documents(Case):
             ("<!-- -->", "no XML"),
             (XML.replace("<name>b</name>", ""), "set 1 (first)", "module without a name"),
             (XML.replace("<name>b</name>", "<name>b</name>" * 2), "name stands there 2 times"),
-            (XML.replace("<name>b</name>", "<name>m</name>"), "set 1 (first)", "module m", "twice"),
+            (XML.replace("<name>b</name>", "<name>m</name>"), "library: set 1 (first)", "module m", "twice"),
             (XML.replace("2021-", "2020-"), "module i", "2020-01-01", "twice"),
-            (XML.replace("<name>b</name>", "<name>b c</name>"), "set 1 (first)", "'b c'"), ({"yang-library": []}, "where an object"),
+            (XML.replace("<name>b</name>", "<name>b c</name>"), "library: set 1 (first)", "'b c'", "rename it"), ({"yang-library": []}, "where an object"),
             ({"module-set": {}}, "not a list"),
             ({"module-set": [1]}, "not a list of objects"), (module(deviation="d"), "deviation is not a list"), (module(deviation=[1]), "list of strings"),
             (module(revision=2024), "mod", "revision is not a string"), (module(submodule=[{}]), "mod, a submodule without a name"),

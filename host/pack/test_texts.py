@@ -153,6 +153,13 @@ class Texts(Told):
         self.assertIn("set 1 (first), import-only module k: it is augmented by or deviated from by b, d; an image has no such lists of import-only modules, "
                       "and no edge comes of them", self.lines(said, "warning"))
 
+    def test_a_deviation_that_is_not_read(self):
+        self.good()
+        said = self.library(XML.replace("<deviation>", "<deviation xmlns='urn:x'>"))
+        words = f"{self.top}/library: yang-library, module-set first, module m: deviation is not read, as it is not of ietf-yang-library"
+        self.assertEqual((said[0], self.lines(said, "warning")), (0, [words, TWO]))
+        self.assertIn("to do at not read: write it under the name", said[2])
+
 
 class Order(Told):
     """All that an order would refuse, at once."""
