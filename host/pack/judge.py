@@ -54,10 +54,16 @@ class Role(NamedTuple):
     name: str
     revision: str = ""
     parent: str = None  # the module that lists a submodule
+    import_only: bool = False  # it is, or belongs to, an import-only module
     by_file: bool = False  # it is known by its file alone, and may be a module or a submodule of any
 
     def asks(self):
         return "its file is named" if self.by_file else "the library asks for"
+
+
+def due(roles):
+    """Those that the one text under a name must fit: of implemented modules, or if there is none, of import-only modules."""
+    return [role for role in roles if not role.import_only] or list(roles)
 
 
 # ---- the built command
@@ -183,10 +189,11 @@ def text_problems(word, text, path, told, roles):
             why = metadata["refused"]
             found.append(problem("warning", "metadata", f"its name and revision cannot be read: {why['words']}", why.get("line"), why.get("column")))
         return found
-    wrongs = [unlike(role, metadata) for role in roles]
+    wrongs = [unlike(role, metadata) for role in due(roles)]
     if None not in wrongs:
         found.append(problem("error", *wrongs[0]))
-    found += [problem("warning", *wrong) for wrong in dict.fromkeys(wrongs) if None in wrongs and wrong and wrong[0] != "revision"]
+    others = dict.fromkeys(unlike(role, metadata) for role in roles)
+    found += [problem("warning", *wrong) for wrong in others if None in wrongs and wrong and wrong[0] != "revision"]
     named = file_name(path, metadata)
     if named and not any(one.kind == "revision" for one in found):
         found.append(problem("warning", "file_name", named))

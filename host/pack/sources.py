@@ -147,9 +147,9 @@ def asked_for(all_rows):
     """By name, what the library asks for, in its order: the entries with the module of a submodule, each once."""
     asked = {}
     for rows in all_rows:
-        for module in rows.modules + rows.import_only:
+        for module, only in [(one, False) for one in rows.modules] + [(one, True) for one in rows.import_only]:
             for entry, parent in [(module, None)] + [(submodule, module.name) for submodule in module.submodules]:
-                asked.setdefault(entry.name, {})[Role(entry.name, entry.revision, parent)] = entry
+                asked.setdefault(entry.name, {})[Role(entry.name, entry.revision, parent, only)] = entry
     return asked
 
 
@@ -169,9 +169,10 @@ def library_texts(asked, shelf):
     """The texts that are asked for, and what is wrong with the choice."""
     pile, problems = Pile(), []
     for word, roles in asked.items():
-        path = next(filter(None, map(shelf.find, roles.values())), None)
+        due = judge.due(roles)
+        path = next(filter(None, (shelf.find(roles[role]) for role in due)), None)
         if path is None:
-            problems.append(missing(word, roles, shelf))
+            problems.append(missing(word, due, shelf))
             continue
         revisions = list(dict.fromkeys(role.revision or "(none)" for role in roles))
         if len(revisions) > 1:

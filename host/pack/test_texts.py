@@ -139,6 +139,25 @@ class Texts(Told):
         self.wrong("m@2024-01-01.yang: its revision is 2023-01-01; the library asks for 2024-01-01",
                    **{"m": None, "m@2024-01-01": GOOD["m"].replace("2024", "2023")})
 
+    def test_implemented_and_import_only(self):
+        """The text of the implemented revision is taken, wherever it stands in the library, and none of another revision in its place."""
+        rows = {"module": [{"name": "m", "revision": "2024-01-01"}]}, {"import-only-module": [{"name": "m", "revision": "2020-01-01"}]}
+        for sets in rows, rows[::-1]:
+            shutil.rmtree(self.dir)
+            document = {"module-set": [{"name": str(at), **row} for at, row in enumerate(sets)]}
+            old = self.put("m@2020-01-01.yang", "module m { prefix m; revision 2020-01-01; }")
+            words = f"error: m: no text of revision 2024-01-01 in {self.dir}; of other revisions there are m@2020-01-01.yang"
+            self.refused(self.library(document), words)
+            shutil.copy(old, os.path.join(self.dir, "m.yang"))
+            self.refused(self.library(document), "error: ", "m.yang: its revision is 2020-01-01; the library asks for 2024-01-01")
+            new = self.put("m.yang", "module m { prefix m; revision 2024-01-01; }")
+            said = self.library(document)
+            self.assertEqual((said[0], [line[:18] for line in self.lines(said, "warning")]), (0, ["m.yang: revisions "]))
+            with open(new, "rb") as file:
+                self.assertEqual(self.read()[1], [("m", file.read())])
+            os.remove(self.image)
+            os.remove(self.bundle)
+
     def test_what_cannot_be_read(self):
         """A text whose header is legal and which the metadata scan refuses is warned of; its imports are read."""
         self.good(b="module b { namespace urn:x/b; prefix b; }")
