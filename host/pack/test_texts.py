@@ -282,6 +282,12 @@ class Order(Told):
         self.assertEqual([(w["kind"], w["text"], w["line"]) for w in told["warnings"]],
                          [("passed_over", "b", 2), ("passed_over", "c", 2), ("augments", "c", 3)])
 
+    def test_a_text_that_is_cut_off(self):
+        self.good(b=GOOD["b"][:GOOD["b"].index("import")])
+        said = self.library(XML)
+        self.assertEqual((said[0], [line[:55] for line in self.lines(said, "warning")[1:]]), (0, ["b.yang, line 1, column 41: it ends inside its module, a"]))
+        self.assertIn("to do at cut off: get the text anew", said[2])
+
     def test_a_text_that_nothing_reads(self):
         self.good()
         self.put("j.yang", "submodule j { belongs-to i { prefix i; } import a { } }")
