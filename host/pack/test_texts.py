@@ -570,6 +570,22 @@ class All(Told):
         self.assertEqual((status, len(self.made())), (1, 8))
         self.assertTrue(err.endswith("6 routers: 4 packed, 2 refused, 0 not readable\n"))
 
+    def test_what_is_no_router(self):
+        """An ending in capitals is one too, a library that leads nowhere is told, and so is a folder of texts without one."""
+        os.rename(os.path.join(self.routers, "west.json"), os.path.join(self.routers, "west.JSON"))
+        os.symlink("nowhere", os.path.join(self.routers, "gone.xml"))
+        self.put("north/a.yang", "module a { prefix a; }", self.routers)
+        self.put("common/c.yang", "module c { prefix c; }", self.routers)
+        self.out = os.path.join(self.routers, "out")
+        common = ["--texts", os.path.join(self.routers, "common")]
+        status, out, err = self.all(*common)
+        self.assertEqual((status, out.count("\n"), len(self.made())), (2, 2, 4))
+        self.assertEqual(err, f"nuvaleta pack: gone: {self.routers}/gone.xml: No such file or directory\n"
+                              "nuvaleta pack: north: a folder without a library, north.xml or north.json beside it: it is no router\n"
+                              "nuvaleta pack: 3 routers: 2 packed, 0 refused, 1 not readable\n")
+        status, out, _ = self.all("--json", *common)
+        self.assertEqual((status, json.loads(out.splitlines()[-1])["summary"]["without_library"]), (2, ["north"]))
+
     def test_one_is_not_readable(self):
         os.mkdir(os.path.join(self.top, "out"))
         os.mkdir(os.path.join(self.out, "east.image"))
@@ -601,7 +617,7 @@ class All(Told):
         self.assertEqual((status, err, [line.get("router") for line in lines]), (1, "", ["east", "lost", "west", None]))
         self.assertEqual((lines[0]["image"]["file"], lines[1]["refused"]["number"], lines[1]["errors"][0]["kind"]),
                          (os.path.join(self.out, "east.image"), 23, "missing"))
-        self.assertEqual(lines[3], {"summary": {"routers": 3, "packed": 2, "refused": 1, "not_readable": 0}})
+        self.assertEqual(lines[3], {"summary": {"routers": 3, "packed": 2, "refused": 1, "not_readable": 0, "without_library": []}})
 
     def test_two_texts_that_differ(self):
         self.router("west", a="module a { prefix other; }")
