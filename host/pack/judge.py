@@ -21,6 +21,7 @@ TO_DO = {  # what to do about what only packing knows; about a refusal the comma
     "passed_over": "quote the word that ends the scan or move it behind the imports, and put a blank behind import or include: the edge is missing otherwise",
     "not_read": "write it under the name and namespace that a library has, or ask the router anew; an edge may be missing otherwise",
     "not_included": "get the texts that this router has, as a module includes all its submodules; or take the submodule out of the library",
+    "other_imports": "let the entry of that revision be the first in the library, or pack the sets that have it on their own",
     "cut_off": "get the text anew, or close its module by } if nothing is missing: edges may be missing otherwise",
     "augments": "see to it that the import of that prefix is read, or list the text under augmented-by of the module: an edge may be missing otherwise",
 }

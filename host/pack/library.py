@@ -301,6 +301,8 @@ def modules_state(state):
 
 def neither(data):
     """What is said of a document that begins neither as XML nor as an object."""
+    if not data.strip():
+        return Refused("it is empty")
     try:
         json.loads(data)
     except (ValueError, RecursionError):

@@ -182,6 +182,19 @@ def library_texts(asked, shelf):
     return pile, problems
 
 
+def other_imports(asked, shelf, pile, told):
+    """Warnings for texts of other revisions than those that are packed, whose imports and includes give no edge."""
+    found = []
+    for word, roles in asked.items():
+        for path in dict.fromkeys(filter(None, map(shelf.find, roles.values()))):
+            if path != pile.files[word]:
+                (other,) = judge.describe(form.write_bundle([(word, read_file(path))])).values()
+                more = [name for kind in ("imports", "includes") for name in judge.names(other, kind) if name not in judge.names(told[word], kind)]
+                words = f"it is not packed, since {pile.files[word]} is, and what it alone imports or includes gives no edge: {', '.join(more)}"
+                found += [Problem("warning", "other_imports", words, word, path)] if more else []
+    return found
+
+
 def lost_lists(all_rows):
     """Warnings for lists of import-only modules, which an image has no place for."""
     return [Problem("warning", "lists", f"{rows.name}, import-only module {one.name}: it is augmented by or deviated from by {', '.join(names)}; "
@@ -211,4 +224,6 @@ def from_library(path, shelf):
         problems.append(Problem("error", "no_modules", f"{path}: a library without any module; it may be the answer to a filter that asked for less"))
     bundle = form.write_bundle(pile.texts, pile.files)
     told = judge.describe(bundle)
+    several = {word: roles for word, roles in asked.items() if word in pile.files and len(roles) > 1}
+    problems += other_imports(several, shelf, pile, told)
     return pile.packed(sets, called, bundle, told, warnings + lost_lists(all_rows) + problems + pile.judged(told, asked))

@@ -372,7 +372,8 @@ class Documents(Case):
         def module(**members):
             return {"module-set": [{"name": "first", "module": [{"name": "mod", **members}]}]}
         for document, *words in [
-            ("", "neither XML nor JSON"), ("module m {", "neither"), ("[" * 100_000, "neither"), ("[]", "library: no JSON object"), ('"a"', "no JSON object"),
+            ("", "library: it is empty"), (" \n", "it is empty"),
+            ("module m {", "neither XML nor JSON"), ("[" * 100_000, "neither"), ("[]", "library: no JSON object"), ('"a"', "no JSON object"),
             ("<a", "no XML"), ("<a/>", "no yang-library"), ("{", "no JSON"), ("{}", "no ietf-yang-library:yang-library"),
             ('{"a":' * 100_000, "no JSON"), (XML.replace("ietf-yang-library", "ietf-other"), "no yang-library"), ("<?xml version='1.0'?>", "no XML"),
             ("<!-- -->", "no XML"),

@@ -158,6 +158,17 @@ class Texts(Told):
             os.remove(self.image)
             os.remove(self.bundle)
 
+    def test_imports_of_another_revision(self):
+        """Of two revisions one text is packed; what the other one alone imports is told."""
+        texts = {f"i@{year}-01-01": f"module i {{ prefix i; import k {{ prefix k; }} IMPORT revision {year}-01-01; }}" for year in (2020, 2021)}
+        for more, due in ("", []), ("import b { prefix b; } include s;", ["b, s"]):
+            self.good(i=None, **{word: text.replace("IMPORT", more if "2021" in word else "") for word, text in texts.items()})
+            status, _, err = said = self.library(XML)
+            words = f"i@2021-01-01.yang: it is not packed, since {self.dir}/i@2020-01-01.yang is, and what it alone imports or includes gives no edge: "
+            told = [line for line in self.lines(said, "warning") if "revisions 2020-01-01, 2021-01-01" not in line]
+            self.assertEqual((status, told), (0, [words.replace(self.dir + "/", "") + names for names in due]))
+            self.assertEqual("to do at other imports: " in err, bool(due))
+
     def test_what_cannot_be_read(self):
         """A text whose header is legal and which the metadata scan refuses is warned of; its imports are read."""
         self.good(b="module b { namespace urn:x/b; prefix b; }")

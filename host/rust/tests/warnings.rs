@@ -91,7 +91,8 @@ fn what_does_not_end() {
 /// A text that ends in the head of its module may have lost imports.
 #[test]
 fn what_is_cut_off() {
-    let whole = "module m{namespace 'urn:m';\nprefix m;\nimport a{prefix p;}x:y z{}/* c */\ninclude s;organization \"o\";revision 2024-01-01;leaf l{type int8;}}";
+    let whole = "module m{namespace 'urn:m';\nprefix m;\nimport a{prefix p;}x:y z{}/* c */\ninclude s;\
+                 organization \"o\";revision 2024-01-01;leaf l{type int8;}}";
     let head = whole.find("organization").expect("a head");
     for end in 9..whole.len() {
         let text = &whole[..end];
