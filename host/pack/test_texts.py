@@ -477,6 +477,16 @@ class Folder(Told):
         self.refused(self.run_pack("folder", self.dir, self.image, self.dir), f"{self.dir}: not a file", due=2)
         self.refused(self.run_pack("folder", "--json", self.dir, self.image, self.dir), "not a file", due=2)
 
+    def test_what_is_read_is_not_written_over(self):
+        text, library = self.put("m.yang", "module m { }"), self.put("library", json.dumps({"module-set": [{"module": [{"name": "m"}]}]}), self.top)
+        os.symlink(library, os.path.join(self.dir, "link"))
+        for words, kind in [(["folder", self.dir, self.image, text], "a text"), (["library", library, self.dir, text, self.bundle], "a text"),
+                            (["library", library, self.dir, os.path.join(self.dir, "link"), self.bundle], "the library"),
+                            (["library", library, self.dir, self.image, library], "the library")]:
+            before = [open(path, "rb").read() for path in (text, library)]
+            self.refused(self.run_pack(*words), f"{kind} is not written over: name another file", due=2)
+            self.assertEqual([open(path, "rb").read() for path in (text, library)], before)
+
     def test_an_empty_library(self):
         for document in '{"module-set": []}', "<modules-state xmlns='urn:ietf:params:xml:ns:yang:ietf-yang-library'><module-set-id/></modules-state>":
             self.refused(self.library(document), "error: ", "library: a library without any module")
