@@ -41,17 +41,19 @@ GAP = re.compile(rb"[ \t\r\n]*?(?=\n#|[^ \t\r\n]|\Z)")
 
 
 def messages(data):
-    """The messages of a session without their framing: behind each its end marker, or all in chunks. A document without framing is one message."""
+    """The messages of a session without their framing: behind each its end marker, or all in chunks. A document without framing is one message. With each
+    comes the number of line breaks before it, None for one in chunks."""
     if data.startswith(b"#"):
         data = b"\n" + data  # the line break before the first chunk is easily lost when a reply is saved
     found, at = [], GAP.match(data).end()
     while at < len(data):
         if data.startswith(b"\n#", at):
             message, at = unchunked(data, at)
+            found.append((message, None))
         else:
-            end = data.find(END, at)
+            end, lines = data.find(END, at), data.count(b"\n", 0, at)
             message, at = (data[at:], len(data)) if end < 0 else (data[at:end], end + len(END))
-        found.append(message)
+            found.append((message, lines))
         at = GAP.match(data, at).end()
     return found
 
@@ -78,10 +80,17 @@ def unchunked(data, at):
 # ---- XML
 
 
-class Root:
-    """Reads one root element; what stands behind it is left over."""
+def spot(message, lines, at):
+    """Line and column of a place of a message, behind so many line breaks of its document."""
+    before = message[:at]
+    line, column = before.count(b"\n") + 1 + (lines or 0), at - before.rfind(b"\n")
+    return f"line {line}, column {column}{' of the message without its chunks' if lines is None else ''}"
 
-    def __init__(self, data):
+
+class Root:
+    """Reads one root element; what stands behind it is left over. `where` says in words where a place is."""
+
+    def __init__(self, data, where):
         self.builder, self.depth, self.element, self.rest = ET.TreeBuilder(), 0, None, b""
         parser = expat.ParserCreate(None, "}")
         parser.buffer_text = True
@@ -91,7 +100,7 @@ class Root:
             parser.Parse(data, True)
         except expat.ExpatError as error:
             if self.element is None:
-                raise Refused(f"no XML: {error}") from None
+                raise Refused(f"no XML: {expat.ErrorString(error.code)}: {where(parser.ErrorByteIndex)}") from None
             self.rest = data[parser.ErrorByteIndex:]
         except (LookupError, ValueError):
             raise Refused("no XML that can be read: its declaration has an encoding that is not known here") from None
@@ -110,14 +119,15 @@ class Root:
         raise Refused("a DOCTYPE; a library document has none, and one that does is not read")
 
 
-def roots(message):
+def roots(message, lines):
     """The root elements of a message: one, or several one behind the other, as yanglint prints them."""
     found, rest = [], message.lstrip(WHITE)
     while rest or not found:
         if len(found) == ROOTS:
             raise Refused(f"more than {ROOTS} root elements one behind the other")
+        start = len(message) - len(rest)
         try:
-            root = Root(rest)
+            root = Root(rest, lambda at, start=start: spot(message, lines, start + at))
         except Refused as why:
             raise Refused(f"behind the root element {local(found[-1])}: {why}" if found else str(why)) from None
         found.append(root.element)
@@ -169,7 +179,7 @@ def error_messages(root):
 def xml_libraries(data):
     """The element of each kind that is there, and warnings."""
     found, warnings = {kind: [] for kind in KINDS}, []
-    for root in (root for message in messages(data) for root in roots(message)):
+    for root in (root for message, lines in messages(data) for root in roots(message, lines)):
         inside = {kind: list(root.iter(XMLNS + kind)) for kind in KINDS}
         if not any(inside.values()) and local(root) != "hello":
             raise not_a_library(root)

@@ -331,6 +331,14 @@ class Documents(Case):
         ]:
             self.refused(self.library(bad), "library: ", *words)
 
+    def test_places_of_broken_xml(self):
+        """They are counted in the document, from 1 on; of a message in chunks without these."""
+        inner = "<a>\n <b></c>\n</a>"
+        for bad, due in [(inner, "line 2, column 7"), ("\n\n " + inner, "line 4, column 7"), ("<hello/>]]>]]>\n" + inner, "line 3, column 7"),
+                         (STATE + "\n<x", f"line {STATE.count(chr(10)) + 2}, column 1"), (STATE.rstrip() + "x", f"line {STATE.count(chr(10))}, column 17"),
+                         (self.chunks(inner, 2), "line 2, column 7 of the message without its chunks"), ("<a", "line 1, column 1")]:
+            self.refused(self.library(bad), "library: ", "no XML", f": {due}\n")
+
     def test_roots_that_are_no_library(self):
         reply = "<rpc-reply xmlns='urn:n'><rpc-error><error-message xml:lang='en'> access denied </error-message></rpc-error></rpc-reply>"
         for bad, *words in [
