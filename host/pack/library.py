@@ -208,7 +208,7 @@ class Json:
     def words(self):
         """The name of each member, and whether it is of the library's own module. Those with `@` are annotations (RFC 7952)."""
         pairs = (key.rpartition(":") for key in self.members if not key.startswith("@"))
-        return [(word, prefix in ("", MODULE)) for prefix, _, word in pairs]
+        return [(word, not colon or prefix == MODULE) for prefix, colon, word in pairs]
 
     def member(self, word, anywhere=False):
         found = [v for k, v in self.members.items() if k in (word, f"{MODULE}:{word}") or anywhere and k.endswith(":" + word)]

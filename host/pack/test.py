@@ -293,7 +293,7 @@ class Documents(Case):
                     f"yang-library, module-set first, import-only-module i: submodule {of}; there are 2")
         self.warned(STATE.replace("deviation>", "deviations>"), f"modules-state, module m: deviations {no}")
         self.warned(sets({"x:deviation": ["d"]}), f"yang-library, module-set s, module m: deviation {of}; there are 2 of them")
-        self.warned(sets({"Deviation": ["d"]}, **{"acme:module-set": []}), f"yang-library: module-set {of}",
+        self.warned(sets({"Deviation": ["d"]}, **{":module-set": []}), f"yang-library: module-set {of}",
                     f"yang-library, module-set s, module m: Deviation {no}")
 
     def test_an_error_beside_a_library(self):
