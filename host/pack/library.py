@@ -156,6 +156,8 @@ class Xml:
 
     def leaves(self, word, anywhere=False):
         found = self.element.findall(("{*}" if anywhere else XMLNS) + word)
+        for inner in (inner for child in found for inner in child):
+            raise Refused(f"{word} has an element {local(inner)} inside; a text alone is due")
         return [(child.text or "").strip() for child in found]
 
     def leaf(self, word, what):

@@ -387,6 +387,7 @@ class Documents(Case):
             ("<!-- -->", "no XML"),
             (XML.replace("<name>b</name>", ""), "set 1 (first)", "module without a name"),
             (XML.replace("<name>b</name>", "<name>b</name>" * 2), "name stands there 2 times"),
+            (XML.replace("<deviation>d", "<deviation><name>d</name>"), "library: deviation has an element name inside; a text alone is due"),
             (XML.replace("<name>b</name>", "<name>m</name>"), "library: set 1 (first)", "module m", "twice"),
             (XML.replace("2021-", "2020-"), "module i", "2020-01-01", "twice"),
             (XML.replace("<name>b</name>", "<name>b c</name>"), "library: set 1 (first)", "'b c'", "rename it"), ({"yang-library": []}, "where an object"),
