@@ -283,10 +283,13 @@ def entry(row, what, state=False):
     """A module's entry. In a modules-state a deviation is an entry too, and drafts of RFC 7895 have a container around the submodules."""
     own = named(row, what)
     what = f"{what} {own.name}"
-    submodules = row.rows("submodule") + [inner for box in row.inner("submodules") for inner in box.rows("submodule")]
-    deviations = [named(r, f"{what}, a deviation").name for r in row.rows("deviation")] if state else row.leaves("deviation")
-    return own._replace(submodules=[named(r, f"{what}, a submodule") for r in submodules],
-                        augmenting=row.leaves("augmented-by", anywhere=True), deviations=deviations)
+    try:
+        submodules = row.rows("submodule") + [inner for box in row.inner("submodules") for inner in box.rows("submodule")]
+        deviations = [named(r, f"{what}, a deviation").name for r in row.rows("deviation")] if state else row.leaves("deviation")
+        return own._replace(submodules=[named(r, f"{what}, a submodule") for r in submodules],
+                            augmenting=row.leaves("augmented-by", anywhere=True), deviations=deviations)
+    except Refused as why:
+        raise Refused(str(why) if str(why).startswith(what) else f"{what}: {why}") from None
 
 
 def yang_library(library):

@@ -572,6 +572,11 @@ class All(Told):
         ordered = subprocess.run([pack.judge.command(), "order", "--all", self.out], capture_output=True, text=True, check=True).stdout
         self.assertEqual(ordered, "east\ta\neast\tb\nwest\ta\n")
 
+    def test_more_than_are_ordered_at_once(self):
+        with unittest.mock.patch.object(pack, "TOGETHER", 1):
+            self.assertIn("nuvaleta pack: `nuvaleta order --all` takes at most 1 routers at once: put them into several folders\n", self.all()[2])
+        self.assertNotIn("at once", self.all()[2])
+
     def test_some_are_refused(self):
         broken = self.put("broken.xml", "<a/>", self.routers)
         self.router("lost", "a", "gone")
