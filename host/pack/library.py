@@ -352,17 +352,19 @@ def not_read_words(found):
             f"{f'; there are {len(what):,} of them' if len(what) > 1 else ''}" for (word, own), what in places.items()]
 
 
-def entry_names(all_rows):
-    return [one.name for rows in all_rows for one in rows.modules + rows.import_only]
+def things(all_rows):
+    """The names of all entries, and all deviations."""
+    entries = [one for rows in all_rows for one in rows.modules + rows.import_only]
+    return {one.name for one in entries} | {f"deviation {word} of {one.name}" for one in entries for word in one.deviations}
 
 
 def beside(all_rows, kind, library):
     """Warnings about the library's other form, which is not taken."""
     try:
-        more = sorted(set(entry_names(READERS[kind](library))) - set(entry_names(all_rows)))
+        more = sorted(things(READERS[kind](library)) - things(all_rows))
     except Refused as why:
         return [f"{kind}, which is not taken, cannot be read: {why}"]
-    return [f"{kind}, which is not taken, has modules that are not in {KINDS[0]}: {', '.join(more)}"] if more else []
+    return [f"{kind}, which is not taken, has more than {KINDS[0]}: {', '.join(more)}"] if more else []
 
 
 READERS = {"yang-library": yang_library, "modules-state": modules_state}
@@ -376,7 +378,7 @@ def read(data):
     found, warnings = json_libraries(data) if first == b"{" else xml_libraries(data)
     (kind, library), *others = found.items()
     all_rows = READERS[kind](library)
-    if others and not entry_names(all_rows):
+    if others and not things(all_rows):
         kind, library = others.pop()
         all_rows = READERS[kind](library)
     for other in others:

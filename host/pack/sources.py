@@ -188,7 +188,7 @@ def other_imports(asked, shelf, pile, told):
     for word, roles in asked.items():
         for path in dict.fromkeys(filter(None, map(shelf.find, roles.values()))):
             if path != pile.files[word]:
-                (other,) = judge.describe(form.write_bundle([(word, read_file(path))])).values()
+                (other,) = judge.describe(form.write_bundle([(word, read_file(path)[:form.TEXT])])).values()
                 more = [name for kind in ("imports", "includes") for name in judge.names(other, kind) if name not in judge.names(told[word], kind)]
                 words = f"it is not packed, since {pile.files[word]} is, and what it alone imports or includes gives no edge: {', '.join(more)}"
                 found += [Problem("warning", "other_imports", words, word, path)] if more else []

@@ -307,9 +307,9 @@ class Documents(Case):
                    {"modules-state": BARE_STATE, "yang-library": {"module-set": []}}])
         self.warned(empty + STATE)
         self.warned(inner + STATE)
-        for name in "k", "m":
-            more = STATE.replace(f"<name>{name}</name>", f"<name>{name}2</name>")
-            self.warned(more + inner, f"modules-state, which is not taken, has modules that are not in yang-library: {name}2")
+        for old, new, due in [("<name>k</name>", "<name>k2</name>", "k2"), ("<name>b</name>", "<name>b</name><deviation><name>k</name></deviation>",
+                                                                            "deviation k of b")]:
+            self.warned(STATE.replace(old, new) + inner, f"modules-state, which is not taken, has more than yang-library: {due}")
         self.warned(inner + STATE.replace(" implement ", "?"), "modules-state, which is not taken, cannot be read: modules-state, module b: its conf")
         self.warned({"modules-state": {"module": []}, "yang-library": {}})
 
