@@ -72,7 +72,7 @@ def name(word, what):
     if not 1 <= len(word) <= NAME:
         raise Refused(f"{what}: the name {word!r} has {len(word):,} characters; a name has 1 to {NAME}: rename it, or leave it out")
     if not all(33 <= ord(c) <= 126 for c in word):
-        raise Refused(f"{what}: the name {word!r} has a character that is none of the bytes 33 to 126")
+        raise Refused(f"{what}: the name {word!r} has a character that is none of the bytes 33 to 126: rename it, or leave it out")
     return number(len(word)) + word.encode("ascii")
 
 

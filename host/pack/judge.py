@@ -19,6 +19,10 @@ TO_DO = {  # what to do about what only packing knows; about a refusal the comma
     "revision": "get the text of that revision from the router: the imports of another may differ",
     "parent": "get the text that this router has, or correct the library",
     "passed_over": "quote the word that ends the scan or move it behind the imports, and put a blank behind import or include: the edge is missing otherwise",
+    "not_read": "write it under the name and namespace that a library has, or ask the router anew; an edge may be missing otherwise",
+    "not_included": "get the texts that this router has, as a module includes all its submodules; or take the submodule out of the library",
+    "other_imports": "let the entry of that revision be the first in the library, or pack the sets that have it on their own",
+    "cut_off": "get the text anew, or close its module by } if nothing is missing: edges may be missing otherwise",
     "augments": "see to it that the import of that prefix is read, or list the text under augmented-by of the module: an edge may be missing otherwise",
 }
 PLACES = "../rust/build/release/nuvaleta", "../../bin/nuvaleta"  # from this folder: in a clone, in an install
@@ -52,10 +56,16 @@ class Role(NamedTuple):
     name: str
     revision: str = ""
     parent: str = None  # the module that lists a submodule
+    import_only: bool = False  # it is, or belongs to, an import-only module
     by_file: bool = False  # it is known by its file alone, and may be a module or a submodule of any
 
     def asks(self):
         return "its file is named" if self.by_file else "the library asks for"
+
+
+def due(roles):
+    """Those that the one text under a name must fit: of implemented modules, or if there is none, of import-only modules."""
+    return [role for role in roles if not role.import_only] or list(roles)
 
 
 # ---- the built command
@@ -181,10 +191,11 @@ def text_problems(word, text, path, told, roles):
             why = metadata["refused"]
             found.append(problem("warning", "metadata", f"its name and revision cannot be read: {why['words']}", why.get("line"), why.get("column")))
         return found
-    wrongs = [unlike(role, metadata) for role in roles]
+    wrongs = [unlike(role, metadata) for role in due(roles)]
     if None not in wrongs:
         found.append(problem("error", *wrongs[0]))
-    found += [problem("warning", *wrong) for wrong in dict.fromkeys(wrongs) if None in wrongs and wrong and wrong[0] != "revision"]
+    others = dict.fromkeys(unlike(role, metadata) for role in roles)
+    found += [problem("warning", *wrong) for wrong in others if None in wrongs and wrong and wrong[0] != "revision"]
     named = file_name(path, metadata)
     if named and not any(one.kind == "revision" for one in found):
         found.append(problem("warning", "file_name", named))
@@ -194,11 +205,17 @@ def text_problems(word, text, path, told, roles):
 # ---- a whole library
 
 
+COMMENT = rb"//[^\n]*(?:\n|\Z)|/\*(?:[^*]|\*(?!/))*(?:\*/|\Z)"  # what never ends goes on to the end, so that a search takes one turn
+STRING = rb"\"(?:\\.|[^\"\\])*(?:\"|\\?\Z)|'[^']*(?:'|\Z)"
+
+
 def place(fault, text):
     """Line and column of a fault; those of an import or include that nothing resolves are looked for in its text."""
     if fault.get("line") or fault.get("by") not in ("import", "include") or text is None:
         return fault.get("line"), fault.get("column")
-    found = re.search(rb"(?<![\w.-])%s\s+[\"']?%s(?![\w.:-])" % (fault["by"].encode(), re.escape(fault["listed"].encode())), text)
+    keyword, name = fault["by"].encode(), re.escape(fault["listed"].encode())
+    statement = rb"(?P<statement>(?<![\w.-])%s(?:\s|%s)+[\"']?%s(?![\w.:-]))" % (keyword, COMMENT, name)
+    found = next((one for one in re.finditer(b"|".join((COMMENT, statement, STRING)), text, re.DOTALL) if one["statement"]), None)
     before = text[:found.start()] if found else b""
     return (before.count(b"\n") + 1, found.start() - before.rfind(b"\n")) if found else (None, None)
 
@@ -237,3 +254,23 @@ def unread(told, files, found):
     return [Problem("warning", "scan", f"a scan refuses it, though nothing reads it now: {why['words']}", word, files[word], None, why.get("line"),
                     why.get("column"))
             for word, one in told.items() if word not in known for why in [one["dependencies"].get("refused")] if why]
+
+
+def not_included(entries, told, files):
+    """Warnings for submodules with imports or includes that no walk reads, though it reads the module that they belong to."""
+    seen, due = set(), list(entries)
+    while due:
+        word = due.pop()
+        if word not in seen and word in told:
+            seen.add(word)
+            due += names(told[word], "includes")
+    scanned = {word for word, one in told.items() if "refused" not in one["dependencies"]}
+    lost = {word: names(told[word], "imports") + names(told[word], "includes") for word in files if word in scanned - seen}
+    return [Problem("warning", "not_included", f"no text that is read includes it, so its own imports and includes give no edge: {', '.join(words)}",
+                    word, files[word])
+            for word, words in lost.items() if words and told[word]["metadata"].get("parent") in scanned]
+
+
+def names(one, kind):
+    """Of one text the names of its imports or includes, as far as they are read."""
+    return [row["name"] for row in one["dependencies"].get(kind, [])]

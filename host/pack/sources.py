@@ -23,17 +23,19 @@ class Packed(NamedTuple):
 
 
 def yang_files(folder):
-    """Every *.yang under the folder, in the order of their paths."""
+    """Every *.yang under the folder, the ending in any case of its letters, in the order of their paths. Links to folders are followed, none in a circle."""
     if not os.path.isdir(folder):
         raise Unusable(f"{folder}: no such folder")
 
     def fail(error):
         raise Unusable(f"{error.filename}: {error.strerror}")
 
-    found = []
-    for at, folders, names in os.walk(folder, onerror=fail):
-        folders.sort()
-        found += [os.path.join(at, n) for n in names if n.endswith(".yang")]
+    found, seen = [], {os.path.realpath(folder)}
+    for at, folders, names in os.walk(folder, onerror=fail, followlinks=True):
+        below = {n: os.path.realpath(os.path.join(at, n)) for n in sorted(folders)}
+        folders[:] = [n for n, path in below.items() if path not in seen]
+        seen.update(below.values())
+        found += [os.path.join(at, n) for n in names if n.lower().endswith(".yang")]
     for path in found:
         if not os.path.isfile(path):
             raise Unusable(f"{path}: no file that can be read")
@@ -106,7 +108,8 @@ class Pile:
         sets, called, notes = form.spread(sets, called)
         image = form.write_image(sets, called)
         found = problems + judge.library_problems(image, bundle, self.texts, self.files, problems)
-        found += judge.unread(told, self.files, found)
+        entries = [one.name for part in sets for one in part.modules + part.import_only]
+        found += judge.unread(told, self.files, found) + judge.not_included(entries, told, self.files)
         return Packed(image, sets, bundle, self.texts, [Problem("note", "spread", note) for note in notes] + found)
 
 
@@ -144,9 +147,9 @@ def asked_for(all_rows):
     """By name, what the library asks for, in its order: the entries with the module of a submodule, each once."""
     asked = {}
     for rows in all_rows:
-        for module in rows.modules + rows.import_only:
+        for module, only in [(one, False) for one in rows.modules] + [(one, True) for one in rows.import_only]:
             for entry, parent in [(module, None)] + [(submodule, module.name) for submodule in module.submodules]:
-                asked.setdefault(entry.name, {})[Role(entry.name, entry.revision, parent)] = entry
+                asked.setdefault(entry.name, {})[Role(entry.name, entry.revision, parent, only)] = entry
     return asked
 
 
@@ -166,9 +169,10 @@ def library_texts(asked, shelf):
     """The texts that are asked for, and what is wrong with the choice."""
     pile, problems = Pile(), []
     for word, roles in asked.items():
-        path = next(filter(None, map(shelf.find, roles.values())), None)
+        due = judge.due(roles)
+        path = next(filter(None, (shelf.find(roles[role]) for role in due)), None)
         if path is None:
-            problems.append(missing(word, roles, shelf))
+            problems.append(missing(word, due, shelf))
             continue
         revisions = list(dict.fromkeys(role.revision or "(none)" for role in roles))
         if len(revisions) > 1:
@@ -176,6 +180,19 @@ def library_texts(asked, shelf):
             problems.append(Problem("warning", "revisions", words, word, path))
         pile.add(word, path)
     return pile, problems
+
+
+def other_imports(asked, shelf, pile, told):
+    """Warnings for texts of other revisions than those that are packed, whose imports and includes give no edge."""
+    found = []
+    for word, roles in asked.items():
+        for path in dict.fromkeys(filter(None, map(shelf.find, roles.values()))):
+            if path != pile.files[word]:
+                (other,) = judge.describe(form.write_bundle([(word, read_file(path)[:form.TEXT])])).values()
+                more = [name for kind in ("imports", "includes") for name in judge.names(other, kind) if name not in judge.names(told[word], kind)]
+                words = f"it is not packed, since {pile.files[word]} is, and what it alone imports or includes gives no edge: {', '.join(more)}"
+                found += [Problem("warning", "other_imports", words, word, path)] if more else []
+    return found
 
 
 def lost_lists(all_rows):
@@ -186,24 +203,27 @@ def lost_lists(all_rows):
 
 
 def read_library(path):
-    """The rows, the sets and the words for them of a library document."""
+    """The rows of a library document, the sets, the words for them, and warnings."""
     data = read_file(path, DOCUMENT)
     try:
         if len(data) > DOCUMENT:
             raise Refused(f"a document of over {DOCUMENT:,} bytes is not read: ask the router for the library alone")
-        all_rows = library.read(data)
-        return all_rows, [library.to_set(rows) for rows in all_rows], [rows.name for rows in all_rows]
+        all_rows, warnings = library.read(data)
+        sets, called = [library.to_set(rows) for rows in all_rows], [rows.name for rows in all_rows]
+        form.write_image(*form.spread(sets, called)[:2])  # what cannot be written at all is told first
+        return all_rows, sets, called, [Problem("warning", "not_read", f"{path}: {words}") for words in warnings]
     except Refused as error:
         raise Refused(f"{path}: {error}") from None
 
 
 def from_library(path, shelf):
-    all_rows, sets, called = read_library(path)
-    form.write_image(*form.spread(sets, called)[:2])  # what cannot be written at all is told first
+    all_rows, sets, called, warnings = read_library(path)
     asked = asked_for(all_rows)
     pile, problems = library_texts(asked, shelf)
     if not asked:
         problems.append(Problem("error", "no_modules", f"{path}: a library without any module; it may be the answer to a filter that asked for less"))
     bundle = form.write_bundle(pile.texts, pile.files)
     told = judge.describe(bundle)
-    return pile.packed(sets, called, bundle, told, lost_lists(all_rows) + problems + pile.judged(told, asked))
+    several = {word: roles for word, roles in asked.items() if word in pile.files and len(roles) > 1}
+    problems += other_imports(several, shelf, pile, told)
+    return pile.packed(sets, called, bundle, told, warnings + lost_lists(all_rows) + problems + pile.judged(told, asked))

@@ -212,7 +212,7 @@ class Documents(Case):
 
     def image_of(self, document):
         data = document if isinstance(document, bytes) else (json.dumps(document) if isinstance(document, dict) else document).encode()
-        return form.write_image([library.to_set(rows) for rows in library.read(data)])
+        return form.write_image([library.to_set(rows) for rows in library.read(data)[0]])
 
     def same(self, documents):
         due = form.write_image(LIBRARY)
@@ -273,6 +273,46 @@ class Documents(Case):
         both = {"ietf-yang-library:modules-state": other, "ietf-yang-library:yang-library": BARE}
         self.same([both, {"data": both}])
 
+    def warned(self, document, *due):
+        """The library is read with these warnings, beginnings of them."""
+        data = (json.dumps(document) if isinstance(document, dict) else document).encode()
+        found = library.read(data)[1]
+        self.assertEqual([words[:len(begin)] for words, begin in zip(found, due)] + found[len(due):], list(due), document)
+
+    def test_what_is_not_read(self):
+        """A thing under another namespace, module or name than a library has, of which an edge may come, is told; what vendors add is not."""
+        def sets(row, **more):
+            return {"module-set": [{"name": "s", "module": [{"name": "m", **row}, {"name": "n", **row}]}], **more}
+        vendors = sets({"acme:size": 1, "@name": {}}, checksum="1"), XML.replace("<feature>", "<x xmlns='u'/><feature>")
+        for good in XML, STATE, BARE, BARE_STATE, prefixed(BARE), *vendors:
+            self.warned(good)
+        of, no = "is not read, as it is not of ietf-yang-library", "is not read, as it is no name that a library has"
+        self.warned(XML.replace("<deviation>", "<deviation xmlns='urn:x'>"), f"yang-library, module-set first, module m: deviation {of}")
+        self.warned(XML.replace("<module>", "<module xmlns=''>", 1), f"yang-library, module-set first: module {of}")
+        self.warned(XML.replace("<submodule>", "<submodule xmlns='urn:x'>"),
+                    f"yang-library, module-set first, import-only-module i: submodule {of}; there are 2")
+        self.warned(STATE.replace("deviation>", "deviations>"), f"modules-state, module m: deviations {no}")
+        self.warned(sets({"x:deviation": ["d"]}), f"yang-library, module-set s, module m: deviation {of}; there are 2 of them")
+        self.warned(sets({"Deviation": ["d"]}, **{":module-set": []}), f"yang-library: module-set {of}",
+                    f"yang-library, module-set s, module m: Deviation {no}")
+
+    def test_an_error_beside_a_library(self):
+        reply = "<rpc-reply><data>{}</data><rpc-error><error-message> too much </error-message></rpc-error></rpc-reply>".format(STATE)
+        self.warned(reply, "the reply has an error beside the library, which may be cut short: too much")
+
+    def test_two_forms(self):
+        """The first form that has a module is taken; what the other one has besides is told."""
+        empty, inner = "<yang-library xmlns='urn:ietf:params:xml:ns:yang:ietf-yang-library'/>", XML[XML.index("<yang-library"):]
+        self.same([empty + STATE, STATE + empty, {"yang-library": {}, "modules-state": BARE_STATE},
+                   {"modules-state": BARE_STATE, "yang-library": {"module-set": []}}])
+        self.warned(empty + STATE)
+        self.warned(inner + STATE)
+        for old, new, due in [("<name>k</name>", "<name>k2</name>", "k2"), ("<name>b</name>", "<name>b</name><deviation><name>k</name></deviation>",
+                                                                            "deviation k of b")]:
+            self.warned(STATE.replace(old, new) + inner, f"modules-state, which is not taken, has more than yang-library: {due}")
+        self.warned(inner + STATE.replace(" implement ", "?"), "modules-state, which is not taken, cannot be read: modules-state, module b: its conf")
+        self.warned({"modules-state": {"module": []}, "yang-library": {}})
+
     def test_draft(self):
         """Drafts of RFC 7895 have a container around the submodules."""
         boxed = re.sub(r"<submodule>.*?</submodule>", r"<submodules>\g<0></submodules>", STATE)
@@ -290,6 +330,14 @@ class Documents(Case):
             (good + b"\n#5\nab", "chunk 1: 5 bytes are told, and 2 are there"), (STATE + "]]>]]><more", "no XML"), (STATE + "]]>]]>more", "no XML"),
         ]:
             self.refused(self.library(bad), "library: ", *words)
+
+    def test_places_of_broken_xml(self):
+        """They are counted in the document, from 1 on; of a message in chunks without these."""
+        inner = "<a>\n <b></c>\n</a>"
+        for bad, due in [(inner, "line 2, column 7"), ("\n\n " + inner, "line 4, column 7"), ("<hello/>]]>]]>\n" + inner, "line 3, column 7"),
+                         (STATE + "\n<x", f"line {STATE.count(chr(10)) + 2}, column 1"), (STATE.rstrip() + "x", f"line {STATE.count(chr(10))}, column 17"),
+                         (self.chunks(inner, 2), "line 2, column 7 of the message without its chunks"), ("<a", "line 1, column 1")]:
+            self.refused(self.library(bad), "library: ", "no XML", f": {due}\n")
 
     def test_roots_that_are_no_library(self):
         reply = "<rpc-reply xmlns='urn:n'><rpc-error><error-message xml:lang='en'> access denied </error-message></rpc-error></rpc-reply>"
@@ -332,17 +380,21 @@ class Documents(Case):
         def module(**members):
             return {"module-set": [{"name": "first", "module": [{"name": "mod", **members}]}]}
         for document, *words in [
-            ("", "neither XML nor JSON"), ("module m {", "neither"), ("[" * 100_000, "neither"), ("[]", "library: no JSON object"), ('"a"', "no JSON object"),
+            ("", "library: it is empty"), (" \n", "it is empty"),
+            ("module m {", "neither XML nor JSON"), ("[" * 100_000, "neither"), ("[]", "library: no JSON object"), ('"a"', "no JSON object"),
             ("<a", "no XML"), ("<a/>", "no yang-library"), ("{", "no JSON"), ("{}", "no ietf-yang-library:yang-library"),
             ('{"a":' * 100_000, "no JSON"), (XML.replace("ietf-yang-library", "ietf-other"), "no yang-library"), ("<?xml version='1.0'?>", "no XML"),
             ("<!-- -->", "no XML"),
             (XML.replace("<name>b</name>", ""), "set 1 (first)", "module without a name"),
             (XML.replace("<name>b</name>", "<name>b</name>" * 2), "name stands there 2 times"),
-            (XML.replace("<name>b</name>", "<name>m</name>"), "set 1 (first)", "module m", "twice"),
+            (XML.replace("<deviation>d", "<deviation><name>d</name>"),
+             "library: set 1 (first), module m: deviation has an element name inside; a text alone is due"),
+            (XML.replace("<name>b</name>", "<name>m</name>"), "library: set 1 (first)", "module m", "twice"),
             (XML.replace("2021-", "2020-"), "module i", "2020-01-01", "twice"),
-            (XML.replace("<name>b</name>", "<name>b c</name>"), "set 1 (first)", "'b c'"), ({"yang-library": []}, "where an object"),
+            (XML.replace("<name>b</name>", "<name>b c</name>"), "library: set 1 (first)", "'b c'", "rename it"), ({"yang-library": []}, "where an object"),
             ({"module-set": {}}, "not a list"),
-            ({"module-set": [1]}, "not a list of objects"), (module(deviation="d"), "deviation is not a list"), (module(deviation=[1]), "list of strings"),
+            ({"module-set": [1]}, "not a list of objects"), (module(deviation="d"), "set 1 (first), module mod: deviation is not a list"),
+            (module(deviation=[1]), "list of strings"),
             (module(revision=2024), "mod", "revision is not a string"), (module(submodule=[{}]), "mod, a submodule without a name"),
             ('{"module-set": [], "module-set": []}', "module-set"), ({"module-set": [], "ietf-yang-library:module-set": []}, "twice"),
             (module(deviation=["d"] * 65), "module mod", "65 deviations", "64"), ({"module-set": [{"name": "x"}] * 17}, "17 sets", "16"),
@@ -453,7 +505,8 @@ class Words(Case):
         self.refused(self.run_pack("folder", self.dir + "x", self.image, self.bundle), "no such folder", due=2)
         self.refused(self.run_pack("folder", self.dir, self.image, self.bundle, "--texts", self.dir + "x"), "no such folder", due=2)
         self.refused(self.run_pack("folder", self.dir, self.image, self.image), "two files", due=2)
-        self.refused(self.run_pack("library", self.image, self.dir, self.image, self.bundle), f"{self.image}: No such file", due=2)
+        gone = os.path.join(self.top, "gone")
+        self.refused(self.run_pack("library", gone, self.dir, self.image, self.bundle), f"{gone}: No such file", due=2)
         self.refused(self.run_pack("library", self.put("library", XML, self.top), self.dir + "x", self.image, self.bundle), "no such folder", due=2)
         self.refused(self.run_pack("--all", self.dir + "x", self.image), "No such file", due=2)
         self.refused(self.run_pack("--all", self.dir, self.image), "no router; one is a file NAME.xml or NAME.json", due=2)
@@ -482,6 +535,15 @@ class Places(Case):
                            ({"by": "import", "listed": "a", "line": 7, "column": 8}, (7, 8))]:
             self.assertEqual(pack.judge.place(fault, text), due, fault)
         self.assertEqual(pack.judge.place({"by": "import", "listed": "a"}, None), (None, None))
+
+    def test_places_in_comments_and_strings(self):
+        """What stands in a comment or a string is no statement. A long text of beginnings that never end is gone through once."""
+        import_ = {"by": "import", "listed": "a"}
+        for lead in "// import a\n", "/* import a */\n", "x 'import a';\n", 'x "\\"import a";\n', "/*/ import a */\n":
+            self.assertEqual(pack.judge.place(import_, f"m {{ {lead} import a {{".encode()), (2, 2), lead)
+        self.assertEqual(pack.judge.place(import_, b"m {\n import // b\n /**/ a {"), (2, 2))
+        for part in b"/*", b'"\\', b"'", b"//", b"import //", b"import /**/", b"import ":
+            self.assertEqual(pack.judge.place(import_, b"x " + part * 100_000), (None, None), part)
 
 
 class Program(Case):

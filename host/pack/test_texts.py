@@ -139,6 +139,36 @@ class Texts(Told):
         self.wrong("m@2024-01-01.yang: its revision is 2023-01-01; the library asks for 2024-01-01",
                    **{"m": None, "m@2024-01-01": GOOD["m"].replace("2024", "2023")})
 
+    def test_implemented_and_import_only(self):
+        """The text of the implemented revision is taken, wherever it stands in the library, and none of another revision in its place."""
+        rows = {"module": [{"name": "m", "revision": "2024-01-01"}]}, {"import-only-module": [{"name": "m", "revision": "2020-01-01"}]}
+        for sets in rows, rows[::-1]:
+            shutil.rmtree(self.dir)
+            document = {"module-set": [{"name": str(at), **row} for at, row in enumerate(sets)]}
+            old = self.put("m@2020-01-01.yang", "module m { prefix m; revision 2020-01-01; }")
+            words = f"error: m: no text of revision 2024-01-01 in {self.dir}; of other revisions there are m@2020-01-01.yang"
+            self.refused(self.library(document), words)
+            shutil.copy(old, os.path.join(self.dir, "m.yang"))
+            self.refused(self.library(document), "error: ", "m.yang: its revision is 2020-01-01; the library asks for 2024-01-01")
+            new = self.put("m.yang", "module m { prefix m; revision 2024-01-01; }")
+            said = self.library(document)
+            self.assertEqual((said[0], [line[:18] for line in self.lines(said, "warning")]), (0, ["m.yang: revisions "]))
+            with open(new, "rb") as file:
+                self.assertEqual(self.read()[1], [("m", file.read())])
+            os.remove(self.image)
+            os.remove(self.bundle)
+
+    def test_imports_of_another_revision(self):
+        """Of two revisions one text is packed; what the other one alone imports is told."""
+        texts = {f"i@{year}-01-01": f"module i {{ prefix i; import k {{ prefix k; }} IMPORT revision {year}-01-01; }}" for year in (2020, 2021)}
+        for more, due in ("", []), ("import b { prefix b; } include s;", ["b, s"]):
+            self.good(i=None, **{word: text.replace("IMPORT", more if "2021" in word else "") for word, text in texts.items()})
+            status, _, err = said = self.library(XML)
+            words = f"i@2021-01-01.yang: it is not packed, since {self.dir}/i@2020-01-01.yang is, and what it alone imports or includes gives no edge: "
+            told = [line for line in self.lines(said, "warning") if "revisions 2020-01-01, 2021-01-01" not in line]
+            self.assertEqual((status, told), (0, [words.replace(self.dir + "/", "") + names for names in due]))
+            self.assertEqual("to do at other imports: " in err, bool(due))
+
     def test_what_cannot_be_read(self):
         """A text whose header is legal and which the metadata scan refuses is warned of; its imports are read."""
         self.good(b="module b { namespace urn:x/b; prefix b; }")
@@ -152,6 +182,13 @@ class Texts(Told):
         self.assertEqual(said[0], 0)
         self.assertIn("set 1 (first), import-only module k: it is augmented by or deviated from by b, d; an image has no such lists of import-only modules, "
                       "and no edge comes of them", self.lines(said, "warning"))
+
+    def test_a_deviation_that_is_not_read(self):
+        self.good()
+        said = self.library(XML.replace("<deviation>", "<deviation xmlns='urn:x'>"))
+        words = f"{self.top}/library: yang-library, module-set first, module m: deviation is not read, as it is not of ietf-yang-library"
+        self.assertEqual((said[0], self.lines(said, "warning")), (0, [words, TWO]))
+        self.assertIn("to do at not read: write it under the name", said[2])
 
 
 class Order(Told):
@@ -256,12 +293,29 @@ class Order(Told):
         self.assertEqual([(w["kind"], w["text"], w["line"]) for w in told["warnings"]],
                          [("passed_over", "b", 2), ("passed_over", "c", 2), ("augments", "c", 3)])
 
+    def test_a_text_that_is_cut_off(self):
+        self.good(b=GOOD["b"][:GOOD["b"].index("import")])
+        said = self.library(XML)
+        self.assertEqual((said[0], [line[:55] for line in self.lines(said, "warning")[1:]]), (0, ["b.yang, line 1, column 41: it ends inside its module, a"]))
+        self.assertIn("to do at cut off: get the text anew", said[2])
+
     def test_a_text_that_nothing_reads(self):
         self.good()
         self.put("j.yang", "submodule j { belongs-to i { prefix i; } import a { } }")
         said = self.library(XML)
         self.assertEqual((said[0], self.lines(said, "warning")[1:]),
                          (0, ["j.yang, line 1, column 54: a scan refuses it, though nothing reads it now: an import is closed without prefix"]))
+
+    def test_a_submodule_that_nothing_includes(self):
+        """Its imports give no edge, which is told; not where its module cannot be read, as that is told."""
+        import_, words = "import b { prefix b; }", "s.yang: no text that is read includes it, so its own imports and includes give no edge: b"
+        self.good(m=GOOD["m"].replace("include s;", ""), s=GOOD["s"].replace("revision", import_ + " revision"))
+        said = self.library(XML)
+        self.assertEqual((said[0], self.lines(said, "warning")), (0, [TWO, words]))
+        self.assertIn("to do at not included: get the texts", said[2])
+        self.assertEqual(self.lines(self.folder(), "warning"), [words])
+        self.put("m.yang", GOOD["m"].replace("include s;", "import n { }"))
+        self.assertNotIn(words, self.lines(self.library(XML), "warning"))
 
     def test_a_walk_that_does_not_end(self):
         self.put("m.yang", "module m { " + "include s1; " * 256 + "}")
@@ -334,6 +388,20 @@ class Folder(Told):
         self.assertEqual(sets, [Set([Module("m", ["s", "t"]), Module("n")])])
         self.assertEqual(dict(bundle), {os.path.basename(p).split("@")[0].removesuffix(".yang"): t.encode() for p, t in texts.items()})
         self.assertEqual(sorted(os.listdir(self.top)), ["bundle", "image", "texts"])
+
+    def test_links_and_endings(self):
+        """A linked folder is looked through, one that leads in a circle once; the ending may have letters of any case."""
+        self.put("a.yang", "module a { prefix a; }")
+        self.put("B@2024-01-01.YANG", "module B { prefix b; import a { prefix a; } revision 2024-01-01; }")
+        self.put("in/c.yang", "module c { prefix c; import a { prefix a; } }", os.path.join(self.top, "else"))
+        for link, to in ("linked", os.path.join(self.top, "else")), ("circle", self.dir), ("again", os.path.join(self.top, "else", "in")):
+            os.symlink(to, os.path.join(self.dir, link))
+        status, _, err = self.folder()
+        self.assertEqual((status, err), (0, ""))
+        self.assertEqual([n for n, _ in self.read()[1]], ["B", "a", "c"])
+        os.symlink(os.path.join(self.top, "gone"), os.path.join(self.dir, "d.Yang"))
+        status, _, err = self.folder()
+        self.assertEqual((status, err), (2, f"nuvaleta pack: {self.dir}/d.Yang: no file that can be read\n"))
 
     def test_two_files_of_one_name(self):
         paths = [self.put("m.yang", "module m {}"), self.put("in/m@2024-01-01.yang", "module m { }")]
@@ -408,6 +476,16 @@ class Folder(Told):
         self.refused(self.run_pack("folder", self.dir, self.image, path), f"nuvaleta pack: {path}: No such file or directory\n", due=2)
         self.refused(self.run_pack("folder", self.dir, self.image, self.dir), f"{self.dir}: not a file", due=2)
         self.refused(self.run_pack("folder", "--json", self.dir, self.image, self.dir), "not a file", due=2)
+
+    def test_what_is_read_is_not_written_over(self):
+        text, library = self.put("m.yang", "module m { }"), self.put("library", json.dumps({"module-set": [{"module": [{"name": "m"}]}]}), self.top)
+        os.symlink(library, os.path.join(self.dir, "link"))
+        for words, kind in [(["folder", self.dir, self.image, text], "a text"), (["library", library, self.dir, text, self.bundle], "a text"),
+                            (["library", library, self.dir, os.path.join(self.dir, "link"), self.bundle], "the library"),
+                            (["library", library, self.dir, self.image, library], "the library")]:
+            before = [open(path, "rb").read() for path in (text, library)]
+            self.refused(self.run_pack(*words), f"{kind} is not written over: name another file", due=2)
+            self.assertEqual([open(path, "rb").read() for path in (text, library)], before)
 
     def test_an_empty_library(self):
         for document in '{"module-set": []}', "<modules-state xmlns='urn:ietf:params:xml:ns:yang:ietf-yang-library'><module-set-id/></modules-state>":
@@ -494,6 +572,11 @@ class All(Told):
         ordered = subprocess.run([pack.judge.command(), "order", "--all", self.out], capture_output=True, text=True, check=True).stdout
         self.assertEqual(ordered, "east\ta\neast\tb\nwest\ta\n")
 
+    def test_more_than_are_ordered_at_once(self):
+        with unittest.mock.patch.object(pack, "TOGETHER", 1):
+            self.assertIn("nuvaleta pack: `nuvaleta order --all` takes at most 1 routers at once: put them into several folders\n", self.all()[2])
+        self.assertNotIn("at once", self.all()[2])
+
     def test_some_are_refused(self):
         broken = self.put("broken.xml", "<a/>", self.routers)
         self.router("lost", "a", "gone")
@@ -512,6 +595,22 @@ class All(Told):
         status, out, err = self.all("--lenient")
         self.assertEqual((status, len(self.made())), (1, 8))
         self.assertTrue(err.endswith("6 routers: 4 packed, 2 refused, 0 not readable\n"))
+
+    def test_what_is_no_router(self):
+        """An ending in capitals is one too, a library that leads nowhere is told, and so is a folder of texts without one."""
+        os.rename(os.path.join(self.routers, "west.json"), os.path.join(self.routers, "west.JSON"))
+        os.symlink("nowhere", os.path.join(self.routers, "gone.xml"))
+        self.put("north/a.yang", "module a { prefix a; }", self.routers)
+        self.put("common/c.yang", "module c { prefix c; }", self.routers)
+        self.out = os.path.join(self.routers, "out")
+        common = ["--texts", os.path.join(self.routers, "common")]
+        status, out, err = self.all(*common)
+        self.assertEqual((status, out.count("\n"), len(self.made())), (2, 2, 4))
+        self.assertEqual(err, f"nuvaleta pack: gone: {self.routers}/gone.xml: No such file or directory\n"
+                              "nuvaleta pack: north: a folder without a library, north.xml or north.json beside it: it is no router\n"
+                              "nuvaleta pack: 3 routers: 2 packed, 0 refused, 1 not readable\n")
+        status, out, _ = self.all("--json", *common)
+        self.assertEqual((status, json.loads(out.splitlines()[-1])["summary"]["without_library"]), (2, ["north"]))
 
     def test_one_is_not_readable(self):
         os.mkdir(os.path.join(self.top, "out"))
@@ -544,7 +643,7 @@ class All(Told):
         self.assertEqual((status, err, [line.get("router") for line in lines]), (1, "", ["east", "lost", "west", None]))
         self.assertEqual((lines[0]["image"]["file"], lines[1]["refused"]["number"], lines[1]["errors"][0]["kind"]),
                          (os.path.join(self.out, "east.image"), 23, "missing"))
-        self.assertEqual(lines[3], {"summary": {"routers": 3, "packed": 2, "refused": 1, "not_readable": 0}})
+        self.assertEqual(lines[3], {"summary": {"routers": 3, "packed": 2, "refused": 1, "not_readable": 0, "without_library": []}})
 
     def test_two_texts_that_differ(self):
         self.router("west", a="module a { prefix other; }")

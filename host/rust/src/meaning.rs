@@ -87,7 +87,8 @@ static MEANINGS: [Meaning; 27] = [
     ),
     row(
         27, "{}, which is no submodule of a module", "a name is included",
-        "list the submodule under its module in the library, or correct the name. Submodules of import-only modules do not count",
+        "list the submodule under its module in the library, or correct the name. Those of import-only modules do not count: list such a module \
+         as a module",
     ),
     row(
         28, "a submodule is included which is no node, since its module was passed over: that module's name was a node already", "",

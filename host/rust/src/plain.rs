@@ -31,13 +31,17 @@ pub(crate) struct Found {
     pub snags: Vec<(usize, Snag)>,
     /// Where a string or comment begins that never ends, and which it is. Then the statements were found by a search for words.
     pub open: Option<(usize, &'static str)>,
+    /// Whether the text ends inside a module of which nothing was seen that has its place behind the imports.
+    pub cut: bool,
 }
 
 pub(crate) fn search(text: &[u8]) -> Found {
     let mut reader = Reader { text, at: 0, inside: Vec::new(), found: Found::default() };
-    match reader.all() {
-        Ok(()) => reader.found,
-        Err(open) => Found { statements: by_words(text), snags: Vec::new(), open: Some(open) },
+    let read = reader.all();
+    let cut = reader.is_cut();
+    match read {
+        Ok(()) => Found { cut, ..reader.found },
+        Err(open) => Found { statements: by_words(text), snags: Vec::new(), open: Some(open), cut },
     }
 }
 
@@ -50,6 +54,9 @@ pub(crate) fn first_word(text: &[u8]) -> &[u8] {
 }
 
 const STOPS: [&str; 4] = ["organization", "contact", "description", "reference"];
+/// What stands in a module before and among its imports, beside statements of extensions; all else has its place behind them (RFC 7950, section 14).
+const HEAD: [&str; 6] = ["yang-version", "namespace", "prefix", "belongs-to", "import", "include"];
+const MODULES: [&str; 2] = ["module", "submodule"];
 /// The keywords that a search for words looks for.
 const KEYWORDS: [&str; 4] = ["import", "include", "augment", "prefix"];
 
@@ -110,6 +117,16 @@ impl Reader<'_> {
             }
             self.at += 1;
         }
+    }
+
+    /// Of a text that was read to its end, or to what never ends, whether it stopped in the head of a module.
+    fn is_cut(&self) -> bool {
+        let other = |s: &Statement| !s.keyword.contains(':') && !HEAD.contains(&s.keyword.as_str());
+        // a word at the very end may be the beginning of another
+        let behind = |s: &Statement| MODULES.contains(&s.inside.as_str()) && s.end < self.text.len() && other(s);
+        let stop = |(_, snag): &(usize, Snag)| matches!(snag, Snag::Stop(_));
+        let begun = self.inside.first().map_or(false, |(keyword, _)| MODULES.contains(&keyword.as_str()));
+        begun && !self.found.statements.iter().any(behind) && !self.found.snags.iter().any(stop)
     }
 
     /// White bytes and comments.

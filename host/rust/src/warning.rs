@@ -1,4 +1,5 @@
-//! What may be lost without a refusal: imports and includes that the scan of a text passes over, and augmentations of a module that it does not import.
+//! What may be lost without a refusal: imports and includes that the scan of a text passes over or that are cut off, and augmentations of a module that it
+//! does not import.
 
 use crate::plain::{self, Found, Snag, Statement};
 use crate::words::quoted;
@@ -26,14 +27,17 @@ pub enum WarningKind {
     PassedOver,
     /// An augmentation under a prefix that no import has which was read: no edge comes of it but by the library's list of augmenting modules.
     Augments,
+    /// The text ends inside its module, before anything that has its place behind the imports: some may be missing.
+    CutOff,
 }
 
 impl WarningKind {
-    /// The kind as a word: `passed_over` or `augments`.
+    /// The kind as a word: `passed_over`, `augments` or `cut_off`.
     pub fn word(self) -> &'static str {
         match self {
             WarningKind::PassedOver => "passed_over",
             WarningKind::Augments => "augments",
+            WarningKind::CutOff => "cut_off",
         }
     }
 }
@@ -67,7 +71,16 @@ pub(crate) fn warnings(text: &[u8], read: &Dependencies) -> Vec<Warning> {
             out.push(Warning { kind, line, column: statement.at - start + 1, words });
         }
     }
+    if found.cut && out.is_empty() {
+        out.push(cut_off(text));
+    }
     out
+}
+
+fn cut_off(text: &[u8]) -> Warning {
+    let Line { number: line, column, .. } = Line::at(text, text.len());
+    let words = "it ends inside its module, and nothing was seen that has its place behind the imports: if it is cut off, imports and includes are missing";
+    Warning { kind: WarningKind::CutOff, line, column, words: words.to_string() }
 }
 
 /// The prefixes that a module or submodule gives to its own module.

@@ -88,6 +88,29 @@ fn what_does_not_end() {
     assert_eq!(warned(text), ["augments line 2, column 15: it augments \"/x:b\", and no import that was read has the prefix \"x\""]);
 }
 
+/// A text that ends in the head of its module may have lost imports.
+#[test]
+fn what_is_cut_off() {
+    let whole = "module m{namespace 'urn:m';\nprefix m;\nimport a{prefix p;}x:y z{}/* c */\ninclude s;\
+                 organization \"o\";revision 2024-01-01;leaf l{type int8;}}";
+    let head = whole.find("organization").expect("a head");
+    for end in 9..whole.len() {
+        let text = &whole[..end];
+        let scanned = nuvaleta::dependencies(text.as_bytes()).is_ok();
+        let due = scanned && end < head + "organization".len();
+        let found = warned(text);
+        assert_eq!(found.len(), usize::from(due), "{text}: {found:?}");
+        let line = text.matches('\n').count() + 1;
+        assert!(found.iter().all(|one| one.starts_with(&format!("cut_off line {line}, column ")) && one.contains("it ends inside its module")), "{found:?}");
+    }
+    assert_eq!(warned(whole), [""; 0]);
+    let text = "submodule s{belongs-to m{prefix m;}";
+    assert!(warned(text)[0].starts_with(&format!("cut_off line 1, column {}: ", text.len() + 1)));
+    for silent in ["module m{}/* open", "module m{description \"open", "x{import a{prefix p;}", "module m{leaf l{type", "module m{}}"] {
+        assert_eq!(warned(silent), [""; 0], "{silent}");
+    }
+}
+
 // ---- no alarm
 
 #[test]
