@@ -262,6 +262,7 @@ COPIED = ["nuvaleta", *(f"host/archive/{name}" for name in ("archive.sh", "prove
 
 class Command(Repository):
     FILES = {"crates.txt": "nuvaleta:\n", "crates/nuvaleta/src/lib.rt": "nuvaleta", "host/pack/pack": PACK, "host/rust/src/main.rs": "main",
+             "host/vectors/src/form.rs": "form",
              "host/rust/src/help/nuvaleta.txt": "all\n", "host/rust/src/help/pack.txt": "usage: nuvaleta pack\n",
              "host/rust/src/help/novel.txt": "usage: nuvaleta novel\n"}
 
@@ -286,6 +287,8 @@ class Command(Repository):
         self.expect(0, "1: a b\n", "a", "b", PATH=self.bare())
         os.symlink(self.repository / "nuvaleta", self.room / "bin/nuvaleta")
         self.assertEqual(self.piped("nuvaleta", "a").stdout, "1: a\n")
+        self.repository = self.repository.rename(self.room / "mov'd \"ä\" repository")
+        self.expect(0, "1: a b\n", "a", "b", PATH=self.bare())
 
     def test_what_builds_it_does_not_read_what_it_is_given(self):
         self.input = "module m {}"
@@ -294,15 +297,15 @@ class Command(Repository):
     def test_it_is_built_again_where_something_has_changed(self):
         self.expect(0, "1:\n")
         for built, name in enumerate(("host/rust/src/main.rs", "host/rust/src/help/new.txt", "host/rust/Cargo.toml", "host/archive/link.rs",
-                                      "host/rust/build/release/nuvaleta"), 2):
+                                      "host/vectors/src/form.rs", "host/rust/build/release/nuvaleta"), 2):
             self.write(name, "changed")
             self.expect(2, "nuvaleta: cargo, Rust's command, is not on the path\n", PATH=self.bare())
             self.expect(0, f"{built}:\n")
         self.write("crates/nuvaleta/src/lib.rt", "changed")
         self.expect(2, "archive: rt, the command of the Rattle kit, is not on the path\n", PATH=self.bare())
-        self.expect(0, "7:\n")
+        self.expect(0, "8:\n")
         self.write("host/rust/README.md", "no source")
-        self.expect(0, "7:\n", PATH=self.bare())
+        self.expect(0, "8:\n", PATH=self.bare())
 
     def test_help_follows_the_pages(self):
         for words in (("help", "novel"), ("novel", "--help"), ("novel", "-h")):

@@ -127,6 +127,15 @@ class Package(unittest.TestCase):
                 self.assertEqual(run(command, *words, env=self.env).stdout, run(HOST / "pack/pack", "--help").stdout)
             self.assertEqual(run(command, "pack", env=self.env).returncode, 2)
 
+    def test_all_that_it_is_built_from_is_summed(self):
+        """What cargo says that the command is built from, against what built.sh sums to see a change."""
+        rust = HOST / "rust"
+        summed = [(rust / name).resolve() for name in re.search(r"find -L (.+?) -type f", (rust / "built.sh").read_text())[1].split()]
+        told = (rust / "build/release/nuvaleta.d").read_text().rstrip("\n").partition(": ")[2]
+        files = [Path(name.replace("\\ ", " ")).resolve() for name in re.split(r"(?<!\\) ", told)]
+        self.assertIn(rust / "src/main.rs", files)
+        self.assertEqual([file for file in files if file.suffix != ".a" and not any(one in (file, *file.parents) for one in summed)], [])
+
     # ---- its pages
 
     def helps(self):

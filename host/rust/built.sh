@@ -7,7 +7,11 @@ exec </dev/null # what is read there is for the command
 cd "$(dirname "$0")"
 archive=$(cd ../.. && host/archive/archive.sh --kept nuvaleta)
 command=$PWD/build/release/nuvaleta
-sources=$(find -L src Cargo.toml build.sh ../archive/link.rs "$archive" -type f -exec sha256sum {} + | sort | sha256sum)
+# The archive by its bytes alone: where it stands may change.
+sources=$({
+    sha256sum <"$archive"
+    find -L src Cargo.toml build.sh ../archive/link.rs ../vectors/src/form.rs -type f -exec sha256sum {} + | sort
+} | sha256sum)
 sums() { echo "$sources $(sha256sum <"$command")"; }
 if [ ! -f "$command" ] || [ "$(cat "$command.sums" 2>/dev/null)" != "$(sums)" ]; then
     command -v cargo >/dev/null || { echo "nuvaleta: cargo, Rust's command, is not on the path" >&2; exit 2; }
