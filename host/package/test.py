@@ -65,7 +65,8 @@ class Package(unittest.TestCase):
 
     def test_a_path_is_printed_for_each_file_to_be_removed(self):
         prefix = self.room / "b prefix"
-        told = run(HOST / "install", prefix)
+        told = run(HOST / "install", prefix, umask=0o077)
+        self.assertEqual({oct(path.stat().st_mode)[-3:] for path in (prefix, *prefix.rglob("*")) if path.is_dir()}, {"755"})
         listed = run(HOST / "install", "--list", prefix).stdout.splitlines()
         self.assertEqual(told.stdout.splitlines(), [f"install: {path}" for path in listed])
         self.assertEqual(sorted(listed), [str(prefix / name) for name in there(prefix)])
@@ -185,6 +186,8 @@ class Package(unittest.TestCase):
         for name, told in helps.items():
             usage = set(re.findall(r"--[a-z-]+", told.split("\n\n")[0])) | {"--help"}
             self.assertLessEqual(usage, set(self.completed(name, "-")), name)
+        for name in ("order", "pack"):
+            self.assertEqual(self.completed(name, "--all", "--"), self.completed(name, "--"), name)
 
     def test_completion_in_zsh(self):
         if not shutil.which("zsh") and run(HOST / "need", "zsh").returncode != 0:
@@ -197,6 +200,7 @@ class Package(unittest.TestCase):
         self.assertEqual(self.offered("order", "cor"), ["files"])
         for name in helps:
             self.assertEqual(self.offered(name, "-"), self.completed(name, "-"))
+        self.assertEqual(self.offered("order", "--all", "-"), self.offered("order", "-"))
         terminal = Terminal(["zsh", "-fi"], cwd=ROOT / "examples", env={**self.env, "FPATH_OWN": f"{self.prefix}/share/zsh/site-functions"})
         self.addCleanup(terminal.kill)
         terminal.type("fpath=($FPATH_OWN $fpath); autoload -Uz compinit; compinit -u -D; PS1='> '; echo re''ady\n")
@@ -210,7 +214,8 @@ class Package(unittest.TestCase):
         library = self.prefix / "lib" / f"libnuvaleta.so.{VERSION}"
         calls = sorted(set(re.findall(r"^\w[\w ]*\b(nuvaleta_\w+)\(", (self.prefix / "include/nuvaleta.h").read_text(), re.M)))
         self.assertEqual(len(calls), 10)
-        self.assertEqual(sorted(re.findall(r" T (\w+)$", run("nm", "-D", library).stdout, re.M)), calls)
+        offered = [line.split()[1:] for line in run("nm", "-D", "--defined-only", library).stdout.splitlines()]
+        self.assertEqual(sorted(offered), [["T", call] for call in calls])
         told = run("readelf", "-dlW", library).stdout
         self.assertIn(f"soname: [libnuvaleta.so.{KEPT}]", told)
         self.assertNotIn("TEXTREL", told)
