@@ -62,6 +62,8 @@ class Package(unittest.TestCase):
         expected = EXPECTED.replace("KEPT", KEPT).replace("VERSION", VERSION).split()
         self.assertEqual([name for name in there(self.prefix) if name in expected or not name.startswith("libexec/")], expected)
         self.assertEqual([name for name in there(self.prefix / "libexec/nuvaleta") if "test" in name], [])
+        links = {path.name: os.readlink(path) for path in self.prefix.rglob("*") if path.is_symlink()}
+        self.assertEqual(links, {"libnuvaleta.so": f"libnuvaleta.so.{KEPT}", f"libnuvaleta.so.{KEPT}": f"libnuvaleta.so.{VERSION}"})
 
     def test_a_path_is_printed_for_each_file_to_be_removed(self):
         prefix = self.room / "b prefix"
