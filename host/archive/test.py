@@ -276,6 +276,7 @@ class Archive(Repository):
 # Builds a command that prints the number of times that one has been built, its words, and what it reads.
 CARGO = """#!/bin/sh
 cat >/dev/null
+[ -z "${CARGO_BUILD_TARGET:-}${NUVALETA_ARCHIVE:-}" ] || exit 1 # they would have it elsewhere, or of something else
 echo "cargo $*" >>"$CALLS"
 sleep "$PAUSE"
 mkdir -p build/release
@@ -312,7 +313,7 @@ class Command(Repository):
 
     def test_once_built_it_needs_neither_cargo_nor_rt(self):
         self.expect(2, "archive: rt, the command of the Rattle kit, is not on the path\n", "a", PATH=self.bare())
-        self.expect(0, "1: a b\n", "a", "b")
+        self.expect(0, "1: a b\n", "a", "b", CARGO_BUILD_TARGET="wasm32-wasi", NUVALETA_ARCHIVE="elsewhere")
         self.expect(0, "1: a b\n", "a", "b", PATH=self.bare())
         os.symlink(self.repository / "nuvaleta", self.room / "bin/nuvaleta")
         self.assertEqual(self.piped("nuvaleta", "a").stdout, "1: a\n")

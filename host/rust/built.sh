@@ -2,7 +2,7 @@
 # built.sh: prints the path of the command, which is proved and built first where that has not been done yet or something has changed. Where nothing has
 # changed it needs neither cargo nor rt: beside the command stands a sum of what it was built from, as that was before, and of itself.
 set -eu
-unset CDPATH
+unset CDPATH CARGO_BUILD_TARGET NUVALETA_ARCHIVE # the command is for this machine, over the archive below
 exec </dev/null # what is read there is for the command
 cd "$(dirname "$0")"
 archive=$(cd ../.. && host/archive/archive.sh --kept nuvaleta)
