@@ -42,9 +42,11 @@ def there(folder):
 
 
 class Package(unittest.TestCase):
-    def without(self, tool, what):
-        print(f"package: SKIPPED, no {tool}: {what}")
-        self.skipTest(tool)
+    def needs(self, tool, what):
+        """A program that this test needs, and that Debian has under the same name."""
+        if not shutil.which(tool) and run(HOST / "need", tool).returncode != 0:
+            print(f"package: SKIPPED, no {tool}: {what}")
+            self.skipTest(tool)
 
     @classmethod
     def setUpClass(cls):
@@ -147,8 +149,7 @@ class Package(unittest.TestCase):
         return {name: run(self.prefix / "bin/nuvaleta", name, "--help", env=self.env).stdout for name in names}
 
     def test_the_man_page_says_what_help_says(self):
-        if not shutil.which("groff"):
-            self.without("groff", "the man page as it is shown")
+        self.needs("groff", "the man page as it is shown")
         ran = run("groff", "-ww", "-man", "-Tascii", "-P-c", self.prefix / "share/man/man1/nuvaleta.1")
         self.assertEqual((ran.returncode, ran.stderr), (0, ""))
         page = re.sub(r".\x08", "", ran.stdout)
@@ -192,8 +193,7 @@ class Package(unittest.TestCase):
             self.assertEqual(self.completed(name, "--all", "--"), self.completed(name, "--"), name)
 
     def test_completion_in_zsh(self):
-        if not shutil.which("zsh") and run(HOST / "need", "zsh").returncode != 0:
-            self.without("zsh", "its completion")
+        self.needs("zsh", "its completion")
         helps = self.helps()
         self.assertEqual(self.offered(""), sorted(helps))
         self.assertEqual(self.offered("help", "gra"), sorted(helps))
@@ -242,8 +242,7 @@ class Package(unittest.TestCase):
         return project / "build", ran
 
     def test_the_cmake_package(self):
-        if not shutil.which("cmake"):
-            self.without("cmake", "the CMake package")
+        self.needs("cmake", "the CMake package")
         for asked in ("99", f"{VERSION}.1"):
             _, ran = self.cmake(asked)
             self.assertNotEqual(ran.returncode, 0)
