@@ -96,19 +96,22 @@ class Repository(unittest.TestCase):
                 os.symlink(shutil.which(tool), folder / tool)
         return str(folder)
 
-    def left(self):
-        """The processes that are still there of those that were begun here; they have a moment to end."""
-        end = time.monotonic() + 10
-        while self.begun() and time.monotonic() < end:
+    def until(self, seen, wait=WAIT):
+        end = time.monotonic() + wait
+        while not seen() and time.monotonic() < end:
             time.sleep(0.01)
-        return self.begun()
+
+    def left(self, *but):
+        """The processes that are still there of those that were begun here, but for these; they have a moment to end."""
+        self.until(lambda: not set(self.begun()) - set(but), 10)
+        return sorted(set(self.begun()) - set(but))
 
     def begun(self):
         found = []
         for environ in Path("/proc").glob("[0-9]*/environ"):
             try:
                 if f"CALLS={self.room}/calls".encode() in environ.read_bytes():
-                    found.append(environ.parent.name)
+                    found.append(int(environ.parent.name))
             except OSError:
                 pass
         return found
@@ -192,11 +195,14 @@ class Archive(Repository):
     def interrupted(self, seen, how, processor="x86_64"):
         """A call that is ended once `seen` is true leaves no process and no archive but the one that was there; the next one goes through."""
         before = self.text_of_archive()
-        terminal = self.on_terminal(*self.words(processor), PAUSE="30")
+        # The terminal's own shell stays: with it the system would end all that is left on the terminal.
+        terminal = self.on_terminal("sh", "-c", 'trap : INT TERM; "$@"; echo "ended $?"; read -r _', "sh", *self.words(processor), PAUSE="30")
         self.assertTrue(terminal.until(seen, WAIT))
         how(terminal)
-        self.assertEqual(terminal.end(WAIT), 130)
-        self.assertEqual(self.left(), [])
+        self.assertTrue(terminal.until(lambda one: any(line.endswith("ended 130") for _, line in one.lines), WAIT), terminal.lines)
+        self.assertEqual(self.left(terminal.pid), [])
+        terminal.type("\n")
+        terminal.end(WAIT)
         there = sorted(str(path.relative_to(self.archive.parent)) for path in self.archive.parent.rglob("*") if path.is_file())
         self.assertEqual(there, [] if before is None else ["libprobe.a", "libprobe.a.sums"])
         self.assertEqual(self.text_of_archive(), before)
@@ -217,9 +223,32 @@ class Archive(Repository):
         self.interrupted(half, Terminal.interrupt, "riscv64")
         self.assertEqual(self.run_piped().returncode, 0)
 
-    def test_the_second_of_two_waits(self):
+    def held(self):
+        """The file that rt waits for before the archive is whole, and how a call is begun that waits so."""
         held_by = self.room / "go on"
-        begun = {"cwd": self.repository, "env": {**self.env, "HELD_BY": str(held_by)}, "stdout": subprocess.PIPE, "stderr": subprocess.PIPE, "text": True}
+        return held_by, {"cwd": self.repository, "env": {**self.env, "HELD_BY": str(held_by)}, "stdout": subprocess.PIPE, "stderr": subprocess.PIPE,
+                         "text": True}
+
+    def test_a_source_that_changes_meanwhile(self):
+        held_by, begun = self.held()
+        with subprocess.Popen(self.words(), **begun) as first:
+            self.until(lambda: self.text_of_archive() == "half\n")
+            self.write("crates/probe/src/lib.rt", "changed")
+            held_by.touch()
+            self.assertEqual(first.communicate(timeout=WAIT)[0], f"{self.archive}\n")
+        self.assertFalse(self.is_kept())
+
+    def test_a_call_that_was_killed(self):
+        self.run_piped()
+        with subprocess.Popen(self.words("riscv64"), **self.held()[1]):
+            self.until(lambda: self.text_of_archive() == "half\n")
+            for process in self.begun():
+                os.kill(process, signal.SIGKILL)
+        self.assertEqual(self.piped(*self.words("riscv64")).returncode, 0)
+        self.assertTrue(self.is_kept())
+
+    def test_the_second_of_two_waits(self):
+        held_by, begun = self.held()
         with subprocess.Popen(self.words(), **begun) as first:
             self.assertIn("proving", first.stderr.readline())
             with subprocess.Popen(self.words(), **begun) as second:
@@ -247,6 +276,7 @@ class Archive(Repository):
 # Builds a command that prints the number of times that one has been built, its words, and what it reads.
 CARGO = """#!/bin/sh
 cat >/dev/null
+[ -z "${CARGO_BUILD_TARGET:-}${NUVALETA_ARCHIVE:-}" ] || exit 1 # they would have it elsewhere, or of something else
 echo "cargo $*" >>"$CALLS"
 sleep "$PAUSE"
 mkdir -p build/release
@@ -262,6 +292,7 @@ COPIED = ["nuvaleta", *(f"host/archive/{name}" for name in ("archive.sh", "prove
 
 class Command(Repository):
     FILES = {"crates.txt": "nuvaleta:\n", "crates/nuvaleta/src/lib.rt": "nuvaleta", "host/pack/pack": PACK, "host/rust/src/main.rs": "main",
+             "host/vectors/src/form.rs": "form",
              "host/rust/src/help/nuvaleta.txt": "all\n", "host/rust/src/help/pack.txt": "usage: nuvaleta pack\n",
              "host/rust/src/help/novel.txt": "usage: nuvaleta novel\n"}
 
@@ -282,10 +313,12 @@ class Command(Repository):
 
     def test_once_built_it_needs_neither_cargo_nor_rt(self):
         self.expect(2, "archive: rt, the command of the Rattle kit, is not on the path\n", "a", PATH=self.bare())
-        self.expect(0, "1: a b\n", "a", "b")
+        self.expect(0, "1: a b\n", "a", "b", CARGO_BUILD_TARGET="wasm32-wasi", NUVALETA_ARCHIVE="elsewhere")
         self.expect(0, "1: a b\n", "a", "b", PATH=self.bare())
         os.symlink(self.repository / "nuvaleta", self.room / "bin/nuvaleta")
         self.assertEqual(self.piped("nuvaleta", "a").stdout, "1: a\n")
+        self.repository = self.repository.rename(self.room / "mov'd \"ä\" repository")
+        self.expect(0, "1: a b\n", "a", "b", PATH=self.bare())
 
     def test_what_builds_it_does_not_read_what_it_is_given(self):
         self.input = "module m {}"
@@ -294,15 +327,22 @@ class Command(Repository):
     def test_it_is_built_again_where_something_has_changed(self):
         self.expect(0, "1:\n")
         for built, name in enumerate(("host/rust/src/main.rs", "host/rust/src/help/new.txt", "host/rust/Cargo.toml", "host/archive/link.rs",
-                                      "host/rust/build/release/nuvaleta"), 2):
+                                      "host/vectors/src/form.rs", "host/rust/build/release/nuvaleta"), 2):
             self.write(name, "changed")
             self.expect(2, "nuvaleta: cargo, Rust's command, is not on the path\n", PATH=self.bare())
             self.expect(0, f"{built}:\n")
         self.write("crates/nuvaleta/src/lib.rt", "changed")
         self.expect(2, "archive: rt, the command of the Rattle kit, is not on the path\n", PATH=self.bare())
-        self.expect(0, "7:\n")
+        self.expect(0, "8:\n")
         self.write("host/rust/README.md", "no source")
-        self.expect(0, "7:\n", PATH=self.bare())
+        self.expect(0, "8:\n", PATH=self.bare())
+
+    def test_a_source_that_changes_while_it_is_built(self):
+        with subprocess.Popen(["./nuvaleta"], cwd=self.repository, env={**self.env, "PAUSE": "1"}, stdin=subprocess.DEVNULL, stdout=subprocess.DEVNULL,
+                              stderr=subprocess.DEVNULL):
+            self.until(lambda: any(call[0] == "cargo" for call in self.calls()))
+            self.write("host/rust/src/main.rs", "changed")
+        self.expect(0, "2:\n")
 
     def test_help_follows_the_pages(self):
         for words in (("help", "novel"), ("novel", "--help"), ("novel", "-h")):

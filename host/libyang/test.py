@@ -12,7 +12,8 @@ NUVALETA = os.path.join(HERE, "..", "..", "nuvaleta")
 # One of libyang's own tests, which has `ttype` where a keyword is due. It imports nothing.
 REFUSED = {"module2"}
 # Modules of yanglint's library; what they import comes along. ietf-ipv6-unicast-routing has a submodule.
-SOME = ["ietf-interfaces", "ietf-ip", "ietf-ipv4-unicast-routing", "ietf-ipv6-unicast-routing", "ietf-netconf-acm", "ietf-system", "ietf-alarms", "ietf-hardware-state"]
+SOME = ["ietf-interfaces", "ietf-ip", "ietf-ipv4-unicast-routing", "ietf-ipv6-unicast-routing", "ietf-netconf-acm", "ietf-system",
+        "ietf-alarms", "ietf-hardware-state"]
 
 
 def run(*words):

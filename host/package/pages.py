@@ -111,7 +111,7 @@ _nuvaleta() {{
         esac
     done
     COMPREPLY=()
-    case $command:$before in
+    [[ $word == -* ]] || case $command:$before in
     {folders})
         compopt -o filenames 2>/dev/null
         mapfile -t COMPREPLY < <(compgen -d -- "$word")
@@ -147,7 +147,7 @@ _nuvaleta() {{
         *) if [[ -z $command ]]; then command=$each; else second=yes; fi ;;
         esac
     done
-    case $command:$before in
+    [[ $word == -* ]] || case $command:$before in
     {folders}) _files -/ && return ;;
     {others}) return 1 ;;
     esac

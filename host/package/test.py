@@ -42,9 +42,11 @@ def there(folder):
 
 
 class Package(unittest.TestCase):
-    def without(self, tool, what):
-        print(f"package: SKIPPED, no {tool}: {what}")
-        self.skipTest(tool)
+    def needs(self, tool, what):
+        """A program that this test needs, and that Debian has under the same name."""
+        if not shutil.which(tool) and run(HOST / "need", tool).returncode != 0:
+            print(f"package: SKIPPED, no {tool}: {what}")
+            self.skipTest(tool)
 
     @classmethod
     def setUpClass(cls):
@@ -62,10 +64,13 @@ class Package(unittest.TestCase):
         expected = EXPECTED.replace("KEPT", KEPT).replace("VERSION", VERSION).split()
         self.assertEqual([name for name in there(self.prefix) if name in expected or not name.startswith("libexec/")], expected)
         self.assertEqual([name for name in there(self.prefix / "libexec/nuvaleta") if "test" in name], [])
+        links = {path.name: os.readlink(path) for path in self.prefix.rglob("*") if path.is_symlink()}
+        self.assertEqual(links, {"libnuvaleta.so": f"libnuvaleta.so.{KEPT}", f"libnuvaleta.so.{KEPT}": f"libnuvaleta.so.{VERSION}"})
 
     def test_a_path_is_printed_for_each_file_to_be_removed(self):
         prefix = self.room / "b prefix"
-        told = run(HOST / "install", prefix)
+        told = run(HOST / "install", prefix, umask=0o077)
+        self.assertEqual({oct(path.stat().st_mode)[-3:] for path in (prefix, *prefix.rglob("*")) if path.is_dir()}, {"755"})
         listed = run(HOST / "install", "--list", prefix).stdout.splitlines()
         self.assertEqual(told.stdout.splitlines(), [f"install: {path}" for path in listed])
         self.assertEqual(sorted(listed), [str(prefix / name) for name in there(prefix)])
@@ -127,6 +132,15 @@ class Package(unittest.TestCase):
                 self.assertEqual(run(command, *words, env=self.env).stdout, run(HOST / "pack/pack", "--help").stdout)
             self.assertEqual(run(command, "pack", env=self.env).returncode, 2)
 
+    def test_all_that_it_is_built_from_is_summed(self):
+        """What cargo says that the command is built from, against what built.sh sums to see a change."""
+        rust = HOST / "rust"
+        summed = [(rust / name).resolve() for name in re.search(r"find -L (.+?) -type f", (rust / "built.sh").read_text())[1].split()]
+        told = (rust / "build/release/nuvaleta.d").read_text().rstrip("\n").partition(": ")[2]
+        files = [Path(name.replace("\\ ", " ")).resolve() for name in re.split(r"(?<!\\) ", told)]
+        self.assertIn(rust / "src/main.rs", files)
+        self.assertEqual([file for file in files if file.suffix != ".a" and not any(one in (file, *file.parents) for one in summed)], [])
+
     # ---- its pages
 
     def helps(self):
@@ -135,8 +149,7 @@ class Package(unittest.TestCase):
         return {name: run(self.prefix / "bin/nuvaleta", name, "--help", env=self.env).stdout for name in names}
 
     def test_the_man_page_says_what_help_says(self):
-        if not shutil.which("groff"):
-            self.without("groff", "the man page as it is shown")
+        self.needs("groff", "the man page as it is shown")
         ran = run("groff", "-ww", "-man", "-Tascii", "-P-c", self.prefix / "share/man/man1/nuvaleta.1")
         self.assertEqual((ran.returncode, ran.stderr), (0, ""))
         page = re.sub(r".\x08", "", ran.stdout)
@@ -176,10 +189,11 @@ class Package(unittest.TestCase):
         for name, told in helps.items():
             usage = set(re.findall(r"--[a-z-]+", told.split("\n\n")[0])) | {"--help"}
             self.assertLessEqual(usage, set(self.completed(name, "-")), name)
+        for name in ("order", "pack"):
+            self.assertEqual(self.completed(name, "--all", "--"), self.completed(name, "--"), name)
 
     def test_completion_in_zsh(self):
-        if not shutil.which("zsh") and run(HOST / "need", "zsh").returncode != 0:
-            self.without("zsh", "its completion")
+        self.needs("zsh", "its completion")
         helps = self.helps()
         self.assertEqual(self.offered(""), sorted(helps))
         self.assertEqual(self.offered("help", "gra"), sorted(helps))
@@ -188,6 +202,7 @@ class Package(unittest.TestCase):
         self.assertEqual(self.offered("order", "cor"), ["files"])
         for name in helps:
             self.assertEqual(self.offered(name, "-"), self.completed(name, "-"))
+        self.assertEqual(self.offered("order", "--all", "-"), self.offered("order", "-"))
         terminal = Terminal(["zsh", "-fi"], cwd=ROOT / "examples", env={**self.env, "FPATH_OWN": f"{self.prefix}/share/zsh/site-functions"})
         self.addCleanup(terminal.kill)
         terminal.type("fpath=($FPATH_OWN $fpath); autoload -Uz compinit; compinit -u -D; PS1='> '; echo re''ady\n")
@@ -201,7 +216,8 @@ class Package(unittest.TestCase):
         library = self.prefix / "lib" / f"libnuvaleta.so.{VERSION}"
         calls = sorted(set(re.findall(r"^\w[\w ]*\b(nuvaleta_\w+)\(", (self.prefix / "include/nuvaleta.h").read_text(), re.M)))
         self.assertEqual(len(calls), 10)
-        self.assertEqual(sorted(re.findall(r" T (\w+)$", run("nm", "-D", library).stdout, re.M)), calls)
+        offered = [line.split()[1:] for line in run("nm", "-D", "--defined-only", library).stdout.splitlines()]
+        self.assertEqual(sorted(offered), [["T", call] for call in calls])
         told = run("readelf", "-dlW", library).stdout
         self.assertIn(f"soname: [libnuvaleta.so.{KEPT}]", told)
         self.assertNotIn("TEXTREL", told)
@@ -226,8 +242,7 @@ class Package(unittest.TestCase):
         return project / "build", ran
 
     def test_the_cmake_package(self):
-        if not shutil.which("cmake"):
-            self.without("cmake", "the CMake package")
+        self.needs("cmake", "the CMake package")
         for asked in ("99", f"{VERSION}.1"):
             _, ran = self.cmake(asked)
             self.assertNotEqual(ran.returncode, 0)

@@ -42,7 +42,8 @@ def required():
     part = PAGE.split("| crate | functions | they require |")[1].split("\n\n")[0]
     told = {(crate, name) for crate, names in re.findall(r"^\| (\w+) \| ([\w, ]+) \|", part, re.M) for name in names.split(", ")}
     there = {key for key, (_, text) in clauses() if "requires" in text}
-    return ["::".join(key) + (": it requires something, and the table does not have it" if key in there else ": it requires nothing") for key in sorted(told ^ there)]
+    return ["::".join(key) + (": it requires something, and the table does not have it" if key in there else ": it requires nothing")
+            for key in sorted(told ^ there)]
 
 
 def conjuncts(promise):

@@ -267,11 +267,15 @@ due 'scan refusal 8, of a text: the text ends inside the block of an include\nTo
 expect 0 explain 8 --keyword include
 expect 0 explain 8 --keyword 9
 words='"words":"no value after prefix"'
-advice='"advice":"write a name or a closed string behind the keyword. A keyword counts wherever it stands as a word of its own, also as the name of something else"'
+advice='"advice":"write a name or a closed string behind the keyword. A keyword counts wherever it stands as a word of its own,'
+advice="$advice also as the name of something else\""
 echo "{\"number\":4,$words,$advice,\"keyword\":\"prefix\",\"position\":23,\"line\":3,\"column\":1}" >due
 expect 0 explain --json 4 --keyword prefix --at 23 early.yang
 advice='make it anew by `nuvaleta pack`. The place is the start of the first wrong number or name, or the first byte too many'
-printf 'refusal 20: the image breaks its form at byte 9\nimage, from byte 1 on:\n    02 01 6d 01 01 73 00 00 01 62 00 00 00 00\n%28s^^\nTo do: %s\n' '' "$advice" >due
+{
+    printf 'refusal 20: the image breaks its form at byte 9\nimage, from byte 1 on:\n'
+    printf '    02 01 6d 01 01 73 00 00 01 62 00 00 00 00\n%28s^^\nTo do: %s\n' '' "$advice"
+} >due
 expect 0 explain 20 --at 9 image
 echo "{\"number\":20,\"words\":\"the image breaks its form at byte 9\",\"advice\":\"$advice\",\"place\":9}" >due
 expect 0 explain --json 20 --at 9 image
