@@ -63,7 +63,8 @@ echo "{\"refused\":{\"number\":25,\"words\":\"$words\",$entry,$scan,$clash}}" >d
 expect 1 order image --json closed
 printf '\003\001m\012include z;\001s\000\001b\000' >unknown
 words='module m (set 1, entry 1): the text of m includes \"z\", which is no submodule of a module'
-advice='"advice":"list the submodule under its module in the library, or correct the name. Those of import-only modules do not count: list such a module as a module"'
+advice='"advice":"list the submodule under its module in the library, or correct the name. Those of import-only modules do not count:'
+advice="$advice list such a module as a module\""
 echo "{\"refused\":{\"number\":27,\"words\":\"$words\",$entry,\"by\":\"include\",\"listed\":\"z\",\"text\":\"m\",$advice}}" >due
 expect 1 graph image unknown --json
 due 'refused 21: the bundle breaks its form at byte 0\nexpected a bundle, found nothing\nTo do: this is empty: make it anew by `nuvaleta pack`\n'
