@@ -22,6 +22,8 @@ class Terminal:
         self.pid, self._fd = pty.fork()
         if self.pid == 0:
             try:
+                for key in signal.SIGINT, signal.SIGQUIT:  # what runs in the background of a script ignores both, and all that it begins
+                    signal.signal(key, signal.SIG_DFL)
                 os.chdir(cwd or ".")
                 os.execvpe(words[0], words, {**os.environ, "TERM": "xterm", **(env or {})})
             finally:
