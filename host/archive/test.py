@@ -1,6 +1,7 @@
 #!/usr/bin/env python3
 """test.py: how archive.sh calls rt, with a program in its place that says what rt says and proves nothing: when an archive is kept, what is seen on a terminal
 and on a pipe, two calls at once, an interrupt, a proof that fails. Then, with one in the place of cargo too, what the script `nuvaleta` builds when."""
+import contextlib
 import os
 import shutil
 import signal
@@ -242,8 +243,10 @@ class Archive(Repository):
         self.run_piped()
         with subprocess.Popen(self.words("riscv64"), **self.held()[1]):
             self.until(lambda: self.text_of_archive() == "half\n")
-            for process in self.begun():
-                os.kill(process, signal.SIGKILL)
+            while processes := self.begun():
+                for process in processes:
+                    with contextlib.suppress(ProcessLookupError):  # some last a moment only
+                        os.kill(process, signal.SIGKILL)
         self.assertEqual(self.piped(*self.words("riscv64")).returncode, 0)
         self.assertTrue(self.is_kept())
 
