@@ -321,8 +321,8 @@ class Order(Told):
         self.put("m.yang", "module m { " + "include s1; " * 256 + "}")
         for i in range(1, 9):
             self.put(f"s{i}.yang", f"submodule s{i} {{ belongs-to m {{ prefix m; }} " + f"include s{i + 1}; " * (256 if i < 8 else 0) + "}")
-        with unittest.mock.patch.object(pack.judge, "SECONDS", 0.3):
-            self.refused(self.folder(), "given up after 0.3 s: texts that include each other many times")
+        with unittest.mock.patch.object(pack.judge, "SECONDS", 2):
+            self.refused(self.folder(), "given up after 2 s: texts that include each other many times")
 
 
 class Drawn(Told):

@@ -255,13 +255,13 @@ class Seconds(Case):
         self.router("d", *RING)
         self.router("-e", *line(1)[:2])
         begun = time.monotonic()
-        status, out, err = self.run_it("--seconds", "1")
-        self.assertIn(round(time.monotonic() - begun), range(1, 20))
+        status, out, err = self.run_it("--seconds", "3")
+        self.assertIn(round(time.monotonic() - begun), range(3, 30))
         self.assertEqual((status, out), (2, "-e\tm000\na\tm002\na\tm001\na\tm000\n"))
-        self.assertEqual(self.summary(err), ([4, 2, 1, 0, 0, 1, 4, 2], f"b c: given up after 1 s\nd: {RING_SAID}"))
-        status, out, err = self.run_it("--seconds", "1", "--json", "--into", self.into)
+        self.assertEqual(self.summary(err), ([4, 2, 1, 0, 0, 1, 4, 2], f"b c: given up after 3 s\nd: {RING_SAID}"))
+        status, out, err = self.run_it("--seconds", "3", "--json", "--into", self.into)
         said = [json.loads(one) for one in out.splitlines()]
-        self.assertEqual((status, err, said[2]), (2, "", {"router": "b c", "given_up": "after 1 s"}))
+        self.assertEqual((status, err, said[2]), (2, "", {"router": "b c", "given_up": "after 3 s"}))
         self.assertEqual((said[3]["refused"]["number"], said[-1]["summary"]["given_up"]), (40, 1))
         self.assertEqual(sorted(os.listdir(self.into)), ["-e.order", "a.order"])
 
@@ -337,9 +337,9 @@ class Terminal(Case):
         os.remove(os.path.join(self.folder, "r001.image"))
         os.remove(os.path.join(self.folder, "r001.bundle"))
         self.router(long, *endless())
-        said = self.on_terminal(subprocess.DEVNULL, 2, ["--seconds", "2"])
+        said = self.on_terminal(subprocess.DEVNULL, 2, ["--seconds", "4"])
         self.assertIn(f"\r1 of 30 routers, at {long[:32]}.. for 1 s", said)
-        self.assertRegex(self.left(said), re.escape(f"{long}: given up after 2 s\n") + SUMMARY + r"\Z")
+        self.assertRegex(self.left(said), re.escape(f"{long}: given up after 4 s\n") + SUMMARY + r"\Z")
         self.assertLessEqual(max(len(part) for part in re.split(r"[\r\n]", said) if " of 30 " in part), 79)
 
     def test_none(self):
