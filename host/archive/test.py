@@ -364,6 +364,7 @@ class Command(Repository):
         for words in ("folder a b c", "library a b c d", "--all a b", "--json folder a"):
             self.expect(0, f"{self.command}: {words}\n", "pack", *words.split())
         self.expect(0, f"{self.command}: folder a --json\n", "--json", "pack", "folder", "a")
+        self.expect(0, f"{self.command}: folder a --help b\n", "pack", "folder", "a --help b")  # a folder with blanks in its name
 
     def test_an_interrupt_leaves_nothing(self):
         terminal = self.on_terminal("./nuvaleta", "a", PAUSE="1")

@@ -157,7 +157,7 @@ _nuvaleta() {{
     esac
     case $command:$word in
     *:-*) compadd -- $options ;;
-    : | :[^-]*) _describe command commands ;;
+    : | :[^-]*) commands+=('help:the page of a command') && _describe command commands ;;
     help:*) [[ -n $second ]] || _describe command commands ;;
     *) if [[ -z $second ]] && (( $#names )); then compadd -- $names; else _files; fi ;;
     esac

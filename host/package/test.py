@@ -195,7 +195,7 @@ class Package(unittest.TestCase):
     def test_completion_in_zsh(self):
         self.needs("zsh", "its completion")
         helps = self.helps()
-        self.assertEqual(self.offered(""), sorted(helps))
+        self.assertEqual(self.offered(""), sorted([*helps, "help"]))
         self.assertEqual(self.offered("help", "gra"), sorted(helps))
         self.assertEqual(self.offered("order", "--into", ""), ["-/", "files"])
         self.assertEqual(self.offered("explain", "7", "--at", ""), [])
