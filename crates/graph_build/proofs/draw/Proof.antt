@@ -1,9 +1,9 @@
--- `yanglib::draw`. Each way out is one law of Whole.
+-- `graph_build::draw`. Each way out is one law of Holds.
 -- Assumes nothing.
 use borrow.Author.Needs.{needs}
-use Rattle.yanglib.proofs.Whole.{image-short, prepared, nodes-many, nodes-room, held-refused, held-built}
-use Rattle.yanglib.proofs.draw.Statement.{statement}
-use Rattle.yanglib.proofs.draw.Tie as tie
+use Rattle.graph_build.proofs.Holds.{image-short, prepared, nodes-many, nodes-room, held-refused, held-built}
+use Rattle.graph_build.proofs.draw.Statement.{statement}
+use Rattle.graph_build.proofs.draw.Tie as tie
 
 list-items-requires : tie.Need-list-items-requires
 list-items-requires c κs =
