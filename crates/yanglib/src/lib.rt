@@ -1,4 +1,4 @@
-// The call that a host makes for the graph of a library: image and bundle are read, what is lent is measured and cleared, and crate graph_build makes the graph.
+// The call that a host makes for the graph of a library: image and bundle are read, what is lent is measured and cleared; crate graph_build makes the graph.
 use graph_build::Graphed;
 use library_bundle::Opened;
 use library_lists::Read;

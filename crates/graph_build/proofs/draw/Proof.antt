@@ -56,7 +56,8 @@ draw-edges-requires c κs =
 
 slice-aggregate-put-nodes : tie.Need-slice-aggregate-put-nodes
 slice-aggregate-put-nodes c =
-    let ntab2-at = c .before .before .before .before .before .before .before .before .before .before .before .before .before .before .before .before .before .before .before .before .before .before .before .before .before in
+    let draw-edges1 = c .before .before .before .before .before .before .before .before .before .before .before .before .before .before in
+    let ntab2-at = draw-edges1 .before .before .before .before .before .before .before .before .before .before .before in
     sym (ntab2-at .ntab2 .given)
 
 put-nodes-requires : tie.Need-put-nodes-requires
