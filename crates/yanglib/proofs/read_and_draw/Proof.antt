@@ -3,6 +3,7 @@
 use borrow.Author.Needs.{needs}
 use mathlib.Core.Path.{refl, sym}
 use Rattle.graph.specs.Nodes.{passOver}
+use Rattle.graph_tables.specs.Lengths.{lengthsOf}
 use Rattle.yanglib.proofs.Whole.{both-read, lent, lent-nodes, no-image, no-bundle, not-enough, all-held}
 use Rattle.yanglib.proofs.read_and_draw.Statement.{statement}
 use Rattle.yanglib.proofs.read_and_draw.Tie as tie
@@ -57,11 +58,13 @@ draw-requires c κs =
     let open1 = texts1 .before .before .before in
     let enum-told1 = open1 .before .before in
     let read-image1 = enum-told1 .before .before in
-    let start = read-image1 .before .before .before .before .before .before .before .before .before in (
+    let start = read-image1 .before .before .before .before .before .before .before .before .before in
+    let a = start .args in
+    let k = lengthsOf (a .nodes .now) (a .edges .now) (a .store .now) (a .imports .now) (a .includes .now) (a .levels .now) in (
       (both-read _ _ _ _ (enum-told1 .enum-told .given .1) (read-image1 .read-image .ensures) (open1 .«open» .ensures) (texts1 .texts .given .1)),
       lent _ _ _ _
-          _ _ _ _ (longest1 .longest .ensures) (too-short1 .too-short .ensures) (if1-at .if1 .left) refl refl refl refl refl (start .pre .1),
-      lent-nodes _ _ _
+          _ _ _ k (longest1 .longest .ensures) (too-short1 .too-short .ensures) (if1-at .if1 .left) refl refl refl refl refl (start .pre .1),
+      lent-nodes _ _ k
           (too-short1 .too-short .ensures) (if1-at .if1 .left) refl (start .pre .0),
     )
 
