@@ -29,11 +29,12 @@ use Rattle.graph_edges.specs.Edges.{rowsIn}
 use Rattle.graph.specs.Limits.{mostEdges, mostNodes}
 use Rattle.graph_nodes.specs.Adding.{plainAt, wordsAt}
 use Rattle.graph_texts.specs.Texts.{textOf}
-use Rattle.yanglib.specs.ToGraph.{lentTooShort, Result, refusal, resultOf, onRead, graphed, Graphs}
+use Rattle.graph_build.specs.Result.{Result, refusal, resultOf}
+use Rattle.yanglib.specs.ToGraph.{lentTooShort, onRead, graphed, Graphs}
 use Rattle.graph_tables.specs.Lengths.{Lengths, tooShort, lengthsOf}
-use Rattle.yanglib.specs.declared.Graphed.{Graphed}
-use Rattle.yanglib.specs.declared.Graphed.the-variants.{Built}
-use Rattle.yanglib.proofs.Outcome.{revised-here}
+use Rattle.graph_build.specs.declared.Graphed.{Graphed}
+use Rattle.graph_build.specs.declared.Graphed.the-variants.{Built}
+use Rattle.graph_build.proofs.Outcome.{revised-here}
 use Rattle.demands.specs.Demand3.{nameOf, names, tableNames, tableEdges, named, between, edges, RightGraph, WellFormed, Alike, both-refused, both-built}
 use Rattle.demands.specs.Demand3.{AlikeCalls, BytesDemand3}
 use Rattle.demands.proofs.Standing.{names-read}

@@ -18,8 +18,8 @@ use Rattle.graph.specs.Demand3.{AlikeImport, Within, SameEntries, Permuted}
 use Rattle.graph.proofs.Tests.{both-bools, mem-memb}
 use Rattle.yanglib.specs.ToGraph.{graphed}
 use Rattle.graph_tables.specs.Lengths.{tooShort}
-use Rattle.yanglib.specs.declared.Graphed.{Graphed}
-use Rattle.yanglib.specs.declared.Graphed.the-variants.{Built, Refused}
+use Rattle.graph_build.specs.declared.Graphed.{Graphed}
+use Rattle.graph_build.specs.declared.Graphed.the-variants.{Built, Refused}
 use Rattle.text.specs.Class.{classOf}
 use Rattle.text.specs.Due.{dueNumber, dueHere, dueAt}
 use Rattle.text.specs.Keyword.{startsIdent, endsKeyword, same, part, keywordAt, matchAt, orMatch}

@@ -32,9 +32,10 @@ use Rattle.graph.proofs.Demand.{demand3}
 use Rattle.graph_nodes.specs.Adding.{plainAt, wordsAt}
 use Rattle.graph_texts.specs.Texts.{scanSeen, scanText, lookText, textOf}
 use Rattle.yangparser.specs.Dependencies.{Dependencies, Scan, good as scanGood, bad as scanBad, dependencies}
-use Rattle.yanglib.specs.ToGraph.{Result, resultOf, graphed}
+use Rattle.graph_build.specs.Result.{Result, resultOf}
+use Rattle.yanglib.specs.ToGraph.{graphed}
 use Rattle.graph_tables.specs.Lengths.{Lengths, tooShort}
-use Rattle.yanglib.specs.declared.Graphed.the-variants.{Built, Refused}
+use Rattle.graph_build.specs.declared.Graphed.the-variants.{Built, Refused}
 use Rattle.demands.specs.Demand1.{GraphCause, image, bundle, lent, graph, GraphNumbers, Buildable, Demand1}
 use Rattle.demands_scans.proofs.ScanNumbers.{isOne, one-of, is-one, dependencies-refused, dependencies-first}
 use Rattle.demands.proofs.Graphing.{graphHere, before, graph-reached, drawn}

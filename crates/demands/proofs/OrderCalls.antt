@@ -22,7 +22,7 @@ use Rattle.graph.specs.Nodes.{passOver}
 use Rattle.yanglib.specs.ToGraph.{graphed, AnswerFits, Graphs}
 use Rattle.graph_tables.specs.Tables.{nodeWords, rowWords}
 use Rattle.graph_tables.specs.Lengths.{lengthsOf, tooShort}
-use Rattle.yanglib.specs.declared.Graphed.the-variants.{Built}
+use Rattle.graph_build.specs.declared.Graphed.the-variants.{Built}
 use Rattle.yanglib.proofs.Bounds.{answer-fits}
 use Rattle.graph_tables.proofs.Short.{Enough, long-enough}
 use Rattle.order_tables.specs.Tables.{allWithin, fits}

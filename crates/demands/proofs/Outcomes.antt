@@ -22,11 +22,12 @@ use Rattle.nuvaleta.specs.Orders.{orderWords}
 use Rattle.order.specs.declared.Ordered.{Ordered}
 use Rattle.order.specs.Order.{orderOf}
 use Rattle.graph.specs.Nodes.{passOver}
-use Rattle.yanglib.specs.ToGraph.{Result, graphed, Leaves as GraphLeft}
+use Rattle.graph_build.specs.Result.{Result}
+use Rattle.yanglib.specs.ToGraph.{graphed, Leaves as GraphLeft}
 use Rattle.graph_tables.specs.Tables.{nodeWords, rowWords}
 use Rattle.library_index.specs.Names.{namesIn}
 use Rattle.graph_tables.specs.Lengths.{Lengths, lengthsOf}
-use Rattle.yanglib.specs.declared.Graphed.{Graphed}
+use Rattle.graph_build.specs.declared.Graphed.{Graphed}
 use Rattle.library_form.specs.Form.{PlacedName, wordAt, numberSeen, nameSeen}
 use Rattle.library_form.specs.declared.Number.the-variants.{Value, Wrong as WrongNumber}
 use Rattle.library_form.specs.declared.Name.the-variants.{Bytes, Wrong as WrongName}

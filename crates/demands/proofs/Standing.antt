@@ -21,7 +21,7 @@ use Rattle.library_items.proofs.Told.{library-told}
 use Rattle.graph_nodes.specs.Adding.{Adding, so, isEntry, isSub, addName, addItem, addItems, plainAt, wordsAt}
 use Rattle.graph_nodes.proofs.Gathering.{added}
 use Rattle.graph.specs.Nodes.{passOver, nodesOf}
-use Rattle.yanglib.proofs.Outcome.{nodes-named, image-here, revised-here}
+use Rattle.graph_build.proofs.Outcome.{nodes-named, image-here, revised-here}
 use Rattle.demands.specs.Demand3.{nameOf}
 
 module _ (s : List ℕ) where

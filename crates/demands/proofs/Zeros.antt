@@ -27,9 +27,10 @@ use Rattle.graph.specs.Graph.{Graph, graph, fault}
 use Rattle.graph_nodes.specs.Adding.{wordsAt}
 use Rattle.graph_tables.specs.Tables.{nodeWords, rowWords}
 use Rattle.graph_tables.specs.Lengths.{Lengths, lengthsOf, tooShort}
-use Rattle.yanglib.specs.ToGraph.{Result, resultOf, graphed, Leaves as GraphLeft}
-use Rattle.yanglib.specs.declared.Graphed.{Graphed}
-use Rattle.yanglib.specs.declared.Graphed.the-variants.{Built, Refused as RefusedGraph}
+use Rattle.graph_build.specs.Result.{Result, resultOf}
+use Rattle.yanglib.specs.ToGraph.{graphed, Leaves as GraphLeft}
+use Rattle.graph_build.specs.declared.Graphed.{Graphed}
+use Rattle.graph_build.specs.declared.Graphed.the-variants.{Built, Refused as RefusedGraph}
 use Rattle.host_words.specs.Words.{recordWords}
 use Rattle.nuvaleta.specs.Words.{numberOf, answerWords, graphWords}
 use Rattle.demands.specs.Demand1.{Zeroed, ZeroedGraph, Zeros}

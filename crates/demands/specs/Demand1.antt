@@ -37,7 +37,7 @@ use Rattle.graph_nodes.specs.Adding.{plainAt}
 use Rattle.graph_texts.specs.Texts.{textOf}
 use Rattle.yanglib.specs.ToGraph.{graphed, Graphs}
 use Rattle.graph_tables.specs.Lengths.{Lengths, tooShort}
-use Rattle.yanglib.specs.declared.Graphed.the-variants.{Built, Refused}
+use Rattle.graph_build.specs.declared.Graphed.the-variants.{Built, Refused}
 use Rattle.demands_scans.specs.Refusals.{FirstRefusal, RefusedAs, DependenciesRefusal, MetadataRefusal}
 
 -- ---- graphs

@@ -21,10 +21,11 @@ use Rattle.graph.specs.Demand3.{allNames, Once, SameEntries, Permuted}
 use Rattle.graph_edges.specs.Edges.{rowsIn}
 use Rattle.graph_nodes.specs.Adding.{plainAt}
 use Rattle.graph_texts.specs.Texts.{textOf}
-use Rattle.yanglib.specs.ToGraph.{Result, graphed, Graphs}
+use Rattle.graph_build.specs.Result.{Result}
+use Rattle.yanglib.specs.ToGraph.{graphed, Graphs}
 use Rattle.graph_tables.specs.Lengths.{Lengths, lengthsOf}
-use Rattle.yanglib.specs.declared.Graphed.{Graphed}
-use Rattle.yanglib.specs.declared.Graphed.the-variants.{Built, Refused}
+use Rattle.graph_build.specs.declared.Graphed.{Graphed}
+use Rattle.graph_build.specs.declared.Graphed.the-variants.{Built, Refused}
 
 -- ---- names and edges, as a caller reads them
 

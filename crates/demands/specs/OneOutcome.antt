@@ -30,7 +30,7 @@ use Rattle.nuvaleta.specs.Finds.{Told}
 use Rattle.nuvaleta.specs.Graphs.{GraphAnswered}
 use Rattle.yanglib.specs.ToGraph.{Graphs}
 use Rattle.graph_tables.specs.Lengths.{lengthsOf}
-use Rattle.yanglib.specs.declared.Graphed.{Graphed}
+use Rattle.graph_build.specs.declared.Graphed.{Graphed}
 use Rattle.order.specs.declared.Ordered.{Ordered}
 use Rattle.order.specs.Order.{Orders}
 use Rattle.nuvaleta.specs.Orders.{OrderAnswered, CheckAnswered}

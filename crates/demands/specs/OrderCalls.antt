@@ -13,7 +13,7 @@ use Rattle.graph_edges.specs.Edges.{rowsIn}
 use Rattle.graph_nodes.specs.Adding.{plainAt}
 use Rattle.graph_texts.specs.Texts.{textOf}
 use Rattle.yanglib.specs.ToGraph.{Graphs}
-use Rattle.yanglib.specs.declared.Graphed.the-variants.{Built}
+use Rattle.graph_build.specs.declared.Graphed.the-variants.{Built}
 use Rattle.order_tables.specs.Tables.{fits}
 use Rattle.order_tables.specs.Free.{mem}
 use Rattle.order_take.specs.Taking.{taken}

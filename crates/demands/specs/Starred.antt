@@ -12,7 +12,8 @@ use Rattle.scan_metadata.specs.Metadata.{valuesOf, metadata}
 use Rattle.yangparser.specs.Dependencies.{Scan, good, bad, dependencies}
 use Rattle.library_bundle.specs.Reading.{longestText}
 use Rattle.graph.specs.Nodes.{passOver}
-use Rattle.yanglib.specs.ToGraph.{Result, graphed}
+use Rattle.graph_build.specs.Result.{Result}
+use Rattle.yanglib.specs.ToGraph.{graphed}
 use Rattle.graph_tables.specs.Tables.{nodeWords, rowWords}
 use Rattle.graph_tables.specs.Lengths.{Lengths}
 use Rattle.host_words.specs.Words.{recordWords}

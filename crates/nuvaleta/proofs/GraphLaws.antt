@@ -10,8 +10,8 @@ use mir.Val.{Fits}
 use Rattle.graph.specs.Nodes.{passOver}
 use Rattle.yanglib.specs.ToGraph.{Leaves, graphed, AnswerFits}
 use Rattle.graph_tables.specs.Lengths.{lengthsOf}
-use Rattle.yanglib.specs.declared.Graphed.{Graphed}
-use Rattle.yanglib.specs.declared.Graphed.the-variants.{Built, Refused}
+use Rattle.graph_build.specs.declared.Graphed.{Graphed}
+use Rattle.graph_build.specs.declared.Graphed.the-variants.{Built, Refused}
 use Rattle.yanglib.proofs.Bounds.{answer-fits}
 use Rattle.nuvaleta.specs.Words.{graphWords, GraphFits}
 use Rattle.nuvaleta.specs.Graphs.{Drawn}

@@ -7,8 +7,8 @@ use lib.ListN.{getD}
 use Rattle.text.specs.declared.Refusal.{Refusal}
 use Rattle.yangparser.specs.declared.Parsed.{Parsed}
 use Rattle.yangparser.specs.declared.Parsed.the-variants.{Good, Refused}
-use Rattle.yanglib.specs.declared.Graphed.{Graphed}
-use Rattle.yanglib.specs.declared.Graphed.the-variants.{Built, Refused as RefusedGraph}
+use Rattle.graph_build.specs.declared.Graphed.{Graphed}
+use Rattle.graph_build.specs.declared.Graphed.the-variants.{Built, Refused as RefusedGraph}
 use Rattle.nuvaleta.specs.Words.{numberOf, answerWords, WordsFit, graphWords, GraphFits}
 
 -- ---- a scan

@@ -5,7 +5,8 @@ use Prim.Native.Nat.{ℕ}
 use mathlib.Core.List.{List}
 use Rattle.nuvaleta.specs.Finds.{Told}
 use Rattle.graph.specs.Nodes.{passOver}
-use Rattle.yanglib.specs.ToGraph.{Result, Leaves, graphed}
+use Rattle.graph_build.specs.Result.{Result}
+use Rattle.yanglib.specs.ToGraph.{Leaves, graphed}
 use Rattle.graph_tables.specs.Lengths.{lengthsOf}
 use Rattle.nuvaleta.specs.Words.{graphWords}
 

@@ -5,8 +5,8 @@ use Prim.Native.Nat.{ℕ, _<_}
 use mathlib.Core.List.{List, [], _∷_}
 use Rattle.yangparser.specs.declared.Parsed.{Parsed}
 use Rattle.yangparser.specs.declared.Parsed.the-variants.{Good, Refused}
-use Rattle.yanglib.specs.declared.Graphed.{Graphed}
-use Rattle.yanglib.specs.declared.Graphed.the-variants.{Built, Refused as RefusedGraph}
+use Rattle.graph_build.specs.declared.Graphed.{Graphed}
+use Rattle.graph_build.specs.declared.Graphed.the-variants.{Built, Refused as RefusedGraph}
 
 -- ---- a scan
 

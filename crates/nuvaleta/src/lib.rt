@@ -1,5 +1,5 @@
 // What a C or Rust host calls, as include/nuvaleta.h declares it: one function a call, with the promises of the function that it calls.
-use yanglib::Graphed;
+use graph_build::Graphed;
 use yangparser::Parsed;
 ghost use mathlib.Core.Path.{_≡_};
 ghost use Rattle.nuvaleta.specs.Host.{DependenciesAnswered, PrintedAnswered};

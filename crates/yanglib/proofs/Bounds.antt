@@ -35,9 +35,10 @@ use Rattle.library_items.specs.Table.{Reads}
 use Rattle.graph.specs.Limits.{mostEdges, mostNodes}
 use Rattle.graph_nodes.specs.Adding.{plainAt, wordsAt}
 use Rattle.graph_texts.specs.Texts.{scanSeen, scanText, lookText, textOf}
-use Rattle.yanglib.specs.ToGraph.{lentTooShort, Result, refusal, resultOf, onRead, graphed, AnswerFits}
+use Rattle.graph_build.specs.Result.{Result, refusal, resultOf}
+use Rattle.yanglib.specs.ToGraph.{lentTooShort, onRead, graphed, AnswerFits}
 use Rattle.graph_tables.specs.Lengths.{Lengths, tooShort}
-use Rattle.yanglib.proofs.Outcome.{image-here}
+use Rattle.graph_build.proofs.Outcome.{image-here}
 
 -- ---- where an image and a bundle are wrong
 

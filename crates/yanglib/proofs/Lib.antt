@@ -1,4 +1,3 @@
 pub mod Bounds
-pub mod Outcome
 pub mod Ways
 pub mod Whole

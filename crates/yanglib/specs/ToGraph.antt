@@ -5,45 +5,30 @@
 use Prim.Native.Nat.{ℕ, _≤_}
 use mathlib.Core.Path.{_≡_}
 use mathlib.Core.Bool.{cond}
-use mathlib.Core.List.{List, [], map}
+use mathlib.Core.List.{List}
 use lib.ListN.{length}
-use Rattle.text.specs.declared.Refusal.{Refusal}
 use Rattle.text_lent.specs.Padded.{zeros, padded}
-use Rattle.library_form.specs.Form.{Ans, good, bad, PlacedName}
+use Rattle.library_form.specs.Form.{Ans, good, bad}
 use Rattle.library_image.specs.Image.{imageBroken, imageAt}
 use Rattle.library_bundle.specs.Bundle.{bundleBroken, bundleAt}
 use Rattle.library_bundle.specs.Reading.{longestText}
 use Rattle.graph.specs.Nodes.{Mode, passOver}
 use Rattle.text.specs.Refusal.{noRefusal}
-use Rattle.graph.specs.Graph.{Graph, graph, fault, graphOf}
-use Rattle.graph.specs.Numbers.{Row, rowOf}
+use Rattle.graph.specs.Graph.{graphOf}
 use Rattle.graph.specs.Limits.{mostEdges, mostNodes}
 use Rattle.graph_nodes.specs.Adding.{plainAt, wordsAt}
 use Rattle.graph_texts.specs.Texts.{textOf}
 use Rattle.graph_tables.specs.Lengths.{Lengths, lengthsOf, tooShort}
 use Rattle.graph_tables.specs.Tables.{nodeWords, rowWords}
-use Rattle.yanglib.specs.declared.Graphed.{Graphed}
-use Rattle.yanglib.specs.declared.Graphed.the-variants.{Built, Refused}
+use Rattle.graph_build.specs.Result.{Result, refusal, resultOf}
+use Rattle.graph_build.specs.declared.Graphed.{Graphed}
+use Rattle.graph_build.specs.declared.Graphed.the-variants.{Built, Refused}
 
 -- a table or scratch too short
 abbrev pub lentTooShort : ℕ
 lentTooShort = 22
 
 -- ---- the answer, the nodes and the edges
-
-pub record Result : Type 0 where
-  pub answer : Graphed
-  pub nodes : List PlacedName
-  pub rows : List Row
-
--- a refusal with its number, entry, scan answer and place
-abbrev pub refusal : ℕ → ℕ → Refusal → ℕ → Result
-refusal number entry scan place = record { answer = Refused number entry scan place; nodes = []; rows = [] }
-
--- a graph between names: its nodes with their places, its edges in numbers
-abbrev pub resultOf : List PlacedName → Graph → Result
-resultOf ws (graph ns es) = record { answer = Built (length ns) (length es); nodes = ws; rows = map (rowOf ns) es }
-resultOf ws (fault number entry a) = refusal number entry a 0
 
 -- f of the place where a reading is wrong, else b
 abbrev pub onRead : {A B : Type 0} → Ans A → (ℕ → B) → B → B

@@ -1,7 +1,7 @@
 // Replays recorded graphs of the Rust: nodes, edges in order, or which refusal.
+use graph_build::Graphed;
 use replay::Tally;
 use text::Refusal;
-use yanglib::Graphed;
 
 // Whether the tables are the recorded ones: the places of the nodes' names, the first of each two words, and the edges.
 fn tables_agree(

@@ -1,8 +1,9 @@
 -- `yanglib::read_and_draw`. Each way out is one law of Whole.
 -- Assumes nothing.
 use borrow.Author.Needs.{needs}
-use mathlib.Core.Path.{refl}
+use mathlib.Core.Path.{refl, sym}
 use Rattle.graph.specs.Nodes.{passOver}
+use Rattle.graph_tables.specs.Lengths.{lengthsOf}
 use Rattle.yanglib.proofs.Whole.{both-read, lent, lent-nodes, no-image, no-bundle, not-enough, all-held}
 use Rattle.yanglib.proofs.read_and_draw.Statement.{statement}
 use Rattle.yanglib.proofs.read_and_draw.Tie as tie
@@ -16,6 +17,11 @@ returns c =
     let start = read-image1 .before .before .before .before .before .before .before .before .before in
     no-image passOver _ _ _ _ _ _ _ _ (start .pre .0) (start .pre .1) (read1 .read .given .1) (read-image1 .read-image .ensures)
     (read-number1 .read-number .ensures) (no-refusal1 .no-refusal .ensures)
+
+slice-aggregate-longest : tie.Need-slice-aggregate-longest
+slice-aggregate-longest c =
+    let btab2-at = c .before .before .before .before in
+    sym (btab2-at .btab2 .given)
 
 longest-requires : tie.Need-longest-requires
 longest-requires c κs =
@@ -38,6 +44,11 @@ returns-2 c =
     (open1 .«open» .ensures) (texts1 .texts .given .1)) (longest1 .longest .ensures) (too-short1 .too-short .ensures) (if1-at .if1 .taken)
     (no-refusal3-at .no-refusal3 .ensures)
 
+slice-aggregate-draw : tie.Need-slice-aggregate-draw
+slice-aggregate-draw c =
+    let btab2-at = c .before .before .before .before .before .before .before .before in
+    sym (btab2-at .btab2 .given)
+
 draw-requires : tie.Need-draw-requires
 draw-requires c κs =
     let if1-at = c .before .before .before .before .before .before .before in
@@ -47,11 +58,13 @@ draw-requires c κs =
     let open1 = texts1 .before .before .before in
     let enum-told1 = open1 .before .before in
     let read-image1 = enum-told1 .before .before in
-    let start = read-image1 .before .before .before .before .before .before .before .before .before in (
+    let start = read-image1 .before .before .before .before .before .before .before .before .before in
+    let a = start .args in
+    let k = lengthsOf (a .nodes .now) (a .edges .now) (a .store .now) (a .imports .now) (a .includes .now) (a .levels .now) in (
       (both-read _ _ _ _ (enum-told1 .enum-told .given .1) (read-image1 .read-image .ensures) (open1 .«open» .ensures) (texts1 .texts .given .1)),
       lent _ _ _ _
-          _ _ _ _ (longest1 .longest .ensures) (too-short1 .too-short .ensures) (if1-at .if1 .left) refl refl refl refl refl (start .pre .1),
-      lent-nodes _ _ _
+          _ _ _ k (longest1 .longest .ensures) (too-short1 .too-short .ensures) (if1-at .if1 .left) refl refl refl refl refl (start .pre .1),
+      lent-nodes _ _ k
           (too-short1 .too-short .ensures) (if1-at .if1 .left) refl (start .pre .0),
     )
 
@@ -65,6 +78,32 @@ returns-3 c =
     let start = read-image1 .before .before .before .before .before .before .before .before .before in
     no-bundle passOver _ _ _ _ _ _ _ _ (start .pre .0) (start .pre .1) (enum-told1 .enum-told .given .1) (read-image1 .read-image .ensures)
     (open1 .«open» .ensures) (p1 .p .given .1) (no-refusal2-at .no-refusal2 .ensures)
+
+same-length : tie.Need-same-length
+same-length c =
+    let nodes1 = c .before .before .before .before .before .before .before .before .before .before .before in
+    nodes1 .nodes .given
+
+same-length-2 : tie.Need-same-length-2
+same-length-2 c =
+    let edges1 = c .before .before .before .before .before .before .before .before .before in
+    edges1 .edges .given
+
+same-length-3 : tie.Need-same-length-3
+same-length-3 c =
+    let store1 = c .before .before .before .before .before .before .before in
+    store1 .store .given
+
+same-length-4 : tie.Need-same-length-4
+same-length-4 c =
+    let imports1 = c .before .before .before .before .before in
+    imports1 .imports .given
+
+same-length-5 : tie.Need-same-length-5
+same-length-5 c = c .before .before .before .includes .given
+
+same-length-6 : tie.Need-same-length-6
+same-length-6 c = c .before .levels .given
 
 returns-4 : tie.Need-returns-4
 returns-4 c =
@@ -86,28 +125,28 @@ read-and-draw-spec =
     tie.close
     (tie.spec
     (λ c κs. search needs)
-    (λ c. search needs)
+    (λ c. c .match .keys1)
     (λ c κs. search needs)
     (λ c κs. search needs)
     returns
-    (λ c. search needs)
-    (λ c. search needs)
+    (λ c. c .match .keys2)
+    (λ c. refl)
     (λ c κs. search needs)
-    (λ c. search needs)
+    (λ c. c .match2 .keys1)
     (λ c κs. search needs)
-    (λ c. search needs)
-    (λ c. search needs)
+    (λ c. c .match2 .keys2)
+    slice-aggregate-longest
     longest-requires
     (λ c κs. search needs)
     (λ c κs. search needs)
     returns-2
-    (λ c. search needs)
+    slice-aggregate-draw
     draw-requires
     returns-3
-    (λ c. search needs)
-    (λ c. search needs)
-    (λ c. search needs)
-    (λ c. search needs)
-    (λ c. search needs)
-    (λ c. search needs)
+    same-length
+    same-length-2
+    same-length-3
+    same-length-4
+    same-length-5
+    same-length-6
     returns-4)

@@ -1,6 +1,7 @@
 -- `yanglib::to_graph`. One law of Whole says what is left.
 -- Assumes nothing.
 use borrow.Author.Needs.{needs}
+use mathlib.Core.Path.{_∙_}
 use Rattle.graph.specs.Nodes.{passOver}
 use Rattle.yanglib.proofs.Whole.{now-zero, all-left}
 use Rattle.yanglib.proofs.to_graph.Statement.{statement}
@@ -12,6 +13,30 @@ read-and-draw-requires c κs =
     let clear-words1 = clear-words2-at .before .before .before .before in
     let start = clear-words1 .before .before .before .before .before .before .before .before .before .before in
     (now-zero (start .args .nodes .now) (clear-words1 .clear-words .ensures), now-zero (start .args .edges .now) (clear-words2-at .clear-words2 .ensures))
+
+same-length-3 : tie.Need-same-length-3
+same-length-3 c =
+    let store2-at = c .before .before .before .before .before .before .before .before .before .before .before .before .before in
+    let store1 = store2-at .before .before .before .before .before .before .before .before .before .before in
+    store2-at .store2 .given ∙ store1 .store .given
+
+same-length-4 : tie.Need-same-length-4
+same-length-4 c =
+    let imports2-at = c .before .before .before .before .before .before .before .before .before in
+    let imports1 = imports2-at .before .before .before .before .before .before .before .before .before .before .before .before in
+    imports2-at .imports2 .given ∙ imports1 .imports .given
+
+same-length-5 : tie.Need-same-length-5
+same-length-5 c =
+    let includes2-at = c .before .before .before .before .before in
+    let includes1 = includes2-at .before .before .before .before .before .before .before .before .before .before .before .before .before .before in
+    includes2-at .includes2 .given ∙ includes1 .includes .given
+
+same-length-6 : tie.Need-same-length-6
+same-length-6 c =
+    let levels2-at = c .before in
+    let levels1 = levels2-at .before .before .before .before .before .before .before .before .before .before .before .before .before .before .before .before in
+    levels2-at .levels2 .given ∙ levels1 .levels .given
 
 returns : tie.Need-returns
 returns c =
@@ -39,8 +64,8 @@ to-graph-spec =
     (λ c κs. search needs)
     (λ c. search needs)
     (λ c. search needs)
-    (λ c. search needs)
-    (λ c. search needs)
-    (λ c. search needs)
-    (λ c. search needs)
+    same-length-3
+    same-length-4
+    same-length-5
+    same-length-6
     returns)

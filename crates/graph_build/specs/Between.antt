@@ -14,8 +14,8 @@ use Rattle.graph_link.specs.Link.{allLevels}
 use Rattle.graph_visit.specs.Visit.{Kept}
 use Rattle.graph_tables.specs.Lengths.{nodeTable}
 use Rattle.graph_tables.specs.Tables.{nodeWords, rowWords}
-use Rattle.yanglib.specs.ToGraph.{Result, resultOf}
-use Rattle.yanglib.specs.declared.Graphed.{Graphed}
+use Rattle.graph_build.specs.Result.{Result, resultOf}
+use Rattle.graph_build.specs.declared.Graphed.{Graphed}
 
 -- enough is lent for the nodes, whose table is zero
 pub record LentNodes (nodes : List ℕ) : Type 0 where

@@ -27,8 +27,8 @@ use Rattle.graph_nodes.specs.Adding.{plainAt, wordsAt}
 use Rattle.graph_texts.specs.Texts.{textOf}
 use Rattle.graph_visit.specs.Visit.{worldOf}
 use Rattle.graph_entries.specs.Entries.{drawItems}
-use Rattle.yanglib.specs.ToGraph.{Result, refusal, resultOf}
-use Rattle.yanglib.specs.declared.Graphed.the-variants.{Built}
+use Rattle.graph_build.specs.Result.{Result, refusal, resultOf}
+use Rattle.graph_build.specs.declared.Graphed.the-variants.{Built}
 use Rattle.graph_entries.proofs.Drawing.{items-drawn}
 
 -- what is answered and left for a drawing between these nodes

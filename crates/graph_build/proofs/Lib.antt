@@ -1,0 +1,3 @@
+pub mod Holds
+pub mod Outcome
+pub mod Ways
