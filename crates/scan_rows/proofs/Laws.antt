@@ -38,8 +38,10 @@ long-5 d i a b c e f = length-set (set (set (set (set d i a) (i + 1) b) (i + 2) 
 pub long-6 : (d : List ℕ) (i a b c e f g : ℕ) → length (set (set (set (set (set (set d i a) (i + 1) b) (i + 2) c) (i + 3) e) (i + 4) f) (i + 5) g) ≡ length d
 long-6 d i a b c e f g = length-set (set (set (set (set (set d i a) (i + 1) b) (i + 2) c) (i + 3) e) (i + 4) f) (i + 5) g ∙ long-5 d i a b c e f
 
-pub long-7 : (d : List ℕ) (i a b c e f g h : ℕ) → length (set (set (set (set (set (set (set d i a) (i + 1) b) (i + 2) c) (i + 3) e) (i + 4) f) (i + 5) g) (i + 6) h) ≡ length d
-long-7 d i a b c e f g h = length-set (set (set (set (set (set (set d i a) (i + 1) b) (i + 2) c) (i + 3) e) (i + 4) f) (i + 5) g) (i + 6) h ∙ long-6 d i a b c e f g
+pub long-7 : (d : List ℕ) (i a b c e f g h : ℕ)
+    → length (set (set (set (set (set (set (set d i a) (i + 1) b) (i + 2) c) (i + 3) e) (i + 4) f) (i + 5) g) (i + 6) h) ≡ length d
+long-7 d i a b c e f g h = length-set (set (set (set (set (set (set d i a) (i + 1) b) (i + 2) c) (i + 3) e) (i + 4) f) (i + 5) g) (i + 6) h
+    ∙ long-6 d i a b c e f g
 
 -- ---- five and seven stores in a row
 

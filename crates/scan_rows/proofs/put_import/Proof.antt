@@ -33,7 +33,8 @@ slice-write-table-4 c =
     let t = start .args .table .now in
     let row = start .args .row in
     let i = start .args .i in
-    as-low (long-3 t (row * importSize) (i .«module_name» .start) (i .«module_name» .size) (i .prefix .start)) (in-import t row 3 (start .pre .0) (start .pre .1) (lit< tt))
+    as-low (long-3 t (row * importSize) (i .«module_name» .start) (i .«module_name» .size) (i .prefix .start))
+    (in-import t row 3 (start .pre .0) (start .pre .1) (lit< tt))
 
 slice-write-table-5 : tie.Need-slice-write-table-5
 slice-write-table-5 c =
@@ -41,7 +42,8 @@ slice-write-table-5 c =
     let t = start .args .table .now in
     let row = start .args .row in
     let i = start .args .i in
-    as-low (long-4 t (row * importSize) (i .«module_name» .start) (i .«module_name» .size) (i .prefix .start) (i .prefix .size)) (in-import t row 4 (start .pre .0) (start .pre .1) (lit< tt))
+    as-low (long-4 t (row * importSize) (i .«module_name» .start) (i .«module_name» .size) (i .prefix .start) (i .prefix .size))
+    (in-import t row 4 (start .pre .0) (start .pre .1) (lit< tt))
 
 slice-write-table-6 : tie.Need-slice-write-table-6
 slice-write-table-6 c =
@@ -49,7 +51,8 @@ slice-write-table-6 c =
     let t = start .args .table .now in
     let row = start .args .row in
     let i = start .args .i in
-    as-low (long-5 t (row * importSize) (i .«module_name» .start) (i .«module_name» .size) (i .prefix .start) (i .prefix .size) (c .before .mark .result)) (in-import t row 5 (start .pre .0) (start .pre .1) (lit< tt))
+    as-low (long-5 t (row * importSize) (i .«module_name» .start) (i .«module_name» .size) (i .prefix .start) (i .prefix .size) (c .before .mark .result))
+    (in-import t row 5 (start .pre .0) (start .pre .1) (lit< tt))
 
 slice-write-table-7 : tie.Need-slice-write-table-7
 slice-write-table-7 c =
@@ -57,7 +60,9 @@ slice-write-table-7 c =
     let t = start .args .table .now in
     let row = start .args .row in
     let i = start .args .i in
-    as-low (long-6 t (row * importSize) (i .«module_name» .start) (i .«module_name» .size) (i .prefix .start) (i .prefix .size) (c .before .before .mark .result) (i .«revision_date» .start)) (in-import t row 6 (start .pre .0) (start .pre .1) (lit< tt))
+    as-low (long-6 t (row * importSize) (i .«module_name» .start) (i .«module_name» .size)
+    (i .prefix .start) (i .prefix .size) (c .before .before .mark .result) (i .«revision_date» .start))
+    (in-import t row 6 (start .pre .0) (start .pre .1) (lit< tt))
 
 same-length : tie.Need-same-length
 same-length c =
@@ -65,7 +70,8 @@ same-length c =
     let t = start .table .now in
     let row = start .row in
     let i = start .i in
-    long-7 t (row * importSize) (i .«module_name» .start) (i .«module_name» .size) (i .prefix .start) (i .prefix .size) (c .before .before .mark .result) (i .«revision_date» .start) (i .«revision_date» .size)
+    long-7 t (row * importSize) (i .«module_name» .start) (i .«module_name» .size)
+    (i .prefix .start) (i .prefix .size) (c .before .before .mark .result) (i .«revision_date» .start) (i .«revision_date» .size)
 
 returns : tie.Need-returns
 unfolding importWords
