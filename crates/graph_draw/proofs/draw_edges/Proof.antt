@@ -62,7 +62,8 @@ draw-edges-spec =
     enum-told1 .before .before .before .before .before .before .before .before .before .before .before .before .before .walk-items .ensures .kept .imports-long)
     (λ c.
     let enum-told1 = c .before .before .before .before in
-    enum-told1 .before .before .before .before .before .before .before .before .before .before .before .before .before .walk-items .ensures .kept .includes-long)
+    enum-told1 .before .before .before .before .before .before .before .before .before .before .before .before .before
+    .walk-items .ensures .kept .includes-long)
     (λ c.
     let enum-told1 = c .before .before .before .before in
     enum-told1 .before .before .before .before .before .before .before .before .before .before .before .before .before .walk-items .ensures .kept .levels-long)

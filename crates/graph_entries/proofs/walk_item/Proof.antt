@@ -7,7 +7,9 @@ use Rattle.graph_entries.proofs.walk_item.Tie as tie
 
 walk-requires : tie.Need-walk-requires
 walk-requires c κs =
-    let start = c .before .before .before .before .before .before .before .before .before .before .before .before .before .before .before .before .before .before .before in
+    let start =
+    c .before .before .before .before .before .before .before .before .before .before .before .before .before .before .before .before .before .before
+    .before in
     (start .pre .0, start .pre .1, start .pre .2 .low)
 
 returns : tie.Need-returns

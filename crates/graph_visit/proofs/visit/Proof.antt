@@ -79,25 +79,31 @@ visit-spec =
     returns-2
     (λ c.
     let link-imports1 = c .before .before .before .before .before .before .before in
-    link-imports1 .before .before .before .before .before .before .before .before .before .before .before .before .before .before .read-text .ensures .kept-store)
+    link-imports1 .before .before .before .before .before .before .before .before .before .before .before .before .before .before
+    .read-text .ensures .kept-store)
     (λ c.
     let link-imports1 = c .before .before .before .before .before .before .before in
-    link-imports1 .before .before .before .before .before .before .before .before .before .before .before .before .before .before .read-text .ensures .kept-imports)
+    link-imports1 .before .before .before .before .before .before .before .before .before .before .before .before .before .before
+    .read-text .ensures .kept-imports)
     (λ c.
     let link-imports1 = c .before .before .before .before .before .before .before in
-    link-imports1 .before .before .before .before .before .before .before .before .before .before .before .before .before .before .read-text .ensures .kept-includes)
+    link-imports1 .before .before .before .before .before .before .before .before .before .before .before .before .before .before
+    .read-text .ensures .kept-includes)
     (λ c. c .before .before .before .before .before .before .before .link-imports .ensures .kept-edges)
     (λ c. c .before .before .before .before .before .before .before .link-imports .ensures .kept-chains)
     returns-3
     (λ c.
     let link-imports1 = c .before .before .before .before .before .before .before .before .before .before .before .before .before in
-    link-imports1 .before .before .before .before .before .before .before .before .before .before .before .before .before .before .read-text .ensures .kept-store)
+    link-imports1 .before .before .before .before .before .before .before .before .before .before .before .before .before .before
+    .read-text .ensures .kept-store)
     (λ c.
     let link-imports1 = c .before .before .before .before .before .before .before .before .before .before .before .before .before in
-    link-imports1 .before .before .before .before .before .before .before .before .before .before .before .before .before .before .read-text .ensures .kept-imports)
+    link-imports1 .before .before .before .before .before .before .before .before .before .before .before .before .before .before
+    .read-text .ensures .kept-imports)
     (λ c.
     let link-imports1 = c .before .before .before .before .before .before .before .before .before .before .before .before .before in
-    link-imports1 .before .before .before .before .before .before .before .before .before .before .before .before .before .before .read-text .ensures .kept-includes)
+    link-imports1 .before .before .before .before .before .before .before .before .before .before .before .before .before .before
+    .read-text .ensures .kept-includes)
     (λ c. c .before .before .save-includes .ensures .kept)
     (λ c. c .before .before .before .before .before .before .before .before .before .before .before .before .before .link-imports .ensures .kept-edges)
     (λ c. c .before .before .before .before .before .before .before .before .before .before .before .before .before .link-imports .ensures .kept-chains)
