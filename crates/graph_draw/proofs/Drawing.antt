@@ -1,7 +1,7 @@
 -- From the walk of all items to the edges that are left: a table that is zero at first holds no edge; at the end it holds the words of the rows, and a
 -- refusal leaves it zero.
 -- Assumes nothing.
-use Prim.Native.Nat.{ℕ}
+use Prim.Native.Nat.{ℕ, _≤_}
 use mathlib.Core.Path.{_≡_, sym, ap, _∙_}
 use mathlib.Core.List.{List, []}
 use native.Mathlib.Omega.{arith}
@@ -14,7 +14,7 @@ use Rattle.library_image.specs.Library.{Name}
 use Rattle.library_items.specs.Items.{itemsAt}
 use Rattle.graph_edges.specs.Edges.{rowsIn, Filed}
 use Rattle.graph_edges.proofs.Chains.{empty-filed}
-use Rattle.graph_marks.specs.Marks.{Marked}
+use Rattle.graph_marks.specs.Marks.{Marked, markTable}
 use Rattle.graph_walk.specs.Walk.{Tables}
 use Rattle.graph_visit.specs.Visit.{Ground}
 use Rattle.graph_visit.specs.declared.Sizes.{Sizes}
@@ -33,8 +33,14 @@ pub grounded : {s b btab ntab : List ℕ} {sizes : Sizes} {table : List ℕ} {co
     → Marked s ntab (sizes .nodes) (itemsAt s) marks → Ground s b btab ntab marks sizes
 grounded p m = record { desk = record { reads = p .opened .reads; holding = p .holding; entries = p .entries; marked = m }; held = p .opened .held }
 
+pub marks-long : length (zeros 2048) ≡ 2048
+marks-long = length-replicate {A = ℕ} 2048 0
+
 pub no-marks : zeros 2048 ≡ zeros (length (zeros 2048))
-no-marks = ap zeros (sym (length-replicate {A = ℕ} 2048 0))
+no-marks = ap zeros (sym marks-long)
+
+pub marks-room : markTable ≤ length (zeros 2048)
+marks-room = omega (arith, marks-long)
 
 pub no-edges : {b store imports includes levels edges : List ℕ} → Lent b store imports includes levels edges
     → Tables b store imports includes levels edges (zeros 16384) 8 0
@@ -48,6 +54,9 @@ no-edges {edges = edges} g = record {
     no-chains = λ j. zeros-zero 16384 j;
   });
 }
+
+pub edges-cleared : {k n : ℕ} {edges : List ℕ} → k ≡ n → edges ≡ zeros k → length edges ≡ n
+edges-cleared {k} e z = ap length z ∙ length-replicate {A = ℕ} k 0 ∙ e
 
 module _ {s b : List ℕ} {ns : List Name} {store imports includes levels edges chains : List ℕ} {r : Drawn}
     {store₁ imports₁ includes₁ levels₁ edges₁ chains₁ : List ℕ}

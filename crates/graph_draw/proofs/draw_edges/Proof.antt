@@ -1,20 +1,32 @@
 -- `graph_draw::draw_edges`. Each way out is one law of Drawing.
 -- Assumes nothing.
-use borrow.Author.Needs.{needs}
-use Rattle.graph_draw.proofs.Drawing.{no-marks, grounded, no-edges, edges-refused, edges-built}
+use Prim.Native.Nat.{ℕ}
+use mathlib.Core.Path.{refl, sym, _∙_}
+use lib.ListN.{length-replicate}
+use Rattle.graph_draw.proofs.Drawing.{no-marks, grounded, no-edges, marks-long, marks-room, edges-cleared, edges-refused, edges-built}
 use Rattle.graph_draw.proofs.draw_edges.Statement.{statement}
 use Rattle.graph_draw.proofs.draw_edges.Tie as tie
 
 mark-nodes-requires : tie.Need-mark-nodes-requires
 mark-nodes-requires c κs =
     let start = c .before .before .before .before .before .before .before .before .before .before .before in
-    (start .pre .0 .itemized, start .pre .0 .holding, search needs, no-marks)
+    (start .pre .0 .itemized, start .pre .0 .holding, marks-room, no-marks)
+
+marks-count : tie.Need-slice-aggregate-walk-items
+marks-count c = sym (c .before .before .mark-nodes .ensures .1 ∙ marks-long)
 
 walk-items-requires : tie.Need-walk-items-requires
 walk-items-requires c κs =
     let mark-nodes1 = c .before .before .before .before .before .before .before .before in
     let start = mark-nodes1 .before .before .before .before .before .before .before .before .before .before .before .before in
     (grounded (start .pre .0) (mark-nodes1 .mark-nodes .ensures .0), no-edges (start .pre .1), start .pre .0 .itemized)
+
+same-length : tie.Need-same-length
+same-length c =
+    let clear-words1 = c .before .before in
+    let enum-told1 = clear-words1 .before .before in
+    let walk-items1 = enum-told1 .before .before .before .before .before .before .before .before .before .before .before .before .before in
+    edges-cleared (walk-items1 .walk-items .ensures .kept-edges) (clear-words1 .clear-words .ensures)
 
 returns : tie.Need-returns
 returns c =
@@ -33,23 +45,42 @@ pub draw-edges-spec : {M : Type 1} → statement M
 draw-edges-spec =
     tie.close
     (tie.spec
-    (λ c. search needs)
+    (λ c. refl)
     mark-nodes-requires
-    (λ c. search needs)
-    (λ c. search needs)
+    marks-count
+    (λ c. sym (length-replicate {A = ℕ} 16384 0))
     walk-items-requires
-    (λ c. search needs)
-    (λ c. search needs)
-    (λ c κs. search needs)
-    (λ c. search needs)
-    (λ c. search needs)
-    (λ c. search needs)
-    (λ c. search needs)
-    (λ c. search needs)
+    (λ c. c .match .keys1)
+    (λ c. c .match .keys2)
+    (λ c κs. tt)
+    same-length
+    (λ c.
+    let enum-told1 = c .before .before .before .before in
+    enum-told1 .before .before .before .before .before .before .before .before .before .before .before .before .before .walk-items .ensures .kept .store-long)
+    (λ c.
+    let enum-told1 = c .before .before .before .before in
+    enum-told1 .before .before .before .before .before .before .before .before .before .before .before .before .before .walk-items .ensures .kept .imports-long)
+    (λ c.
+    let enum-told1 = c .before .before .before .before in
+    enum-told1 .before .before .before .before .before .before .before .before .before .before .before .before .before
+    .walk-items .ensures .kept .includes-long)
+    (λ c.
+    let enum-told1 = c .before .before .before .before in
+    enum-told1 .before .before .before .before .before .before .before .before .before .before .before .before .before .walk-items .ensures .kept .levels-long)
     returns
-    (λ c. search needs)
-    (λ c. search needs)
-    (λ c. search needs)
-    (λ c. search needs)
-    (λ c. search needs)
+    (λ c.
+    let drawn1 = c .before in
+    drawn1 .before .before .before .before .before .before .before .before .before .before .before .before .before .walk-items .ensures .kept-edges)
+    (λ c.
+    let drawn1 = c .before in
+    drawn1 .before .before .before .before .before .before .before .before .before .before .before .before .before .walk-items .ensures .kept .store-long)
+    (λ c.
+    let drawn1 = c .before in
+    drawn1 .before .before .before .before .before .before .before .before .before .before .before .before .before .walk-items .ensures .kept .imports-long)
+    (λ c.
+    let drawn1 = c .before in
+    drawn1 .before .before .before .before .before .before .before .before .before .before .before .before .before .walk-items .ensures .kept .includes-long)
+    (λ c.
+    let drawn1 = c .before in
+    drawn1 .before .before .before .before .before .before .before .before .before .before .before .before .before .walk-items .ensures .kept .levels-long)
     returns-2)

@@ -61,32 +61,50 @@ visit-spec =
     (λ c. search needs)
     (λ c κs. search needs)
     (λ c κs. search needs)
-    (λ c. search needs)
-    (λ c κs. search needs)
-    (λ c. search needs)
-    (λ c. search needs)
+    (λ c. c .match .keys1)
+    (λ c κs. tt)
+    (λ c. c .match .keys2)
+    (λ c. c .match .keys3)
     link-imports-requires
-    (λ c. search needs)
-    (λ c. search needs)
+    (λ c. c .match2 .keys1)
+    (λ c. c .match2 .keys2)
     save-includes-requires
-    (λ c. search needs)
-    (λ c. search needs)
-    (λ c. search needs)
+    (λ c. c .before .before .before .before .before .before .before .before .before .read-text .ensures .kept-store)
+    (λ c. c .before .before .before .before .before .before .before .before .before .read-text .ensures .kept-imports)
+    (λ c. c .before .before .before .before .before .before .before .before .before .read-text .ensures .kept-includes)
     returns
-    (λ c. search needs)
-    (λ c. search needs)
-    (λ c. search needs)
+    (λ c. c .before .before .before .before .before .before .before .before .before .read-text .ensures .kept-store)
+    (λ c. c .before .before .before .before .before .before .before .before .before .read-text .ensures .kept-imports)
+    (λ c. c .before .before .before .before .before .before .before .before .before .read-text .ensures .kept-includes)
     returns-2
-    (λ c. search needs)
-    (λ c. search needs)
-    (λ c. search needs)
-    (λ c. search needs)
-    (λ c. search needs)
+    (λ c.
+    let link-imports1 = c .before .before .before .before .before .before .before in
+    link-imports1 .before .before .before .before .before .before .before .before .before .before .before .before .before .before
+    .read-text .ensures .kept-store)
+    (λ c.
+    let link-imports1 = c .before .before .before .before .before .before .before in
+    link-imports1 .before .before .before .before .before .before .before .before .before .before .before .before .before .before
+    .read-text .ensures .kept-imports)
+    (λ c.
+    let link-imports1 = c .before .before .before .before .before .before .before in
+    link-imports1 .before .before .before .before .before .before .before .before .before .before .before .before .before .before
+    .read-text .ensures .kept-includes)
+    (λ c. c .before .before .before .before .before .before .before .link-imports .ensures .kept-edges)
+    (λ c. c .before .before .before .before .before .before .before .link-imports .ensures .kept-chains)
     returns-3
-    (λ c. search needs)
-    (λ c. search needs)
-    (λ c. search needs)
-    (λ c. search needs)
-    (λ c. search needs)
-    (λ c. search needs)
+    (λ c.
+    let link-imports1 = c .before .before .before .before .before .before .before .before .before .before .before .before .before in
+    link-imports1 .before .before .before .before .before .before .before .before .before .before .before .before .before .before
+    .read-text .ensures .kept-store)
+    (λ c.
+    let link-imports1 = c .before .before .before .before .before .before .before .before .before .before .before .before .before in
+    link-imports1 .before .before .before .before .before .before .before .before .before .before .before .before .before .before
+    .read-text .ensures .kept-imports)
+    (λ c.
+    let link-imports1 = c .before .before .before .before .before .before .before .before .before .before .before .before .before in
+    link-imports1 .before .before .before .before .before .before .before .before .before .before .before .before .before .before
+    .read-text .ensures .kept-includes)
+    (λ c. c .before .before .save-includes .ensures .kept)
+    (λ c. c .before .before .before .before .before .before .before .before .before .before .before .before .before .link-imports .ensures .kept-edges)
+    (λ c. c .before .before .before .before .before .before .before .before .before .before .before .before .before .link-imports .ensures .kept-chains)
     returns-4)

@@ -2,7 +2,6 @@
 -- Assumes nothing.
 use Prim.Native.Nat.{ℕ, _<_, _-_}
 use mathlib.Core.Path.{_∙_}
-use borrow.Author.Needs.{needs}
 use native.Mathlib.Omega.{arith}
 use borrow.Fn.Kinds.{In}
 use borrow.Fn.PlainCycle.{Measures, is, falls, and}
@@ -73,6 +72,11 @@ abbrev below-walk : (t : ℕ) → walk-lts.After-enum-told (callees t) (walk-at 
     → walk-lts.After-walk (callees t) (walk-at t) walk.Post walk-Inv-loop walk-μ-loop
 below-walk t c = c .before .before .before .before .before .before .before .before .before .before .before .before .before .before
 
+mul-base : (t : ℕ) → walk-lts.Need-mul-base (callees t) (walk-at t) walk.Post walk-Inv-loop walk-μ-loop
+mul-base t c =
+    let start = c .before .before .before .before .before .before .before .before .before .before .before .before in
+    record { fits = omega (arith, start .pre .1 .1 .levels-room, start .good .1 .1 .1 .1 .1 .1 .1 .1 .1 .0 .0) }
+
 visit-requires : (t : ℕ) → walk-lts.Need-visit-requires (callees t) (walk-at t) walk.Post walk-Inv-loop walk-μ-loop
 visit-requires t c κs =
     let start =
@@ -117,6 +121,11 @@ mul-step t c =
         start .good .1 .1 .1 .1 .1 .1 .1 .1 .1 .0 .1,
       );
     }
+
+slice-read-step : (t : ℕ) → walk-lts.Need-slice-read-step (callees t) (walk-at t) walk.Post walk-Inv-loop walk-μ-loop
+slice-read-step t c =
+    let loop-test1 = c .before in
+    in-level (loop-test1 .before .loop .inv .0) (loop-test1 .loop-test .taken)
 
 step-requires : (t : ℕ) → walk-lts.Need-step-requires (callees t) (walk-at t) walk.Post walk-Inv-loop walk-μ-loop
 step-requires t c κs =
@@ -237,17 +246,17 @@ pub +walk-spec : {M : Type 1} → statement M
     walk.Post
     walk-Inv-loop
     walk-μ-loop
-    (λ c. search needs)
+    (mul-base t)
     (visit-requires t)
-    (λ c. search needs)
-    (λ c. search needs)
+    (λ c. c .match .keys1)
+    (λ c. c .match .keys2)
     (loop-holds t)
     (add-step t)
     (mul-step t)
-    (λ c. search needs)
+    (slice-read-step t)
     (step-requires t)
-    (λ c. search needs)
-    (λ c κs. search needs)
+    (λ c. c .match2 .keys1)
+    (λ c κs. tt)
     (λ c. let loop1 = halted-loop t c in loop1 .loop .inv .1 .store-long ∙ visit-of t loop1 .visit .ensures .1 .store-long)
     (λ c. let loop1 = halted-loop t c in loop1 .loop .inv .1 .imports-long ∙ visit-of t loop1 .visit .ensures .1 .imports-long)
     (λ c. let loop1 = halted-loop t c in loop1 .loop .inv .1 .includes-long ∙ visit-of t loop1 .visit .ensures .1 .includes-long)
@@ -257,11 +266,11 @@ pub +walk-spec : {M : Type 1} → statement M
     (λ c. let step1 = c .before .before .before .before .before .before .before .before in
     let loop1 = halted-loop t c in step1 .step .ensures .kept-chains ∙ loop1 .loop .inv .0 .long-chains ∙ visit-of t loop1 .visit .ensures .0 .kept-chains)
     (returns t)
-    (λ c. search needs)
+    (λ c. c .match2 .keys2)
     (sub-rest t)
     (walk-requires t)
-    (λ c. search needs)
-    (λ c. search needs)
+    (λ c. c .match3 .keys1)
+    (λ c. c .match3 .keys2)
     (λ c. let walk1 = below-walk t c in
     let step1 = walk1 .before .before .before .before .before .before .before .before .before .before .before .before .before .before in
     let loop1 = step1 .before .before .before .before .before in
