@@ -5,43 +5,12 @@ use mathlib.Core.List.{List, [], _∷_, _++_, append-nil, append-assoc}
 use Prim.Native.Nat.{ℕ, zero, suc, _+_, _-_, _*_, _<_, _≤_}
 use native.Mathlib.Nat.{zero-mul, suc-mul}
 use native.Mathlib.Omega.{arith}
-use lib.ListN.{length, set, length-append, length-set}
+use lib.ListN.{length, set, length-append}
 use lib.Seq.{sets}
 use Rattle.text.proofs.Writing.{sets-append}
-use Rattle.scan_rows.specs.Rows.{importSize, includeSize, mostRows, importWords, includeWords, table, importTable, includeTable, rowsOf, Each}
+use Rattle.scan_rows.specs.Rows.{importSize, includeSize, importWords, includeWords, table, importTable, includeTable, rowsOf, Each}
 use Rattle.scan_rows.specs.declared.YangImport.{YangImport}
 use Rattle.scan_rows.specs.declared.YangInclude.{YangInclude}
-
--- ---- the words of a row are in the table, and a store keeps its length
-
-pub in-import : (t : List ℕ) (row k : ℕ) → row < mostRows → mostRows * importSize ≤ length t → k < importSize → row * importSize + k < length t
-in-import t row k a b h = omega arith
-
-pub as-low : {m k n : ℕ} → m ≡ k → n < k → n < m
-as-low e h = rw e h
-
-pub long-1 : (d : List ℕ) (i a : ℕ) → length (set d i a) ≡ length d
-long-1 d i a = length-set d i a
-
-pub long-2 : (d : List ℕ) (i a b : ℕ) → length (set (set d i a) (i + 1) b) ≡ length d
-long-2 d i a b = length-set (set d i a) (i + 1) b ∙ long-1 d i a
-
-pub long-3 : (d : List ℕ) (i a b c : ℕ) → length (set (set (set d i a) (i + 1) b) (i + 2) c) ≡ length d
-long-3 d i a b c = length-set (set (set d i a) (i + 1) b) (i + 2) c ∙ long-2 d i a b
-
-pub long-4 : (d : List ℕ) (i a b c e : ℕ) → length (set (set (set (set d i a) (i + 1) b) (i + 2) c) (i + 3) e) ≡ length d
-long-4 d i a b c e = length-set (set (set (set d i a) (i + 1) b) (i + 2) c) (i + 3) e ∙ long-3 d i a b c
-
-pub long-5 : (d : List ℕ) (i a b c e f : ℕ) → length (set (set (set (set (set d i a) (i + 1) b) (i + 2) c) (i + 3) e) (i + 4) f) ≡ length d
-long-5 d i a b c e f = length-set (set (set (set (set d i a) (i + 1) b) (i + 2) c) (i + 3) e) (i + 4) f ∙ long-4 d i a b c e
-
-pub long-6 : (d : List ℕ) (i a b c e f g : ℕ) → length (set (set (set (set (set (set d i a) (i + 1) b) (i + 2) c) (i + 3) e) (i + 4) f) (i + 5) g) ≡ length d
-long-6 d i a b c e f g = length-set (set (set (set (set (set d i a) (i + 1) b) (i + 2) c) (i + 3) e) (i + 4) f) (i + 5) g ∙ long-5 d i a b c e f
-
-pub long-7 : (d : List ℕ) (i a b c e f g h : ℕ)
-    → length (set (set (set (set (set (set (set d i a) (i + 1) b) (i + 2) c) (i + 3) e) (i + 4) f) (i + 5) g) (i + 6) h) ≡ length d
-long-7 d i a b c e f g h = length-set (set (set (set (set (set (set d i a) (i + 1) b) (i + 2) c) (i + 3) e) (i + 4) f) (i + 5) g) (i + 6) h
-    ∙ long-6 d i a b c e f g
 
 -- ---- five and seven stores in a row
 

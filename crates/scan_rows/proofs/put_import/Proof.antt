@@ -3,75 +3,35 @@
 use mathlib.Core.Path.{ap, _∙_}
 use mathlib.Core.List.{[], _∷_}
 use Prim.Native.Nat.{_*_}
-use lib.Dec.{lit<}
+use native.Mathlib.Omega.{arith}
+use lib.ListN.{length-set}
 use lib.Seq.{sets}
 use Rattle.scan_rows.specs.Rows.{importSize, importWords}
-use Rattle.scan_rows.proofs.Laws.{as-low, in-import, long-1, long-2, long-3, long-4, long-5, long-6, long-7, seven}
+use Rattle.scan_rows.proofs.Laws.{seven}
 use borrow.Author.Needs.{needs}
 use Rattle.scan_rows.proofs.put_import.Statement.{statement}
 use Rattle.scan_rows.proofs.put_import.Tie as tie
 
 slice-write-table-2 : tie.Need-slice-write-table-2
-slice-write-table-2 c =
-    let start = c .before .before .before .before .before .before in
-    let t = start .args .table .now in
-    let row = start .args .row in
-    let i = start .args .i in
-    as-low (long-1 t (row * importSize) (i .«module_name» .start)) (in-import t row 1 (start .pre .0) (start .pre .1) (lit< tt))
+slice-write-table-2 c = simp length-set (omega arith)
 
 slice-write-table-3 : tie.Need-slice-write-table-3
-slice-write-table-3 c =
-    let start = c .before .before .before .before .before .before .before in
-    let t = start .args .table .now in
-    let row = start .args .row in
-    let i = start .args .i in
-    as-low (long-2 t (row * importSize) (i .«module_name» .start) (i .«module_name» .size)) (in-import t row 2 (start .pre .0) (start .pre .1) (lit< tt))
+slice-write-table-3 c = simp length-set (omega arith)
 
 slice-write-table-4 : tie.Need-slice-write-table-4
-slice-write-table-4 c =
-    let start = c .before .before .before .before .before .before .before .before in
-    let t = start .args .table .now in
-    let row = start .args .row in
-    let i = start .args .i in
-    as-low (long-3 t (row * importSize) (i .«module_name» .start) (i .«module_name» .size) (i .prefix .start))
-    (in-import t row 3 (start .pre .0) (start .pre .1) (lit< tt))
+slice-write-table-4 c = simp length-set (omega arith)
 
 slice-write-table-5 : tie.Need-slice-write-table-5
-slice-write-table-5 c =
-    let start = c .before .before .before .before .before .before .before .before .before in
-    let t = start .args .table .now in
-    let row = start .args .row in
-    let i = start .args .i in
-    as-low (long-4 t (row * importSize) (i .«module_name» .start) (i .«module_name» .size) (i .prefix .start) (i .prefix .size))
-    (in-import t row 4 (start .pre .0) (start .pre .1) (lit< tt))
+slice-write-table-5 c = simp length-set (omega arith)
 
 slice-write-table-6 : tie.Need-slice-write-table-6
-slice-write-table-6 c =
-    let start = c .before .before .before .before .before .before .before .before .before .before in
-    let t = start .args .table .now in
-    let row = start .args .row in
-    let i = start .args .i in
-    as-low (long-5 t (row * importSize) (i .«module_name» .start) (i .«module_name» .size) (i .prefix .start) (i .prefix .size) (c .before .mark .result))
-    (in-import t row 5 (start .pre .0) (start .pre .1) (lit< tt))
+slice-write-table-6 c = simp length-set (omega arith)
 
 slice-write-table-7 : tie.Need-slice-write-table-7
-slice-write-table-7 c =
-    let start = c .before .before .before .before .before .before .before .before .before .before .before in
-    let t = start .args .table .now in
-    let row = start .args .row in
-    let i = start .args .i in
-    as-low (long-6 t (row * importSize) (i .«module_name» .start) (i .«module_name» .size)
-    (i .prefix .start) (i .prefix .size) (c .before .before .mark .result) (i .«revision_date» .start))
-    (in-import t row 6 (start .pre .0) (start .pre .1) (lit< tt))
+slice-write-table-7 c = simp length-set (omega arith)
 
 same-length : tie.Need-same-length
-same-length c =
-    let start = c .before .before .before .before .before .before .before .before .before .before .before .args in
-    let t = start .table .now in
-    let row = start .row in
-    let i = start .i in
-    long-7 t (row * importSize) (i .«module_name» .start) (i .«module_name» .size)
-    (i .prefix .start) (i .prefix .size) (c .before .before .mark .result) (i .«revision_date» .start) (i .«revision_date» .size)
+same-length c = simp length-set
 
 returns : tie.Need-returns
 unfolding importWords
