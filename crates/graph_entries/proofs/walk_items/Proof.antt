@@ -2,7 +2,6 @@
 -- Assumes nothing.
 use borrow.Author.Needs.{needs}
 use Prim.Native.Nat.{_-_}
-use mathlib.Core.Path.{_∙_}
 use native.Mathlib.Omega.{arith}
 use Rattle.graph_nodes.specs.Adding.{namesHeld}
 use Rattle.graph_entries.proofs.Going.{Going, going-none, item-there, entry-low, next-asked, placed, sent-out, going-on, all-drawn}
@@ -63,37 +62,37 @@ same-length : tie.Need-same-length Inv-loop μ-loop
 same-length c =
     let walk-item1 = c .before .before .before .before .before .before .before .before .before .before .before .before .before .before .before in
     let loop1 = walk-item1 .before .before .before .before .before .before .before .before .before .before .before in
-    walk-item1 .walk-item .ensures .1 .store-long ∙ loop1 .loop .inv .kept .store-long
+    omega (arith, walk-item1 .walk-item .ensures .1 .store-long, loop1 .loop .inv .kept .store-long)
 
 same-length-2 : tie.Need-same-length-2 Inv-loop μ-loop
 same-length-2 c =
     let walk-item1 = c .before .before .before .before .before .before .before .before .before .before .before .before .before .before .before in
     let loop1 = walk-item1 .before .before .before .before .before .before .before .before .before .before .before in
-    walk-item1 .walk-item .ensures .1 .imports-long ∙ loop1 .loop .inv .kept .imports-long
+    omega (arith, walk-item1 .walk-item .ensures .1 .imports-long, loop1 .loop .inv .kept .imports-long)
 
 same-length-3 : tie.Need-same-length-3 Inv-loop μ-loop
 same-length-3 c =
     let walk-item1 = c .before .before .before .before .before .before .before .before .before .before .before .before .before .before .before in
     let loop1 = walk-item1 .before .before .before .before .before .before .before .before .before .before .before in
-    walk-item1 .walk-item .ensures .1 .includes-long ∙ loop1 .loop .inv .kept .includes-long
+    omega (arith, walk-item1 .walk-item .ensures .1 .includes-long, loop1 .loop .inv .kept .includes-long)
 
 same-length-4 : tie.Need-same-length-4 Inv-loop μ-loop
 same-length-4 c =
     let walk-item1 = c .before .before .before .before .before .before .before .before .before .before .before .before .before .before .before in
     let loop1 = walk-item1 .before .before .before .before .before .before .before .before .before .before .before in
-    walk-item1 .walk-item .ensures .1 .levels-long ∙ loop1 .loop .inv .kept .levels-long
+    omega (arith, walk-item1 .walk-item .ensures .1 .levels-long, loop1 .loop .inv .kept .levels-long)
 
 same-length-5 : tie.Need-same-length-5 Inv-loop μ-loop
 same-length-5 c =
     let walk-item1 = c .before .before .before .before .before .before .before .before .before .before .before .before .before .before .before in
     let loop1 = walk-item1 .before .before .before .before .before .before .before .before .before .before .before in
-    walk-item1 .walk-item .ensures .0 .kept-edges ∙ loop1 .loop .inv .kept-edges
+    omega (arith, walk-item1 .walk-item .ensures .0 .kept-edges, loop1 .loop .inv .kept-edges)
 
 same-length-6 : tie.Need-same-length-6 Inv-loop μ-loop
 same-length-6 c =
     let walk-item1 = c .before .before .before .before .before .before .before .before .before .before .before .before .before .before .before in
     let loop1 = walk-item1 .before .before .before .before .before .before .before .before .before .before .before in
-    walk-item1 .walk-item .ensures .0 .kept-chains ∙ loop1 .loop .inv .kept-chains
+    omega (arith, walk-item1 .walk-item .ensures .0 .kept-chains, loop1 .loop .inv .kept-chains)
 
 returns : tie.Need-returns Inv-loop μ-loop
 returns c =
@@ -115,13 +114,6 @@ add-i c =
     .before .before .before .before .before .before .before in
     let loop1 = loop-test1 .before in
     record { fits = omega (arith, loop-test1 .loop-test .taken, loop1 .loop .inv .listed .few) }
-
-loop-less : tie.Need-loop-less Inv-loop μ-loop
-loop-less c =
-    let loop-test1 =
-    c .before .before .before .before .before .before .before .before .before .before .before .before .before .before .before .before .before .before
-    .before .before .before .before .before .before .before in
-    omega (arith, loop-test1 .loop-test .taken)
 
 loop-again : tie.Need-loop-again Inv-loop μ-loop
 loop-again c =
@@ -154,8 +146,8 @@ walk-items-spec =
     next-entry-requires
     next-node-requires
     walk-item-requires
-    (λ c. c .match .keys1)
-    (λ c. c .match .keys2)
+    (λ c. search needs)
+    (λ c. search needs)
     same-length
     same-length-2
     same-length-3
@@ -164,12 +156,12 @@ walk-items-spec =
     same-length-6
     returns
     add-i
-    loop-less
+    (λ c. search needs)
     loop-again
-    (λ c. c .before .loop .inv .kept .store-long)
-    (λ c. c .before .loop .inv .kept .imports-long)
-    (λ c. c .before .loop .inv .kept .includes-long)
-    (λ c. c .before .loop .inv .kept .levels-long)
-    (λ c. c .before .loop .inv .kept-edges)
-    (λ c. c .before .loop .inv .kept-chains)
+    (λ c. search needs)
+    (λ c. search needs)
+    (λ c. search needs)
+    (λ c. search needs)
+    (λ c. search needs)
+    (λ c. search needs)
     returns-2)

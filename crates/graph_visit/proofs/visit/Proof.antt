@@ -69,13 +69,13 @@ visit-spec =
     (λ c. c .match2 .keys1)
     (λ c. c .match2 .keys2)
     save-includes-requires
-    (λ c. c .before .before .before .before .before .before .before .before .before .read-text .ensures .kept-store)
-    (λ c. c .before .before .before .before .before .before .before .before .before .read-text .ensures .kept-imports)
-    (λ c. c .before .before .before .before .before .before .before .before .before .read-text .ensures .kept-includes)
+    (λ c. let read-text1 = c .before .before .before .before .before .before .before .before .before in read-text1 .read-text .ensures .kept-store)
+    (λ c. let read-text1 = c .before .before .before .before .before .before .before .before .before in read-text1 .read-text .ensures .kept-imports)
+    (λ c. let read-text1 = c .before .before .before .before .before .before .before .before .before in read-text1 .read-text .ensures .kept-includes)
     returns
-    (λ c. c .before .before .before .before .before .before .before .before .before .read-text .ensures .kept-store)
-    (λ c. c .before .before .before .before .before .before .before .before .before .read-text .ensures .kept-imports)
-    (λ c. c .before .before .before .before .before .before .before .before .before .read-text .ensures .kept-includes)
+    (λ c. let read-text1 = c .before .before .before .before .before .before .before .before .before in read-text1 .read-text .ensures .kept-store)
+    (λ c. let read-text1 = c .before .before .before .before .before .before .before .before .before in read-text1 .read-text .ensures .kept-imports)
+    (λ c. let read-text1 = c .before .before .before .before .before .before .before .before .before in read-text1 .read-text .ensures .kept-includes)
     returns-2
     (λ c.
     let link-imports1 = c .before .before .before .before .before .before .before in
@@ -89,8 +89,8 @@ visit-spec =
     let link-imports1 = c .before .before .before .before .before .before .before in
     link-imports1 .before .before .before .before .before .before .before .before .before .before .before .before .before .before
     .read-text .ensures .kept-includes)
-    (λ c. c .before .before .before .before .before .before .before .link-imports .ensures .kept-edges)
-    (λ c. c .before .before .before .before .before .before .before .link-imports .ensures .kept-chains)
+    (λ c. let link-imports1 = c .before .before .before .before .before .before .before in link-imports1 .link-imports .ensures .kept-edges)
+    (λ c. let link-imports1 = c .before .before .before .before .before .before .before in link-imports1 .link-imports .ensures .kept-chains)
     returns-3
     (λ c.
     let link-imports1 = c .before .before .before .before .before .before .before .before .before .before .before .before .before in
@@ -105,6 +105,10 @@ visit-spec =
     link-imports1 .before .before .before .before .before .before .before .before .before .before .before .before .before .before
     .read-text .ensures .kept-includes)
     (λ c. c .before .before .save-includes .ensures .kept)
-    (λ c. c .before .before .before .before .before .before .before .before .before .before .before .before .before .link-imports .ensures .kept-edges)
-    (λ c. c .before .before .before .before .before .before .before .before .before .before .before .before .before .link-imports .ensures .kept-chains)
+    (λ c.
+    let link-imports1 = c .before .before .before .before .before .before .before .before .before .before .before .before .before in
+    link-imports1 .link-imports .ensures .kept-edges)
+    (λ c.
+    let link-imports1 = c .before .before .before .before .before .before .before .before .before .before .before .before .before in
+    link-imports1 .link-imports .ensures .kept-chains)
     returns-4)
