@@ -1,13 +1,13 @@
 #!/bin/sh
-# check.sh [alone | over]: the host's quick checks. `alone`: those that need no archive, so that they can run beside the proofs: the documents, the picture of
-# the crates, that an archive can be made, the packing of images and bundles, and the recorded answers of the original Rust. `over`: what is seen while an
-# archive is made; what deps and meta print; the archive from C, installed too, and under attack, the Rust crate and its command, packing with it, the
-# examples, the README's snippets; the port beside plain readings, libyang and the original. With no word, both. What needs the NetGauze source, or a newer
-# Rust, is skipped where that is not at hand, and says so.
+# check.sh [alone | over | behind]: the host's quick checks. `alone`: those that need no archive, so that they can run beside the proofs: the documents, the
+# picture of the crates, that an archive can be made, the packing of images and bundles, and the recorded answers of the original Rust. `over`: what is seen
+# while an archive is made; the archive from C, installed too, and under attack, the Rust crate and its command, packing with it, the examples, the README's
+# snippets; the port beside plain readings, libyang and the original. `behind`: what deps and meta print, which rt proves again where it has not run them yet.
+# With no word, all three. What needs the NetGauze source, or a newer Rust, is skipped where that is not at hand, and says so.
 set -eu
 here=$(cd "$(dirname "$0")" && pwd)
 cd "$here/.."
-which=${1:-both}
+which=${1:-all}
 compare=$here/compare/build/release/compare
 minor=$(rustc --version 2>/dev/null | sed -n 's/^rustc 1\.\([0-9]*\)\..*/\1/p')
 command -v cargo >/dev/null || minor=0
@@ -59,7 +59,6 @@ alone() {
 }
 
 from_c_and_rust() {
-    "$here/programs/test.py"
     "$here/c/test.sh" "$archive"
     "$here/attack/test.sh" "$archive"
     rust=rust
@@ -116,17 +115,20 @@ over() {
     both from_c_and_rust compared
 }
 
+behind() { "$here/programs/test.py"; }
+
 # All that two parts could both want to install, and the packages that the packing's tests look for.
 "$here/need" gcc g++ libc6-dev binutils make pkg-config python3 valgrind libyang2-dev libyang2-tools
 real=$("$here/vectors/real.sh")
 case $which in
-alone | over) "$which" ;;
-both)
+alone | over | behind) "$which" ;;
+all)
     alone
     over
+    behind
     ;;
 *)
-    echo "usage: host/check.sh [alone | over]" >&2
+    echo "usage: host/check.sh [alone | over | behind]" >&2
     exit 2
     ;;
 esac
