@@ -1,4 +1,4 @@
-// Replays recorded finds of the Rust, and answers a few questions that document 01 calls easy to get wrong.
+// Replays recorded finds of the Rust, and answers a few questions about images and bundles that are easy to get wrong.
 use library_form::LookUp;
 use replay::Tally;
 
@@ -102,6 +102,54 @@ fn empty_name() {
     );
 }
 
+fn text_is(bundle: &[u8], name: &[u8], text: &[u8]) -> bool {
+    check::same(library_bundle::text_under(bundle, name), text)
+}
+
+// A bundle of two texts: that of m has three bytes, that of s none.
+fn text_under_a_name() {
+    replay::trap(
+        b"the text under a name is handed back",
+        text_is(b"\x02\x01m\x03abc\x01s\x00", b"m", b"abc"),
+    );
+}
+
+// s has an empty text in this bundle, and x has none.
+fn told_apart(bundle: &[u8]) -> bool {
+    if !text_is(bundle, b"s", b"") {
+        return false;
+    }
+    if !text_is(bundle, b"x", b"") {
+        return false;
+    }
+    if found_nothing(library_bundle::find_text(bundle, b"s")) {
+        return false;
+    }
+    found_nothing(library_bundle::find_text(bundle, b"x"))
+}
+
+fn empty_text() {
+    replay::trap(
+        b"an empty text is not a missing one, though both are handed back as no bytes",
+        told_apart(b"\x02\x01m\x03abc\x01s\x00"),
+    );
+}
+
+// The text of m has a byte less than its length says.
+fn wrong_there(bundle: &[u8]) -> bool {
+    if !text_is(bundle, b"m", b"") {
+        return false;
+    }
+    broken_at(library_bundle::find_text(bundle, b"m"), 3)
+}
+
+fn text_cut_short() {
+    replay::trap(
+        b"a text cut short is wrong at its length",
+        wrong_there(b"\x01\x01m\x04abc"),
+    );
+}
+
 fn main() {
     let mut space = [0u8; 131072];
     let n = replay::read_file(b"finds.vec", &mut space);
@@ -109,4 +157,7 @@ fn main() {
     import_only_submodule();
     count_without_sets();
     empty_name();
+    text_under_a_name();
+    empty_text();
+    text_cut_short();
 }
