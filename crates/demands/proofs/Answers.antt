@@ -37,10 +37,10 @@ use Rattle.graph_nodes.specs.Adding.{wordsAt, NodesAs, nodesNumber}
 use Rattle.graph_nodes.specs.declared.Nodes.{Nodes}
 use Rattle.graph_nodes.specs.declared.Nodes.the-variants.{Count, TooMany}
 use Rattle.host_words.specs.Words.{toldWords}
-use Rattle.demands_scans.specs.Refusals.{FirstRefusal, too-little, DependenciesRefusal, MetadataRefusal}
+use Rattle.demands_scans.specs.Refusals.{FirstRefusal, too-little, StatementRefusal, HeaderRefusal}
 use Rattle.demands.specs.Answers.{Refuses, Answers}
-use Rattle.demands_scans.proofs.ScanNumbers.{ImportedIs, IncludedIs, import-is, include-is, dependencies-number, LentIs, lent-is, first-unfit, first-number}
-use Rattle.demands_scans.proofs.MetadataNumbers.{HeardIs, said-is, metadata-number}
+use Rattle.demands_scans.proofs.ScanNumbers.{ImportedIs, IncludedIs, import-is, include-is, statement-number, LentIs, lent-is, first-unfit, first-number}
+use Rattle.demands_scans.proofs.MetadataNumbers.{HeardIs, said-is, header-number}
 
 -- ---- an answer that is a refusal, and one that is none
 
@@ -67,25 +67,25 @@ lent-refuses s short Fit h =
     not-refused Unfit lentRefusal (FirstRefusal s short) Fit refl (λ r e. let z : _≡_ {A = ℕ} 0 1 = cc in omega arith)
 lent-refuses s short (Unfit r) h = refused Unfit lentRefusal (FirstRefusal s short) (λ q. refl) (first-number s short) r h
 
-import-refuses : (x : ParsedImport) → ImportedIs x → Refuses NoImport importRefusal DependenciesRefusal x
+import-refuses : (x : ParsedImport) → ImportedIs x → Refuses NoImport importRefusal (StatementRefusal 8) x
 unfolding importRefusal
 import-refuses (Import c n i) h =
-    not-refused NoImport importRefusal DependenciesRefusal (Import c n i) refl (λ r e. let z : _≡_ {A = ℕ} 0 1 = cc in omega arith)
-import-refuses (NoImport r) h = refused NoImport importRefusal DependenciesRefusal (λ q. refl) dependencies-number r h
+    not-refused NoImport importRefusal (StatementRefusal 8) (Import c n i) refl (λ r e. let z : _≡_ {A = ℕ} 0 1 = cc in omega arith)
+import-refuses (NoImport r) h = refused NoImport importRefusal (StatementRefusal 8) (λ q. refl) (statement-number 8) r h
 
-include-refuses : (x : ParsedInclude) → IncludedIs x → Refuses NoInclude includeRefusal DependenciesRefusal x
+include-refuses : (x : ParsedInclude) → IncludedIs x → Refuses NoInclude includeRefusal (StatementRefusal 9) x
 unfolding includeRefusal
 include-refuses (Include c n i) h =
-    not-refused NoInclude includeRefusal DependenciesRefusal (Include c n i) refl (λ r e. let z : _≡_ {A = ℕ} 0 1 = cc in omega arith)
-include-refuses (NoInclude r) h = refused NoInclude includeRefusal DependenciesRefusal (λ q. refl) dependencies-number r h
+    not-refused NoInclude includeRefusal (StatementRefusal 9) (Include c n i) refl (λ r e. let z : _≡_ {A = ℕ} 0 1 = cc in omega arith)
+include-refuses (NoInclude r) h = refused NoInclude includeRefusal (StatementRefusal 9) (λ q. refl) (statement-number 9) r h
 
-heard-refuses : (x : Heard) → HeardIs x → Refuses Refused heardRefusal MetadataRefusal x
+heard-refuses : (x : Heard) → HeardIs x → Refuses Refused heardRefusal HeaderRefusal x
 unfolding heardRefusal
 heard-refuses (Value k v c n) h =
-    not-refused Refused heardRefusal MetadataRefusal (Value k v c n) refl (λ r e. let z : _≡_ {A = ℕ} 0 1 = cc in omega arith)
-heard-refuses (Passed c) h = not-refused Refused heardRefusal MetadataRefusal (Passed c) refl (λ r e. let z : _≡_ {A = ℕ} 0 1 = cc in omega arith)
-heard-refuses (Done c) h = not-refused Refused heardRefusal MetadataRefusal (Done c) refl (λ r e. let z : _≡_ {A = ℕ} 0 1 = cc in omega arith)
-heard-refuses (Refused r) h = refused Refused heardRefusal MetadataRefusal (λ q. refl) metadata-number r h
+    not-refused Refused heardRefusal HeaderRefusal (Value k v c n) refl (λ r e. let z : _≡_ {A = ℕ} 0 1 = cc in omega arith)
+heard-refuses (Passed c) h = not-refused Refused heardRefusal HeaderRefusal (Passed c) refl (λ r e. let z : _≡_ {A = ℕ} 0 1 = cc in omega arith)
+heard-refuses (Done c) h = not-refused Refused heardRefusal HeaderRefusal (Done c) refl (λ r e. let z : _≡_ {A = ℕ} 0 1 = cc in omega arith)
+heard-refuses (Refused r) h = refused Refused heardRefusal HeaderRefusal (λ q. refl) header-number r h
 
 -- ---- images, nodes and look-ups
 

@@ -30,7 +30,7 @@ use Rattle.graph.specs.Nodes.{Mode}
 use Rattle.graph_nodes.specs.Adding.{wordsAt, Constructed, nodesNumber}
 use Rattle.graph_nodes.specs.declared.Nodes.{Nodes}
 use Rattle.host_words.specs.Words.{toldWords}
-use Rattle.demands_scans.specs.Refusals.{FirstRefusal, DependenciesRefusal, MetadataRefusal}
+use Rattle.demands_scans.specs.Refusals.{FirstRefusal, StatementRefusal, HeaderRefusal}
 
 -- x: an answer; `No r`: the case of the refusal r; refusal: the definition that gives every case its refusal; Due: which refusals can come
 pub record Refuses {A : Type 0} (No : Refusal → A) (refusal : A → Refusal) (Due : Refusal → Type 0) (x : A) : Type 0 where
@@ -45,9 +45,9 @@ pub record Answers : Type 0 where
   pub lent : (s : List ℕ) (short : Bool) → Refuses Unfit lentRefusal (FirstRefusal s short) (lentAt s short)
   pub lent-due : (s : List ℕ) (short : Bool) (r : Refusal) → FirstRefusal s short r → lentAt s short ≡ Unfit r
   -- parse_import, parse_include and hear
-  pub import : (s : List ℕ) (at used : ℕ) → Refuses NoImport importRefusal DependenciesRefusal (importAt s at used .answer)
-  pub include : (s : List ℕ) (at used : ℕ) → Refuses NoInclude includeRefusal DependenciesRefusal (includeAt s at used .answer)
-  pub heard : (s : List ℕ) (at used : ℕ) (prefixed : Bool) → Refuses Refused heardRefusal MetadataRefusal (saidAt s at used prefixed .answer)
+  pub import : (s : List ℕ) (at used : ℕ) → Refuses NoImport importRefusal (StatementRefusal 8) (importAt s at used .answer)
+  pub include : (s : List ℕ) (at used : ℕ) → Refuses NoInclude includeRefusal (StatementRefusal 9) (includeAt s at used .answer)
+  pub heard : (s : List ℕ) (at used : ℕ) (prefixed : Bool) → Refuses Refused heardRefusal HeaderRefusal (saidAt s at used prefixed .answer)
   -- read_image: 0 exactly if the image has its form, 20 exactly if it is wrong somewhere
   pub read : (s : List ℕ) (r : Read) → readSeen r ≡ done (imageAt s) → (readNumber r ≡ 0) ↔ Reads (imageAt s)
   pub read-wrong : (s : List ℕ) (r : Read) → readSeen r ≡ done (imageAt s) → (readNumber r ≡ 20) ↔ ((p : ℕ) × (imageAt s ≡ bad p))

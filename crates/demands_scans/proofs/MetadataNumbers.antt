@@ -40,17 +40,21 @@ use Rattle.scan_header.specs.declared.Heard.the-variants.{Value, Passed, Done, 
 use Rattle.scan_tag.specs.declared.Tag.{Tag}
 use Rattle.scan_tag.specs.declared.Tag.the-variants.{Statement}
 use Rattle.scan_metadata.specs.Metadata.{Metadata, nothing, Scan, good, bad, ended, afterHeard, metadataTurn, scanFrom, scanned, ifFit, metadata}
-use Rattle.demands_scans.specs.Refusals.{FirstRefusal, Fits, RefusedAs, first, read, MetadataRefusal, no-value, no-byte, no-name}
+use Rattle.demands_scans.specs.Refusals.{FirstRefusal, Fits, RefusedAs, first, read, HeaderRefusal, no-value, no-byte, MetadataRefusal, header, no-name}
 use Rattle.demands_scans.proofs.Loops.{turns-all}
 use Rattle.demands_scans.proofs.ScanNumbers.{isOne, some-number, refusal, of, DueIs, ArgumentIs, due-is, value-is, LentIs, lent-is, first-unfit}
 
 abbrev pub M : Refusal → Type 0
-M r = MetadataRefusal r
+M r = HeaderRefusal r
+
+pub header-number : (q : Refusal) → HeaderRefusal q → q .number ≡ 0 → ⊥
+unfolding isOne
+header-number q (no-value o) = some-number (4 ∷ []) (o .number) refl
+header-number q (no-byte o) = some-number (5 ∷ 6 ∷ []) (o .number) refl
 
 pub metadata-number : (q : Refusal) → MetadataRefusal q → q .number ≡ 0 → ⊥
 unfolding isOne
-metadata-number q (no-value o) = some-number (4 ∷ []) (o .number) refl
-metadata-number q (no-byte o) = some-number (5 ∷ 6 ∷ []) (o .number) refl
+metadata-number q (header h) = header-number q h
 metadata-number q (no-name o) = some-number (9 ∷ []) (o .number) refl
 
 -- ---- what follows a value
@@ -153,7 +157,7 @@ said-is s at u p = let g = gapEnd s at in by-test (leb (length s) g) (λ t. rw t
 
 abbrev ScanIs : Scan → Type 0
 ScanIs (good m) = Unit {0}
-ScanIs (bad r bs) = M r
+ScanIs (bad r bs) = MetadataRefusal r
 
 ended-is : (m : Metadata) (at : ℕ) → ScanIs (ended m at)
 unfolding ended isOne
@@ -164,7 +168,7 @@ unfolding afterHeard
 turn-is m bs (Value k y c n) r h e = let z : _≡_ {A = ℕ} 0 1 = cc in absurd (omega arith)
 turn-is m bs (Passed c) r h e = let z : _≡_ {A = ℕ} 0 1 = cc in absurd (omega arith)
 turn-is m bs (Done c) r h e = let q : ended m (c .at) ≡ r = cc in subst ScanIs q (ended-is m (c .at))
-turn-is m bs (Refused x) r h e = let q : bad x (m .bytes ++ bs) ≡ r = cc in subst ScanIs q h
+turn-is m bs (Refused x) r h e = let q : bad x (m .bytes ++ bs) ≡ r = cc in subst ScanIs q (header h)
 
 scanned-is : (s : List ℕ) → ScanIs (scanned s)
 unfolding scanned scanFrom metadataTurn

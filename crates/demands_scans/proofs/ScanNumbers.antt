@@ -63,8 +63,8 @@ use Rattle.yangparser.specs.declared.Next.the-variants.{On, Done, Stop}
 use Rattle.yangparser.specs.declared.Sofar.{Sofar}
 use Rattle.scan_head.specs.declared.Head.{Head}
 use Rattle.scan_head.specs.declared.Head.the-variants.{Import, Include, Last, Other}
-use Rattle.demands_scans.specs.Refusals.{OneOf, FirstRefusal, too-long, too-little, high, Fits, RefusedAs, first, read, DependenciesRefusal, argument, no-prefix}
-use Rattle.demands_scans.specs.Refusals.{block-or-rows}
+use Rattle.demands_scans.specs.Refusals.{OneOf, FirstRefusal, too-long, too-little, high, Fits, RefusedAs, first, read, StatementRefusal, argument}
+use Rattle.demands_scans.specs.Refusals.{prefix, no-prefix, block, DependenciesRefusal, import, include, rows}
 use Rattle.demands_scans.proofs.Loops.{turns-all}
 
 -- ---- membership of numerals, by test
@@ -146,156 +146,173 @@ module _ (P : Refusal → Type 0) where
 
 -- ---- dependencies
 
-abbrev pub D : Refusal → Type 0
-D r = DependenciesRefusal r
+pub statement-number : (k : ℕ) (q : Refusal) → StatementRefusal k q → q .number ≡ 0 → ⊥
+unfolding isOne
+statement-number k q (argument o) = some-number (4 ∷ 5 ∷ 6 ∷ []) (o .number) refl
+statement-number k q (prefix e o) = some-number (4 ∷ 5 ∷ 6 ∷ []) (o .number) refl
+statement-number k q (no-prefix e o) = some-number (7 ∷ []) (o .number) refl
+statement-number k q (block o) = some-number (8 ∷ []) (o .number) refl
 
 pub dependencies-number : (q : Refusal) → DependenciesRefusal q → q .number ≡ 0 → ⊥
 unfolding isOne
-dependencies-number q (argument o) = some-number (4 ∷ 5 ∷ 6 ∷ []) (o .number) refl
-dependencies-number q (no-prefix o) = some-number (7 ∷ []) (o .number) refl
-dependencies-number q (block-or-rows o) = some-number (8 ∷ 10 ∷ []) (o .number) refl
+dependencies-number q (import h) = statement-number 8 q h
+dependencies-number q (include h) = statement-number 9 q h
+dependencies-number q (rows o) = some-number (10 ∷ []) (o .number) refl
 
-D-number : (k : ℕ) → isOne k (5 ∷ 8 ∷ 9 ∷ 10 ∷ []) ≡ true → (n : ℕ) → isOne n (4 ∷ 5 ∷ 6 ∷ []) ≡ true → (at : ℕ) → D (refusal n k at)
-D-number k h n i at = argument (of (4 ∷ 5 ∷ 6 ∷ []) (5 ∷ 8 ∷ 9 ∷ 10 ∷ []) n k at i h)
+-- in the statement of the keyword k, a value with the keyword j may be refused by 4, 5 and 6
+abbrev Refusable : ℕ → ℕ → Type 0
+Refusable k j = (n : ℕ) → isOne n (4 ∷ 5 ∷ 6 ∷ []) ≡ true → (at : ℕ) → StatementRefusal k (refusal n j at)
 
-D-line : (k : ℕ) → isOne k (5 ∷ 8 ∷ 9 ∷ 10 ∷ []) ≡ true → (s : List ℕ) (at u b : ℕ) → ArgumentIs D (lineAt s at u k b)
+name-refusable : (k : ℕ) → Refusable k k
+name-refusable k n h at = argument (record { number = one-of n (4 ∷ 5 ∷ 6 ∷ []) h; keyword = List·Memᴰ·head refl })
+
+revision-refusable : (k : ℕ) → Refusable k 10
+revision-refusable k n h at = argument (record { number = one-of n (4 ∷ 5 ∷ 6 ∷ []) h; keyword = List·Memᴰ·tail (List·Memᴰ·head refl) })
+
+prefix-refusable : (k : ℕ) → k ≡ 8 → Refusable k 5
+prefix-refusable k e n h at = prefix e (record { number = one-of n (4 ∷ 5 ∷ 6 ∷ []) h; keyword = List·Memᴰ·head refl })
+
+argument-is : (k j : ℕ) → Refusable k j → (s : List ℕ) (at u b : ℕ) → ArgumentIs (StatementRefusal k) (lineAt s at u j b)
 unfolding isOne
-D-line k h = line-is D k (D-number k h 5 refl) (D-number k h 6 refl) (D-number k h 4 refl)
+argument-is k j f = line-is (StatementRefusal k) j (f 5 refl) (f 6 refl) (f 4 refl)
 
-abbrev InsideIs : Inside → Type 0
-InsideIs (OnInside b) = Unit {0}
-InsideIs (Closed b) = Unit {0}
-InsideIs (RefusedInside r) = D r
+module _ (k : ℕ) where
+  abbrev InsideIs : Inside → Type 0
+  InsideIs (OnInside b) = Unit {0}
+  InsideIs (Closed b) = Unit {0}
+  InsideIs (RefusedInside r) = StatementRefusal k r
 
-abbrev BlockIs : Block → Type 0
-BlockIs (Whole b) = Unit {0}
-BlockIs (Broken r) = D r
+  abbrev BlockIs : Block → Type 0
+  BlockIs (Whole b) = Unit {0}
+  BlockIs (Broken r) = StatementRefusal k r
 
-module _ (s : List ℕ) (k : ℕ) (own : isOne k (8 ∷ 9 ∷ []) ≡ true) where
-  with-value-is : (b : Body) (j : ℕ) (a : Argument) → ArgumentIs D a → InsideIs (withValue b j a)
+module _ (s : List ℕ) (k : ℕ) where
+  with-value-is : (b : Body) (j : ℕ) (a : Argument) → ArgumentIs (StatementRefusal k) a → InsideIs k (withValue b j a)
   unfolding withValue
   with-value-is b j (Read c n) h = tt
   with-value-is b j (NoArgument r) h = h
 
   -- no statement that is skipped is refused
-  with-skipped-is : (b : Body) (x : Skipped) → ((r : Refusal) → x ≡ NoSkip r → ⊥) → InsideIs (withSkipped b x)
+  with-skipped-is : (b : Body) (x : Skipped) → ((r : Refusal) → x ≡ NoSkip r → ⊥) → InsideIs k (withSkipped b x)
   unfolding withSkipped
   with-skipped-is b (Past c h) n = tt
   with-skipped-is b (NoSkip r) n = absurd (n r refl)
 
   abbrev LineIs : Line → Type 0
-  LineIs (ValueLine j c) = isOne j (5 ∷ 8 ∷ 9 ∷ 10 ∷ []) ≡ true
+  LineIs (ValueLine j c) = Refusable k j
   LineIs OtherLine = Unit {0}
 
-  or-line-is : (j : ℕ) → isOne j (5 ∷ 8 ∷ 9 ∷ 10 ∷ []) ≡ true → (m : Match) (l : Line) → LineIs l → LineIs (orLine j m l)
+  or-line-is : (j : ℕ) → Refusable k j → (m : Match) (l : Line) → LineIs l → LineIs (orLine j m l)
   unfolding orLine
   or-line-is j h (Matched c) l i = h
   or-line-is j h Unmatched l i = i
 
   line-kind-is : (at : ℕ) → LineIs (lineKind s at k)
-  unfolding lineKind isOne
+  unfolding lineKind
   line-kind-is at =
-      let revision = or-line-is 10 refl (matchAt s at revisionDateWord) OtherLine tt in
-      by-test (eqb k 8) (λ t. rw t (or-line-is 5 refl (matchAt s at prefixWord) (revisionLine s at) revision)) (λ t. rw t revision)
+      let revision = or-line-is 10 (revision-refusable k) (matchAt s at revisionDateWord) OtherLine tt in
+      by-test (eqb k 8)
+      (λ t. rw t (or-line-is 5 (prefix-refusable k (eqb-true k 8 t)) (matchAt s at prefixWord) (revisionLine s at) revision)) (λ t. rw t revision)
 
-  kind-is : (at : ℕ) (b : Body) (x : Line) → LineIs x → InsideIs (afterKind s at b x .answer)
+  kind-is : (at : ℕ) (b : Body) (x : Line) → LineIs x → InsideIs k (afterKind s at b x .answer)
   unfolding afterKind
-  kind-is at b (ValueLine j c) h = with-value-is b j (lineAt s (c .at) (b .used) j 59) (D-line j h s (c .at) (b .used) 59)
+  kind-is at b (ValueLine j c) h = with-value-is b j (lineAt s (c .at) (b .used) j 59) (argument-is k j h s (c .at) (b .used) 59)
   kind-is at b OtherLine h = with-skipped-is b (statementAt s at) (statement-refused s at)
 
-  inside-is : (b : Body) → InsideIs (insideAt s k b .answer)
-  unfolding insideAt insideHere isOne
+  inside-is : (b : Body) → InsideIs k (insideAt s k b .answer)
+  unfolding insideAt insideHere
   inside-is b =
       let g = gapEnd s (b .at) in
-      by-test (eqb (look s g) 256) (λ t. rw t (block-or-rows (of (8 ∷ 10 ∷ []) (8 ∷ 9 ∷ []) 8 k g refl own)))
+      by-test (eqb (look s g) 256) (λ t. rw t (block (record { number = List·Memᴰ·head refl; keyword = List·Memᴰ·head refl })))
       (λ t. rw t (by-test (eqb (look s g) 125) (λ v. rw v tt) (λ v. rw v (kind-is g b (lineKind s g k) (line-kind-is g)))))
 
-  stop-is : (bs : List ℕ) (i : Inside) (r : Left Block) → InsideIs i → afterInside bs i ≡ stop r → BlockIs (r .answer)
+  stop-is : (bs : List ℕ) (i : Inside) (r : Left Block) → InsideIs k i → afterInside bs i ≡ stop r → BlockIs k (r .answer)
   unfolding afterInside
   stop-is bs (OnInside b) r h e = let z : _≡_ {A = ℕ} 0 1 = cc in absurd (omega arith)
   stop-is bs (Closed b) r h e =
-      let q : _≡_ {A = Left Block} (record { answer = Whole b; bytes = bs }) r = cc in subst (λ (x : Left Block). BlockIs (x .answer)) q tt
+      let q : _≡_ {A = Left Block} (record { answer = Whole b; bytes = bs }) r = cc in subst (λ (x : Left Block). BlockIs k (x .answer)) q tt
   stop-is bs (RefusedInside d) r h e =
-      let q : _≡_ {A = Left Block} (record { answer = Broken d; bytes = bs }) r = cc in subst (λ (x : Left Block). BlockIs (x .answer)) q h
+      let q : _≡_ {A = Left Block} (record { answer = Broken d; bytes = bs }) r = cc in subst (λ (x : Left Block). BlockIs k (x .answer)) q h
 
-  block-is : (at u : ℕ) → BlockIs (blockAt s at u k .answer)
+  block-is : (at u : ℕ) → BlockIs k (blockAt s at u k .answer)
   unfolding blockAt blockFrom blockTurn
   block-is at u =
       turns-rule (blockTurn s k) (nothing (Broken (refusal 0 0 0))) (λ b. length s - b .body .at) (block-falls s k)
-      (λ a r. BlockIs (r .answer))
+      (λ a r. BlockIs k (r .answer))
       (λ a r e. stop-is (a .bytes ++ insideAt s k (a .body) .bytes) (insideAt s k (a .body) .answer) r (inside-is (a .body)) e)
       (λ a b r e h. h) (suc (length s)) (record { body = begun at u; bytes = [] }) (omega arith)
 
 abbrev pub ImportedIs : ParsedImport → Type 0
 ImportedIs (ReadImport c n i) = Unit {0}
-ImportedIs (NoImport r) = D r
+ImportedIs (NoImport r) = StatementRefusal 8 r
 
 abbrev pub IncludedIs : ParsedInclude → Type 0
 IncludedIs (ReadInclude c n i) = Unit {0}
-IncludedIs (NoInclude r) = D r
+IncludedIs (NoInclude r) = StatementRefusal 9 r
 
-body-is : (name : Span) (b : Block) → BlockIs b → ImportedIs (importOf name b)
+body-is : (name : Span) (b : Block) → BlockIs 8 b → ImportedIs (importOf name b)
 unfolding importOf ofBody isOne
 body-is name (Whole b) h =
-    by-test (b .prefix .present) (λ t. rw t tt) (λ t. rw t (no-prefix (of (7 ∷ []) (8 ∷ []) 7 8 (b .at) refl refl)))
+    by-test (b .prefix .present) (λ t. rw t tt) (λ t. rw t (no-prefix refl (of (7 ∷ []) (8 ∷ []) 7 8 (b .at) refl refl)))
 body-is name (Broken r) h = h
 
-included-is : (name : Span) (b : Block) → BlockIs b → IncludedIs (includeOf name b)
+included-is : (name : Span) (b : Block) → BlockIs 9 b → IncludedIs (includeOf name b)
 unfolding includeOf
 included-is name (Whole b) h = tt
 included-is name (Broken r) h = h
 
-plain-is : (name : Span) (n : ℕ) (d : Due) → DueIs D d → IncludedIs (plainOf name n d)
+plain-is : (name : Span) (n : ℕ) (d : Due) → DueIs (StatementRefusal 9) d → IncludedIs (plainOf name n d)
 unfolding plainOf
 plain-is name n (After c) h = tt
 plain-is name n (Not r) h = h
 
 module _ (s : List ℕ) where
-  name-is : (u : ℕ) (bytes : List ℕ) (a : Argument) → ArgumentIs D a → ImportedIs (afterName s u bytes a .answer)
-  unfolding afterName withName isOne
-  name-is u bytes (Read c n) h = body-is _ (blockAt s (c .at) n 8 .answer) (block-is s 8 refl (c .at) n)
+  name-is : (u : ℕ) (bytes : List ℕ) (a : Argument) → ArgumentIs (StatementRefusal 8) a → ImportedIs (afterName s u bytes a .answer)
+  unfolding afterName withName
+  name-is u bytes (Read c n) h = body-is _ (blockAt s (c .at) n 8 .answer) (block-is s 8 (c .at) n)
   name-is u bytes (NoArgument r) h = h
 
   pub import-is : (at u : ℕ) → ImportedIs (importAt s at u .answer)
-  unfolding importAt isOne
-  import-is at u = name-is u _ (lineAt s at u 8 123) (D-line 8 refl s at u 123)
+  unfolding importAt
+  import-is at u = name-is u _ (lineAt s at u 8 123) (argument-is 8 8 (name-refusable 8) s at u 123)
 
   rest-is : (at n : ℕ) (name : Span) (bytes : List ℕ) → IncludedIs (openOrPlain s at n name bytes .answer)
   unfolding openOrPlain blockOf isOne
   rest-is at n name bytes =
-      by-test (eqb (look s at) 123) (λ t. rw t (included-is name (blockAt s (at + 1) n 9 .answer) (block-is s 9 refl (at + 1) n)))
-      (λ t. rw t (plain-is name n (dueHere s at 59 9) (due-here-is D 9 (D-number 9 refl 5 refl) (D-number 9 refl 6 refl) s at 59)))
+      by-test (eqb (look s at) 123) (λ t. rw t (included-is name (blockAt s (at + 1) n 9 .answer) (block-is s 9 (at + 1) n)))
+      (λ t. let f = name-refusable 9 in
+      rw t (plain-is name n (dueHere s at 59 9) (due-here-is (StatementRefusal 9) 9 (f 5 refl) (f 6 refl) s at 59)))
 
-  value-read-is : (u : ℕ) (bytes : List ℕ) (a : Argument) → ArgumentIs D a → IncludedIs (afterValue s u bytes a .answer)
+  value-read-is : (u : ℕ) (bytes : List ℕ) (a : Argument) → ArgumentIs (StatementRefusal 9) a → IncludedIs (afterValue s u bytes a .answer)
   unfolding afterValue
   value-read-is u bytes (Read c n) h = rest-is (gapEnd s (c .at)) n _ bytes
   value-read-is u bytes (NoArgument r) h = h
 
   pub include-is : (at u : ℕ) → IncludedIs (includeAt s at u .answer)
   unfolding includeAt isOne
-  include-is at u = value-read-is u _ (argumentAt s at u 9) (value-is D 9 (D-number 9 refl 4 refl) s at u)
+  include-is at u = value-read-is u _ (argumentAt s at u 9) (value-is (StatementRefusal 9) 9 (name-refusable 9 4 refl) s at u)
 
 -- ---- a step, and all of them
 
 abbrev NextIs : Next → Type 0
 NextIs (On far) = Unit {0}
 NextIs Done = Unit {0}
-NextIs (Stop r) = D r
+NextIs (Stop r) = DependenciesRefusal r
 
-full-is : (rows k at : ℕ) (x : Step) → isOne k (8 ∷ 9 ∷ []) ≡ true → NextIs (x .answer) → NextIs (unlessFull rows k at x .answer)
+full-is : (n k at : ℕ) (x : Step) → isOne k (8 ∷ 9 ∷ []) ≡ true → NextIs (x .answer) → NextIs (unlessFull n k at x .answer)
 unfolding unlessFull isOne
-full-is rows k at x own h =
-    by-test (leb 256 rows) (λ t. rw t (block-or-rows (of (8 ∷ 10 ∷ []) (8 ∷ 9 ∷ []) 10 k at refl own))) (λ t. rw t h)
+full-is n k at x own h =
+    by-test (leb 256 n) (λ t. rw t (rows (of (10 ∷ []) (8 ∷ 9 ∷ []) 10 k at refl own))) (λ t. rw t h)
 
 import-step-is : (far : Sofar) (bs : List ℕ) (i : ParsedImport) → ImportedIs i → NextIs (importStep far bs i .answer)
 unfolding importStep
 import-step-is far bs (ReadImport c n i) h = tt
-import-step-is far bs (NoImport r) h = h
+import-step-is far bs (NoImport r) h = import h
 
 include-step-is : (far : Sofar) (bs : List ℕ) (i : ParsedInclude) → IncludedIs i → NextIs (includeStep far bs i .answer)
 unfolding includeStep
 include-step-is far bs (ReadInclude c n i) h = tt
-include-step-is far bs (NoInclude r) h = h
+include-step-is far bs (NoInclude r) h = include h
 
 token-is : (far : Sofar) (x : Skipped) → ((r : Refusal) → x ≡ NoSkip r → ⊥) → NextIs (afterToken far x)
 unfolding afterToken
@@ -319,7 +336,7 @@ step-is s far =
 
 abbrev ScanIs : Deps.Scan → Type 0
 ScanIs (Deps.good d) = Unit {0}
-ScanIs (Deps.bad r d) = D r
+ScanIs (Deps.bad r d) = DependenciesRefusal r
 
 turn-is : (d : Deps.Dependencies) (x : Next) (r : Deps.Scan) → NextIs x → afterStep d x ≡ stop r → ScanIs r
 unfolding afterStep

@@ -33,14 +33,28 @@ pub data RefusedAs (Read : Refusal → Type 0) (s : List ℕ) (short : Bool) (r 
   first : FirstRefusal s short r → RefusedAs Read s short r
   read : Fits s short → Read r → RefusedAs Read s short r
 
--- keywords: 5 prefix, 8 import, 9 include, 10 revision-date
-pub data DependenciesRefusal (r : Refusal) : Type 0 where
-  argument : OneOf (4 ∷ 5 ∷ 6 ∷ []) (5 ∷ 8 ∷ 9 ∷ 10 ∷ []) r → DependenciesRefusal r
-  no-prefix : OneOf (7 ∷ []) (8 ∷ []) r → DependenciesRefusal r
-  block-or-rows : OneOf (8 ∷ 10 ∷ []) (8 ∷ 9 ∷ []) r → DependenciesRefusal r
+-- One statement: k is its keyword, 8 import or 9 include. Other keywords: 5 prefix, 10 revision-date.
+pub data StatementRefusal (k : ℕ) (r : Refusal) : Type 0 where
+  -- a value, or the byte due after it: its name's, or that of a revision-date
+  argument : OneOf (4 ∷ 5 ∷ 6 ∷ []) (k ∷ 10 ∷ []) r → StatementRefusal k r
+  -- that of a prefix, which only an import has; and an import without one
+  prefix : k ≡ 8 → OneOf (4 ∷ 5 ∷ 6 ∷ []) (5 ∷ []) r → StatementRefusal k r
+  no-prefix : k ≡ 8 → OneOf (7 ∷ []) (8 ∷ []) r → StatementRefusal k r
+  -- the end inside its block
+  block : OneOf (8 ∷ []) (k ∷ []) r → StatementRefusal k r
 
--- keywords: 1 module, 2 submodule, 3 belongs-to, 4 namespace, 5 prefix, 6 yang-version, 7 revision
+-- a statement's refusal, or a 257th row
+pub data DependenciesRefusal (r : Refusal) : Type 0 where
+  import : StatementRefusal 8 r → DependenciesRefusal r
+  include : StatementRefusal 9 r → DependenciesRefusal r
+  rows : OneOf (10 ∷ []) (8 ∷ 9 ∷ []) r → DependenciesRefusal r
+
+-- One statement of a header. Keywords: 1 module, 2 submodule, 3 belongs-to, 4 namespace, 5 prefix, 6 yang-version, 7 revision.
+pub data HeaderRefusal (r : Refusal) : Type 0 where
+  no-value : OneOf (4 ∷ []) (1 ∷ 2 ∷ 3 ∷ 4 ∷ 5 ∷ 7 ∷ []) r → HeaderRefusal r
+  no-byte : OneOf (5 ∷ 6 ∷ []) (1 ∷ 2 ∷ 4 ∷ 5 ∷ 6 ∷ 7 ∷ []) r → HeaderRefusal r
+
+-- a statement's refusal, or no name
 pub data MetadataRefusal (r : Refusal) : Type 0 where
-  no-value : OneOf (4 ∷ []) (1 ∷ 2 ∷ 3 ∷ 4 ∷ 5 ∷ 7 ∷ []) r → MetadataRefusal r
-  no-byte : OneOf (5 ∷ 6 ∷ []) (1 ∷ 2 ∷ 4 ∷ 5 ∷ 6 ∷ 7 ∷ []) r → MetadataRefusal r
+  header : HeaderRefusal r → MetadataRefusal r
   no-name : OneOf (9 ∷ []) (0 ∷ []) r → MetadataRefusal r
