@@ -19,10 +19,10 @@ use Rattle.graph_nodes.specs.declared.Nodes.{Nodes}
 use Rattle.graph_nodes.specs.declared.Nodes.the-variants.{Count, TooMany}
 use Rattle.graph_nodes.proofs.Looking.{Bytes, as-held, held-entries}
 use Rattle.graph_tables.specs.Tables.{Puts, Named, nodeWords, rowWords}
-use Rattle.graph_build.specs.Result.{Result}
+use Rattle.graph_build.specs.Result.{Result, drawResult}
 use Rattle.graph_draw.specs.Draw.{BothRead, Prepared, Lent, Edged}
 use Rattle.graph_draw.proofs.Drawing.{no-rows}
-use Rattle.graph_build.specs.Between.{LentNodes, drawResult, Holds}
+use Rattle.graph_build.specs.Between.{LentNodes, Holds}
 use Rattle.graph_entries.specs.declared.Drawn.{Drawn}
 use Rattle.graph_entries.specs.declared.Drawn.the-variants.{Built as DrawnBuilt, Refused as DrawnRefused}
 use Rattle.graph_build.specs.declared.Graphed.the-variants.{Built, Refused}

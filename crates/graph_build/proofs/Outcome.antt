@@ -27,7 +27,7 @@ use Rattle.graph_nodes.specs.Adding.{plainAt, wordsAt}
 use Rattle.graph_texts.specs.Texts.{textOf}
 use Rattle.graph_visit.specs.Visit.{worldOf}
 use Rattle.graph_entries.specs.Entries.{drawItems}
-use Rattle.graph_build.specs.Result.{Result, refusal, resultOf}
+use Rattle.graph_build.specs.Result.{Result, refusal, resultOf, drawResult}
 use Rattle.graph_build.specs.declared.Graphed.the-variants.{Built}
 use Rattle.graph_entries.proofs.Drawing.{items-drawn}
 
@@ -77,7 +77,7 @@ module _ (mode : Mode) (s b : List ℕ) (reads : Reads (imageAt s)) (bytes : All
       ap₂ (λ n e. record { answer = Built n e; nodes = wordsAt mode s; rows = map (rowOf ns) es }) p q
   walk-result (fault n k a) h = refl
 
-  pub graph-result : resultOf (wordsAt mode s) (graphOf mode mostNodes mostEdges (textOf b) (plainAt s))
+  pub graph-result : drawResult mode s b
       ≡ cond (ltb mostNodes (length (wordsAt mode s))) (refusal tooManyNodes 0 noRefusal 0) (drawingResult (wordsAt mode s) items)
   unfolding graphOf
   graph-result =

@@ -19,17 +19,16 @@ use Rattle.library_items.specs.Items.{itemsAt}
 use Rattle.library_items.specs.Table.{Reads}
 use Rattle.graph.specs.Nodes.{Mode, nodesOf}
 use Rattle.text.specs.Refusal.{noRefusal}
-use Rattle.graph.specs.Graph.{tooManyNodes, graphOf}
+use Rattle.graph.specs.Graph.{tooManyNodes}
 use Rattle.graph.specs.Numbers.{Drawing}
 use Rattle.graph_edges.specs.Edges.{rowsIn}
 use Rattle.graph_edges.proofs.Rows.{rows-length}
-use Rattle.graph.specs.Limits.{mostEdges, mostNodes}
+use Rattle.graph.specs.Limits.{mostNodes}
 use Rattle.graph_nodes.specs.Adding.{plainAt, wordsAt, namesHeld, Holding}
 use Rattle.graph_nodes.proofs.Looking.{held-names}
-use Rattle.graph_texts.specs.Texts.{textOf}
 use Rattle.graph_entries.specs.Entries.{drawItems, drawnSeen}
 use Rattle.graph_tables.specs.Tables.{Puts, Named, nodeWords}
-use Rattle.graph_build.specs.Result.{Result, refusal, resultOf}
+use Rattle.graph_build.specs.Result.{Result, refusal, drawResult}
 use Rattle.graph_entries.specs.declared.Drawn.{Drawn}
 use Rattle.graph_entries.specs.declared.Drawn.the-variants.{Built as DrawnBuilt, Refused as DrawnRefused}
 use Rattle.graph_build.specs.declared.Graphed.the-variants.{Built}
@@ -39,7 +38,7 @@ use Rattle.graph_build.proofs.Outcome.{drawingResult, graph-result}
 pub record Ready (mode : Mode) (s b : List ℕ) (x : Result) : Type 0 where
   pub reads : Reads (imageAt s)
   pub bytes : AllBytes s
-  pub result : x ≡ resultOf (wordsAt mode s) (graphOf mode mostNodes mostEdges (textOf b) (plainAt s))
+  pub result : x ≡ drawResult mode s b
 
 module _ {mode : Mode} (s b : List ℕ) (x : Result) (g : Ready mode s b x) where
   abbrev items : (ns : List Name) → Drawing

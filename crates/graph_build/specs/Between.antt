@@ -5,26 +5,17 @@ use mathlib.Core.Path.{_≡_}
 use mathlib.Core.List.{List}
 use lib.ListN.{length}
 use Rattle.text_lent.specs.Padded.{zeros, padded}
-use Rattle.graph.specs.Nodes.{Mode}
-use Rattle.graph.specs.Graph.{graphOf}
-use Rattle.graph.specs.Limits.{mostEdges, mostNodes}
-use Rattle.graph_nodes.specs.Adding.{plainAt, wordsAt}
-use Rattle.graph_texts.specs.Texts.{textOf}
 use Rattle.graph_link.specs.Link.{allLevels}
 use Rattle.graph_visit.specs.Visit.{Kept}
 use Rattle.graph_tables.specs.Lengths.{nodeTable}
 use Rattle.graph_tables.specs.Tables.{nodeWords, rowWords}
-use Rattle.graph_build.specs.Result.{Result, resultOf}
+use Rattle.graph_build.specs.Result.{Result}
 use Rattle.graph_build.specs.declared.Graphed.{Graphed}
 
 -- enough is lent for the nodes, whose table is zero
 pub record LentNodes (nodes : List ℕ) : Type 0 where
   pub room : nodeTable ≤ length nodes
   pub zero : nodes ≡ zeros (length nodes)
-
--- the result of what was read, if enough is lent
-abbrev pub drawResult : Mode → (image bundle : List ℕ) → Result
-drawResult mode s b = resultOf (wordsAt mode s) (graphOf mode mostNodes mostEdges (textOf b) (plainAt s))
 
 -- the tables hold a result, scratch is not yet cleared
 pub record Holds (x : Result) (n e d f g l : List ℕ) (r : Graphed) (n₁ e₁ d₁ f₁ g₁ l₁ : List ℕ) : Type 0 where

@@ -6,7 +6,8 @@ use graph_visit::Sizes;
 use text::Refusal;
 ghost use Rattle.graph.specs.Nodes.{passOver};
 ghost use Rattle.graph_draw.specs.Draw.{BothRead, Lent};
-ghost use Rattle.graph_build.specs.Between.{LentNodes, drawResult, Holds};
+ghost use Rattle.graph_build.specs.Result.{drawResult};
+ghost use Rattle.graph_build.specs.Between.{LentNodes, Holds};
 
 // How many nodes and edges there are; or a refusal's number, entry, scan answer and place.
 pub enum Graphed {

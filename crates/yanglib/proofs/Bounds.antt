@@ -35,7 +35,7 @@ use Rattle.library_items.specs.Table.{Reads}
 use Rattle.graph.specs.Limits.{mostEdges, mostNodes}
 use Rattle.graph_nodes.specs.Adding.{plainAt, wordsAt}
 use Rattle.graph_texts.specs.Texts.{scanSeen, scanText, lookText, textOf}
-use Rattle.graph_build.specs.Result.{Result, refusal, resultOf}
+use Rattle.graph_build.specs.Result.{Result, refusal, resultOf, drawResult}
 use Rattle.yanglib.specs.ToGraph.{lentTooShort, onRead, graphed, AnswerFits}
 use Rattle.graph_tables.specs.Lengths.{Lengths, tooShort}
 use Rattle.graph_build.proofs.Outcome.{image-here}
@@ -148,7 +148,7 @@ unfolding graphed AnswerFits
 answer-fits mode s b bytes k = image (imageAt s) refl
   where
     tail : Result
-    tail = resultOf (wordsAt mode s) (graphOf mode mostNodes mostEdges (textOf b) (plainAt s))
+    tail = drawResult mode s b
 
     lent : Reads (imageAt s) → (t : Bool) → AnswerFits (cond t (refusal lentTooShort 0 noRefusal 0) tail .answer)
     lent h true = (omega arith, omega arith, omega arith)

@@ -20,11 +20,7 @@ use Rattle.library_lists.proofs.Counting.{done-bad}
 use Rattle.library_items.specs.Table.{Reads}
 use Rattle.graph.specs.Nodes.{Mode}
 use Rattle.text.specs.Refusal.{noRefusal}
-use Rattle.graph.specs.Graph.{graphOf}
-use Rattle.graph.specs.Limits.{mostEdges, mostNodes}
-use Rattle.graph_nodes.specs.Adding.{plainAt, wordsAt}
-use Rattle.graph_texts.specs.Texts.{textOf}
-use Rattle.graph_build.specs.Result.{Result, refusal, resultOf}
+use Rattle.graph_build.specs.Result.{Result, refusal, drawResult}
 use Rattle.yanglib.specs.ToGraph.{lentTooShort, onRead, graphed}
 use Rattle.graph_tables.specs.Lengths.{Lengths, tooShort}
 
@@ -53,7 +49,7 @@ module _ (mode : Mode) (s b : List ℕ) (k : Lengths) where
   behind x y short =
       onRead x (refusal imageBroken 0 noRefusal)
       (onRead y (refusal bundleBroken 0 noRefusal)
-      (cond short (refusal lentTooShort 0 noRefusal 0) (resultOf (wordsAt mode s) (graphOf mode mostNodes mostEdges (textOf b) (plainAt s)))))
+      (cond short (refusal lentTooShort 0 noRefusal 0) (drawResult mode s b)))
 
   by-readings : {x : Ans Library} {y : Ans (List Text)} {short : Bool} → imageAt s ≡ x → bundleAt b ≡ y → tooShort (longestText b) k ≡ short
       → graphed mode s b k ≡ behind x y short
@@ -75,5 +71,5 @@ module _ (mode : Mode) (s b : List ℕ) (k : Lengths) where
       too-little e f h = by-readings (reads .read) (held .read) (sym (f ∙ ap (λ (n : ℕ). tooShort n k) e) ∙ h)
 
       pub enough : {longest : ℕ} {short : Bool} → longest ≡ longestText b → short ≡ tooShort longest k → short ≡ false
-          → graphed mode s b k ≡ resultOf (wordsAt mode s) (graphOf mode mostNodes mostEdges (textOf b) (plainAt s))
+          → graphed mode s b k ≡ drawResult mode s b
       enough e f h = by-readings (reads .read) (held .read) (sym (f ∙ ap (λ (n : ℕ). tooShort n k) e) ∙ h)

@@ -20,12 +20,12 @@ use Rattle.library_read.specs.Reading.{readNumber}
 use Rattle.graph.specs.Nodes.{Mode}
 use Rattle.text.specs.Refusal.{noRefusal}
 use Rattle.graph_tables.specs.Tables.{nodeWords, rowWords}
-use Rattle.graph_build.specs.Result.{Result, refusal}
+use Rattle.graph_build.specs.Result.{Result, refusal, drawResult}
 use Rattle.yanglib.specs.ToGraph.{graphed, Leaves}
 use Rattle.graph_tables.specs.Lengths.{Lengths, lengthsOf, tooShort}
 use Rattle.graph_draw.specs.Draw.{BothRead, Lent}
 use Rattle.graph_draw.proofs.Drawing.{no-rows}
-use Rattle.graph_build.specs.Between.{LentNodes, drawResult, Holds}
+use Rattle.graph_build.specs.Between.{LentNodes, Holds}
 use Rattle.graph_build.specs.declared.Graphed.{Graphed}
 use Rattle.graph_build.specs.declared.Graphed.the-variants.{Refused}
 use Rattle.graph_tables.proofs.Short.{Enough, long-enough}

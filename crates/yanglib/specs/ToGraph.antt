@@ -14,13 +14,9 @@ use Rattle.library_bundle.specs.Bundle.{bundleBroken, bundleAt}
 use Rattle.library_bundle.specs.Reading.{longestText}
 use Rattle.graph.specs.Nodes.{Mode, passOver}
 use Rattle.text.specs.Refusal.{noRefusal}
-use Rattle.graph.specs.Graph.{graphOf}
-use Rattle.graph.specs.Limits.{mostEdges, mostNodes}
-use Rattle.graph_nodes.specs.Adding.{plainAt, wordsAt}
-use Rattle.graph_texts.specs.Texts.{textOf}
 use Rattle.graph_tables.specs.Lengths.{Lengths, lengthsOf, tooShort}
 use Rattle.graph_tables.specs.Tables.{nodeWords, rowWords}
-use Rattle.graph_build.specs.Result.{Result, refusal, resultOf}
+use Rattle.graph_build.specs.Result.{Result, refusal, drawResult}
 use Rattle.graph_build.specs.declared.Graphed.{Graphed}
 use Rattle.graph_build.specs.declared.Graphed.the-variants.{Built, Refused}
 
@@ -35,13 +31,12 @@ abbrev pub onRead : {A B : Type 0} → Ans A → (ℕ → B) → B → B
 onRead (good a n) f b = b
 onRead (bad p) f b = f p
 
--- for an image s, a bundle b and the lengths lent; the mode says what becomes of a module whose name is already a node
+-- for an image s, a bundle b and the lengths lent
 unfoldable pub graphed : Mode → (image bundle : List ℕ) → Lengths → Result
 graphed mode s b k =
     onRead (imageAt s) (refusal imageBroken 0 noRefusal)
     (onRead (bundleAt b) (refusal bundleBroken 0 noRefusal)
-    (cond (tooShort (longestText b) k) (refusal lentTooShort 0 noRefusal 0)
-    (resultOf (wordsAt mode s) (graphOf mode mostNodes mostEdges (textOf b) (plainAt s)))))
+    (cond (tooShort (longestText b) k) (refusal lentTooShort 0 noRefusal 0) (drawResult mode s b)))
 
 -- how large an answer is at the most
 unfoldable pub AnswerFits : Graphed → Type 0
