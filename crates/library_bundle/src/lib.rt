@@ -162,7 +162,7 @@ pub fn text_at<'a>(s: &'a [u8], from: usize, size: usize) -> &'a [u8]
 }
 
 // The text under `name`, empty where there is none.
-pub fn text<'a>(s: &'a [u8], tab: &[u32], count: usize, name: &[u8]) -> &'a [u8]
+fn text<'a>(s: &'a [u8], tab: &[u32], count: usize, name: &[u8]) -> &'a [u8]
     requires { ⌜ Held (now s) (now tab) count ⌝ }
     ensures { λ r. ⌜ now r ≡ textUnder (now (s .entry)) (now (name .entry)) ⌝ }
 {
