@@ -97,7 +97,10 @@ fn step(complete: bool, data: &[u8], run: Tally) -> Tally {
     if data.len() <= at {
         return run;
     }
-    run.past(record_agrees(complete, data, at), replay::after_fields(data, at, 5))
+    run.past(
+        record_agrees(complete, data, at),
+        replay::after_fields(data, at, 5),
+    )
 }
 
 // All records of a file. A record takes a byte at least.
