@@ -111,14 +111,14 @@ nodes-order l = groups-all itself (groups l) []
 name-node : (l : PlainLibrary) (v : Name) → List·Memᴰ v (allNames l) → List·Memᴰ v (nodesOf complete l)
 name-node l v m = subst (λ ns. List·Memᴰ v ns) (sym (nodes-order l)) (names-new (allNames l) [] v m)
 
-nodes-each : (l : PlainLibrary) → EachOnce (nodesOf complete l) (allNames l)
+pub nodes-each : (l : PlainLibrary) → EachOnce (nodesOf complete l) (allNames l)
 nodes-each l = record { differ = nodes-differ complete l; same = λ v. (nodes-only complete l v, name-node l v) }
 
 all-nodes-in : (l l₁ : PlainLibrary) → ((v : Name) → List·Memᴰ v (allNames l) → List·Memᴰ v (allNames l₁)) → NodesIn complete l l₁
 all-nodes-in l l₁ f v m = name-node l₁ v (f v (nodes-only complete l v m))
 
 -- two lists of the same names, each once, are equally long
-as-many : (xs ys all : List Name) → EachOnce xs all → EachOnce ys all → length xs ≡ length ys
+pub as-many : (xs ys all : List Name) → EachOnce xs all → EachOnce ys all → length xs ≡ length ys
 as-many xs ys all e f =
     omega
     (arith, no-longer xs ys (e .differ) (λ v m. f .same v .1 (e .same v .0 m)), no-longer ys xs (f .differ) (λ v m. e .same v .1 (f .same v .0 m)))
@@ -145,7 +145,7 @@ module _ (text : Name → Text) (l : PlainLibrary) where
     cause-has-node (by-fault x f g) e = fault-has-node x g e
     cause-has-node (edges x f w es d m h) e = omega (arith, e)
 
-    cause-many : {n k : ℕ} {a : ScanAnswer} → Cause complete text l nodeLimit edgeLimit n k a → n ≡ 30 → nodeLimit < length (nodesOf complete l)
+    pub cause-many : {n k : ℕ} {a : ScanAnswer} → Cause complete text l nodeLimit edgeLimit n k a → n ≡ 30 → nodeLimit < length (nodesOf complete l)
     cause-many (names h) e = h
     cause-many (by-fault x f g) e = absurd (omega (arith, e, fault-below complete text l x g))
     cause-many (edges x f w es d m h) e = absurd (omega (arith, e))

@@ -14,7 +14,7 @@ use Rattle.text.specs.Keyword.{same}
 use Rattle.text.specs.Refusal.{noRefusal}
 use Rattle.library_image.specs.Library.{Name, PlainModule, PlainImportOnly, PlainLibrary, modulesOf, importOnlyOf, submodulesOf}
 use Rattle.library_index.specs.Names.{among, addAll}
-use Rattle.graph.specs.Nodes.{passOver, addGroups, nodesBy, memb}
+use Rattle.graph.specs.Nodes.{passOver, complete, addGroups, nodesBy, memb}
 use Rattle.graph.specs.Graph.{ScanAnswer, Text, deps, textSteps, Edge, edge, memE, addBy, run, Entry, moduleEntry, entries, graph, fault, walkFrom}
 use Rattle.graph.specs.Graph.{graphOf}
 use Rattle.graph.specs.Meaning.{Gives, imports, includes, lists, AllGivenBy, Fault, Cause, names, by-fault, edges}
@@ -22,6 +22,7 @@ use Rattle.graph.specs.Demand3.{allNames, Once, Permuted, Agree}
 use Rattle.graph.proofs.Tests.{both-bools, mem-memb}
 use Rattle.graph.proofs.Faults.{fault-below}
 use Rattle.graph.proofs.Demand.{no-longer, demand3}
+use Rattle.graph.proofs.Complete.{complete-demand3}
 
 -- names that differ, by test
 unfoldable differ : List Name → Bool
@@ -75,6 +76,10 @@ second : graphOf passOver 1024 8192 text two-sets ≡ graph ((98 ∷ []) ∷ (11
     (edge (98 ∷ []) (109 ∷ []) ∷ edge (115 ∷ []) (109 ∷ []) ∷ edge (109 ∷ []) (98 ∷ []) ∷ [])
 unfolding text flatMap modulesOf importOnlyOf submodulesOf same among addAll addGroups nodesBy textSteps memE addBy run walkFrom graphOf
 second = refl
+
+-- each name stands once in it, so the other mode gives the same graph
+complete-same : graphOf complete 1024 8192 text one-set ≡ graphOf passOver 1024 8192 text one-set
+complete-same = complete-demand3 1024 8192 text .once one-set once
 
 -- ---- 31 tells the entry with which the edges become too many: a and b each augment themselves, and there is room for one edge
 
