@@ -188,7 +188,7 @@ static int graphs(enum which which) {
 struct again {
     const uint8_t *image;
     size_t image_length;
-    const char *bundle;
+    const uint8_t *bundle;
     size_t bundle_length;
     uint32_t number[2], entry[2], node_count[2], nodes[6], edge_count[2], edges[2];
     const char *what;
@@ -198,7 +198,7 @@ static int left_as_due(const struct again *x, enum which which) {
     const uint32_t answer[NUVALETA_GRAPH_ANSWER] = {x->number[which], x->entry[which], 0, 0, 0, 0, x->node_count[which], x->edge_count[which]};
     const size_t nodes = x->node_count[which] * NUVALETA_NODE_ROW * sizeof x->nodes[0], edges = x->edge_count[which] * NUVALETA_EDGE_ROW * sizeof x->edges[0];
 
-    return answered(graph(which, x->image, x->image_length, (const uint8_t *)x->bundle, x->bundle_length), LENT(answer)) && HOLDS(nodes, x->nodes, nodes) &&
+    return answered(graph(which, x->image, x->image_length, x->bundle, x->bundle_length), LENT(answer)) && HOLDS(nodes, x->nodes, nodes) &&
            HOLDS(edges, x->edges, edges) && scratch_is_zero();
 }
 
@@ -211,11 +211,11 @@ static int names_again(void) {
     static const char good[] = "\2\1m\12include s;\1s\0", missing[] = "\1\1m\12include s;", empty[] = "\2\1m\0\1b\0", of_b[] = "\1\1b\0";
     static const char unknown[] = "\3\1m\12include t;\1b\0\1t\0";
     static const struct again all[] = {
-        {LENT(twice), good, sizeof good - 1, {NUVALETA_NO_NODE, 0}, {1, 0}, {0, 2}, {3, 1, 13, 1}, {0, 1}, {1, 0}, "a submodule of the second set"},
-        {LENT(twice), missing, sizeof missing - 1, {NUVALETA_NO_NODE, NUVALETA_NO_INCLUDED_TEXT}, {1, 1}, {0, 0}, {0}, {0, 0}, {0}, "one without a text"},
-        {LENT(between), empty, sizeof empty - 1, {0, 0}, {0, 0}, {2, 3}, {3, 1, 8, 1, 18, 1}, {0, 0}, {0}, "the place of a node"},
-        {LENT(revisions), of_b, sizeof of_b - 1, {0, 0}, {0, 0}, {2, 3}, {4, 1, 8, 1, 11, 1}, {0, 0}, {0}, "a submodule of the second revision"},
-        {LENT(only), unknown, sizeof unknown - 1, {NUVALETA_UNKNOWN_SUBMODULE, NUVALETA_UNKNOWN_SUBMODULE}, {1, 1}, {0, 0}, {0}, {0, 0}, {0},
+        {LENT(twice), BYTES(good), {NUVALETA_NO_NODE, 0}, {1, 0}, {0, 2}, {3, 1, 13, 1}, {0, 1}, {1, 0}, "a submodule of the second set"},
+        {LENT(twice), BYTES(missing), {NUVALETA_NO_NODE, NUVALETA_NO_INCLUDED_TEXT}, {1, 1}, {0, 0}, {0}, {0, 0}, {0}, "one without a text"},
+        {LENT(between), BYTES(empty), {0, 0}, {0, 0}, {2, 3}, {3, 1, 8, 1, 18, 1}, {0, 0}, {0}, "the place of a node"},
+        {LENT(revisions), BYTES(of_b), {0, 0}, {0, 0}, {2, 3}, {4, 1, 8, 1, 11, 1}, {0, 0}, {0}, "a submodule of the second revision"},
+        {LENT(only), BYTES(unknown), {NUVALETA_UNKNOWN_SUBMODULE, NUVALETA_UNKNOWN_SUBMODULE}, {1, 1}, {0, 0}, {0}, {0, 0}, {0},
          "an include of a submodule of an import-only module"},
     };
 
