@@ -37,6 +37,8 @@
  *     x86-64          4        5       18     36     367      28             8
  *     aarch64         7        7       21     38     369      31            10
  *
+ * nuvaleta_graph_complete took as much as nuvaleta_graph (x86-64).
+ *
  * TIME. A call ends, but a graph's time is not bounded in practice: a text that is included again is walked again, so nine small texts, each of which
  * includes the next one many times, keep it longer than anyone waits. Texts that are not trusted are for a process that can be ended.
  *
