@@ -14,7 +14,7 @@ use native.Mathlib.Omega.{arith}
 use lib.ListN.{length, length-append}
 use Rattle.library_image.specs.Library.{Name, PlainModule, PlainImportOnly, PlainSet, PlainLibrary, modulesOf, importOnlyOf}
 use Rattle.library_index.specs.Names.{among, addNew, addAll}
-use Rattle.graph.specs.Nodes.{Mode, passOver, Group, moduleGroup, revisionGroups, setGroups, groups, addGroup, addGroups, nodesBy, itself, nodesOf, memb}
+use Rattle.graph.specs.Nodes.{Mode, passOver, complete, Group, moduleGroup, revisionGroups, setGroups, groups, addGroup, addGroups, nodesBy, itself, nodesOf, memb}
 use Rattle.graph.specs.Graph.{entryNames}
 use Rattle.graph.specs.Meaning.{Revised}
 use Rattle.graph.specs.Demand3.{groupNames, allNames}
@@ -92,6 +92,7 @@ group-nodup passOver ns g d = go (memb (g .head) ns) refl
     go : (t : Bool) → memb (g .head) ns ≡ t → List·Nodup (cond t ns (addAll itself (ns ++ (g .head ∷ [])) (g .subs)))
     go true q = d
     go false q = names-nodup (g .subs) (ns ++ (g .head ∷ [])) (snoc-nodup ns (g .head) q d)
+group-nodup complete ns g d = names-nodup (g .head ∷ g .subs) ns d
 
 group-kept : (mode : Mode) (ns : List Name) (g : Group Name) (v : Name) → List·Memᴰ v ns → List·Memᴰ v (addGroup itself mode ns g)
 group-kept passOver ns g v m = go (memb (g .head) ns)
@@ -99,6 +100,7 @@ group-kept passOver ns g v m = go (memb (g .head) ns)
     go : (t : Bool) → List·Memᴰ v (cond t ns (addAll itself (ns ++ (g .head ∷ [])) (g .subs)))
     go true = m
     go false = names-kept (g .subs) (ns ++ (g .head ∷ [])) v (Memᴰ·append-left (g .head ∷ []) m)
+group-kept complete ns g v m = names-kept (g .head ∷ g .subs) ns v m
 
 group-head : (mode : Mode) (ns : List Name) (g : Group Name) → List·Memᴰ (g .head) (addGroup itself mode ns g)
 group-head passOver ns g = go (memb (g .head) ns) refl
@@ -106,6 +108,7 @@ group-head passOver ns g = go (memb (g .head) ns) refl
     go : (t : Bool) → memb (g .head) ns ≡ t → List·Memᴰ (g .head) (cond t ns (addAll itself (ns ++ (g .head ∷ [])) (g .subs)))
     go true q = memb-mem (g .head) ns q
     go false q = names-kept (g .subs) (ns ++ (g .head ∷ [])) (g .head) (Memᴰ·append-right ns (List·Memᴰ·head refl))
+group-head complete ns g = names-new (g .head ∷ g .subs) ns (g .head) (List·Memᴰ·head refl)
 
 group-only : (mode : Mode) (ns : List Name) (g : Group Name) (v : Name) → List·Memᴰ v (addGroup itself mode ns g)
     → List·Memᴰ v ns ⊎ List·Memᴰ v (groupNames g)
@@ -118,6 +121,7 @@ group-only passOver ns g v m = go (memb (g .head) ns) m
         (λ o. ⊎-elim (λ k. inl k) (λ p. inr (List·Memᴰ·head p)) (snoc-only ns (g .head) v o))
         (λ n. inr (List·Memᴰ·tail n))
         (names-only (g .subs) (ns ++ (g .head ∷ [])) v m)
+group-only complete ns g v m = names-only (g .head ∷ g .subs) ns v m
 
 -- a group whose head is new is added whole
 group-whole : (mode : Mode) (ns : List Name) (g : Group Name) (v : Name) → (List·Memᴰ (g .head) ns → ⊥) → List·Memᴰ v (groupNames g)
@@ -131,6 +135,7 @@ group-whole passOver ns g v f m = go (memb (g .head) ns) refl
         (λ p. names-kept (g .subs) (ns ++ (g .head ∷ [])) v (Memᴰ·append-right ns (List·Memᴰ·head p)))
         (λ n. names-new (g .subs) (ns ++ (g .head ∷ [])) v n)
         (List·Memᴰ·cases-cons m)
+group-whole complete ns g v f m = names-new (g .head ∷ g .subs) ns v m
 
 -- ---- all groups
 
@@ -198,6 +203,7 @@ module _ {A : Type 0} (name : A → Name) where
       go : (b : Bool) → length ns ≤ length (cond b ns (addAll name (ns ++ (g .head ∷ [])) (g .subs)))
       go true = omega arith
       go false = omega (arith, length-append ns (g .head ∷ []), names-grow (g .subs) (ns ++ (g .head ∷ [])))
+  group-grows complete ns g = names-grow (g .head ∷ g .subs) ns
 
   pub groups-grow : (mode : Mode) (gs : List (Group A)) (ns : List A) → length ns ≤ length (addGroups name mode ns gs)
   unfolding addGroups

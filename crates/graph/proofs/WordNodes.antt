@@ -8,7 +8,7 @@ use Rattle.library_form.specs.Form.{PlacedName}
 use Rattle.library_image.specs.Library.{Name, Module, ImportOnly, Library, plainName, plainModule, plainImportOnly, plain}
 use Rattle.library_index.specs.Names.{among, addNew, addAll}
 use Rattle.library_index.proofs.First.{among-map}
-use Rattle.graph.specs.Nodes.{Mode, passOver, Group, moduleGroup, revisionGroups, setGroups, groups, addGroup, addGroups, nodesBy, itself, memb}
+use Rattle.graph.specs.Nodes.{Mode, passOver, complete, Group, moduleGroup, revisionGroups, setGroups, groups, addGroup, addGroups, nodesBy, itself, memb}
 use Rattle.graph.specs.Nodes.{wordNodes, nodesOf}
 
 abbrev texts : List PlacedName → List Name
@@ -48,6 +48,7 @@ group-added passOver ns g =
         ≡ cond b (texts ns) (addAll itself (texts ns ++ (plainName (g .head) ∷ [])) (texts (g .subs)))
     go true = refl
     go false = nodes-added (g .subs) (ns ++ (g .head ∷ [])) ∙ ap (λ l. addAll itself l (texts (g .subs))) (snoc-names ns (g .head))
+group-added complete ns g = nodes-added (g .head ∷ g .subs) ns
 
 groups-added : (mode : Mode) (gs : List (Group PlacedName)) (ns : List PlacedName)
     → texts (addGroups plainName mode ns gs) ≡ addGroups itself mode (texts ns) (map plainGroup gs)

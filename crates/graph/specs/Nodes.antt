@@ -1,15 +1,23 @@
 -- Nodes, in order: per set, each module and then its submodules, then each import-only revision and its submodules. A name already a node adds nothing.
--- A module or import-only revision whose name is already a node is passed over with its submodules.
+-- A module or import-only revision whose name is already a node is passed over with its submodules. In the second mode (request 2026-02) its submodules are
+-- still gone through.
 -- Assumes nothing.
-use mathlib.Core.Bool.{Bool, cond}
+use mathlib.Core.Bool.{Bool, true, false, cond}
 use mathlib.Core.List.{List, [], _∷_, _++_, map, flatMap}
 use Rattle.library_form.specs.Form.{PlacedName}
 use Rattle.library_index.specs.Names.{among, addAll}
 use Rattle.library_image.specs.Library.{ModuleOf, ImportOnlyOf, SetOf, LibraryOf, Name, PlainLibrary, Library, plainName}
 
--- what becomes of a module whose name is already a node: it is passed over, as the Rust does
+-- what becomes of a module or import-only revision whose name is already a node: it is passed over with its submodules, as the Rust does; or it is not added
+-- again, and its submodules are gone through
 pub data Mode : Type 0 where
   passOver : Mode
+  complete : Mode
+
+-- as code is told it
+abbrev pub modeOf : (complete : Bool) → Mode
+modeOf true = complete
+modeOf false = passOver
 
 -- ---- what goes in together: a module or an import-only revision, and its submodules
 
@@ -35,6 +43,7 @@ module _ {A : Type 0} where
 module _ {A : Type 0} (name : A → Name) where
   abbrev pub addGroup : Mode → List A → Group A → List A
   addGroup passOver ns g = cond (among name (name (g .head)) ns) ns (addAll name (ns ++ (g .head ∷ [])) (g .subs))
+  addGroup complete ns g = addAll name ns (g .head ∷ g .subs)
 
   unfoldable pub addGroups : Mode → List A → List (Group A) → List A
   addGroups mode ns [] = ns

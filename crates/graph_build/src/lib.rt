@@ -4,7 +4,7 @@ use graph_entries::Drawn;
 use graph_nodes::Nodes;
 use graph_visit::Sizes;
 use text::Refusal;
-ghost use Rattle.graph.specs.Nodes.{passOver};
+ghost use Rattle.graph.specs.Nodes.{modeOf};
 ghost use Rattle.graph_draw.specs.Draw.{BothRead, Lent};
 ghost use Rattle.graph_build.specs.Result.{drawResult};
 ghost use Rattle.graph_build.specs.Between.{LentNodes, Holds};
@@ -15,10 +15,11 @@ pub enum Graphed {
     Refused(u32, usize, Refusal, usize),
 }
 
-// The graph of an image and a bundle that are well formed, with enough lent, over tables that are zero.
+// The graph of an image and a bundle that are well formed, with enough lent, over tables that are zero. `complete`: with all names as nodes.
 pub fn draw(
     image: &[u8],
     bundle: &[u8],
+    complete: bool,
     btab: &[u32],
     texts: usize,
     nodes: &mut [u32],
@@ -31,14 +32,14 @@ pub fn draw(
     requires { ⌜ BothRead (now image) (now bundle) (now btab) texts
         × Lent (now bundle) (now store) (now imports) (now includes) (now levels) (now edges)
         × LentNodes (now nodes) ⌝ }
-    ensures { λ r. ⌜ Holds (drawResult passOver (now (image .entry)) (now (bundle .entry)))
+    ensures { λ r. ⌜ Holds (drawResult (modeOf complete) (now (image .entry)) (now (bundle .entry)))
         (now (nodes .entry)) (now (edges .entry)) (now (store .entry)) (now (imports .entry)) (now (includes .entry)) (now (levels .entry)) r
         (now (nodes .exit)) (now (edges .exit)) (now (store .exit)) (now (imports .exit)) (now (includes .exit)) (now (levels .exit)) ⌝ }
 {
     let mut table: [u32; library_items::TABLE] = [0; library_items::TABLE];
     let count = library_items::list_items(image, &mut table);
     let mut ntab: [u32; graph_nodes::NODE_TABLE] = [0; graph_nodes::NODE_TABLE];
-    let made = graph_nodes::construct_nodes(image, &table, count, &mut ntab);
+    let made = graph_nodes::construct_nodes(image, complete, &table, count, &mut ntab);
     let Nodes::Count(n) = made else {
         return Graphed::Refused(graph_nodes::nodes_number(made), 0, text::no_refusal(), 0);
     };

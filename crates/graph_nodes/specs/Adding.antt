@@ -1,5 +1,6 @@
 -- The nodes, made going through the items of an image: a module or an import-only module whose name is new is added and, as long as no other comes, so
--- are its submodules; of an import-only module those of its first revision, since for the next one its name is already a node.
+-- are its submodules; of an import-only module those of its first revision, since for the next one its name is already a node. In the mode `complete` the
+-- submodules of every listing and of every revision are added.
 -- Assumes nothing.
 use Prim.Native.Nat.{ℕ, _+_, _*_, _≤_, _<_}
 use mathlib.Core.Path.{_≡_}
@@ -11,7 +12,7 @@ use Rattle.library_form.specs.Form.{PlacedName, wordAt}
 use Rattle.library_image.specs.Library.{Name, PlainLibrary, plainName, plain}
 use Rattle.library_image.specs.Image.{mostImage}
 use Rattle.library_index.specs.Names.{among, namesIn, Indexed}
-use Rattle.library_items.specs.Items.{moduleKind, submoduleKind, importOnlyKind, firstSubKind, ItemOf, libraryOf}
+use Rattle.library_items.specs.Items.{moduleKind, submoduleKind, importOnlyKind, firstSubKind, laterSubKind, ItemOf, libraryOf}
 use Rattle.library_items.specs.Table.{itemIn, ItemFits}
 use Rattle.graph.specs.Graph.{tooManyNodes}
 use Rattle.graph.specs.Limits.{mostNodes}
@@ -30,10 +31,10 @@ nodeTable = 5123
 abbrev pub isEntry : ℕ → Bool
 isEntry k = eqb k moduleKind || eqb k importOnlyKind
 
-abbrev pub isSub : ℕ → Bool
-isSub k = eqb k submoduleKind || eqb k firstSubKind
+abbrev pub isSub : (complete : Bool) → ℕ → Bool
+isSub complete k = eqb k submoduleKind || (eqb k laterSubKind && complete) || eqb k firstSubKind
 
--- the nodes so far, and whether submodules that come now belong to a module that was added
+-- the nodes so far, and whether submodules that come now are added
 pub record Adding : Type 0 where
   pub nodes : List PlacedName
   pub adding : Bool
@@ -45,12 +46,14 @@ so ns b = record { nodes = ns; adding = b }
 unfoldable pub addName : Adding → (there : Bool) → PlacedName → Adding
 addName a there w = cond (among plainName (w .text) (a .nodes)) (so (a .nodes) there) (so (a .nodes ++ (w ∷ [])) true)
 
-unfoldable pub addItem : Adding → ItemOf PlacedName → Adding
-addItem a x = cond (isEntry (x .kind)) (addName a false (x .name)) (cond (a .adding && isSub (x .kind)) (addName a true (x .name)) a)
+-- an entry that is a node hands on whether its submodules are added all the same
+unfoldable pub addItem : (complete : Bool) → Adding → ItemOf PlacedName → Adding
+addItem complete a x =
+    cond (isEntry (x .kind)) (addName a complete (x .name)) (cond (a .adding && isSub complete (x .kind)) (addName a true (x .name)) a)
 
-unfoldable pub addItems : Adding → List (ItemOf PlacedName) → Adding
-addItems a [] = a
-addItems a (x ∷ xs) = addItems (addItem a x) xs
+unfoldable pub addItems : (complete : Bool) → Adding → List (ItemOf PlacedName) → Adding
+addItems complete a [] = a
+addItems complete a (x ∷ xs) = addItems complete (addItem complete a x) xs
 
 -- ---- of an image
 

@@ -9,7 +9,7 @@ ghost use lib.ListN.{length, getD};
 ghost use Rattle.library_form.specs.Form.{wordAt};
 ghost use Rattle.library_index.specs.Names.{namesIn};
 ghost use Rattle.library_items.specs.Table.{itemIn, itemWord, Itemized};
-ghost use Rattle.graph.specs.Nodes.{passOver};
+ghost use Rattle.graph.specs.Nodes.{modeOf};
 ghost use Rattle.graph.specs.Numbers.{numberOf};
 ghost use Rattle.graph_nodes.specs.Adding.{nodeTable, isEntry, isSub, so, addName, addItem, namesHeld, Adds, AddsItem, Grew, Constructed, Stands};
 ghost use Rattle.graph_nodes.specs.Adding.{nodesNumber, Numbered};
@@ -52,12 +52,15 @@ pub fn is_entry(kind: usize) -> bool
     kind == library_items::IMPORT_ONLY
 }
 
-// A submodule that becomes a node with its module.
-fn is_sub(kind: usize) -> bool
-    ensures { λ r. ⌜ r ≡ isSub kind ⌝ }
+// A submodule that becomes a node with its module; that of a later revision only if `complete`.
+fn is_sub(complete: bool, kind: usize) -> bool
+    ensures { λ r. ⌜ r ≡ isSub complete kind ⌝ }
 {
     if kind == library_items::SUBMODULE {
         return true;
+    }
+    if kind == library_items::LATER_SUB {
+        return complete;
     }
     kind == library_items::FIRST_SUB
 }
@@ -78,19 +81,27 @@ fn add_name(s: &[u8], tab: &mut [u32], n: usize, there: bool, place: usize, size
     Grown::On(n + 1, true)
 }
 
-// What the i-th item adds to the nodes.
-fn add_item(s: &[u8], table: &[u32], i: usize, tab: &mut [u32], n: usize, adding: bool) -> Grown
+// What the i-th item adds to the nodes. `complete`: an entry that is a node is not passed over with its submodules.
+fn add_item(
+    s: &[u8],
+    complete: bool,
+    table: &[u32],
+    i: usize,
+    tab: &mut [u32],
+    n: usize,
+    adding: bool,
+) -> Grown
     requires { ⌜ AddsItem (now s) (now table) i (now tab) n ⌝ }
     ensures { λ r. ⌜ Grew (now (s .entry)) (now (tab .entry))
-        (addItem (so (namesIn (now (s .entry)) (now (tab .entry)) n) adding) (itemWord (now (s .entry)) (itemIn (now (table .entry)) i)))
+        (addItem complete (so (namesIn (now (s .entry)) (now (tab .entry)) n) adding) (itemWord (now (s .entry)) (itemIn (now (table .entry)) i)))
         r (now (tab .exit)) ⌝ }
 {
     let x = library_items::get_item(table, i);
     if is_entry(x.kind) {
-        return add_name(s, tab, n, false, x.place, x.size);
+        return add_name(s, tab, n, complete, x.place, x.size);
     }
     if adding {
-        if is_sub(x.kind) {
+        if is_sub(complete, x.kind) {
             return add_name(s, tab, n, true, x.place, x.size);
         }
         return Grown::On(n, true);
@@ -98,17 +109,23 @@ fn add_item(s: &[u8], table: &[u32], i: usize, tab: &mut [u32], n: usize, adding
     Grown::On(n, false)
 }
 
-// The nodes of an image whose `count` items are in the table.
-pub fn construct_nodes(s: &[u8], table: &[u32], count: usize, tab: &mut [u32]) -> Nodes
+// The nodes of an image whose `count` items are in the table. `complete`: submodules of every listing of a module and of every revision are nodes.
+pub fn construct_nodes(
+    s: &[u8],
+    complete: bool,
+    table: &[u32],
+    count: usize,
+    tab: &mut [u32],
+) -> Nodes
     requires { ⌜ (nodeTable ≤ length (now tab)) × Itemized (now s) count (now table) × (length (now s) ≤ 65536) ⌝ }
-    ensures { λ r. ⌜ Constructed passOver (now (s .entry)) (now (tab .entry)) r (now (tab .exit)) ⌝ }
+    ensures { λ r. ⌜ Constructed (modeOf complete) (now (s .entry)) (now (tab .entry)) r (now (tab .exit)) ⌝ }
 {
     library_index::clear(tab);
     let mut n = 0;
     let mut adding = false;
     let mut i = 0;
     while i < count {
-        match add_item(s, table, i, tab, n, adding) {
+        match add_item(s, complete, table, i, tab, n, adding) {
             Grown::On(m, more) => {
                 n = m;
                 adding = more;

@@ -7,7 +7,7 @@ use native.Mathlib.Omega.{arith}
 use lib.ListN.{getD}
 use mir.Syntax.{w8}
 use mir.Val.{Fits}
-use Rattle.graph.specs.Nodes.{passOver}
+use Rattle.graph.specs.Nodes.{Mode}
 use Rattle.yanglib.specs.ToGraph.{Leaves, graphed, AnswerFits}
 use Rattle.graph_tables.specs.Lengths.{lengthsOf}
 use Rattle.graph_build.specs.declared.Graphed.{Graphed}
@@ -25,19 +25,19 @@ answer-words (Refused number entry a place) h = (omega (arith, h), omega (arith,
 
 -- ---- the call
 
-module _ (s b n e d f g l : List ℕ) {r : Graphed} {n₁ e₁ d₁ f₁ g₁ l₁ : List ℕ}
-    (h : Leaves (graphed passOver s b (lengthsOf n e d f g l)) n e d f g l r n₁ e₁ d₁ f₁ g₁ l₁) where
+module _ (mode : Mode) (s b n e d f g l : List ℕ) {r : Graphed} {n₁ e₁ d₁ f₁ g₁ l₁ : List ℕ}
+    (h : Leaves (graphed mode s b (lengthsOf n e d f g l)) n e d f g l r n₁ e₁ d₁ f₁ g₁ l₁) where
   pub graph-fits : ((k : ℕ) → Fits w8 (getD s k 0)) → GraphFits r
   graph-fits bytes =
       subst GraphFits (sym (h .answer))
-      (answer-words (graphed passOver s b (lengthsOf n e d f g l) .answer)
-      (answer-fits passOver s b (λ k. omega (arith, bytes k .fits)) (lengthsOf n e d f g l)))
+      (answer-words (graphed mode s b (lengthsOf n e d f g l) .answer)
+      (answer-fits mode s b (λ k. omega (arith, bytes k .fits)) (lengthsOf n e d f g l)))
 
   -- the words are answered, and the first is returned
-  pub graph-told : {w : List ℕ} → w ≡ graphWords r → Drawn (graphed passOver s b (lengthsOf n e d f g l)) n e d f g l (getD w 0 0) n₁ e₁ d₁ f₁ g₁ l₁ w
+  pub graph-told : {w : List ℕ} → w ≡ graphWords r → Drawn (graphed mode s b (lengthsOf n e d f g l)) n e d f g l (getD w 0 0) n₁ e₁ d₁ f₁ g₁ l₁ w
   graph-told {w} v =
       let k = v ∙ ap graphWords (h .answer) in
       record {
-        graph = subst (λ a. Leaves (graphed passOver s b (lengthsOf n e d f g l)) n e d f g l a n₁ e₁ d₁ f₁ g₁ l₁) (h .answer) h;
+        graph = subst (λ a. Leaves (graphed mode s b (lengthsOf n e d f g l)) n e d f g l a n₁ e₁ d₁ f₁ g₁ l₁) (h .answer) h;
         told = record { number = ap (λ u. getD u 0 0) k; answered = k };
       }

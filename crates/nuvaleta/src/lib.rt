@@ -7,6 +7,7 @@ ghost use Rattle.library_image.specs.Image.{imageBroken};
 ghost use Rattle.library_bundle.specs.Bundle.{bundleBroken, lookUp};
 ghost use Rattle.library_find.specs.Find.{findModule, findSubmodule, findImportModule};
 ghost use Rattle.host_words.specs.Words.{toldWords};
+ghost use Rattle.graph.specs.Nodes.{passOver, complete, modeOf};
 ghost use Rattle.nuvaleta.specs.Words.{answerWords, WordsFit, graphWords, GraphFits};
 ghost use Rattle.nuvaleta.specs.Finds.{Told};
 ghost use Rattle.nuvaleta.specs.Graphs.{GraphAnswered};
@@ -144,7 +145,42 @@ pub extern "C" fn nuvaleta_text(bundle: &[u8], name: &[u8], answer: &mut [u32; 5
     words[0]
 }
 
-// The graph of an image and a bundle.
+// The graph of an image and a bundle, and its answer in words. `complete`: with all names as nodes.
+fn graph_answer(
+    image: &[u8],
+    bundle: &[u8],
+    complete: bool,
+    nodes: &mut [u32],
+    edges: &mut [u32],
+    store: &mut [u8],
+    imports: &mut [u32],
+    includes: &mut [u32],
+    levels: &mut [u32],
+    answer: &mut [u32; 8],
+) -> u32
+    ensures { λ r. ⌜ GraphAnswered (modeOf complete)
+        (now (image .entry)) (now (bundle .entry)) (now (nodes .entry)) (now (edges .entry))
+        (now (store .entry)) (now (imports .entry)) (now (includes .entry)) (now (levels .entry)) r
+        (now (nodes .exit)) (now (edges .exit)) (now (store .exit)) (now (imports .exit)) (now (includes .exit)) (now (levels .exit))
+        (now (answer .exit)) ⌝ }
+{
+    let graphed = yanglib::to_graph(
+        image,
+        bundle,
+        complete,
+        nodes,
+        edges,
+        store,
+        imports,
+        includes,
+        levels,
+    );
+    let words = graph_words(graphed);
+    *answer = words;
+    words[0]
+}
+
+// The graph of an image and a bundle: a module whose name is already a node is passed over with its submodules.
 #[no_mangle]
 pub extern "C" fn nuvaleta_graph(
     image: &[u8],
@@ -157,25 +193,57 @@ pub extern "C" fn nuvaleta_graph(
     levels: &mut [u32],
     answer: &mut [u32; 8],
 ) -> u32
-    ensures { λ r. ⌜ GraphAnswered
+    ensures { λ r. ⌜ GraphAnswered passOver
         (now (image .entry)) (now (bundle .entry)) (now (nodes .entry)) (now (edges .entry))
         (now (store .entry)) (now (imports .entry)) (now (includes .entry)) (now (levels .entry)) r
         (now (nodes .exit)) (now (edges .exit)) (now (store .exit)) (now (imports .exit)) (now (includes .exit)) (now (levels .exit))
         (now (answer .exit)) ⌝ }
 {
-    let graphed = yanglib::to_graph(
+    graph_answer(
         image,
         bundle,
+        false,
         nodes,
         edges,
         store,
         imports,
         includes,
         levels,
-    );
-    let words = graph_words(graphed);
-    *answer = words;
-    words[0]
+        answer,
+    )
+}
+
+// The same with the submodules of every listing and of every revision as nodes.
+#[no_mangle]
+pub extern "C" fn nuvaleta_graph_complete(
+    image: &[u8],
+    bundle: &[u8],
+    nodes: &mut [u32],
+    edges: &mut [u32],
+    store: &mut [u8],
+    imports: &mut [u32],
+    includes: &mut [u32],
+    levels: &mut [u32],
+    answer: &mut [u32; 8],
+) -> u32
+    ensures { λ r. ⌜ GraphAnswered complete
+        (now (image .entry)) (now (bundle .entry)) (now (nodes .entry)) (now (edges .entry))
+        (now (store .entry)) (now (imports .entry)) (now (includes .entry)) (now (levels .entry)) r
+        (now (nodes .exit)) (now (edges .exit)) (now (store .exit)) (now (imports .exit)) (now (includes .exit)) (now (levels .exit))
+        (now (answer .exit)) ⌝ }
+{
+    graph_answer(
+        image,
+        bundle,
+        true,
+        nodes,
+        edges,
+        store,
+        imports,
+        includes,
+        levels,
+        answer,
+    )
 }
 
 // The order of registration from a graph's tables, or a ring of nodes that wait for each other.

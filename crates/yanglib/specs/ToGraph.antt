@@ -12,7 +12,7 @@ use Rattle.library_form.specs.Form.{Ans, good, bad}
 use Rattle.library_image.specs.Image.{imageBroken, imageAt}
 use Rattle.library_bundle.specs.Bundle.{bundleBroken, bundleAt}
 use Rattle.library_bundle.specs.Reading.{longestText}
-use Rattle.graph.specs.Nodes.{Mode, passOver}
+use Rattle.graph.specs.Nodes.{Mode}
 use Rattle.text.specs.Refusal.{noRefusal}
 use Rattle.graph_tables.specs.Lengths.{Lengths, lengthsOf, tooShort}
 use Rattle.graph_tables.specs.Tables.{nodeWords, rowWords}
@@ -55,5 +55,5 @@ pub record Leaves (x : Result) (n e d f g l : List ℕ) (r : Graphed) (n₁ e₁
   pub includes : g₁ ≡ zeros (length g)
   pub levels : l₁ ≡ zeros (length l)
 
-abbrev pub Graphs : (image bundle n e d f g l : List ℕ) → Graphed → (n₁ e₁ d₁ f₁ g₁ l₁ : List ℕ) → Type 0
-Graphs s b n e d f g l r n₁ e₁ d₁ f₁ g₁ l₁ = Leaves (graphed passOver s b (lengthsOf n e d f g l)) n e d f g l r n₁ e₁ d₁ f₁ g₁ l₁
+abbrev pub Graphs : Mode → (image bundle n e d f g l : List ℕ) → Graphed → (n₁ e₁ d₁ f₁ g₁ l₁ : List ℕ) → Type 0
+Graphs mode s b n e d f g l r n₁ e₁ d₁ f₁ g₁ l₁ = Leaves (graphed mode s b (lengthsOf n e d f g l)) n e d f g l r n₁ e₁ d₁ f₁ g₁ l₁

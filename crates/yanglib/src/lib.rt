@@ -5,7 +5,7 @@ use library_lists::Read;
 ghost use mathlib.Core.Path.{_≡_};
 ghost use lib.ListN.{length};
 ghost use Rattle.text_lent.specs.Padded.{zeros};
-ghost use Rattle.graph.specs.Nodes.{passOver};
+ghost use Rattle.graph.specs.Nodes.{modeOf};
 ghost use Rattle.yanglib.specs.ToGraph.{graphed, Graphs};
 ghost use Rattle.graph_tables.specs.Lengths.{lengthsOf};
 ghost use Rattle.graph_build.specs.Between.{Holds};
@@ -17,6 +17,7 @@ pub const LENT_TOO_SHORT: u32 = 22;
 fn read_and_draw(
     image: &[u8],
     bundle: &[u8],
+    complete: bool,
     nodes: &mut [u32],
     edges: &mut [u32],
     store: &mut [u8],
@@ -25,7 +26,7 @@ fn read_and_draw(
     levels: &mut [u32],
 ) -> Graphed
     requires { ⌜ (now nodes ≡ zeros (length (now nodes))) × (now edges ≡ zeros (length (now edges))) ⌝ }
-    ensures { λ r. ⌜ Holds (graphed passOver (now (image .entry)) (now (bundle .entry))
+    ensures { λ r. ⌜ Holds (graphed (modeOf complete) (now (image .entry)) (now (bundle .entry))
         (lengthsOf (now (nodes .entry)) (now (edges .entry)) (now (store .entry)) (now (imports .entry)) (now (includes .entry)) (now (levels .entry))))
         (now (nodes .entry)) (now (edges .entry)) (now (store .entry)) (now (imports .entry)) (now (includes .entry)) (now (levels .entry)) r
         (now (nodes .exit)) (now (edges .exit)) (now (store .exit)) (now (imports .exit)) (now (includes .exit)) (now (levels .exit)) ⌝ }
@@ -58,6 +59,7 @@ fn read_and_draw(
             graph_build::draw(
                 image,
                 bundle,
+                complete,
                 &btab,
                 texts,
                 nodes,
@@ -71,10 +73,12 @@ fn read_and_draw(
     }
 }
 
-// The graph of the library: nodes and edges, or a refusal that leaves all tables zero. Scratch is zero after every call.
+// The graph of the library: nodes and edges, or a refusal that leaves all tables zero. Scratch is zero after every call. `complete`: with all names as nodes,
+// as request 2026-02 asks; without it the nodes are the Rust's.
 pub fn to_graph(
     image: &[u8],
     bundle: &[u8],
+    complete: bool,
     nodes: &mut [u32],
     edges: &mut [u32],
     store: &mut [u8],
@@ -82,7 +86,7 @@ pub fn to_graph(
     includes: &mut [u32],
     levels: &mut [u32],
 ) -> Graphed
-    ensures { λ r. ⌜ Graphs (now (image .entry)) (now (bundle .entry))
+    ensures { λ r. ⌜ Graphs (modeOf complete) (now (image .entry)) (now (bundle .entry))
         (now (nodes .entry)) (now (edges .entry)) (now (store .entry)) (now (imports .entry)) (now (includes .entry)) (now (levels .entry)) r
         (now (nodes .exit)) (now (edges .exit)) (now (store .exit)) (now (imports .exit)) (now (includes .exit)) (now (levels .exit)) ⌝ }
 {
@@ -91,6 +95,7 @@ pub fn to_graph(
     let graphed = read_and_draw(
         image,
         bundle,
+        complete,
         nodes,
         edges,
         store,

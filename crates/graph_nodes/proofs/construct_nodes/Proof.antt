@@ -7,10 +7,10 @@ use Rattle.graph_nodes.proofs.construct_nodes.Statement.{statement}
 use Rattle.graph_nodes.proofs.construct_nodes.Tie as tie
 
 abbrev Inv-loop : tie.InvT-loop
-Inv-loop s table count tab₀ n₀ adding₀ i₀ tab n adding i = Building s table tab₀ count tab n adding i
+Inv-loop s complete table count tab₀ n₀ adding₀ i₀ tab n adding i = Building complete s table tab₀ count tab n adding i
 
 abbrev μ-loop : tie.MeasureT-loop
-μ-loop s table count tab₀ n₀ adding₀ i₀ tab n adding i = count - i
+μ-loop s complete table count tab₀ n₀ adding₀ i₀ tab n adding i = count - i
 
 loop-holds : tie.Need-loop-holds Inv-loop μ-loop
 loop-holds c = search build-begun

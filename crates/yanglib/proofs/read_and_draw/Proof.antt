@@ -2,7 +2,6 @@
 -- Assumes nothing.
 use borrow.Author.Needs.{needs}
 use mathlib.Core.Path.{refl, sym}
-use Rattle.graph.specs.Nodes.{passOver}
 use Rattle.graph_tables.specs.Lengths.{lengthsOf}
 use Rattle.yanglib.proofs.Whole.{both-read, lent, lent-nodes, no-image, no-bundle, not-enough, all-held}
 use Rattle.yanglib.proofs.read_and_draw.Statement.{statement}
@@ -15,7 +14,7 @@ returns c =
     let read1 = read-number1 .before .before in
     let read-image1 = read1 .before .before in
     let start = read-image1 .before .before .before .before .before .before .before .before .before in
-    no-image passOver _ _ _ _ _ _ _ _ (start .pre .0) (start .pre .1) (read1 .read .given .1) (read-image1 .read-image .ensures)
+    no-image _ _ _ _ _ _ _ _ _ (start .pre .0) (start .pre .1) (read1 .read .given .1) (read-image1 .read-image .ensures)
     (read-number1 .read-number .ensures) (no-refusal1 .no-refusal .ensures)
 
 slice-aggregate-longest : tie.Need-slice-aggregate-longest
@@ -40,7 +39,7 @@ returns-2 c =
     let enum-told1 = open1 .before .before in
     let read-image1 = enum-told1 .before .before in
     let start = read-image1 .before .before .before .before .before .before .before .before .before in
-    not-enough passOver _ _ _ _ _ _ _ _ (start .pre .0) (start .pre .1) (both-read _ _ _ _ (enum-told1 .enum-told .given .1) (read-image1 .read-image .ensures)
+    not-enough _ _ _ _ _ _ _ _ _ (start .pre .0) (start .pre .1) (both-read _ _ _ _ (enum-told1 .enum-told .given .1) (read-image1 .read-image .ensures)
     (open1 .«open» .ensures) (texts1 .texts .given .1)) (longest1 .longest .ensures) (too-short1 .too-short .ensures) (if1-at .if1 .taken)
     (no-refusal3-at .no-refusal3 .ensures)
 
@@ -76,7 +75,7 @@ returns-3 c =
     let enum-told1 = open1 .before .before in
     let read-image1 = enum-told1 .before .before in
     let start = read-image1 .before .before .before .before .before .before .before .before .before in
-    no-bundle passOver _ _ _ _ _ _ _ _ (start .pre .0) (start .pre .1) (enum-told1 .enum-told .given .1) (read-image1 .read-image .ensures)
+    no-bundle _ _ _ _ _ _ _ _ _ (start .pre .0) (start .pre .1) (enum-told1 .enum-told .given .1) (read-image1 .read-image .ensures)
     (open1 .«open» .ensures) (p1 .p .given .1) (no-refusal2-at .no-refusal2 .ensures)
 
 same-length : tie.Need-same-length
@@ -116,7 +115,7 @@ returns-4 c =
     let enum-told1 = open1 .before .before in
     let read-image1 = enum-told1 .before .before in
     let start = read-image1 .before .before .before .before .before .before .before .before .before in
-    all-held passOver _ _ _ _ _ _ _ _ (start .pre .0) (start .pre .1) (both-read _ _ _ _ (enum-told1 .enum-told .given .1) (read-image1 .read-image .ensures)
+    all-held _ _ _ _ _ _ _ _ _ (start .pre .0) (start .pre .1) (both-read _ _ _ _ (enum-told1 .enum-told .given .1) (read-image1 .read-image .ensures)
     (open1 .«open» .ensures) (texts1 .texts .given .1)) (longest1 .longest .ensures) (too-short1 .too-short .ensures) (if1-at .if1 .left)
     (draw1 .draw .ensures)
 

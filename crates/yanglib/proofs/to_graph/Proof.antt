@@ -2,7 +2,6 @@
 -- Assumes nothing.
 use borrow.Author.Needs.{needs}
 use mathlib.Core.Path.{_∙_}
-use Rattle.graph.specs.Nodes.{passOver}
 use Rattle.yanglib.proofs.Whole.{now-zero, all-left}
 use Rattle.yanglib.proofs.to_graph.Statement.{statement}
 use Rattle.yanglib.proofs.to_graph.Tie as tie
@@ -47,7 +46,7 @@ returns c =
     let read-and-draw1 = clear-bytes1 .before .before .before .before .before .before .before .before .before .before .before .before .before .before in
     let clear-words2-at = read-and-draw1 .before .before .before .before .before .before .before .before .before in
     let clear-words1 = clear-words2-at .before .before .before .before in
-    all-left passOver _ _ _ _ _ _ _ _ _ _ (clear-words1 .clear-words .ensures) (clear-words2-at .clear-words2 .ensures)
+    all-left _ _ _ _ _ _ _ _ _ _ _ (clear-words1 .clear-words .ensures) (clear-words2-at .clear-words2 .ensures)
     (read-and-draw1 .read-and-draw .ensures) (clear-bytes1 .clear-bytes .ensures) (clear-words3-at .clear-words3 .ensures)
     (clear-words4-at .clear-words4 .ensures) (clear-words5-at .clear-words5 .ensures)
 

@@ -1,27 +1,27 @@
--- `nuvaleta_graph`. What came of the graph, in words, and the first of them.
+-- `nuvaleta::graph_answer`. What came of the graph, in words, and the first of them.
 -- Assumes nothing.
 use borrow.Author.Needs.{needs}
 use Rattle.nuvaleta.proofs.GraphLaws.{graph-fits, graph-told}
-use Rattle.nuvaleta.proofs.nuvaleta_graph.Statement.{statement}
-use Rattle.nuvaleta.proofs.nuvaleta_graph.Tie as tie
+use Rattle.nuvaleta.proofs.graph_answer.Statement.{statement}
+use Rattle.nuvaleta.proofs.graph_answer.Tie as tie
 
 graph-words-requires : tie.Need-graph-words-requires
 graph-words-requires c κs =
     let call = c .before .before .before .before .before .before .before .before .before .before .before .before in
     let known = call .before .before .before .before .before .before .before .before .before .before .before .before .before .before in
     let a = known .before .args in
-    graph-fits (a .image .now) (a .bundle .now) (a .nodes .now) (a .edges .now) (a .store .now) (a .imports .now) (a .includes .now) (a .levels .now)
+    graph-fits _ (a .image .now) (a .bundle .now) (a .nodes .now) (a .edges .now) (a .store .now) (a .imports .now) (a .includes .now) (a .levels .now)
     (call .to-graph .ensures) (known .shared-slice-known .given)
 
 returns : tie.Need-returns
 returns c =
     let call = c .before .before .before .before .before .before .before .before .before .before .before .before .before in
     let a = call .before .before .before .before .before .before .before .before .before .before .before .before .before .before .before .args in
-    graph-told (a .image .now) (a .bundle .now) (a .nodes .now) (a .edges .now) (a .store .now) (a .imports .now) (a .includes .now) (a .levels .now)
+    graph-told _ (a .image .now) (a .bundle .now) (a .nodes .now) (a .edges .now) (a .store .now) (a .imports .now) (a .includes .now) (a .levels .now)
     (call .to-graph .ensures) (c .graph-words .ensures)
 
-pub nuvaleta-graph-spec : {M : Type 1} → statement M
-nuvaleta-graph-spec =
+pub graph-answer-spec : {M : Type 1} → statement M
+graph-answer-spec =
     tie.close
     (tie.spec
     (λ c κs. search needs)
