@@ -105,11 +105,12 @@ fn one(run: &mut Run, tally: &mut Tally, image: &[u8], bundle: &[u8], more: usiz
     tally.count(&due);
 }
 
-/// Mostly few names, which come again; of four one in which fewer do; of 200 one with hundreds of names.
+/// Mostly few names, which come again; of four one in which fewer do; of 200 one with hundreds of names, and one with a chain of includes.
 fn any(r: &mut Rng) -> libraries::Library {
     match r.below(200) {
         0 => libraries::crowded(r),
-        1..=50 => libraries::library(r),
+        1 => libraries::deep(r),
+        2..=50 => libraries::library(r),
         _ => libraries::repeated(r),
     }
 }

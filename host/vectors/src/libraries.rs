@@ -304,6 +304,19 @@ pub fn crowded(r: &mut Rng) -> Library {
     out
 }
 
+/// A chain of seven to ten includes, around the deepest. Half of the time some of them are submodules in a second set only; of some the last has no text.
+pub fn deep(r: &mut Rng) -> Library {
+    let chain: Vec<String> = (0..7 + r.below(4)).map(|i| format!("s{i}")).collect();
+    let (first, second) = chain.split_at(if r.once_in(2) { r.below(chain.len()) } else { chain.len() });
+    let [first, second] = [first, second].map(|names| [Module { submodules: names.to_vec(), ..module("m", "") }]);
+    let mut out = of(&[(&first, &[]), (&second, &[])], &[("m", "include s0;")]);
+    out.texts.extend(chain.windows(2).map(|pair| (pair[0].clone(), format!("include {};", pair[1]))));
+    if !r.once_in(4) {
+        out.texts.insert(chain[chain.len() - 1].clone(), String::new());
+    }
+    out
+}
+
 /// A copy of an image or bundle with one fault.
 pub fn damaged(r: &mut Rng, form: &[u8]) -> Vec<u8> {
     let mut out = form.to_vec();
