@@ -74,12 +74,13 @@ from_c_and_rust() {
     "$here/../examples/test.sh"
 }
 
-# The first four ask the original nothing. Where the original never ends, the texts wait for it: the others go on beside them.
+# The first five ask the original nothing. Where the original never ends, the texts wait for it: the others go on beside them.
 compared() {
     [ "$minor" -ge 88 ] || { skip "no Rust of 1.88 or newer" "the comparison"; return 0; }
     "$here/compare/build.sh"
     "$compare" edges
     "$compare" changes 3 24
+    "$compare" complete 9 5000
     "$compare" orders 13 20000
     "$here/libyang/test.py"
     judged || return 0

@@ -1,4 +1,4 @@
-/* attack [--malloc] [--once] [--short | --full] SEED COUNT [FILE..]: all ten calls over guarded buffers: every length around each limit, null
+/* attack [--malloc] [--once] [--short | --full] SEED COUNT [FILE..]: all eleven calls over guarded buffers: every length around each limit, null
  * pointers, and COUNT times generated and damaged texts, images and bundles, with the files given (texts; or FILE.image with FILE.bundle) damaged
  * likewise. With --once it ends where something is wrong. */
 #include <stdio.h>
@@ -247,6 +247,8 @@ static void forms(void) {
         due(graph(&image, &bundle, 1 << 20, more), more < 2 ? 0 : NUVALETA_TOO_MANY_NODES, "the most nodes");
         make_wide(1000, NUVALETA_EDGES_MOST - 1 + more, &image, &bundle);
         due(graph(&image, &bundle, 1 << 20, more), more < 2 ? 0 : NUVALETA_TOO_MANY_EDGES, "the most edges");
+        make_again(NUVALETA_NODES_MOST - 1 + more, &image, &bundle);
+        due(graph(&image, &bundle, 0, more), 0, "names that come again");
     }
     if (level != LEVEL_SHORT) {
         dense(&image, &bundle);
@@ -491,7 +493,7 @@ int main(int count, char **words) {
     for (at += 2; at < count; at++)
         attack_file(words[at], times < 100 ? times : 100);
     const size_t wrong = call_report("attack");
-    if (call_slow() != (level == LEVEL_ALL ? LENT_WAYS : 0))
+    if (call_slow() != (level == LEVEL_ALL ? 2 * LENT_WAYS : 0)) /* both graphs */
         unexpected = "a call that did not end, or one that should not have";
     if (unexpected != NULL)
         fprintf(stderr, "attack: %s\n", unexpected);

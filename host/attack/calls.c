@@ -26,6 +26,7 @@ static const struct shape shapes[CALLS] = {
     {"nuvaleta_find_import_module", 2, 0, 1, {0}},
     {"nuvaleta_text", 2, 0, 1, {0}},
     {"nuvaleta_graph", 2, 6, 1, {4, 4, 1, 4, 4, 4}},
+    {"nuvaleta_graph_complete", 2, 6, 1, {4, 4, 1, 4, 4, 4}},
     {"nuvaleta_order", 2, 1, 4, {4}},
     {"nuvaleta_order_check", 3, 0, 4, {0}},
 };
@@ -40,6 +41,7 @@ static size_t made[CALLS], refused[CALLS][NUMBERS], wrongs[WRONGS], pointless, f
 size_t call_reads(enum call call) { return shapes[call].reads; }
 size_t call_writes(enum call call) { return shapes[call].writes; }
 const char *call_name(enum call call) { return shapes[call].name; }
+int call_draws(enum call call) { return call == GRAPH || call == GRAPH_COMPLETE; }
 
 /* Says what is wrong of which call, with its lengths. */
 static void tell(enum wrong kind, const struct given *g, const char *what) {
@@ -73,6 +75,9 @@ static void ask(void *with) {
     case TEXT: a->number = nuvaleta_text(r[0], n[0], r[1], n[1], a->answer); break;
     case GRAPH:
         a->number = nuvaleta_graph(r[0], n[0], r[1], n[1], w[0], m[0], w[1], m[1], w[2], m[2], w[3], m[3], w[4], m[4], w[5], m[5], a->answer);
+        break;
+    case GRAPH_COMPLETE:
+        a->number = nuvaleta_graph_complete(r[0], n[0], r[1], n[1], w[0], m[0], w[1], m[1], w[2], m[2], w[3], m[3], w[4], m[4], w[5], m[5], a->answer);
         break;
     case ORDER: a->number = nuvaleta_order(r[0], n[0], c[0], r[1], n[1], c[1], w[0], m[0], a->answer); break;
     default: a->number = nuvaleta_order_check(r[0], n[0], c[0], r[1], n[1], c[1], r[2], n[2], a->answer); break;
@@ -128,7 +133,7 @@ static void signalled(const struct given *g, enum lent_way way, int number) {
 /* One call. Answers whether it came to its end. */
 static int make(const struct given *g, enum lent_way way, struct asked *a) {
     *a = lend(g, way);
-    const int number = lent_run(ask, a, g->call == GRAPH ? call_seconds : 0);
+    const int number = lent_run(ask, a, call_draws(g->call) ? call_seconds : 0);
     made[g->call]++;
     pointless += g->mask != 0;
     if (number != 0) {
@@ -153,7 +158,7 @@ static int make(const struct given *g, enum lent_way way, struct asked *a) {
 static uint32_t nodes[NUVALETA_NODE_WORDS], edges[NUVALETA_EDGE_WORDS], list[NUVALETA_NODES_MOST];
 
 static void keep(const struct asked *a) {
-    if (a->given->call == GRAPH) {
+    if (call_draws(a->given->call)) {
         memcpy(nodes, a->written[G_NODES], sizeof nodes);
         memcpy(edges, a->written[G_EDGES], sizeof edges);
     }
@@ -187,6 +192,16 @@ static void order_graph(uint32_t n, uint32_t m) {
         tell(OTHERWISE, &check, "an order that breaks an edge is accepted");
 }
 
+/* The same graph with complete nodes: but for 28 without them and 30 with them both have one number. */
+static void complete_graph(const struct given *graph, uint32_t number) {
+    struct given complete = *graph;
+    complete.call = GRAPH_COMPLETE;
+    const uint32_t other = call_made(&complete);
+    const int ended = number != CALL_FAILED && other != CALL_FAILED;
+    if (ended && number != other && number != NUVALETA_NO_NODE && other != NUVALETA_TOO_MANY_NODES)
+        tell(OTHERWISE, &complete, "another number than without complete nodes");
+}
+
 static int same(const struct asked *a, const struct asked *b) {
     int all = a->number == b->number && memcmp(a->answer, b->answer, judge_words(a->given->call) * sizeof *a->answer) == 0;
     if (a->record != NULL)
@@ -208,13 +223,15 @@ uint32_t call_made(const struct given *given) {
     }
     if (number == 0)
         keep(&a);
-    const int built = given->call == GRAPH && number == 0;
+    const int built = call_draws(given->call) && number == 0;
     if (built)
         memcpy(counts, a.answer + 6, sizeof counts);
     lent_back(LENT_AT_END);
     lent_back(LENT_AT_START);
     if (built)
         order_graph(counts[0], counts[1]);
+    if (given->call == GRAPH)
+        complete_graph(given, number);
     return number;
 }
 

@@ -2,14 +2,16 @@
 
 #include <string.h>
 
-#include "nuvaleta.h"
-
 struct reader {
     const uint8_t *bytes;
     size_t length, at;
     enum call call;
     struct read name; /* that is looked for */
     struct found found;
+    uint32_t *nodes; /* NULL where they are not asked for */
+    size_t count;
+    struct rows *rows;
+    int is_node; /* the next name */
 };
 
 /* Names that must differ: where each begins, at its length. */
@@ -37,6 +39,28 @@ static size_t number(struct reader *r, size_t least, size_t most) {
     return wrong(r, start);
 }
 
+int form_comes_again(const uint8_t *image, const uint32_t *node, struct rows *rows) {
+    const size_t room = sizeof rows->at / sizeof rows->at[0];
+    size_t at = 0;
+    for (uint32_t i = 0; i < node[1]; i++)
+        at = at * 31 + image[node[0] + i];
+    for (at %= room; rows->at[at] != NULL; at = (at + 1) % room)
+        if (rows->at[at][1] == node[1] && memcmp(image + rows->at[at][0], image + node[0], node[1]) == 0)
+            return 1;
+    rows->at[at] = node;
+    return 0;
+}
+
+/* The name that was passed last, of this length, is a node if it is the first of its kind. */
+static void add_node(struct reader *r, size_t length) {
+    if (!r->is_node || r->nodes == NULL || r->count > NUVALETA_NODES_MOST)
+        return;
+    uint32_t *row = r->nodes + 2 * r->count;
+    row[0] = r->at - length;
+    row[1] = length;
+    r->count += !form_comes_again(r->bytes, row, r->rows);
+}
+
 /* Passes a name, which must be none of these if there are any; answers whether it is the one that is looked for. */
 static int is_name(struct reader *r, struct names *others) {
     const size_t start = r->at, length = number(r, 1, NUVALETA_NAME_MOST);
@@ -53,6 +77,7 @@ static int is_name(struct reader *r, struct names *others) {
             return (int)wrong(r, start);
     if (others != NULL)
         others->starts[others->count++] = start;
+    add_node(r, length);
     return length == r->name.length && memcmp(name, r->name.at, length) == 0;
 }
 
@@ -64,10 +89,11 @@ static void hit(struct reader *r, int is, enum call call, size_t place, size_t m
     r->found.more = more;
 }
 
-/* A list of names; hits are of this call, if it is one. */
+/* A list of names; hits are of this call, if it is one. Those that are submodules are nodes. */
 static void list(struct reader *r, enum call call, int differ) {
     static struct names others;
     others.count = 0;
+    r->is_node = call == FIND_SUBMODULE || differ;
     for (size_t left = number(r, 0, NUVALETA_LIST_MOST); left > 0 && !r->found.broken; left--) {
         const int is = is_name(r, differ ? &others : NULL);
         hit(r, is, call, r->at - r->name.length, 0);
@@ -78,6 +104,7 @@ static void set(struct reader *r) {
     static struct names modules, others;
     modules.count = others.count = 0;
     for (size_t left = number(r, 0, NUVALETA_MODULES_MOST); left > 0 && !r->found.broken; left--) {
+        r->is_node = 1;
         const int is = is_name(r, &modules);
         hit(r, is, FIND_MODULE, r->at - r->name.length, 0);
         list(r, FIND_SUBMODULE, 0);
@@ -85,6 +112,7 @@ static void set(struct reader *r) {
         list(r, CALLS, 0);
     }
     for (size_t left = r->found.broken ? 0 : number(r, 0, NUVALETA_MODULES_MOST); left > 0 && !r->found.broken; left--) {
+        r->is_node = 1;
         const int is = is_name(r, &others);
         const size_t place = r->at - r->name.length, revisions = r->found.broken ? 0 : number(r, 1, NUVALETA_REVISIONS_MOST);
         hit(r, is, FIND_IMPORT_MODULE, place, revisions);
@@ -104,20 +132,32 @@ static void text(struct reader *r, struct names *others) {
         r->found.longest = length;
 }
 
-struct found form_find(enum call call, struct read form, struct read name) {
+static void whole(struct reader *r) {
     static struct names others;
+    others.count = 0;
+    for (size_t left = number(r, 0, r->call == TEXT ? NUVALETA_TEXTS_MOST : NUVALETA_SETS_MOST); left > 0 && !r->found.broken; left--)
+        if (r->call == TEXT)
+            text(r, &others);
+        else
+            set(r);
+    if (!r->found.broken && r->at != r->length)
+        wrong(r, r->at);
+}
+
+struct found form_find(enum call call, struct read form, struct read name) {
     struct reader r = {.bytes = form.at, .length = form.length, .call = call, .name = name};
     if (form.length > (call == TEXT ? NUVALETA_BUNDLE_MOST : NUVALETA_IMAGE_MOST))
         return (struct found){.broken = 1};
-    others.count = 0;
-    for (size_t left = number(&r, 0, call == TEXT ? NUVALETA_TEXTS_MOST : NUVALETA_SETS_MOST); left > 0 && !r.found.broken; left--)
-        if (call == TEXT)
-            text(&r, &others);
-        else
-            set(&r);
-    if (!r.found.broken && r.at != r.length)
-        wrong(&r, r.at);
+    whole(&r);
     if (r.found.broken)
         return (struct found){.broken = 1, .fault = r.found.fault};
     return r.found;
+}
+
+size_t form_nodes(struct read image, uint32_t *nodes) {
+    static struct rows rows;
+    struct reader r = {.bytes = image.at, .length = image.length, .call = CALLS, .name = {"", 0}, .nodes = nodes, .rows = &rows};
+    memset(&rows, 0, sizeof rows);
+    whole(&r);
+    return r.count;
 }

@@ -71,11 +71,13 @@ static void made(const uint8_t *data, size_t size) {
     graph((struct read){image.at, image.length}, (struct read){bundle.at, bundle.length}, by);
 }
 
-/* A library around the limits of nodes and edges, by a byte; the rest, if any, is what is damaged in it. */
+/* A library around the limits of nodes, complete nodes and edges, by a byte; the rest, if any, is what is damaged in it. */
 static void wide(const uint8_t *data, size_t size) {
     const uint8_t by = next(&data, &size);
     struct choices from = chosen(data, size);
-    if (by < 128)
+    if (by < 64)
+        make_again(NUVALETA_NODES_MOST - 1 + by % 3, &image, &bundle);
+    else if (by < 128)
         make_wide(NUVALETA_NODES_MOST - 1 + by % 3, by, &image, &bundle);
     else
         make_wide(512 + by, NUVALETA_EDGES_MOST - 1 + by % 3, &image, &bundle);

@@ -21,6 +21,7 @@ static const struct rule {
     {5, BIT(0) | BIT(20), TO(2, 4), BIT(1)},
     {5, BIT(0) | BIT(21), TO(2, 4), BIT(1)},
     {8, BIT(0) | TO(20, 31), TO(6, 7), TO(1, 5)},
+    {8, BIT(0) | (TO(20, 31) & ~BIT(28)), TO(6, 7), TO(1, 5)},
     {2, BIT(0) | BIT(40) | BIT(41) | BIT(43), 0, 0},
     {2, BIT(0) | BIT(42) | BIT(43), 0, BIT(1)},
 };
@@ -41,7 +42,7 @@ static size_t used(const struct asked *a, size_t i) {
         return 0;
     if (call == METADATA)
         return answer[3];
-    if (call == GRAPH)
+    if (call_draws(call))
         return i == G_NODES || i == G_EDGES ? answer[6 + i] * 2 * sizeof(uint32_t) : 0;
     const size_t scanned[] = {answer[5], answer[3] * NUVALETA_IMPORT_ROW * sizeof(uint32_t), answer[4] * NUVALETA_INCLUDE_ROW * sizeof(uint32_t),
                               call == PRINTED ? answer[6] : 0};
@@ -195,30 +196,29 @@ static const char *judge_refused_graph(const struct asked *a) {
     return answer[5] <= g->read[number - NUVALETA_IMAGE_BROKEN].length ? NULL : "a place behind the form";
 }
 
-/* Whether a name of the image, of a length above 0, has come before; rows holds those that have, by what their bytes add up to. */
-static int comes_again(const uint8_t *bytes, const uint32_t *node, const uint32_t **rows, size_t room) {
-    size_t at = 0;
-    for (uint32_t i = 0; i < node[1]; i++)
-        at = at * 31 + bytes[node[0] + i];
-    for (at %= room; rows[at] != NULL; at = (at + 1) % room)
-        if (rows[at][1] == node[1] && memcmp(bytes + rows[at][0], bytes + node[0], node[1]) == 0)
-            return 1;
-    rows[at] = node;
-    return 0;
-}
-
 /* Places and lengths of names in the image, each name once. */
 static const char *judge_nodes(const struct asked *a, const uint32_t *nodes, size_t count) {
-    static const uint32_t *rows[2 * NUVALETA_NODES_MOST];
+    static struct rows rows;
     const struct read *image = &a->given->read[0];
-    memset(rows, 0, sizeof rows);
+    memset(&rows, 0, sizeof rows);
     for (size_t i = 0; i < count; i++) {
         const uint32_t *node = nodes + 2 * i;
         if (node[1] == 0 || node[1] > NUVALETA_NAME_MOST || node[0] > image->length || node[1] > image->length - node[0])
             return "a node outside the image";
-        if (comes_again(image->at, node, rows, 2 * NUVALETA_NODES_MOST))
+        if (form_comes_again(image->at, node, &rows))
             return "a name that is two nodes";
     }
+    return NULL;
+}
+
+/* With complete nodes these are all names, each at its first place, and 30 comes exactly when they are too many. */
+static const char *judge_complete(const struct asked *a) {
+    static uint32_t nodes[2 * (NUVALETA_NODES_MOST + 1)];
+    const size_t count = form_nodes(a->given->read[0], nodes);
+    if ((a->number == NUVALETA_TOO_MANY_NODES) != (count > NUVALETA_NODES_MOST))
+        return "30 where it is not due, or another number where it is";
+    if (a->number == 0 && (a->answer[6] != count || memcmp(a->written[G_NODES], nodes, count * 2 * sizeof *nodes) != 0))
+        return "other nodes than the complete ones";
     return NULL;
 }
 
@@ -249,12 +249,13 @@ static const char *judge_graph(const struct asked *a) {
         return "another number than 20, 21 or 22 as it is due";
     if (due != 0 && a->answer[5] != (image.broken ? image.fault : bundle.broken ? bundle.fault : 0))
         return "another place of the fault";
-    if (number != 0)
-        return judge_refused_graph(a);
+    const char *what = due == 0 && g->call == GRAPH_COMPLETE ? judge_complete(a) : NULL;
+    if (what != NULL || number != 0)
+        return what != NULL ? what : judge_refused_graph(a);
     const uint32_t nodes = a->answer[6], edges = a->answer[7];
     if (nodes > NUVALETA_NODES_MOST || edges > NUVALETA_EDGES_MOST)
         return "too many nodes or edges";
-    const char *what = judge_nodes(a, a->written[G_NODES], nodes);
+    what = judge_nodes(a, a->written[G_NODES], nodes);
     return what != NULL ? what : judge_edges(a->written[G_EDGES], edges, nodes);
 }
 
@@ -387,7 +388,8 @@ const char *judge(const struct asked *a) {
     case DEPENDENCIES:
     case PRINTED: return judge_scan(a);
     case METADATA: return judge_metadata(a);
-    case GRAPH: return judge_graph(a);
+    case GRAPH:
+    case GRAPH_COMPLETE: return judge_graph(a);
     case ORDER: return judge_order(a);
     case ORDER_CHECK: return judge_check(a);
     default: return judge_find(a);

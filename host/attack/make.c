@@ -114,10 +114,11 @@ static void put_names(struct choices *from, struct bytes *image, const char *con
 static void put_set(struct choices *from, struct bytes *image) {
     const size_t count = COUNT(modules) - (choose(from, 4) == 0 ? choose(from, COUNT(modules) + 1) : 0);
     const size_t first = choose(from, 4) == 0 ? choose(from, COUNT(modules)) : 0;
+    const size_t most = choose(from, 2) == 0 ? 2 : COUNT(submodules) + 1; /* few, so that some come in a later set only */
     put_number(image, count);
     for (size_t i = 0; i < count; i++) {
         put_name(image, modules[(first + i) % COUNT(modules)]);
-        put_names(from, image, submodules, COUNT(submodules), COUNT(submodules) + 1);
+        put_names(from, image, submodules, COUNT(submodules), most);
         put_names(from, image, modules, COUNT(modules), 3);
         put_names(from, image, modules, COUNT(modules), 3);
     }
@@ -207,6 +208,34 @@ void make_wide(size_t count, size_t edges, struct bytes *image, struct bytes *bu
         put(bundle, text.at, text.length);
     }
     free(text.at);
+}
+
+static void put_numbered(struct bytes *image, size_t from, size_t count) {
+    put_number(image, count);
+    for (size_t i = from; i < from + count; i++) {
+        char name[24];
+        snprintf(name, sizeof name, "s%04zu", i);
+        put_name(image, name);
+    }
+}
+
+void make_again(size_t names, struct bytes *image, struct bytes *bundle) {
+    const size_t sets = 16, revisions = 8, each = 8, list = 64;
+    size_t put_before = revisions * each, left = names - put_before - 2;
+    image->length = bundle->length = 0;
+    put_number(image, sets);
+    put(image, "\1\1m\0\0\0\1\1i\10", 10);
+    for (size_t i = 0; i < revisions; i++)
+        put_numbered(image, i * each, each);
+    for (size_t i = 1; i < sets; i++) {
+        const size_t count = left < list ? left : list;
+        put(image, "\1\1m", 3);
+        put_numbered(image, put_before, count);
+        put(image, "\0\0\0", 3);
+        put_before += count;
+        left -= count;
+    }
+    put(bundle, "\2\1m\0\1i\0", 7);
 }
 
 /* Names of one byte, then of two. */

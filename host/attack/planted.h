@@ -17,7 +17,9 @@ enum planted {
     ORDER_TURNED,       /* an order backwards */
     ANY_LIST,           /* a check that accepts every list */
     NULL_READ,          /* a text of length 0 read */
-    DEEP_REFUSAL        /* a byte written behind the store of a graph at 28 alone */
+    DEEP_REFUSAL,       /* a byte written behind the store of a graph at 28 alone */
+    PASSED_OVER,        /* the graph without complete nodes in the place of the one with them */
+    NODES_TURNED        /* the first two nodes of a graph exchanged */
 };
 
 static volatile uint8_t planted_sink;
@@ -43,17 +45,25 @@ static uint32_t planted_dependencies(const uint8_t *text, size_t text_len, uint8
     return call_planted == OTHER_NUMBER && number == 4 ? 5 : number;
 }
 
-static uint32_t planted_graph(const uint8_t *image, size_t image_len, const uint8_t *bundle, size_t bundle_len, uint32_t *nodes, size_t nodes_len,
-                              uint32_t *edges, size_t edges_len, uint8_t *store, size_t store_len, uint32_t *imports, size_t imports_len,
-                              uint32_t *includes, size_t includes_len, uint32_t *levels, size_t levels_len, uint32_t *answer) {
-    const uint32_t number = nuvaleta_graph(image, image_len, bundle, bundle_len, nodes, nodes_len, edges, edges_len, store, store_len, imports,
-                                           imports_len, includes, includes_len, levels, levels_len, answer);
+typedef uint32_t graph_call(const uint8_t *, size_t, const uint8_t *, size_t, uint32_t *, size_t, uint32_t *, size_t, uint8_t *, size_t, uint32_t *, size_t,
+                            uint32_t *, size_t, uint32_t *, size_t, uint32_t *);
+
+static uint32_t planted_graph(graph_call *call, const uint8_t *image, size_t image_len, const uint8_t *bundle, size_t bundle_len, uint32_t *nodes,
+                              size_t nodes_len, uint32_t *edges, size_t edges_len, uint8_t *store, size_t store_len, uint32_t *imports,
+                              size_t imports_len, uint32_t *includes, size_t includes_len, uint32_t *levels, size_t levels_len, uint32_t *answer) {
+    const uint32_t number = call(image, image_len, bundle, bundle_len, nodes, nodes_len, edges, edges_len, store, store_len, imports, imports_len,
+                                 includes, includes_len, levels, levels_len, answer);
     if (call_planted == LEVELS_DIRTY && levels_len != 0)
         levels[levels_len / 2] = 1;
     if (call_planted == EDGE_TWICE && number == 0 && answer[7] > 1)
         memcpy(edges + 2, edges, 2 * sizeof *edges);
     if (call_planted == DEEP_REFUSAL && number == NUVALETA_NO_NODE)
         store[store_len] = 1;
+    for (size_t i = 0; call_planted == NODES_TURNED && number == 0 && answer[6] > 1 && i < 2; i++) {
+        const uint32_t word = nodes[i];
+        nodes[i] = nodes[2 + i];
+        nodes[2 + i] = word;
+    }
     return number;
 }
 
@@ -75,7 +85,8 @@ static uint32_t planted_order_check(const uint32_t *nodes, size_t nodes_len, siz
 }
 
 #define nuvaleta_dependencies planted_dependencies
-#define nuvaleta_graph planted_graph
+#define nuvaleta_graph(...) planted_graph(nuvaleta_graph, __VA_ARGS__)
+#define nuvaleta_graph_complete(...) planted_graph(call_planted == PASSED_OVER ? nuvaleta_graph : nuvaleta_graph_complete, __VA_ARGS__)
 #define nuvaleta_order planted_order
 #define nuvaleta_order_check planted_order_check
 

@@ -8,7 +8,8 @@ use crate::yanglib::YangLibrary;
 use crate::{form, house};
 use petgraph::graph::DiGraph;
 use std::hint::black_box;
-use vectors::libraries::{Library, Module, Set};
+use vectors::graphs::Mode;
+use vectors::libraries::{ImportOnly, Library, Module, Set};
 use vectors::routers;
 
 /// An image and a bundle, and what they are.
@@ -70,13 +71,26 @@ fn listed(what: &str, modules: usize, others: impl Fn(usize) -> Vec<usize>) -> I
     Input::of(what.to_string(), &library)
 }
 
-/// Many edges to a few nodes, many from a few, and edges that all come into 64 of the 8,192 chains in which the port looks for an edge (crates/graph_edges).
-pub fn adverse() -> [Input; 3] {
+/// 15 sets with the same two import-only modules, each with eight revisions of 64 submodules, all of them out of 1,000 names: as many names that come again as
+/// there is about room for.
+fn again() -> Input {
+    let name = |i: usize| format!("{:03}", i % 1_000);
+    let revision = |k: usize| (64 * k..64 * k + 64).map(name).collect();
+    let only = |k: usize| ImportOnly { name: format!("m{}", k % 2), revisions: (8 * k..8 * k + 8).map(revision).collect() };
+    let sets = (0..15).map(|k| Set { import_only: vec![only(2 * k), only(2 * k + 1)], ..Set::default() }).collect();
+    let texts = [0, 1].map(|k| (format!("m{k}"), String::new())).into();
+    Input::of("15,360 submodules that come again".to_string(), &Library { sets, texts })
+}
+
+/// Many edges to a few nodes, many from a few, and edges that all come into 64 of the 8,192 chains in which the port looks for an edge (crates/graph_edges);
+/// and names that come again.
+pub fn adverse() -> [Input; 4] {
     let filed_together = |i: usize| (0..64).map(|k| (128 * k + 8_192 * 20 - 131 * i) % 8_192).filter(|to| *to < 1_024 && *to != i).collect();
     [
         listed("1,000 edges to each of 8", 1_008, |i| if i < 8 { vec![] } else { (0..8).collect() }),
         listed("64 edges from each of 125", 1_000, |i| if i < 125 { (i + 1..i + 65).collect() } else { vec![] }),
         listed("edges in 64 chains of 8,192", 1_024, filed_together),
+        again(),
     ]
 }
 
@@ -92,7 +106,7 @@ pub fn edges_of(graph: &DiGraph<&str, ()>) -> Vec<[u32; 2]> {
 
 /// What the port drew, into tables that are made here. Both sides must have the same nodes and edges.
 pub fn agreed(input: &Input) -> Graphed {
-    let drawn = port::graph(&input.image, &input.bundle, form::longest_text(&input.bundle), 0);
+    let drawn = port::graph(Mode::Present, &input.image, &input.bundle, form::longest_text(&input.bundle), 0);
     assert_eq!(drawn.answer[0], 0, "{}: refused", input.what);
     let (library, schemas) = read(input);
     let graph = library.to_graph(&schemas).expect("a graph");
@@ -103,8 +117,8 @@ pub fn agreed(input: &Input) -> Graphed {
 }
 
 /// One run of the port over tables that were made once.
-fn redrawn(input: &Input, mut lent: Graphed) -> impl FnMut() {
-    move || _ = black_box(lent.redraw(black_box(&input.image), black_box(&input.bundle)))
+fn redrawn(mode: Mode, input: &Input, mut lent: Graphed) -> impl FnMut() {
+    move || _ = black_box(lent.redraw(mode, black_box(&input.image), black_box(&input.bundle)))
 }
 
 pub fn whole(input: &Input) -> Row<'_> {
@@ -114,20 +128,28 @@ pub fn whole(input: &Input) -> Row<'_> {
     };
     let lent = agreed(input);
     let [.., nodes, edges] = lent.answer.map(|word| word as usize);
-    Row::new(counted(&input.what, nodes, edges), input.bytes(), rust, redrawn(input, lent))
+    Row::new(counted(&input.what, nodes, edges), input.bytes(), rust, redrawn(Mode::Present, input, lent))
+}
+
+/// The same with complete nodes, which the Rust does not have.
+pub fn complete(input: &Input) -> Row<'_> {
+    let lent = port::graph(Mode::Complete, &input.image, &input.bundle, form::longest_text(&input.bundle), 0);
+    let [number, .., nodes, edges] = lent.answer.map(|word| word as usize);
+    assert_eq!(number, 0, "{}: refused", input.what);
+    Row::alone(counted(&input.what, nodes, edges), input.bytes(), redrawn(Mode::Complete, input, lent))
 }
 
 /// The Rust's to_graph without the reading before it; the port as ever, reading and all.
 pub fn drawing(input: &Input) -> Row<'_> {
     let (library, schemas) = read(input);
     let rust = move || _ = black_box(library.to_graph(black_box(&schemas)).expect("a graph"));
-    Row::new(&input.what, input.bytes(), rust, redrawn(input, agreed(input)))
+    Row::new(&input.what, input.bytes(), rust, redrawn(Mode::Present, input, agreed(input)))
 }
 
 /// Where no node table is lent, the call ends behind the reading, with refusal 22.
 pub fn reading(input: &Input) -> Row<'_> {
     let mut lent = agreed(input);
     lent.nodes.clear();
-    let port = move || assert_eq!(lent.redraw(black_box(&input.image), black_box(&input.bundle)), 22);
+    let port = move || assert_eq!(lent.redraw(Mode::Present, black_box(&input.image), black_box(&input.bundle)), 22);
     Row::alone(format!("`nuvaleta_graph` up to the drawing, {}", input.what), input.bytes(), port)
 }

@@ -41,6 +41,7 @@ fn main() {
     let (dependencies, metadata) = (scans::for_dependencies(files), scans::for_metadata(files));
     let (graphs, adverse) = (graph::inputs(image, bundle), graph::adverse());
     let (growing, growing_routers) = (graph::growing(), graph::growing_routers());
+    let drawn = graphs.iter().chain(&adverse).chain(&growing_routers);
     let orders = order::inputs();
     let fleet;
     let mut groups = vec![
@@ -51,6 +52,7 @@ fn main() {
         Group { name: "graph, made to be slow", rows: adverse.iter().map(graph::whole).collect() },
         Group { name: "graph, growing", rows: growing.iter().map(graph::whole).collect() },
         Group { name: "graph of a router, growing", rows: growing_routers.iter().map(graph::whole).collect() },
+        Group { name: "graph with complete nodes (none in the Rust)", rows: drawn.map(graph::complete).collect() },
         Group { name: "order of registration", rows: orders.iter().map(order::ordering).chain([order::checking(&orders[0])]).collect() },
         Group { name: "reading alone (none in the Rust)", rows: scans::look_ups().chain(graphs.iter().map(graph::reading)).collect() },
     ];
@@ -59,7 +61,7 @@ fn main() {
         return table::print_port(&groups);
     }
     // What the port does here is what it does in the group before.
-    groups.insert(8, Group { name: "order of registration, beside `toposort`", rows: orders.iter().map(order::sorting).collect() });
+    groups.insert(9, Group { name: "order of registration, beside `toposort`", rows: orders.iter().map(order::sorting).collect() });
     measure(groups.iter_mut().flat_map(|group| &mut group.rows), ROUNDS);
     // Only now, since an allocator may be slower with so much that comes and goes, and with threads; and of the two only the Rust needs one.
     fleet = routers::fleet();
@@ -68,7 +70,7 @@ fn main() {
     groups.push(many);
     println!("Each row ran in {ROUNDS} rounds (many routers: {ROUNDS_OF_MANY}), each with\n{}.\n{TIMES}\n", timing::told());
     table::print(&groups);
-    let [_, _, _, _, _, growing, growing_routers, .., many] = &groups[..] else { panic!("eleven groups") };
+    let [_, _, _, _, _, growing, growing_routers, .., many] = &groups[..] else { panic!("twelve groups") };
     println!("\n{}", grown("modules", graph::SIZES, &growing.rows));
     println!("{}\n", grown("modules of a router", graph::ROUTERS, &growing_routers.rows));
     println!("{}\n\n{INCLUDED}", many_told(&many.rows));

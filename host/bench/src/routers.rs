@@ -8,6 +8,7 @@ use crate::timing::Row;
 use std::hint::black_box;
 use std::mem::take;
 use std::thread;
+use vectors::graphs::Mode;
 use vectors::{form, routers};
 
 pub const COUNT: usize = 400;
@@ -52,7 +53,7 @@ fn lent(routers: &[Input]) -> Lent {
 
 fn port<'a>(lent: &'a mut Lent, input: &Input) -> &'a [u32] {
     let graph = &mut lent.graph;
-    assert_eq!(graph.redraw(&input.image, &input.bundle), 0, "{}: refused", input.what);
+    assert_eq!(graph.redraw(Mode::Present, &input.image, &input.bundle), 0, "{}: refused", input.what);
     let [.., node_count, edge_count] = graph.answer.map(|word| word as usize);
     let tables = Tables { nodes: take(&mut graph.nodes), node_count, edges: take(&mut graph.edges), edge_count };
     assert_eq!(tables.order(&mut lent.order), [0, node_count as u32], "{}: no order", input.what);

@@ -3,13 +3,14 @@
 use crate::port::{self, Graphed};
 use crate::{Run, orders};
 use vectors::answers::{self, FIVE_OR_SIX, Graph, Refusal};
+use vectors::graphs::Mode;
 use vectors::rng::Rng;
 use vectors::orders::Given;
 use vectors::{form, libraries};
 
 /// What was lent and held something else, with so many words more than there must be.
-fn drawn(image: &[u8], bundle: &[u8], more: usize) -> Graphed {
-    port::graph(image, bundle, form::longest_text(bundle) + more, more)
+pub fn drawn(mode: Mode, image: &[u8], bundle: &[u8], more: usize) -> Graphed {
+    port::graph(mode, image, bundle, form::longest_text(bundle) + more, more)
 }
 
 fn refused(number: u32, scan: &Refusal, g: &Graphed) -> bool {
@@ -45,12 +46,15 @@ fn agrees(image: &[u8], rust: &Graph, g: &Graphed) -> bool {
 /// Compares the port with the Rust, and answers what the port drew.
 fn one(run: &mut Run, image: &[u8], bundle: &[u8], more: usize) -> Graphed {
     let rust = answers::graph(run.oracle(), image, bundle);
-    let port = drawn(image, bundle, more);
-    let shown = |bytes: &[u8]| String::from_utf8_lossy(&bytes[..bytes.len().min(2_000)]).into_owned();
-    run.count(agrees(image, &rust, &port), || {
-        format!("image {image:02X?}\n  bundle {:?}\n  the Rust {rust:?}\n  the port {:?}", shown(bundle), port.answer)
-    });
+    let port = drawn(Mode::Present, image, bundle, more);
+    run.count(agrees(image, &rust, &port), || format!("{}\n  the Rust {rust:?}\n  the port {:?}", shown(image, bundle), port.answer));
     port
+}
+
+/// As much of an image and a bundle as a line should have.
+pub fn shown(image: &[u8], bundle: &[u8]) -> String {
+    let [image, bundle] = [image, bundle].map(|bytes| &bytes[..bytes.len().min(2_000)]);
+    format!("image {image:02X?}\n  bundle {:?}", String::from_utf8_lossy(bundle))
 }
 
 pub fn graphs(run: &mut Run, seed: u64, count: u64) {

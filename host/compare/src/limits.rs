@@ -1,21 +1,23 @@
-//! Graphs around the limits that the Rust does not have, with document 01's answers: the eight words, nodes and edges where it is built.
+//! Graphs around the limits that the Rust does not have, in both modes, with document 01's and request 2026-02's answers: the eight words, nodes and edges
+//! where it is built.
 
 use crate::Run;
-use crate::port::{GRAPH_WORDS, Graphed, lent_graph};
+use crate::port::{GRAPH_WORDS, lent_graph};
 use std::collections::HashMap;
 use vectors::form;
+use vectors::graphs::Mode;
 use vectors::libraries::{ImportOnly, Library, Module, Set, module, of, only, small, words};
 
 // ---- what is expected
 
-struct Expected {
+pub struct Expected {
     answer: [u32; 8],
     /// The nodes' names.
     nodes: Vec<String>,
     edges: Vec<[u32; 2]>,
 }
 
-fn refused(number: u32, entry: u32) -> Expected {
+pub fn refused(number: u32, entry: u32) -> Expected {
     Expected { answer: [number, entry, 0, 0, 0, 0, 0, 0], nodes: Vec::new(), edges: Vec::new() }
 }
 
@@ -29,37 +31,56 @@ fn scan(entry: u32, told: [u32; 3]) -> Expected {
     Expected { answer: [25, entry, told[0], told[1], told[2], 0, 0, 0], ..refused(25, entry) }
 }
 
-fn built(nodes: &[String], edges: Vec<[u32; 2]>) -> Expected {
+pub fn built(nodes: &[String], edges: Vec<[u32; 2]>) -> Expected {
     Expected { answer: [0, 0, 0, 0, 0, 0, nodes.len() as u32, edges.len() as u32], nodes: nodes.to_vec(), edges }
 }
 
-/// Place and length of each of these names, where it first stands (no case here has it in a module that is passed over before).
+/// Place and length of each of these names, where it first stands (no case here has a node that stands in a module that is passed over before).
 fn node_words(image: &[u8], nodes: &[String]) -> Vec<u32> {
     let sets = form::read_image(image).unwrap_or_default();
     let all: HashMap<&str, u32> = form::candidates(&sets).iter().rev().map(|n| (n.text, n.place as u32)).collect();
     nodes.iter().flat_map(|n| [all[n.as_str()], n.len() as u32]).collect()
 }
 
-fn ask(run: &mut Run, what: &str, image: &[u8], bundle: &[u8], mut g: Graphed, expected: &Expected) {
-    let number = g.redraw(image, bundle);
+/// The store's length, and those of the tables.
+pub type Lengths = (usize, [usize; 5]);
+
+fn ask_in(mode: Mode, run: &mut Run, what: &str, image: &[u8], bundle: &[u8], (store, words): Lengths, expected: &Expected) {
+    let mut g = lent_graph(store, words);
+    let number = g.redraw(mode, image, bundle);
     let same = number == expected.answer[0]
         && g.answer == expected.answer
         && g.is_clean()
         && g.nodes.starts_with(&node_words(image, &expected.nodes))
         && g.edges.starts_with(expected.edges.as_flattened());
-    run.count(same, || format!("{what}: {:?}, expected {:?}", g.answer, expected.answer));
+    run.count(same, || format!("{what}, {mode:?}: {:?}, expected {:?}", g.answer, expected.answer));
+}
+
+/// Both modes must answer the same.
+pub fn ask(run: &mut Run, what: &str, image: &[u8], bundle: &[u8], lengths: Lengths, expected: &Expected) {
+    for mode in Mode::BOTH {
+        ask_in(mode, run, what, image, bundle, lengths, expected);
+    }
 }
 
 /// What a bundle needs, and some words more.
-fn enough(bundle: &[u8], more: usize) -> Graphed {
-    lent_graph(form::longest_text(bundle) + more, GRAPH_WORDS.map(|n| n + more))
+fn enough(bundle: &[u8], more: usize) -> Lengths {
+    (form::longest_text(bundle) + more, GRAPH_WORDS.map(|n| n + more))
 }
 
-fn library(run: &mut Run, what: &str, library: &Library, expected: &Expected) {
+/// What is expected in the present mode, and in the new one.
+pub fn apart(run: &mut Run, what: &str, library: &Library, expected: [&Expected; 2]) {
     let (image, bundle) = (library.image(), library.bundle());
-    for more in [0, 3] {
-        ask(run, what, &image, &bundle, enough(&bundle, more), expected);
+    for (mode, expected) in Mode::BOTH.into_iter().zip(expected) {
+        for more in [0, 3] {
+            ask_in(mode, run, what, &image, &bundle, enough(&bundle, more), expected);
+        }
     }
+}
+
+/// The same is expected in both modes.
+pub fn library(run: &mut Run, what: &str, library: &Library, expected: &Expected) {
+    apart(run, what, library, [expected; 2]);
 }
 
 // ---- libraries
@@ -95,23 +116,23 @@ fn lengths(run: &mut Run) {
     let (library, good) = example();
     let (image, bundle) = (library.image(), library.bundle());
     let longest = library.texts["m"].len();
-    ask(run, "just enough lent", &image, &bundle, lent_graph(longest, GRAPH_WORDS), &good);
-    ask(run, "the store one short", &image, &bundle, lent_graph(longest - 1, GRAPH_WORDS), &refused(22, 0));
+    ask(run, "just enough lent", &image, &bundle, (longest, GRAPH_WORDS), &good);
+    ask(run, "the store one short", &image, &bundle, (longest - 1, GRAPH_WORDS), &refused(22, 0));
     for (i, what) in ["nodes", "edges", "imports", "includes", "levels"].iter().enumerate() {
         let mut words = GRAPH_WORDS;
         words[i] -= 1;
-        ask(run, &format!("{what} one short"), &image, &bundle, lent_graph(longest, words), &refused(22, 0));
+        ask(run, &format!("{what} one short"), &image, &bundle, (longest, words), &refused(22, 0));
     }
-    let nothing = || lent_graph(0, [0; 5]);
-    ask(run, "nothing lent", &image, &bundle, nothing(), &refused(22, 0));
-    ask(run, "nothing lent to an empty library", b"\0", b"\0", nothing(), &refused(22, 0));
-    ask(run, "nothing lent, the bundle broken", &image, b"\x01", nothing(), &broken(21, 1));
-    ask(run, "nothing lent, both broken", b"\x01", b"\x01", nothing(), &broken(20, 1));
+    let nothing = (0, [0; 5]);
+    ask(run, "nothing lent", &image, &bundle, nothing, &refused(22, 0));
+    ask(run, "nothing lent to an empty library", b"\0", b"\0", nothing, &refused(22, 0));
+    ask(run, "nothing lent, the bundle broken", &image, b"\x01", nothing, &broken(21, 1));
+    ask(run, "nothing lent, both broken", b"\x01", b"\x01", nothing, &broken(20, 1));
     // 1,025 nodes, and the longest text is one that nobody reads
     let mut many = of(&[], &[("draft", "  ")]);
     many.sets = vec![set_of(0, 512), set_of(512, 512), set_of(1_024, 1)];
-    ask(run, "too many nodes, the store one short", &many.image(), &many.bundle(), lent_graph(1, GRAPH_WORDS), &refused(22, 0));
-    ask(run, "too many nodes", &many.image(), &many.bundle(), lent_graph(2, GRAPH_WORDS), &refused(30, 0));
+    ask(run, "too many nodes, the store one short", &many.image(), &many.bundle(), (1, GRAPH_WORDS), &refused(22, 0));
+    ask(run, "too many nodes", &many.image(), &many.bundle(), (2, GRAPH_WORDS), &refused(30, 0));
 }
 
 /// 20 and 21 with their places.
@@ -135,7 +156,7 @@ fn forms(run: &mut Run) {
     both("both broken", b"\x11", b"\x80", broken(20, 0));
 }
 
-fn name(i: usize) -> String {
+pub fn name(i: usize) -> String {
     format!("m{i:04}")
 }
 
@@ -144,7 +165,7 @@ fn set_of(from: usize, count: usize) -> Set {
 }
 
 /// So many modules over two sets, each with the text that is made for it.
-fn flat(modules: usize, text: impl Fn(usize) -> String) -> Library {
+pub fn flat(modules: usize, text: impl Fn(usize) -> String) -> Library {
     let half = modules / 2;
     Library { sets: vec![set_of(0, half), set_of(half, modules - half)], texts: (0..modules).map(|i| (name(i), text(i))).collect() }
 }
@@ -159,7 +180,8 @@ fn nodes(run: &mut Run) {
     library(run, "a 1,025th module", &with(set_of(1_024, 1)), &refused(30, 0));
     let alone = |one: ImportOnly| Set { modules: Vec::new(), import_only: vec![one] };
     library(run, "a 1,025th import-only module", &with(alone(only("x", &[""]))), &refused(30, 0));
-    library(run, "an import-only module that is a node", &with(alone(only("m0007", &["x", "y"]))), &built(&all, Vec::new()));
+    let again = with(alone(only("m0007", &["x", "y"])));
+    apart(run, "an import-only module that is a node", &again, [&built(&all, Vec::new()), &refused(30, 0)]);
     let mut sub = flat(1_023, |_| String::new());
     let end = |sub: &mut Library, names: &str| sub.sets[1].modules[511].submodules = words(names);
     end(&mut sub, "s");
@@ -234,7 +256,7 @@ fn full(run: &mut Run) {
     last("room for one, the scan before the import", 8_191, include("s"), Some("import zz{prefix p;}import"), scan(1_000, [4, 8, 26]));
     let mut elsewhere = almost(8_192, &include("x"), None);
     elsewhere.sets.push(Set { modules: vec![module("m0000", "x")], import_only: Vec::new() });
-    library(run, "no room, an include that is no node", &elsewhere, &refused(28, 1_000));
+    apart(run, "no room, an include that is no node", &elsewhere, [&refused(28, 1_000), &refused(31, 1_000)]);
 }
 
 /// m includes s1, which includes s2, and so on; the last text ends with `last`.
@@ -275,7 +297,7 @@ fn missing(run: &mut Run) {
     library(run, "an import that is no module, in an include", &small("include s;", &import("m-")), &refused(26, 1));
     library(run, "an include that is a module alone", &small("include b;", ""), &refused(27, 1));
     let two = of(&[(&[module("m", "")], &[]), (&[module("m", "s")], &[])], &[("m", "include s;"), ("s", "")]);
-    library(run, "an include that is no node", &two, &refused(28, 1));
+    apart(run, "an include that is no node", &two, [&refused(28, 1), &built(&words("m s"), vec![[1, 0]])]);
     let only = of(&[(&[module("m", "")], &[only("i", &["s"])])], &[("m", "include s;"), ("i", ""), ("s", "")]);
     library(run, "an include that only an import-only module has", &only, &refused(27, 1));
     let mut listed = small("include s;", "");
@@ -313,8 +335,8 @@ fn entries(run: &mut Run) {
     ];
     let texts = [("a", ""), ("b", ""), ("c", ""), ("d", ""), ("e", "import c{prefix p;}")];
     let all = of(&sets, &texts);
-    // s and t stand in later revisions of c, u below an a that comes again: they are passed over
-    library(run, "two sets", &all, &built(&words("a b c d e v"), vec![[2, 4]]));
+    // s and t stand in later revisions of c, u below an a that comes again: they are passed over, or nodes
+    apart(run, "two sets", &all, [&built(&words("a b c d e v"), vec![[2, 4]]), &built(&words("a b c s t u d e v"), vec![[2, 7]])]);
     for (entry, gone) in [(1, "a"), (2, "b"), (3, "c"), (6, "d"), (7, "e")] {
         let mut less = all.clone();
         less.texts.remove(gone);

@@ -5,12 +5,13 @@
 //! compare changes SEED COUNT: COUNT small images and COUNT small bundles, with every beginning and every change of one byte.
 //! compare finds SEED COUNT: COUNT generated libraries: the Rust's finds, and damaged copies.
 //! compare graphs SEED COUNT: COUNT generated libraries: nodes, edges in order, which refusal.
+//! compare complete SEED COUNT: COUNT generated libraries in which names come again: the graphs of both modes, beside a plain reading of request 2026-02.
 //! compare graph-of IMAGE BUNDLE: the same for the image and the bundle in these files.
 //! compare orders SEED COUNT: COUNT generated graphs: the order or the ring, and lists, beside a plain reading of request 2026-08.
 //! compare sorts SEED COUNT: COUNT generated graphs: the Rust's own order is accepted, or both say that there is none.
 //! compare edges: lengths around each boundary and the limits of a graph and of an order, which the Rust does not have.
 //!
-//! Changes, orders and edges ask the original nothing.
+//! Changes, complete, orders and edges ask the original nothing.
 
 use std::path::Path;
 use vectors::answers::{self, Dependencies, FIVE_OR_SIX, Refusal, Scan};
@@ -18,6 +19,8 @@ use vectors::oracle::Oracle;
 use vectors::rng::Rng;
 use vectors::texts;
 
+mod complete;
+mod complete_limits;
 mod edges;
 mod graph;
 mod library;
@@ -51,6 +54,7 @@ fn main() {
         ["changes", seed, count] => library::changes(&mut run, number(seed), number(count) as usize),
         ["finds", seed, count] => library::finds(&mut run, number(seed), number(count)),
         ["graphs", seed, count] => graph::graphs(&mut run, number(seed), number(count)),
+        ["complete", seed, count] => complete::graphs(&mut run, number(seed), number(count)),
         ["graph-of", image, bundle] => graph::of(&mut run, image, bundle),
         ["orders", seed, count] => orders::orders(&mut run, number(seed), number(count)),
         ["sorts", seed, count] => orders::sorts(&mut run, number(seed), number(count)),
@@ -59,10 +63,11 @@ fn main() {
             metadata::edges(&mut run);
             library::edges(&mut run);
             limits::run(&mut run);
+            complete_limits::run(&mut run);
             order_limits::run(&mut run);
         }
         _ => {
-            eprintln!("compare: texts|changes|finds|graphs|orders|sorts SEED COUNT | files SEED COUNT FILE.. | graph-of IMAGE BUNDLE | edges");
+            eprintln!("compare: texts|changes|finds|graphs|complete|orders|sorts SEED COUNT | files SEED COUNT FILE.. | graph-of IMAGE BUNDLE | edges");
             std::process::exit(2);
         }
     }

@@ -43,7 +43,7 @@ pub fn expect_list(run: &mut Run, what: &str, tables: &Tables, list: &[u32], ans
 }
 
 /// As much of some words as a line should have.
-fn short(words: &[u32]) -> String {
+pub fn short(words: &[u32]) -> String {
     let more = if words.len() > 100 { " and more" } else { "" };
     format!("{:?}{more}", &words[..words.len().min(100)])
 }

@@ -2,6 +2,7 @@
 
 use nuvaleta::raw::*;
 pub use nuvaleta::raw::{IMPORT_WORDS, INCLUDE_WORDS, PAGE_MORE};
+use vectors::graphs::Mode;
 
 #[derive(Debug, PartialEq)]
 pub struct Scanned {
@@ -137,7 +138,7 @@ impl Scanned {
 }
 
 /// A graph's answer, tables and scratch.
-#[derive(Debug)]
+#[derive(Debug, PartialEq)]
 pub struct Graphed {
     /// Number, entry, the scan's number, keyword and position, place, nodes, edges.
     pub answer: [u32; 8],
@@ -159,18 +160,22 @@ pub fn lent_graph(store: usize, words: [usize; 5]) -> Graphed {
 }
 
 /// The graph, with a store of this length and tables that are so much longer than they must be.
-pub fn graph(image: &[u8], bundle: &[u8], store: usize, more: usize) -> Graphed {
+pub fn graph(mode: Mode, image: &[u8], bundle: &[u8], store: usize, more: usize) -> Graphed {
     let mut g = lent_graph(store, GRAPH_WORDS.map(|n| n + more));
-    let number = g.redraw(image, bundle);
+    let number = g.redraw(mode, image, bundle);
     assert_eq!(number, g.answer[0], "the call's result");
     g
 }
 
 impl Graphed {
     /// The graph of these into the same tables.
-    pub fn redraw(&mut self, image: &[u8], bundle: &[u8]) -> u32 {
+    pub fn redraw(&mut self, mode: Mode, image: &[u8], bundle: &[u8]) -> u32 {
+        let call = match mode {
+            Mode::Present => nuvaleta_graph,
+            Mode::Complete => nuvaleta_graph_complete,
+        };
         unsafe {
-            nuvaleta_graph(
+            call(
                 image.as_ptr(), image.len(), bundle.as_ptr(), bundle.len(), self.nodes.as_mut_ptr(), self.nodes.len(), self.edges.as_mut_ptr(),
                 self.edges.len(), self.store.as_mut_ptr(), self.store.len(), self.imports.as_mut_ptr(), self.imports.len(),
                 self.includes.as_mut_ptr(), self.includes.len(), self.levels.as_mut_ptr(), self.levels.len(), self.answer.as_mut_ptr(),

@@ -142,7 +142,8 @@ pub enum Graph {
     Silent(String),
 }
 
-const NO_SCAN: Refusal = Refusal { number: 0, keyword: 0, position: 0 };
+/// What stands beside every refusal of a graph but 25.
+pub const NO_SCAN: Refusal = Refusal { number: 0, keyword: 0, position: 0 };
 
 fn graph_refusal(message: &str) -> Option<u32> {
     match message {

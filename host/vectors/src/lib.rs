@@ -2,6 +2,7 @@
 
 pub mod answers;
 pub mod form;
+pub mod graphs;
 pub mod libraries;
 pub mod oracle;
 pub mod orders;

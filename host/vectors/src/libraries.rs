@@ -56,6 +56,33 @@ pub fn small(m: &str, s: &str) -> Library {
     of(&[(&[module("m", "s"), module("b", "")], &[])], &[("m", m), ("s", s), ("b", "")])
 }
 
+/// 1,023 names, 31 modules with 32 submodules each, and in a second set the first module with these.
+pub fn nearly_full(again: &str) -> Library {
+    let name = |i: usize| format!("n{i}");
+    let group = |k: usize| Module { name: name(33 * k), submodules: (33 * k + 1..33 * k + 33).map(name).collect(), ..Module::default() };
+    let mut out = of(&[(&[], &[]), (&[module("n0", again)], &[])], &[]);
+    out.sets[0].modules = (0..31).map(group).collect();
+    out.texts = (0..31).map(|k| (name(33 * k), String::new())).collect();
+    out
+}
+
+/// The telling inputs of the readings of request 2026-02.
+pub fn telling() -> Vec<Library> {
+    let [m, b] = ["m", "b"].map(|name| move |submodules: &str| module(name, submodules));
+    let with = |sets: &[(&[Module], &[ImportOnly])], text: &str| of(sets, &[("m", text), ("b", ""), ("c", ""), ("s", ""), ("t", "")]);
+    let revisions = || [only("b", &["s", "t"])];
+    vec![
+        with(&[(&[m("")], &[]), (&[m("s")], &[])], "include s;"), // 28 but for complete nodes
+        with(&[(&[m(""), b("")], &[]), (&[m("s")], &[])], ""), // the nodes m, b, s
+        with(&[(&[m(""), b("")], &[]), (&[module("c", "s t"), m("t s"), b("m")], &[])], "include t;"), // each at its first place
+        with(&[(&[m("")], &revisions())], ""), // every revision counts
+        with(&[(&[m("")], &revisions())], "include t;"), // but no include finds what it has
+        with(&[(&[m("")], &[]), (&[b("t")], &revisions())], "include t;"),
+        nearly_full("x"), // 1,024 nodes
+        nearly_full("x y"), // one more
+    ]
+}
+
 // ---- written in the house form
 
 fn number(n: usize, out: &mut Vec<u8>) {
@@ -112,9 +139,35 @@ impl Library {
 
 // ---- made
 
+/// Which names a library is made of, and how many of them stand in one list.
+struct Shape {
+    modules: &'static [&'static str],
+    import_only: &'static [&'static str],
+    submodules: &'static [&'static str],
+    /// Included once in a while, found or not.
+    others: &'static [&'static str],
+    listed_most: usize,
+    revisions_most: usize,
+    revision_most: usize,
+}
+
 const MODULES: [&str; 8] = ["m", "n", "base", "if", "m-ext", "a.b", "dev", "x"];
 const ONLY: [&str; 5] = ["types", "inet", "m", "crypt", "yang"];
 const SUBS: [&str; 7] = ["s", "t", "u", "m-sub", "x", "v", "w"];
+
+const ANY: Shape =
+    Shape { modules: &MODULES, import_only: &ONLY, submodules: &SUBS, others: &MODULES, listed_most: 2, revisions_most: 3, revision_most: 1 };
+
+/// Few names, so that most come again: as a module of another set, as an import-only module, as a submodule of several.
+const REPEATED: Shape = Shape {
+    modules: &["m", "n", "base", "x"],
+    import_only: &["types", "inet", "m"],
+    submodules: &["s", "t", "u", "m-sub", "x", "v", "w", "types"],
+    others: &SUBS,
+    listed_most: 3,
+    revisions_most: 4,
+    revision_most: 3,
+};
 
 /// Up to `most` different names.
 fn some(r: &mut Rng, from: &[&str], most: usize) -> Vec<String> {
@@ -128,18 +181,18 @@ fn some(r: &mut Rng, from: &[&str], most: usize) -> Vec<String> {
     out
 }
 
-fn set(r: &mut Rng) -> Set {
+fn set(r: &mut Rng, shape: &Shape) -> Set {
     let mut out = Set::default();
-    for name in some(r, &MODULES, 4) {
-        let submodules = some(r, &SUBS, 2);
+    for name in some(r, shape.modules, 4) {
+        let submodules = some(r, shape.submodules, shape.listed_most);
         let rare = r.once_in(12);
-        let others: &[&str] = if rare { &SUBS } else { &MODULES };
+        let others = if rare { shape.submodules } else { shape.modules };
         let augmenting = if r.once_in(4) { some(r, others, 2) } else { Vec::new() };
         let deviations = if r.once_in(4) { some(r, others, 2) } else { Vec::new() };
         out.modules.push(Module { name, submodules, augmenting, deviations });
     }
-    for name in some(r, &ONLY, 2) {
-        let revisions = (0..1 + r.below(3)).map(|_| some(r, &SUBS, 1)).collect();
+    for name in some(r, shape.import_only, 2) {
+        let revisions = (0..1 + r.below(shape.revisions_most)).map(|_| some(r, shape.submodules, shape.revision_most)).collect();
         out.import_only.push(ImportOnly { name, revisions });
     }
     out
@@ -158,14 +211,14 @@ impl Library {
 }
 
 /// A text that imports and includes what is there, and once in a while what is not, or what the scan refuses.
-fn text(r: &mut Rng, library: &Library, place: usize, rank: &[&str]) -> String {
+fn text(r: &mut Rng, shape: &Shape, library: &Library, place: usize, rank: &[&str]) -> String {
     if r.once_in(150) {
         return texts::any(r);
     }
     let importable = library.importable();
     let mut out = String::new();
     for _ in 0..r.below(3) {
-        let name = if r.once_in(60) { r.pick(&SUBS) } else { r.pick(&importable) };
+        let name = if r.once_in(60) { r.pick(shape.submodules) } else { r.pick(&importable) };
         out += &format!("import {name} {{ prefix p; }}\n");
     }
     // A submodule includes only later ones, but now and then an earlier one, which may close a circle.
@@ -174,7 +227,7 @@ fn text(r: &mut Rng, library: &Library, place: usize, rank: &[&str]) -> String {
         let circle = r.once_in(80);
         let from = if circle { rank } else { later.as_slice() };
         if r.once_in(80) {
-            out += &format!("include {};\n", r.pick(&MODULES));
+            out += &format!("include {};\n", r.pick(shape.others));
         } else if !from.is_empty() {
             let name = r.pick(from);
             out += &texts::include(r, name);
@@ -184,7 +237,16 @@ fn text(r: &mut Rng, library: &Library, place: usize, rank: &[&str]) -> String {
 }
 
 pub fn library(r: &mut Rng) -> Library {
-    let mut out = Library { sets: (0..1 + r.below(4)).map(|_| set(r)).collect(), ..Library::default() };
+    shaped(r, &ANY)
+}
+
+/// A library in which most names come again.
+pub fn repeated(r: &mut Rng) -> Library {
+    shaped(r, &REPEATED)
+}
+
+fn shaped(r: &mut Rng, shape: &Shape) -> Library {
+    let mut out = Library { sets: (0..1 + r.below(4)).map(|_| set(r, shape)).collect(), ..Library::default() };
     if out.importable().is_empty() {
         out.sets[0].modules.push(Module { name: "m".to_string(), ..Module::default() });
     }
@@ -204,13 +266,54 @@ pub fn library(r: &mut Rng) -> Library {
     let subs = rank.iter().enumerate().map(|(i, n)| (*n, i + 1));
     for (name, place) in entries.chain(subs) {
         if !texts.contains_key(name) && !r.once_in(60) {
-            texts.insert(name.to_string(), text(r, &out, place, &rank));
+            texts.insert(name.to_string(), text(r, shape, &out, place, &rank));
         }
     }
     if r.once_in(5) {
         texts.insert("draft".to_string(), texts::any(r));
     }
     out.texts = texts;
+    out
+}
+
+/// Hundreds of names that come again, around the most nodes that there may be. Every name has a text, few texts include.
+pub fn crowded(r: &mut Rng) -> Library {
+    let names: Vec<String> = (0..700 + r.below(800)).map(|i| format!("n{i}")).collect();
+    let all: Vec<&str> = names.iter().map(|n| n.as_str()).collect();
+    let (entries, subs) = all.split_at(200 + r.below(300));
+    let mut out = Library { texts: names.iter().map(|n| (n.clone(), String::new())).collect(), ..Library::default() };
+    for _ in 0..1 + r.below(16) {
+        let mut set = Set::default();
+        for name in some(r, entries, 80) {
+            set.modules.push(Module { name, submodules: some(r, subs, 6), ..Module::default() });
+        }
+        let only = if r.once_in(4) { &all } else { entries };
+        for name in some(r, only, 30) {
+            set.import_only.push(ImportOnly { name, revisions: (0..1 + r.below(8)).map(|_| some(r, subs, 2)).collect() });
+        }
+        out.sets.push(set);
+    }
+    let (known, found) = (out.importable(), out.includable());
+    let mut text = || {
+        let imports: String = (0..r.below(12)).map(|_| format!("import {}{{prefix p;}}", r.pick(&known))).collect();
+        let include = if r.once_in(100) && !found.is_empty() { format!("include {};", r.pick(&found)) } else { String::new() };
+        imports + &include
+    };
+    let texts: Vec<(String, String)> = known.iter().map(|n| (n.to_string(), text())).collect();
+    out.texts.extend(texts);
+    out
+}
+
+/// A chain of seven to ten includes, around the deepest. Half of the time some of them are submodules in a second set only; of some the last has no text.
+pub fn deep(r: &mut Rng) -> Library {
+    let chain: Vec<String> = (0..7 + r.below(4)).map(|i| format!("s{i}")).collect();
+    let (first, second) = chain.split_at(if r.once_in(2) { r.below(chain.len()) } else { chain.len() });
+    let [first, second] = [first, second].map(|names| [Module { submodules: names.to_vec(), ..module("m", "") }]);
+    let mut out = of(&[(&first, &[]), (&second, &[])], &[("m", "include s0;")]);
+    out.texts.extend(chain.windows(2).map(|pair| (pair[0].clone(), format!("include {};", pair[1]))));
+    if !r.once_in(4) {
+        out.texts.insert(chain[chain.len() - 1].clone(), String::new());
+    }
     out
 }
 

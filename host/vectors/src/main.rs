@@ -9,7 +9,8 @@ use std::path::{Path, PathBuf};
 use vectors::answers::{self, Graph, Scan};
 use vectors::oracle::Oracle;
 use vectors::rng::Rng;
-use vectors::{libraries, orders, records, routers, texts};
+use vectors::graphs::{self, Links, Mode, Texts};
+use vectors::{form, libraries, orders, records, routers, texts};
 
 fn main() {
     let args: Vec<String> = std::env::args().collect();
@@ -180,7 +181,35 @@ fn all(oracle: &mut Oracle) -> Vec<File> {
             }
         }
     }
-    vec![dependencies, metadata, values, skips, finds, graph, ordered()]
+    vec![dependencies, metadata, values, skips, finds, graph, completed(oracle), ordered()]
+}
+
+/// Graphs with complete nodes, which the original does not have: the plain reading's, over the original's scans. In the present mode it must have the
+/// original's graph of the same library.
+fn completed(oracle: &mut Oracle) -> File {
+    let mut file = File::new("yanglib_run/data/complete.vec");
+    let mut r = Rng::new(6);
+    let generated = (0..300).map(|_| libraries::repeated(&mut r));
+    for library in libraries::telling().into_iter().chain(generated) {
+        let (image, bundle) = (library.image(), library.bundle());
+        let sets = form::read_image(&image).expect("an image");
+        let texts = scanned(oracle, &library);
+        let rust = records::graph(&image, &bundle, &answers::graph(oracle, &image, &bundle));
+        let plain = records::drawn(&image, &bundle, &graphs::draw(&sets, &texts, Mode::Present));
+        assert!(rust == plain, "the plain reading: image {image:02x?}, {:?}", library.texts);
+        file.add(records::drawn(&image, &bundle, &graphs::draw(&sets, &texts, Mode::Complete)));
+    }
+    file
+}
+
+/// What the original's scan of each text says.
+fn scanned<'a>(oracle: &mut Oracle, library: &'a libraries::Library) -> Texts<'a> {
+    let mut scan = |text: &str| match answers::dependencies(oracle, text.as_bytes()) {
+        Scan::Good(d) => Ok(Links::of(&d.imports, &d.includes)),
+        Scan::Refused(r) => Err(r),
+        Scan::Silent(line) => panic!("{text:?}: {line}"),
+    };
+    library.texts.iter().map(|(name, text)| (name.as_str(), scan(text))).collect()
 }
 
 /// Orders and checks, as the plain reading of request 2026-08 has them: the original's sort takes any free node, and it checks no list.

@@ -3,7 +3,8 @@
 //! A file is fields, one behind the other. A field is its length, two bytes, low byte first, and its bytes; length 65535 stands for a
 //! value that is missing, and no bytes follow. A word in a field is four bytes, low byte first.
 
-use crate::answers::{Dependencies, Graph, Refusal, Scan};
+use crate::answers::{Dependencies, Graph, NO_SCAN, Refusal, Scan};
+use crate::graphs::Drawn;
 
 pub fn field(out: &mut Vec<u8>, bytes: &[u8]) {
     assert!(bytes.len() < 65_535);
@@ -66,21 +67,28 @@ pub fn finds(image: &[u8], name: &[u8], answer: &[u32; 4]) -> Vec<u8> {
 }
 
 /// Image; bundle; number, and the scan's number, keyword and position; the places of the nodes' names; the edges, from and to.
-pub fn graph(image: &[u8], bundle: &[u8], answer: &Graph) -> Vec<u8> {
+fn graph_told(image: &[u8], bundle: &[u8], number: u32, scan: &Refusal, nodes: &[u32], edges: &[[u32; 2]]) -> Vec<u8> {
     let mut out = Vec::new();
     field(&mut out, image);
     field(&mut out, bundle);
-    let (number, scan, nodes, edges) = match answer {
-        Graph::Silent(_) => return Vec::new(),
-        Graph::Refused(n, r) => (*n, *r, [].as_slice(), [].as_slice()),
-        Graph::Built(nodes, edges, _) => {
-            (0, Refusal { number: 0, keyword: 0, position: 0 }, nodes.as_slice(), edges.as_slice())
-        }
-    };
     words(&mut out, &[number, scan.number, scan.keyword, scan.position]);
     words(&mut out, nodes);
     words(&mut out, &edges.concat());
     out
+}
+
+pub fn graph(image: &[u8], bundle: &[u8], answer: &Graph) -> Vec<u8> {
+    match answer {
+        Graph::Silent(_) => Vec::new(),
+        Graph::Refused(number, scan) => graph_told(image, bundle, *number, scan, &[], &[]),
+        Graph::Built(nodes, edges, _) => graph_told(image, bundle, 0, &NO_SCAN, nodes, edges),
+    }
+}
+
+/// The same of the plain reading's graph.
+pub fn drawn(image: &[u8], bundle: &[u8], graph: &Drawn) -> Vec<u8> {
+    let places: Vec<u32> = graph.nodes.iter().map(|n| n.place as u32).collect();
+    graph_told(image, bundle, graph.number, &graph.scan, &places, &graph.edges)
 }
 
 /// Text; number, keyword, position; if the number is 0 the one value that the text was made around: of metadata's five the one at `which`.
