@@ -19,6 +19,7 @@ TOPICS = [
     ("demand 2: each value is the one behind its keyword; RFC 7950's quoted values; the newest revision", set(),
      ["demands_values/Demand2", "demands_rfc/RfcEquality", "demands_rfc/RfcQuoted", "demands_scans/Newest"]),
     ("demand 3: which edges a graph has", set(), ["demands/Demand3", "demands/Demand3Needs"]),
+    ("a graph with all names as nodes: what it gives beyond demand 3", set(), ["graph/Complete", "demands/Complete"]),
     ("what an order is, by edges alone", set(), ["demands_order/Order", "demands/OrderCalls"]),
     ("document 01's starred examples", set(), ["demands/Starred"]),
 ]
