@@ -14,18 +14,29 @@ valid() {
         ! grep -q '^module' "$file" || yanglint -Q -p "$here/$1" "$file" || { fails=$((fails + 1)) && echo "examples: $file is not valid"; }
     done
 }
+# The folder of a router, what its image, bundle, graph and order are called without their endings, and options.
+router() {
+    folder=$1 files=$here/$2
+    shift 2
+    "$here/../nuvaleta" pack library "$@" "$here/$folder"/library.* "$here/$folder" "$work/image" "$work/bundle" >/dev/null 2>&1 || fails=$((fails + 1))
+    same "$files.image" "$work/image" "the image of $folder, packed again,"
+    same "$files.bundle" "$work/bundle" "the bundle of $folder, packed again,"
+    ! command -v yanglint >/dev/null || valid "$folder"
+    for word in graph order; do
+        "$here/../nuvaleta" "$word" "$@" "$files.image" "$files.bundle" >"$work/said" || fails=$((fails + 1))
+        same "$files.$word" "$work/said" "nuvaleta $word $* of $folder"
+    done
+}
 
 "$here/../host/need" libyang2-tools || echo "examples: SKIPPED, no yanglint: whether the texts are valid"
-for router in edge core; do
-    set -- "$here/$router"/library.*
-    "$here/../nuvaleta" pack library "$1" "$here/$router" "$work/image" "$work/bundle" >/dev/null 2>&1 || fails=$((fails + 1))
-    same "$here/$router.image" "$work/image" "the image of $router, packed again,"
-    same "$here/$router.bundle" "$work/bundle" "the bundle of $router, packed again,"
-    ! command -v yanglint >/dev/null || valid "$router"
-    for word in graph order; do
-        "$here/../nuvaleta" "$word" "$here/$router.image" "$here/$router.bundle" >"$work/said" || fails=$((fails + 1))
-        same "$here/$router.$word" "$work/said" "nuvaleta $word of $router"
-    done
-done
+router edge edge
+router core core
+router twice twice/router --complete
+status=0
+"$here/../nuvaleta" order "$here/twice/router.image" "$here/twice/router.bundle" >/dev/null 2>"$work/said" || status=$?
+[ "$status" = 1 ] && grep -q '^refused 28: module acme-chassis (set 1, entry 2)' "$work/said" || {
+    fails=$((fails + 1))
+    echo "examples: nuvaleta order of twice, without --complete, ends with $status and says" && cat "$work/said"
+}
 [ "$fails" = 0 ] || exit 1
-echo "examples: both routers are packed to the same bytes, and have the graph and the order that stand here"
+echo "examples: the three routers are packed to the same bytes, and have the graph and the order that stand here"

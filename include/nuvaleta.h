@@ -8,6 +8,7 @@
  *     nuvaleta_find_import_module   an import-only module
  *     nuvaleta_text                 the text under a name of a bundle
  *     nuvaleta_graph                from an image and a bundle: which schema must be registered before which
+ *     nuvaleta_graph_complete       the same, for a router that lists a module more than once, with other submodules each time
  *     nuvaleta_order                from a graph: the order of registration, or a ring of schemas that wait for each other
  *     nuvaleta_order_check          whether a list is such an order
  *
@@ -35,6 +36,8 @@
  *               nothing   a scan   a find   text   graph   order   order_check
  *     x86-64          4        5       18     36     367      28             8
  *     aarch64         7        7       21     38     369      31            10
+ *
+ * nuvaleta_graph_complete took as much as nuvaleta_graph (x86-64).
  *
  * TIME. A call ends, but a graph's time is not bounded in practice: a text that is included again is walked again, so nine small texts, each of which
  * includes the next one many times, keep it longer than anyone waits. Texts that are not trusted are for a process that can be ended.
@@ -319,7 +322,12 @@ uint32_t nuvaleta_text(const uint8_t *bundle, size_t bundle_len, const uint8_t *
 /* ---- Graph
  *
  * Nodes are names, numbered from 0 on: set by set each module and then its submodules, then each revision of each import-only module and then its
- * submodules. A name that is a node already is not added again; a module or revision of such a name is passed over with its submodules.
+ * submodules. A name that is a node already is not added again. nuvaleta_graph passes a module or revision of such a name over with its submodules;
+ * nuvaleta_graph_complete goes through its submodules all the same.
+ *
+ * WHICH OF THE TWO. nuvaleta_graph gives the graph of NetGauze's Rust. If a router lists a module in two sets, with a submodule in the second alone, that
+ * submodule is no node there, and an include of it is refused (28); and a submodule that only a later revision of an import-only module has is no node
+ * either. For such a router take nuvaleta_graph_complete. Where each name stands once in the image, both answer and leave the same.
  *
  * An edge from u to v says that u must be registered before v. The entries, set by set each module and then each import-only module, are walked: the text
  * of an entry v gives an edge from each module that it imports to v, then from each submodule that it includes, whose own text is walked likewise before
@@ -375,7 +383,7 @@ enum nuvaleta_graph_refusal {
     NUVALETA_SCAN_REFUSED = 25,         /* the scan of a text refused */
     NUVALETA_UNKNOWN_MODULE = 26,       /* an import, augmenting module or deviation that is no module and no import-only module */
     NUVALETA_UNKNOWN_SUBMODULE = 27,    /* an include that is no submodule of a module */
-    NUVALETA_NO_NODE = 28,              /* an include that is one, but is no node, since its module was passed over */
+    NUVALETA_NO_NODE = 28,              /* an include that is one, but is no node, since its module was passed over; not by nuvaleta_graph_complete */
     NUVALETA_TOO_DEEP = 29,             /* a text due at depth 9: an entry's text is at 0, those that it includes at 1 */
     NUVALETA_TOO_MANY_NODES = 30,       /* a 1,025th node */
     NUVALETA_TOO_MANY_EDGES = 31        /* an 8,193rd edge */
@@ -411,9 +419,37 @@ uint32_t nuvaleta_graph(const uint8_t *image, size_t image_len, const uint8_t *b
                         uint32_t *edges, size_t edges_len, uint8_t *store, size_t store_len, uint32_t *imports, size_t imports_len, uint32_t *includes,
                         size_t includes_len, uint32_t *levels, size_t levels_len, uint32_t *answer);
 
+/* The same with all submodules as nodes. All else is as for nuvaleta_graph: the slices, the answer, the entries, the edges between the same names. 28 does
+ * not come, and 30 goes by these nodes. An include of what is a submodule of import-only modules alone is 27 for both. Refusals: 20 to 27 and 29 to 31.
+ *
+ * answer[NUVALETA_GRAPH_ANSWER]
+ *
+ * Example:
+ *     // Two sets: module m without submodules, and m once more, with submodule s. The text of m has 10 bytes, that of s none.
+ *     static const uint8_t image[] = {2, 1, 1, 'm', 0, 0, 0, 0, 1, 1, 'm', 1, 1, 's', 0, 0, 0};
+ *     static const char bundle[] = "\2" "\1m" "\12" "include s;" "\1s" "\0";
+ *     static uint32_t nodes[NUVALETA_NODE_WORDS], edges[NUVALETA_EDGE_WORDS];
+ *     static uint32_t imports[NUVALETA_IMPORT_WORDS], includes[NUVALETA_INCLUDE_WORDS], levels[NUVALETA_LEVEL_WORDS];
+ *     static uint8_t store[sizeof bundle];
+ *     uint32_t answer[NUVALETA_GRAPH_ANSWER];
+ *     uint32_t number = nuvaleta_graph(image, sizeof image, (const uint8_t *)bundle, sizeof bundle - 1, nodes, NUVALETA_NODE_WORDS,
+ *                                      edges, NUVALETA_EDGE_WORDS, store, sizeof store, imports, NUVALETA_IMPORT_WORDS,
+ *                                      includes, NUVALETA_INCLUDE_WORDS, levels, NUVALETA_LEVEL_WORDS, answer);
+ *     assert(number == NUVALETA_NO_NODE && answer[NUVALETA_GRAPH_ENTRY] == 1);
+ *     number = nuvaleta_graph_complete(image, sizeof image, (const uint8_t *)bundle, sizeof bundle - 1, nodes, NUVALETA_NODE_WORDS,
+ *                                      edges, NUVALETA_EDGE_WORDS, store, sizeof store, imports, NUVALETA_IMPORT_WORDS,
+ *                                      includes, NUVALETA_INCLUDE_WORDS, levels, NUVALETA_LEVEL_WORDS, answer);
+ *     assert(number == 0 && answer[NUVALETA_GRAPH_NODES] == 2 && answer[NUVALETA_GRAPH_EDGES] == 1);
+ *     assert(image[nodes[NUVALETA_NODE_PLACE]] == 'm' && image[nodes[NUVALETA_NODE_ROW + NUVALETA_NODE_PLACE]] == 's');
+ *     assert(edges[NUVALETA_EDGE_FROM] == 1 && edges[NUVALETA_EDGE_TO] == 0); // s before m
+ */
+uint32_t nuvaleta_graph_complete(const uint8_t *image, size_t image_len, const uint8_t *bundle, size_t bundle_len, uint32_t *nodes, size_t nodes_len,
+                                 uint32_t *edges, size_t edges_len, uint8_t *store, size_t store_len, uint32_t *imports, size_t imports_len,
+                                 uint32_t *includes, size_t includes_len, uint32_t *levels, size_t levels_len, uint32_t *answer);
+
 /* ---- Order
  *
- * `nodes` and `edges` are the tables of nuvaleta_graph, or a caller's own; node_count and edge_count say how many rows of them are used, the lengths are
+ * `nodes` and `edges` are the tables of a graph, or a caller's own; node_count and edge_count say how many rows of them are used, the lengths are
  * in words as ever. Of the node table only the length is looked at.
  */
 
@@ -439,7 +475,7 @@ enum nuvaleta_order_refusal {
     NUVALETA_ORDER_TOO_SHORT = 41, /* an order table of fewer words than there are nodes */
     NUVALETA_LIST_WRONG = 42,      /* a list that does not hold each node once, or breaks an edge */
     NUVALETA_TABLES_UNFIT = 43     /* more than NUVALETA_NODES_MOST nodes or NUVALETA_EDGES_MOST edges, a table shorter than its count, or an edge with a
-                                    * number that is no node; never for tables and counts as nuvaleta_graph left them */
+                                    * number that is no node; never for tables and counts as a graph left them */
 };
 
 /* The order of registration: the numbers of all nodes in the order table, each behind all that have an edge to it, always the lowest number that is free.

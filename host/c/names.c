@@ -230,9 +230,17 @@ static void bundle_limits(void) {
 
 /* ---- graphs */
 
+/* Which of the two graphs is drawn: each test of a graph is made with either. */
+static int complete;
+
+static uint32_t drawn(const size_t *lent) {
+    return (complete ? nuvaleta_graph_complete : nuvaleta_graph)(image.bytes, image.length, bundle.bytes, bundle.length, nodes, lent[0], edges, lent[1], store,
+                                                                 lent[2], imports, lent[3], includes, lent[4], levels, lent[5], answer);
+}
+
 static uint32_t graph(void) {
-    return nuvaleta_graph(image.bytes, image.length, bundle.bytes, bundle.length, nodes, NUVALETA_NODE_WORDS, edges, NUVALETA_EDGE_WORDS, store, sizeof store,
-                          imports, NUVALETA_IMPORT_WORDS, includes, NUVALETA_INCLUDE_WORDS, levels, NUVALETA_LEVEL_WORDS, answer);
+    static const size_t all[] = {NUVALETA_NODE_WORDS, NUVALETA_EDGE_WORDS, sizeof store, NUVALETA_IMPORT_WORDS, NUVALETA_INCLUDE_WORDS, NUVALETA_LEVEL_WORDS};
+    return drawn(all);
 }
 
 static void copy(struct form *form, const uint8_t *bytes, size_t length) {
@@ -271,7 +279,7 @@ static void graph_refusals(void) {
     expect(graph() == NUVALETA_NO_ENTRY_TEXT && answer[NUVALETA_GRAPH_ENTRY] == 1, "no text for an entry");
     copy(&image, BYTES("\2\1\1m\0\0\0\0\1\1m\1\1s\0\0\0"));
     copy(&bundle, BYTES("\1\1m\12include s;"));
-    expect(graph() == NUVALETA_NO_NODE, "a submodule that is no node");
+    expect(graph() == (complete ? (uint32_t)NUVALETA_NO_INCLUDED_TEXT : (uint32_t)NUVALETA_NO_NODE), "a submodule of the second set alone");
     copy(&image, BYTES("\1\1\1m\1\1s\0\0\0"));
     copy(&bundle, BYTES("\2\1m\0\1s\12include s;"));
     expect(graph() == 0, "a text that nobody includes");
@@ -289,9 +297,7 @@ static void graph_lengths(void) {
         memcpy(lent, enough, sizeof lent);
         if (i < 6)
             lent[i]--;
-        expect(nuvaleta_graph(image.bytes, image.length, bundle.bytes, bundle.length, nodes, lent[0], edges, lent[1], store, lent[2], imports, lent[3], includes,
-                              lent[4], levels, lent[5], answer) == (i < 6 ? (uint32_t)NUVALETA_GRAPH_LENT_TOO_SHORT : 0u),
-               "the lengths lent to a graph");
+        expect(drawn(lent) == (i < 6 ? (uint32_t)NUVALETA_GRAPH_LENT_TOO_SHORT : 0u), "the lengths lent to a graph");
     }
 }
 
@@ -320,6 +326,27 @@ static void graph_limits(void) {
     }
     expect(NUVALETA_NODES_MOST * NUVALETA_NODE_ROW == NUVALETA_NODE_WORDS && NUVALETA_EDGES_MOST * NUVALETA_EDGE_ROW == NUVALETA_EDGE_WORDS,
            "the rows of nodes and edges");
+}
+
+/* 1,023 nodes, and then the first module once more in another set, with up to two submodules more. */
+static void complete_limit(void) {
+    for (uint32_t more = 0; more <= 2; more++) {
+        const uint32_t due = NUVALETA_NODES_MOST - 1 + (complete ? more : 0);
+        image.length = 0;
+        put_number(&image, 2);
+        put_number(&image, 16);
+        for (uint32_t i = 0; i < 16; i++)
+            put_module(i, i > 0 ? NUVALETA_NODES_MOST / 16 - 1 : NUVALETA_NODES_MOST / 16 - 2, 0, 0, 0);
+        put_number(&image, 0);
+        put_number(&image, 1);
+        put_name(&image, 0, 2);
+        put_names(&image, 8000, more);
+        put_number(&image, 0), put_number(&image, 0), put_number(&image, 0);
+        put_texts(16);
+        expect(graph() == (due <= NUVALETA_NODES_MOST ? 0u : (uint32_t)NUVALETA_TOO_MANY_NODES) && answer[NUVALETA_GRAPH_ENTRY] == 0 &&
+                   answer[NUVALETA_GRAPH_NODES] == (due <= NUVALETA_NODES_MOST ? due : 0),
+               "the most nodes where a name comes again");
+    }
 }
 
 static void order_limits(void) {
@@ -359,9 +386,12 @@ int main(void) {
     record_words();
     image_limits();
     bundle_limits();
-    graph_refusals();
-    graph_lengths();
-    graph_limits();
+    for (complete = 0; complete < 2; complete++) {
+        graph_refusals();
+        graph_lengths();
+        graph_limits();
+        complete_limit();
+    }
     order_limits();
     return 0;
 }

@@ -44,10 +44,15 @@ static uint32_t find_import_module(void) { return nuvaleta_find_import_module(BY
 
 static uint32_t text_under(void) { return nuvaleta_text(BYTES(deep_bundle), BYTES("z"), answer); }
 
-static uint32_t graph(void) {
-    return nuvaleta_graph(BYTES(deep_image), BYTES(deep_bundle), nodes, NUVALETA_NODE_WORDS, edges, NUVALETA_EDGE_WORDS, store, sizeof store, imports,
-                          NUVALETA_IMPORT_WORDS, includes, NUVALETA_INCLUDE_WORDS, levels, NUVALETA_LEVEL_WORDS, answer);
+static uint32_t drawn(int complete) {
+    return (complete ? nuvaleta_graph_complete : nuvaleta_graph)(
+        BYTES(deep_image), BYTES(deep_bundle), nodes, NUVALETA_NODE_WORDS, edges, NUVALETA_EDGE_WORDS, store, sizeof store, imports, NUVALETA_IMPORT_WORDS,
+        includes, NUVALETA_INCLUDE_WORDS, levels, NUVALETA_LEVEL_WORDS, answer);
 }
+
+static uint32_t graph(void) { return drawn(0); }
+
+static uint32_t graph_complete(void) { return drawn(1); }
 
 /* All nodes in one ring, and in order. */
 static uint32_t ring(void) {
@@ -96,7 +101,8 @@ int main(void) {
     static struct call all[] = {
         {"a thread that does nothing", nothing, 0, 0}, {"dependencies", dependencies, 0, 0}, {"printed", printed, 0, 0}, {"metadata", metadata, 0, 0},
         {"find_module", find_module, 0, 0}, {"find_submodule", find_submodule, 0, 0}, {"find_import_module", find_import_module, 0, 0},
-        {"text", text_under, 0, 0}, {"graph", graph, NUVALETA_TOO_DEEP, 0}, {"order", ring, NUVALETA_CYCLE, 0}, {"order_check", order_check, 0, 0},
+        {"text", text_under, 0, 0}, {"graph", graph, NUVALETA_TOO_DEEP, 0}, {"graph_complete", graph_complete, NUVALETA_TOO_DEEP, 0},
+        {"order", ring, NUVALETA_CYCLE, 0}, {"order_check", order_check, 0, 0},
     };
     unsigned char *stack = mmap(NULL, STACK, PROT_READ | PROT_WRITE, MAP_PRIVATE | MAP_ANONYMOUS, -1, 0);
 

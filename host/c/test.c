@@ -149,36 +149,79 @@ static int finds(void) {
     return 0;
 }
 
-static uint32_t graph(const uint8_t *image, size_t image_length, const uint8_t *bundle, size_t bundle_length) {
+/* Which of the two graphs is drawn. */
+enum which { PLAIN, COMPLETE };
+
+#define GRAPH(which) ((which) == COMPLETE ? nuvaleta_graph_complete : nuvaleta_graph)
+
+static uint32_t graph(enum which which, const uint8_t *image, size_t image_length, const uint8_t *bundle, size_t bundle_length) {
     poison();
-    return nuvaleta_graph(image, image_length, bundle, bundle_length, LENT(lent.nodes), LENT(lent.edges), LENT(lent.store), LENT(lent.imports),
-                          LENT(lent.includes), LENT(lent.levels), lent.answer);
+    return GRAPH(which)(image, image_length, bundle, bundle_length, LENT(lent.nodes), LENT(lent.edges), LENT(lent.store), LENT(lent.imports),
+                        LENT(lent.includes), LENT(lent.levels), lent.answer);
 }
 
-/* Document 01's first example of a graph, with its order, and its second, which is refused. */
-static int graphs(void) {
+static int scratch_is_zero(void) { return ZERO(store) && ZERO(imports) && ZERO(includes) && ZERO(levels); }
+
+/* Document 01's first example of a graph, in which each name stands once, with its order. */
+static int graphs(enum which which) {
     static const uint8_t image[] = {1, 2, 1, 'm', 1, 1, 's', 0, 0, 1, 'b', 0, 0, 0, 0};
     static const char texts[] = "\3\1m\35include s;import b{prefix b;}\1s\23import b{prefix b;}\1b\0";
-    static const uint8_t twice[] = {2, 1, 1, 'm', 0, 0, 0, 0, 1, 1, 'm', 1, 1, 's', 0, 0, 0};
-    static const char included[] = "\1\1m\12include s;";
-    static const uint32_t good[NUVALETA_GRAPH_ANSWER] = {0, 0, 0, 0, 0, 0, 3, 3}, refused[NUVALETA_GRAPH_ANSWER] = {NUVALETA_NO_NODE, 1, 0, 0, 0, 0, 0, 0};
+    static const uint32_t good[NUVALETA_GRAPH_ANSWER] = {0, 0, 0, 0, 0, 0, 3, 3};
     static const uint32_t nodes[] = {3, 1, 6, 1, 10, 1}, edges[] = {2, 0, 1, 0, 2, 1}, order[] = {2, 1, 0};
     static uint32_t ordered[NUVALETA_ORDER_ANSWER];
 
-    if (!answered(graph(LENT(image), BYTES(texts)), LENT(good)))
+    if (!answered(graph(which, LENT(image), BYTES(texts)), LENT(good)))
         return wrong("a graph refused");
     if (!HOLDS(nodes, nodes, sizeof nodes) || !HOLDS(edges, edges, sizeof edges))
         return wrong("another graph");
-    if (!ZERO(store) || !ZERO(imports) || !ZERO(includes) || !ZERO(levels))
+    if (!scratch_is_zero())
         return wrong("a graph left scratch");
     memset(ordered, POISON, sizeof ordered);
     if (nuvaleta_order(LENT(lent.nodes), lent.answer[NUVALETA_GRAPH_NODES], LENT(lent.edges), lent.answer[NUVALETA_GRAPH_EDGES], LENT(lent.order), ordered) != 0 ||
         ordered[NUVALETA_ORDER_NUMBER] != 0 || ordered[NUVALETA_ORDER_LENGTH] != 3 || !HOLDS(order, order, sizeof order))
         return wrong("another order of a graph");
-    if (!answered(graph(LENT(twice), BYTES(included)), LENT(refused)))
-        return wrong("a submodule that is no node taken");
-    if (!ZERO(nodes) || !ZERO(edges) || !ZERO(store) || !ZERO(imports) || !ZERO(includes) || !ZERO(levels))
-        return wrong("a refused graph left something");
+    return 0;
+}
+
+/* An image in which a name comes again, and a bundle; what each of the two graphs is to answer and how many nodes and edges it is to have, of which these are
+ * the first; and what is wrong otherwise. */
+struct again {
+    const uint8_t *image;
+    size_t image_length;
+    const uint8_t *bundle;
+    size_t bundle_length;
+    uint32_t number[2], entry[2], node_count[2], nodes[6], edge_count[2], edges[2];
+    const char *what;
+};
+
+static int left_as_due(const struct again *x, enum which which) {
+    const uint32_t answer[NUVALETA_GRAPH_ANSWER] = {x->number[which], x->entry[which], 0, 0, 0, 0, x->node_count[which], x->edge_count[which]};
+    const size_t nodes = x->node_count[which] * NUVALETA_NODE_ROW * sizeof x->nodes[0], edges = x->edge_count[which] * NUVALETA_EDGE_ROW * sizeof x->edges[0];
+
+    return answered(graph(which, x->image, x->image_length, x->bundle, x->bundle_length), LENT(answer)) && HOLDS(nodes, x->nodes, nodes) &&
+           HOLDS(edges, x->edges, edges) && scratch_is_zero();
+}
+
+/* Module m, and m once more with submodule s in another set, with and without a text of s; module b between them; import-only b, of whose two revisions each
+ * has a submodule; module m, which includes a submodule of import-only b alone. */
+static int names_again(void) {
+    static const uint8_t twice[] = {2, 1, 1, 'm', 0, 0, 0, 0, 1, 1, 'm', 1, 1, 's', 0, 0, 0};
+    static const uint8_t between[] = {2, 2, 1, 'm', 0, 0, 0, 1, 'b', 0, 0, 0, 0, 1, 1, 'm', 1, 1, 's', 0, 0, 0};
+    static const uint8_t revisions[] = {1, 0, 1, 1, 'b', 2, 1, 1, 's', 1, 1, 't'}, only[] = {1, 1, 1, 'm', 0, 0, 0, 1, 1, 'b', 2, 0, 1, 1, 't'};
+    static const char good[] = "\2\1m\12include s;\1s\0", missing[] = "\1\1m\12include s;", empty[] = "\2\1m\0\1b\0", of_b[] = "\1\1b\0";
+    static const char unknown[] = "\3\1m\12include t;\1b\0\1t\0";
+    static const struct again all[] = {
+        {LENT(twice), BYTES(good), {NUVALETA_NO_NODE, 0}, {1, 0}, {0, 2}, {3, 1, 13, 1}, {0, 1}, {1, 0}, "a submodule of the second set"},
+        {LENT(twice), BYTES(missing), {NUVALETA_NO_NODE, NUVALETA_NO_INCLUDED_TEXT}, {1, 1}, {0, 0}, {0}, {0, 0}, {0}, "one without a text"},
+        {LENT(between), BYTES(empty), {0, 0}, {0, 0}, {2, 3}, {3, 1, 8, 1, 18, 1}, {0, 0}, {0}, "the place of a node"},
+        {LENT(revisions), BYTES(of_b), {0, 0}, {0, 0}, {2, 3}, {4, 1, 8, 1, 11, 1}, {0, 0}, {0}, "a submodule of the second revision"},
+        {LENT(only), BYTES(unknown), {NUVALETA_UNKNOWN_SUBMODULE, NUVALETA_UNKNOWN_SUBMODULE}, {1, 1}, {0, 0}, {0}, {0, 0}, {0},
+         "an include of a submodule of an import-only module"},
+    };
+
+    for (size_t i = 0; i < sizeof all / sizeof all[0]; i++)
+        if (!left_as_due(&all[i], PLAIN) || !left_as_due(&all[i], COMPLETE))
+            return wrong(all[i].what);
     return 0;
 }
 
@@ -299,23 +342,59 @@ static int nothing_found(void) {
     return 0;
 }
 
-static int nothing_drawn(void) {
+static int nothing_drawn(enum which which) {
     static const uint8_t none[] = {0};
     static const uint32_t refused[][NUVALETA_GRAPH_ANSWER] = {{NUVALETA_IMAGE_BROKEN}, {NUVALETA_BUNDLE_BROKEN}, {NUVALETA_GRAPH_LENT_TOO_SHORT}};
-    static const uint32_t good[NUVALETA_GRAPH_ANSWER] = {0}, unfit[NUVALETA_ORDER_ANSWER] = {NUVALETA_TABLES_UNFIT};
+    static const uint32_t good[NUVALETA_GRAPH_ANSWER] = {0};
 
     for (size_t i = 0; i < 3; i++) {
         poison();
-        if (!answered(nuvaleta_graph(i > 0 ? none : NULL, i > 0, i > 1 ? none : NULL, i > 1, NOTHING, NOTHING, NOTHING, NOTHING, NOTHING, NOTHING, lent.answer),
+        if (!answered(GRAPH(which)(i > 0 ? none : NULL, i > 0, i > 1 ? none : NULL, i > 1, NOTHING, NOTHING, NOTHING, NOTHING, NOTHING, NOTHING, lent.answer),
                       LENT(refused[i])))
             return wrong("a graph with nothing lent taken");
     }
     poison();
-    if (!answered(nuvaleta_graph(LENT(none), LENT(none), LENT(lent.nodes), LENT(lent.edges), NOTHING, LENT(lent.imports), LENT(lent.includes),
-                                 LENT(lent.levels), lent.answer),
+    if (!answered(GRAPH(which)(LENT(none), LENT(none), LENT(lent.nodes), LENT(lent.edges), NOTHING, LENT(lent.imports), LENT(lent.includes),
+                               LENT(lent.levels), lent.answer),
                   LENT(good)) ||
         !ZERO(nodes) || !ZERO(edges) || !ZERO(imports) || !ZERO(includes) || !ZERO(levels))
         return wrong("a graph of nothing refused");
+    return 0;
+}
+
+/* Each slice in turn is one element too short: then all that was lent is zero, and nothing behind it is touched. */
+static int short_lent(enum which which) {
+    static const uint8_t none[] = {0}, bundle[] = {1, 1, 'm', 2, ' ', ' '};
+    static const uint32_t refused[NUVALETA_GRAPH_ANSWER] = {NUVALETA_GRAPH_LENT_TOO_SHORT};
+    const size_t word = sizeof(uint32_t);
+    const struct {
+        void *at;
+        size_t size, element;
+    } all[] = {{lent.nodes, sizeof lent.nodes, word},     {lent.edges, sizeof lent.edges, word},       {lent.store, 2, 1},
+               {lent.imports, sizeof lent.imports, word}, {lent.includes, sizeof lent.includes, word}, {lent.levels, sizeof lent.levels, word}};
+
+    for (size_t i = 0; i < 6; i++) {
+        size_t length[6];
+        for (size_t j = 0; j < 6; j++)
+            length[j] = all[j].size / all[j].element - (i == j);
+        poison();
+        if (!answered(GRAPH(which)(LENT(none), LENT(bundle), lent.nodes, length[0], lent.edges, length[1], lent.store, length[2], lent.imports, length[3],
+                                   lent.includes, length[4], lent.levels, length[5], lent.answer),
+                      LENT(refused)))
+            return wrong("a slice that is too short taken");
+        for (size_t j = 0; j < 6; j++) {
+            const uint8_t *at = all[j].at;
+            const size_t size = length[j] * all[j].element;
+            if (!all_are(0, at, size) || !all_are(POISON, at + size, all[j].size - size))
+                return wrong("a slice that is too short not cleared, or more than it");
+        }
+    }
+    return 0;
+}
+
+static int nothing_ordered(void) {
+    static const uint32_t good[NUVALETA_ORDER_ANSWER] = {0}, unfit[NUVALETA_ORDER_ANSWER] = {NUVALETA_TABLES_UNFIT};
+
     for (size_t count = 0; count < 2; count++) {
         const uint32_t *expected = count == 0 ? good : unfit;
         poison();
@@ -329,9 +408,13 @@ static int nothing_drawn(void) {
 }
 
 int main(void) {
-    if (dependencies_read() != 0 || page_printed() != 0 || metadata_read() != 0 || finds() != 0 || graphs() != 0 || orders() != 0 || lists() != 0)
+    if (dependencies_read() != 0 || page_printed() != 0 || metadata_read() != 0 || finds() != 0 || graphs(PLAIN) != 0 || graphs(COMPLETE) != 0)
         return 1;
-    if (nothing_scanned() != 0 || nothing_found() != 0 || nothing_drawn() != 0)
+    if (names_again() != 0 || orders() != 0 || lists() != 0)
+        return 1;
+    if (nothing_scanned() != 0 || nothing_found() != 0 || nothing_drawn(PLAIN) != 0 || nothing_drawn(COMPLETE) != 0 || nothing_ordered() != 0)
+        return 1;
+    if (short_lent(PLAIN) != 0 || short_lent(COMPLETE) != 0)
         return 1;
     printf("c: a C program is answered as the header says\n");
     return 0;

@@ -12,7 +12,7 @@ SCANNED = 1_048_576  # the longest text that a scan takes, shorter than what a b
 
 TO_DO = {
     "sets": "put several of them together in the document: a graph does not depend on how its modules are spread over sets",
-    "submodules": "leave those out that nothing includes",
+    "submodules": "leave those out that nothing includes; or name the module once more in another set, with the rest, and take --complete",
     "augmenting modules": "name the module once more in another set, with the rest of the list",
     "deviations": "name the module once more in another set, with the rest of the list",
     "revisions": "keep those whose submodules differ: a bundle has one text under a name",

@@ -109,13 +109,13 @@ def describe(bundle):
     return {one["name"]: one for one in answer["texts"]}
 
 
-def walk(image, bundle):
-    """All that an order would refuse; None if that was given up."""
+def walk(image, bundle, complete):
+    """All that an order would refuse, with --complete or without; None if that was given up."""
     with tempfile.TemporaryDirectory(prefix="nuvaleta-pack-") as folder:
         path = os.path.join(folder, "image")
         with open(path, "wb") as file:
             file.write(image)
-        answer = ask(["check", "--json", path, "-"], bundle)
+        answer = ask(["check", "--json", *(["--complete"] if complete else []), path, "-"], bundle)
     if answer is not None and "faults" not in answer:
         raise Unusable("the command does not tell what an order would refuse: build it anew")
     return answer and answer["faults"]
@@ -230,9 +230,9 @@ def fault_words(fault):
     return words
 
 
-def library_problems(image, bundle, texts, files, told):
+def library_problems(image, bundle, texts, files, told, complete):
     """All that an order would refuse, but for what has been told of a text already: that it is missing, or no YANG at all."""
-    faults = walk(image, bundle)
+    faults = walk(image, bundle, complete)
     if faults is None:
         return [Problem("error", "slow", f"given up after {SECONDS} s: texts that include each other many times keep an order from ending too")]
     known = {(one.text, one.kind) for one in told}

@@ -103,11 +103,11 @@ class Pile:
         """What is wrong with each text by itself."""
         return [problem for word, text in self.texts for problem in judge.text_problems(word, text, self.files[word], told[word], roles[word])]
 
-    def packed(self, sets, called, bundle, told, problems):
-        """All of it, with what is wrong with it as a whole."""
+    def packed(self, sets, called, bundle, told, problems, complete):
+        """All of it, with what is wrong with it as a whole: what an order would refuse, with --complete or without."""
         sets, called, notes = form.spread(sets, called)
         image = form.write_image(sets, called)
-        found = problems + judge.library_problems(image, bundle, self.texts, self.files, problems)
+        found = problems + judge.library_problems(image, bundle, self.texts, self.files, problems, complete)
         entries = [one.name for part in sets for one in part.modules + part.import_only]
         found += judge.unread(told, self.files, found) + judge.not_included(entries, told, self.files)
         return Packed(image, sets, bundle, self.texts, [Problem("note", "spread", note) for note in notes] + found)
@@ -116,7 +116,7 @@ class Pile:
 # ---- folders
 
 
-def from_folders(folders):
+def from_folders(folders, complete):
     shelf, pile, modules, problems = Shelf(folders), Pile(), {}, []
     for word, files in sorted(shelf.own.items()):
         paths = [path for same in files.values() for path in same]
@@ -137,7 +137,7 @@ def from_folders(folders):
         elif parent is not None:
             words = f"it belongs to {parent}, which is no module here; its text is packed, and no module lists it"
             problems.append(Problem("warning", "parent", words, word, pile.files[word]))
-    return pile.packed([Set([Module(word, own) for word, own in modules.items()])], [shelf.called()], bundle, told, problems)
+    return pile.packed([Set([Module(word, own) for word, own in modules.items()])], [shelf.called()], bundle, told, problems, complete)
 
 
 # ---- a library
@@ -216,7 +216,7 @@ def read_library(path):
         raise Refused(f"{path}: {error}") from None
 
 
-def from_library(path, shelf):
+def from_library(path, shelf, complete):
     all_rows, sets, called, warnings = read_library(path)
     asked = asked_for(all_rows)
     pile, problems = library_texts(asked, shelf)
@@ -226,4 +226,4 @@ def from_library(path, shelf):
     told = judge.describe(bundle)
     several = {word: roles for word, roles in asked.items() if word in pile.files and len(roles) > 1}
     problems += other_imports(several, shelf, pile, told)
-    return pile.packed(sets, called, bundle, told, warnings + lost_lists(all_rows) + problems + pile.judged(told, asked))
+    return pile.packed(sets, called, bundle, told, warnings + lost_lists(all_rows) + problems + pile.judged(told, asked), complete)

@@ -470,7 +470,7 @@ class Words(Case):
             (["folder", "a", "b", "c", "d"], "usage: "), (["library", "a", "b", "c"], "usage: nuvaleta pack library"),
             (["library", "a", "b", "c", "d", "e"], "usage: "),
             (["show", "a", "b"], "usage: nuvaleta pack show [--json] IMAGE"), (["show", "--check", "a"], "show has no --check"),
-            (["show-bundle", "--lenient", "a"], "has no --lenient"),
+            (["show-bundle", "--lenient", "a"], "has no --lenient"), (["show", "--complete", "a"], "show has no --complete"),
             (["--all", "a"], "usage: nuvaleta pack --all"), (["--all", "a", "b", "c"], "usage: "), (["--all", "--check"], "usage: "),
             (["all", "a", "b"], "all is no command"),
             (["library", "--check", "a"], "usage: "), (["library", "--check", "a", "b", "c"], "usage: "), (["folder", "--check"], "usage: "),

@@ -54,6 +54,10 @@ class Told(Case):
         os.remove(self.image)
         os.remove(self.bundle)
 
+    def ordered(self, *words):
+        """What `nuvaleta order` prints."""
+        return subprocess.run([pack.judge.command(), "order", *words], capture_output=True, text=True, check=True).stdout
+
 
 class Texts(Told):
     def test_good(self):
@@ -254,7 +258,7 @@ class Order(Told):
         status, _, err = self.folder()
         self.assertEqual((status, err.count("\n"), err.count("note: ")), (0, 1, 1))
         self.assertEqual([len(one.modules) for one in self.read()[0]], [512, 88])
-        ordered = subprocess.run([pack.judge.command(), "order", self.image, self.bundle], capture_output=True, text=True, check=True).stdout.split()
+        ordered = self.ordered(self.image, self.bundle).split()
         names = sorted(f"m{i}" for i in range(600))
         at = names.index("m599")
         self.assertEqual(ordered, [n for n in names[:at] if n != "m3"] + ["m599"] + (["m3"] if names.index("m3") < at else []) + names[at + 1:])
@@ -274,6 +278,32 @@ class Order(Told):
             self.assertEqual(sorted(json.loads(ran.stdout)["edges"]), [[0, i] for i in range(1, 66)])
             os.remove(self.image)
             os.remove(self.bundle)
+
+    def test_more_submodules_than_a_list_takes(self):
+        """They are all in the order if the module is named once more, with the rest of them, as the error advises."""
+        rows = [{"name": f"s{i}"} for i in range(65)]
+        self.put("m.yang", "module m { prefix m; " + "".join(f"include {row['name']}; " for row in rows) + "}")
+        for row in rows:
+            self.put(f"{row['name']}.yang", f"submodule {row['name']} {{ belongs-to m {{ prefix m; }} }}")
+        self.refused(self.library({"module-set": [{"module": [{"name": "m", "submodule": rows}]}]}), "65 submodules", "take --complete")
+        document = {"module-set": [{"module": [{"name": "m", "submodule": part}]} for part in (rows[:64], rows[64:])]}
+        self.assertEqual(self.library(document, "--complete")[::2], (0, ""))
+        self.assertEqual(sorted(self.ordered("--complete", self.image, self.bundle).split()), sorted(["m", *(row["name"] for row in rows)]))
+
+    def test_a_module_in_two_sets(self):
+        """A submodule that the second one alone lists is refused with 28, but not with --complete."""
+        document = {"module-set": [{"module": [{"name": "m"}]}, {"module": [{"name": "m", "submodule": [{"name": "s"}]}]}]}
+        self.put("m.yang", "module m { prefix m; include s; }")
+        self.put("s.yang", "submodule s { belongs-to m { prefix m; } }")
+        said = self.library(document)
+        self.refused(said, "error: refused 28: module m (set 1, entry 1): ", "to do at 28: ")
+        self.assertIn("draw the graph with --complete", said[2])
+        self.assertEqual(self.library(document, "--complete")[::2], (0, ""))
+        self.assertEqual(self.ordered("--complete", self.image, self.bundle), "s\nm\n")
+        routers, out = os.path.join(self.top, "routers"), os.path.join(self.top, "out")
+        self.put("r.json", json.dumps(document), routers)
+        self.assertEqual([self.run_pack("--all", *option, routers, out, "--texts", self.dir)[0] for option in ([], ["--complete"])], [1, 0])
+        self.assertEqual(self.ordered("--complete", "--all", out), "r\ts\nr\tm\n")
 
     def test_a_ring(self):
         self.put("a.yang", "module a { prefix a; import b { prefix b; } }")
@@ -569,8 +599,7 @@ class All(Told):
                          (0, "east: image of 13 bytes, 1 set; bundle of 74 bytes, 2 texts\nwest: image of 8 bytes, 1 set; bundle of 26 bytes, 1 text\n",
                                       "nuvaleta pack: 2 routers: 2 packed, 0 refused, 0 not readable\n"))
         self.assertEqual(self.made(), ["east.bundle", "east.image", "west.bundle", "west.image"])
-        ordered = subprocess.run([pack.judge.command(), "order", "--all", self.out], capture_output=True, text=True, check=True).stdout
-        self.assertEqual(ordered, "east\ta\neast\tb\nwest\ta\n")
+        self.assertEqual(self.ordered("--all", self.out), "east\ta\neast\tb\nwest\ta\n")
 
     def test_more_than_are_ordered_at_once(self):
         with unittest.mock.patch.object(pack, "TOGETHER", 1):

@@ -67,6 +67,7 @@ advice='"advice":"list the submodule under its module in the library, or correct
 advice="$advice list such a module as a module\""
 echo "{\"refused\":{\"number\":27,\"words\":\"$words\",$entry,\"by\":\"include\",\"listed\":\"z\",\"text\":\"m\",$advice}}" >due
 expect 1 graph image unknown --json
+expect 1 graph --complete image unknown --json
 due 'refused 21: the bundle breaks its form at byte 0\nexpected a bundle, found nothing\nTo do: this is empty: make it anew by `nuvaleta pack`\n'
 expect 1 graph image /dev/null
 clash='"expected":"a bundle","found":"nothing","advice":"this is empty: make it anew by `nuvaleta pack`"'
@@ -154,6 +155,36 @@ refused 40: no order of registration: a schema waits for itself
 To do: in each line the second imports, includes, augments or deviates from the first: one of these has to go
 X1
 expect 1 order self empty
+
+# A module in two sets, with a submodule in the second alone: refused, and in order with complete nodes.
+printf '\002\001\001m\000\000\000\000\001\001m\001\001s\000\000\000' >twice
+printf '\002\001m\012include s;\001s\000' >included
+words="a submodule is included which is no node, since its module was passed over: that module's name was a node already"
+advice="the library has that module's name twice, and the submodules of the second one are passed over: draw the graph with --complete (in a program:"
+advice="$advice graph_complete), or list the submodule where the name stands first"
+printf 'refused 28: module m (set 1, entry 1): %s\nTo do: %s\n' "$words" "$advice" >due
+expect 1 graph twice included
+expect 1 order twice included
+echo '1 fault, 0 warnings' >>due
+expect 1 check twice included
+printf 'refusal 28, of a module or import-only module of the library: %s\nTo do: %s\n' "$words" "$advice" >due
+expect 0 explain 28
+echo "{\"refused\":{\"number\":28,\"words\":\"module m (set 1, entry 1): $words\",$entry,\"advice\":\"$advice\"}}" >due
+expect 1 order --json twice included
+due 'Nodes (2):\n  - m\n  - s\n\nEdges (1):\n  - s before m\n'
+expect 0 graph --complete twice included
+due '{"nodes":["m","s"],"edges":[[1,0]]}\n'
+expect 0 --json graph twice included --complete
+due 's\nm\n'
+expect 0 order --complete twice included
+due '{"order":["s","m"]}\n'
+expect 0 --complete order --json twice included
+due '0 faults, 0 warnings\n'
+expect 0 check --complete twice included
+due '{"faults":[],"warnings":[]}\n'
+expect 0 check --complete --json twice included
+due 'b\ns\nm\n'
+expect 0 order --complete image bundle
 
 # All faults at once, and what each text says of itself.
 printf '\003\001m\074import x{prefix x;}contact c;include z;import b\n {prefix b;}\001s\013\nimport b{}\001t\000' >faulty
@@ -345,6 +376,10 @@ due "nuvaleta: --jsn is no option\n$(usage nuvaleta)\n"
 expect 2 deps --jsn early.yang
 due "nuvaleta: deps has no --all\n$(usage deps)\n"
 expect 2 deps --all early.yang
+for command in deps meta texts explain; do
+    due "nuvaleta: $command has no --complete\n$(usage $command)\n"
+    expect 2 "$command" --complete early.yang
+done
 due "nuvaleta: --at needs a word behind it\n$(usage nuvaleta)\n"
 expect 2 explain 7 --at
 for number in seven '' +7 -; do
@@ -379,6 +414,7 @@ for command in deps meta texts graph order check explain; do
 done
 due "$(usage order)\n"
 expect 2 order --into x image bundle
+expect 2 order --complete --into x image bundle
 expect 2 order --all image bundle
 expect 2 order --seconds 1 image bundle
 for seconds in 0 x -1 86401 1.5 ''; do

@@ -43,6 +43,7 @@ def endless():
 
 RING = pair(b"import b{prefix b;}", b"import m{prefix m;}")
 CLOSED = pair(b"import b{}", b"")
+TWICE = form.write_image([Set([Module("m")]), Set([Module("m", ["s"])])]), form.write_bundle([("m", b"include s;"), ("s", b"")])
 RING_SAID = """refused 40: no order of registration: 2 schemas wait for each other in a ring
     m before b
     b before m
@@ -161,6 +162,22 @@ i: not readable: i.bundle: no plain file
         self.assertEqual(self.run_it()[0], 1)
         self.put("c.image", b"")
         self.assertEqual(self.run_it()[0], 2)
+
+    def test_complete(self):
+        """A module in two sets, with a submodule in the second alone, is refused but with --complete, in a process of its own too."""
+        self.router("a", *line(2)[:2])
+        self.router("b", *TWICE)
+        for words in (), ("--seconds", "50"):
+            status, out, err = self.run_it(*words)
+            counts, rest = self.summary(err)
+            self.assertEqual((status, out, counts), (1, "a\tm001\na\tm000\n", [2, 1, 1, 0, 0, 0, 2, 1]))
+            self.assertRegex(rest, r"\Ab: refused 28: module m \(set 1, entry 1\): .*\nTo do: .* draw the graph with --complete .*\n\Z")
+            status, out, err = self.run_it("--complete", *words)
+            self.assertEqual((status, out, self.summary(err)), (0, "a\tm001\na\tm000\nb\ts\nb\tm\n", ([2, 2, 0, 0, 0, 0, 4, 2], "")))
+            status, out, err = self.run_it("--json", "--complete", "--into", self.into, *words)
+            self.assertEqual((status, err, [json.loads(one).get("order") for one in out.splitlines()]), (0, "", [["m001", "m000"], ["s", "m"], None]))
+            with open(os.path.join(self.into, "b.order"), encoding="ascii") as file:
+                self.assertEqual(file.read(), "s\nm\n")
 
     def test_as_one_by_one(self):
         """The first routers take longest; all are told in the order of their names, and as `nuvaleta order` tells each."""

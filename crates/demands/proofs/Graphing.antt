@@ -15,7 +15,7 @@ use Rattle.library_image.specs.Library.{Name, Library}
 use Rattle.library_bundle.specs.Bundle.{Text as BundleText, bundleBroken, bundleAt}
 use Rattle.library_bundle.specs.Reading.{longestText}
 use Rattle.library_items.specs.Table.{Reads}
-use Rattle.graph.specs.Nodes.{passOver}
+use Rattle.graph.specs.Nodes.{Mode}
 use Rattle.text.specs.Refusal.{noRefusal}
 use Rattle.graph.specs.Graph.{Edge, edge, Graph, graph, fault, graphOf}
 use Rattle.graph.specs.Numbers.{row, rowOf}
@@ -40,11 +40,11 @@ use Rattle.demands.specs.Demand3.{AlikeCalls, BytesDemand3}
 use Rattle.demands.proofs.Standing.{names-read}
 use Rattle.demands.proofs.TablesRead.{edges-read, nodes-read}
 
-abbrev pub graphHere : (image bundle : List ℕ) → Graph
-graphHere s b = graphOf passOver mostNodes mostEdges (textOf b) (plainAt s)
+abbrev pub graphHere : Mode → (image bundle : List ℕ) → Graph
+graphHere mode s b = graphOf mode mostNodes mostEdges (textOf b) (plainAt s)
 
-abbrev pub resultHere : (image bundle : List ℕ) → Result
-resultHere s b = resultOf (wordsAt passOver s) (graphHere s b)
+abbrev pub resultHere : Mode → (image bundle : List ℕ) → Result
+resultHere mode s b = resultOf (wordsAt mode s) (graphHere mode s b)
 
 -- ---- the ways to an answer
 
@@ -55,16 +55,16 @@ unlessShort y short r = onRead y (refusal bundleBroken 0 noRefusal) (cond short 
 abbrev pub before : Ans Library → Ans (List BundleText) → Bool → Result → Result
 before x y short r = onRead x (refusal imageBroken 0 noRefusal) (unlessShort y short r)
 
-module _ (s b : List ℕ) (k : Lengths) where
-  well-formed : Reads (imageAt s) → graphed passOver s b k ≡ unlessShort (bundleAt b) (tooShort (longestText b) k) (resultHere s b)
+module _ (mode : Mode) (s b : List ℕ) (k : Lengths) where
+  well-formed : Reads (imageAt s) → graphed mode s b k ≡ unlessShort (bundleAt b) (tooShort (longestText b) k) (resultHere mode s b)
   unfolding graphed
-  well-formed reads = ap (λ x. before x (bundleAt b) (tooShort (longestText b) k) (resultHere s b)) (reads .read)
+  well-formed reads = ap (λ x. before x (bundleAt b) (tooShort (longestText b) k) (resultHere mode s b)) (reads .read)
 
-  pub graph-reached : Reads (imageAt s) → Reads (bundleAt b) → tooShort (longestText b) k ≡ false → graphed passOver s b k ≡ resultHere s b
+  pub graph-reached : Reads (imageAt s) → Reads (bundleAt b) → tooShort (longestText b) k ≡ false → graphed mode s b k ≡ resultHere mode s b
   graph-reached reads o t =
       well-formed reads
-      ∙ ap (λ y. unlessShort y (tooShort (longestText b) k) (resultHere s b)) (o .read)
-      ∙ ap (λ f. cond f (refusal lentTooShort 0 noRefusal 0) (resultHere s b)) t
+      ∙ ap (λ y. unlessShort y (tooShort (longestText b) k) (resultHere mode s b)) (o .read)
+      ∙ ap (λ f. cond f (refusal lentTooShort 0 noRefusal 0) (resultHere mode s b)) t
 
   -- a graph is built only where all is read and enough is lent, and then it is the graph of the image's library
   pub record Drawn : Type 0 where
@@ -73,14 +73,14 @@ module _ (s b : List ℕ) (k : Lengths) where
     pub long : tooShort (longestText b) k ≡ false
     pub ns : List Name
     pub es : List Edge
-    pub graphIs : graphHere s b ≡ graph ns es
+    pub graphIs : graphHere mode s b ≡ graph ns es
 
-  pub drawn : (n m : ℕ) → graphed passOver s b k .answer ≡ Built n m → Drawn
+  pub drawn : (n m : ℕ) → graphed mode s b k .answer ≡ Built n m → Drawn
   unfolding graphed
-  drawn n m h = go (imageAt s) (bundleAt b) (tooShort (longestText b) k) (graphHere s b) refl refl refl refl h
+  drawn n m h = go (imageAt s) (bundleAt b) (tooShort (longestText b) k) (graphHere mode s b) refl refl refl refl h
     where
       go : (x : Ans Library) (y : Ans (List BundleText)) (short : Bool) (g : Graph) → imageAt s ≡ x → bundleAt b ≡ y → tooShort (longestText b) k ≡ short
-          → graphHere s b ≡ g → before x y short (resultOf (wordsAt passOver s) g) .answer ≡ Built n m → Drawn
+          → graphHere mode s b ≡ g → before x y short (resultOf (wordsAt mode s) g) .answer ≡ Built n m → Drawn
       go (bad p) y short g e f t q h = let z : _≡_ {A = ℕ} 0 1 = cc in absurd (omega arith)
       go (good l i) (bad p) short g e f t q h = let z : _≡_ {A = ℕ} 0 1 = cc in absurd (omega arith)
       go (good l i) (good o j) true g e f t q h = let z : _≡_ {A = ℕ} 0 1 = cc in absurd (omega arith)
@@ -96,18 +96,18 @@ module _ (s b : List ℕ) (k : Lengths) where
 
 -- ---- names and edges of a result
 
-module _ (s b : List ℕ) (bytes : AllBytes s) (reads : Reads (imageAt s)) {ns : List Name} {es : List Edge} (e : graphHere s b ≡ graph ns es) where
-  right : Right passOver (textOf b) (plainAt s) ns es
-  right = demand3 passOver mostNodes mostEdges (textOf b) .right (plainAt s) ns es e
+module _ (mode : Mode) (s b : List ℕ) (bytes : AllBytes s) (reads : Reads (imageAt s)) {ns : List Name} {es : List Edge} (e : graphHere mode s b ≡ graph ns es) where
+  right : Right mode (textOf b) (plainAt s) ns es
+  right = demand3 mode mostNodes mostEdges (textOf b) .right (plainAt s) ns es e
 
   revised : Revised (plainAt s)
   revised = revised-here s reads bytes
 
   abbrev result : Result
-  result = resultOf (wordsAt passOver s) (graph ns es)
+  result = resultOf (wordsAt mode s) (graph ns es)
 
   names-are : names s result ≡ ns
-  names-are = names-read s bytes reads ∙ sym (right .nodes)
+  names-are = names-read s bytes reads mode ∙ sym (right .nodes)
 
   edge-back : (d : Edge) → List·Memᴰ d es → between ns (rowOf ns d) ≡ d
   edge-back d m =
@@ -121,13 +121,13 @@ module _ (s b : List ℕ) (bytes : AllBytes s) (reads : Reads (imageAt s)) {ns :
   edges-are : edges s result ≡ es
   edges-are = ap (λ l. map (between l) (map (rowOf ns) es)) names-are ∙ edges-back es (λ d m. m)
 
-  right-here : RightGraph (textOf b) (plainAt s) (length ns) (length es) ns (map (rowOf ns) es)
+  right-here : RightGraph mode (textOf b) (plainAt s) (length ns) (length es) ns (map (rowOf ns) es)
   right-here = record {
     nodes = right .nodes;
     node-count = refl;
     edge-count = sym (length-map es (rowOf ns));
     names-differ = right .names-differ;
-    names-only = λ v m. nodes-only passOver (plainAt s) v (subst (λ l. List·Memᴰ v l) (right .nodes) m);
+    names-only = λ v m. nodes-only mode (plainAt s) v (subst (λ l. List·Memᴰ v l) (right .nodes) m);
     names-all = λ o v m. right .names-all o v .1 m;
     rows-small = right .rows revised .small;
     rows-differ = right .rows revised .differ;
@@ -141,28 +141,28 @@ module _ (s b : List ℕ) (bytes : AllBytes s) (reads : Reads (imageAt s)) {ns :
 
 -- ---- first part
 
-right-graph : (s b : List ℕ) (k : Lengths) (n m : ℕ) → AllBytes s → graphed passOver s b k .answer ≡ Built n m
-    → RightGraph (textOf b) (plainAt s) n m (names s (graphed passOver s b k)) (graphed passOver s b k .rows)
-right-graph s b k n m bytes h =
-    let d = drawn s b k n m h in
-    let q : graphed passOver s b k ≡ resultOf (wordsAt passOver s) (graph (d .ns) (d .es))
-    = graph-reached s b k (d .reads) (d .bundle) (d .long) ∙ ap (resultOf (wordsAt passOver s)) (d .graphIs) in
+right-graph : (mode : Mode) (s b : List ℕ) (k : Lengths) (n m : ℕ) → AllBytes s → graphed mode s b k .answer ≡ Built n m
+    → RightGraph mode (textOf b) (plainAt s) n m (names s (graphed mode s b k)) (graphed mode s b k .rows)
+right-graph mode s b k n m bytes h =
+    let d = drawn mode s b k n m h in
+    let q : graphed mode s b k ≡ resultOf (wordsAt mode s) (graph (d .ns) (d .es))
+    = graph-reached mode s b k (d .reads) (d .bundle) (d .long) ∙ ap (resultOf (wordsAt mode s)) (d .graphIs) in
     let a : Built (length (d .ns)) (length (d .es)) ≡ Built n m = sym (ap (λ (x : Result). x .answer) q) ∙ h in
     let i : length (d .ns) ≡ n = cc in
     let j : length (d .es) ≡ m = cc in
-    let e = names-are s b bytes (d .reads) (d .graphIs) in
-    subst (λ (x : Result). RightGraph (textOf b) (plainAt s) n m (names s x) (x .rows)) (sym q)
-    (subst (λ l. RightGraph (textOf b) (plainAt s) n m l (map (rowOf (d .ns)) (d .es))) (sym e)
-    (subst₂ (λ x y. RightGraph (textOf b) (plainAt s) x y (d .ns) (map (rowOf (d .ns)) (d .es))) i j (right-here s b bytes (d .reads) (d .graphIs))))
+    let e = names-are mode s b bytes (d .reads) (d .graphIs) in
+    subst (λ (x : Result). RightGraph mode (textOf b) (plainAt s) n m (names s x) (x .rows)) (sym q)
+    (subst (λ l. RightGraph mode (textOf b) (plainAt s) n m l (map (rowOf (d .ns)) (d .es))) (sym e)
+    (subst₂ (λ x y. RightGraph mode (textOf b) (plainAt s) x y (d .ns) (map (rowOf (d .ns)) (d .es))) i j (right-here mode s b bytes (d .reads) (d .graphIs))))
 
 -- and of what a call leaves
-module _ (s b n e d f g l : List ℕ) {r : Graphed} {n₁ e₁ d₁ f₁ g₁ l₁ : List ℕ} (bytes : AllBytes s) (h : Graphs s b n e d f g l r n₁ e₁ d₁ f₁ g₁ l₁) where
+module _ (mode : Mode) (s b n e d f g l : List ℕ) {r : Graphed} {n₁ e₁ d₁ f₁ g₁ l₁ : List ℕ} (bytes : AllBytes s) (h : Graphs mode s b n e d f g l r n₁ e₁ d₁ f₁ g₁ l₁) where
   abbrev left : Result
-  left = graphed passOver s b (lengthsOf n e d f g l)
+  left = graphed mode s b (lengthsOf n e d f g l)
 
   module _ (i j : ℕ) (a : left .answer ≡ Built i j) where
-    right-left : RightGraph (textOf b) (plainAt s) i j (names s left) (left .rows)
-    right-left = right-graph s b (lengthsOf n e d f g l) i j bytes a
+    right-left : RightGraph mode (textOf b) (plainAt s) i j (names s left) (left .rows)
+    right-left = right-graph mode s b (lengthsOf n e d f g l) i j bytes a
 
     names-left : tableNames s i n₁ ≡ names s left
     names-left =
@@ -174,52 +174,52 @@ module _ (s b n e d f g l : List ℕ) {r : Graphed} {n₁ e₁ d₁ f₁ g₁ l�
     edges-left : tableEdges s i j n₁ e₁ ≡ edges s left
     edges-left = ap₂ (λ ns rs. map (between ns) rs) names-left rows-left
 
-    right-tables : RightGraph (textOf b) (plainAt s) i j (tableNames s i n₁) (rowsIn j e₁)
-    right-tables = subst₂ (λ ns rs. RightGraph (textOf b) (plainAt s) i j ns rs) (sym names-left) (sym rows-left) right-left
+    right-tables : RightGraph mode (textOf b) (plainAt s) i j (tableNames s i n₁) (rowsIn j e₁)
+    right-tables = subst₂ (λ ns rs. RightGraph mode (textOf b) (plainAt s) i j ns rs) (sym names-left) (sym rows-left) right-left
 
 -- ---- second part
 
-module _ (s s₁ b : List ℕ) (k : Lengths) (f : WellFormed s) (f₁ : WellFormed s₁) where
-  graphs-alike : (g g₁ : Graph) → graphHere s b ≡ g → graphHere s₁ b ≡ g₁ → Agree g g₁
-      → Alike s s₁ (resultOf (wordsAt passOver s) g) (resultOf (wordsAt passOver s₁) g₁)
+module _ (mode : Mode) (s s₁ b : List ℕ) (k : Lengths) (f : WellFormed s) (f₁ : WellFormed s₁) where
+  graphs-alike : (g g₁ : Graph) → graphHere mode s b ≡ g → graphHere mode s₁ b ≡ g₁ → Agree g g₁
+      → Alike s s₁ (resultOf (wordsAt mode s) g) (resultOf (wordsAt mode s₁) g₁)
   graphs-alike (graph ns es) (graph ns₁ es₁) e e₁ (graphs-built p q) =
       both-built refl (ap₂ Built (sym (perm-length p)) (sym (perm-length q)))
-      (subst₂ Perm (sym (names-are s b (f .bytes) (f .reads) e)) (sym (names-are s₁ b (f₁ .bytes) (f₁ .reads) e₁)) p)
-      (subst₂ Perm (sym (edges-are s b (f .bytes) (f .reads) e)) (sym (edges-are s₁ b (f₁ .bytes) (f₁ .reads) e₁)) q)
+      (subst₂ Perm (sym (names-are mode s b (f .bytes) (f .reads) e)) (sym (names-are mode s₁ b (f₁ .bytes) (f₁ .reads) e₁)) p)
+      (subst₂ Perm (sym (edges-are mode s b (f .bytes) (f .reads) e)) (sym (edges-are mode s₁ b (f₁ .bytes) (f₁ .reads) e₁)) q)
   graphs-alike (fault n j a) (fault n₁ j₁ a₁) e e₁ graphs-refused = both-refused refl refl
 
-  alike-behind : (y : Ans (List BundleText)) (short : Bool) → Alike s s₁ (resultHere s b) (resultHere s₁ b)
-      → Alike s s₁ (unlessShort y short (resultHere s b)) (unlessShort y short (resultHere s₁ b))
+  alike-behind : (y : Ans (List BundleText)) (short : Bool) → Alike s s₁ (resultHere mode s b) (resultHere mode s₁ b)
+      → Alike s s₁ (unlessShort y short (resultHere mode s b)) (unlessShort y short (resultHere mode s₁ b))
   alike-behind (good es n) true h = both-refused refl refl
   alike-behind (good es n) false h = h
   alike-behind (bad p) short h = both-refused refl refl
 
-  alike : Agree (graphHere s b) (graphHere s₁ b) → Alike s s₁ (graphed passOver s b k) (graphed passOver s₁ b k)
+  pub alike : Agree (graphHere mode s b) (graphHere mode s₁ b) → Alike s s₁ (graphed mode s b k) (graphed mode s₁ b k)
   alike h =
-      subst₂ (Alike s s₁) (sym (well-formed s b k (f .reads))) (sym (well-formed s₁ b k (f₁ .reads)))
-      (alike-behind (bundleAt b) (tooShort (longestText b) k) (graphs-alike (graphHere s b) (graphHere s₁ b) refl refl h))
+      subst₂ (Alike s s₁) (sym (well-formed mode s b k (f .reads))) (sym (well-formed mode s₁ b k (f₁ .reads)))
+      (alike-behind (bundleAt b) (tooShort (longestText b) k) (graphs-alike (graphHere mode s b) (graphHere mode s₁ b) refl refl h))
 
 -- and of what two calls leave
-module _ (s s₁ b n e d f g l n′ e′ d′ f′ g′ l′ : List ℕ) (ks : lengthsOf n e d f g l ≡ lengthsOf n′ e′ d′ f′ g′ l′) (w : WellFormed s) (w₁ : WellFormed s₁)
-    {r r′ : Graphed} {n₁ e₁ d₁ f₁ g₁ l₁ n₁′ e₁′ d₁′ f₁′ g₁′ l₁′ : List ℕ} (h : Graphs s b n e d f g l r n₁ e₁ d₁ f₁ g₁ l₁)
-    (h₁ : Graphs s₁ b n′ e′ d′ f′ g′ l′ r′ n₁′ e₁′ d₁′ f₁′ g₁′ l₁′) where
+module _ (mode : Mode) (s s₁ b n e d f g l n′ e′ d′ f′ g′ l′ : List ℕ) (ks : lengthsOf n e d f g l ≡ lengthsOf n′ e′ d′ f′ g′ l′) (w : WellFormed s) (w₁ : WellFormed s₁)
+    {r r′ : Graphed} {n₁ e₁ d₁ f₁ g₁ l₁ n₁′ e₁′ d₁′ f₁′ g₁′ l₁′ : List ℕ} (h : Graphs mode s b n e d f g l r n₁ e₁ d₁ f₁ g₁ l₁)
+    (h₁ : Graphs mode s₁ b n′ e′ d′ f′ g′ l′ r′ n₁′ e₁′ d₁′ f₁′ g₁′ l₁′) where
   abbrev Calls : Graphed → Graphed → Type 0
   Calls x y = AlikeCalls s s₁ x n₁ e₁ y n₁′ e₁′
 
-  tables-alike : Alike s s₁ (left s b n e d f g l (w .bytes) h) (left s₁ b n′ e′ d′ f′ g′ l′ (w₁ .bytes) h₁) → Calls r r′
+  tables-alike : Alike s s₁ (left mode s b n e d f g l (w .bytes) h) (left mode s₁ b n′ e′ d′ f′ g′ l′ (w₁ .bytes) h₁) → Calls r r′
   tables-alike (both-refused a a₁) = subst₂ Calls (sym (h .answer ∙ a)) (sym (h₁ .answer ∙ a₁)) both-refused
   tables-alike (both-built {n = i} {m = j} a a₁ p q) =
       subst₂ Calls (sym (h .answer ∙ a)) (sym (h₁ .answer ∙ a₁)) (both-built
-      (subst₂ Perm (sym (names-left s b n e d f g l (w .bytes) h i j a)) (sym (names-left s₁ b n′ e′ d′ f′ g′ l′ (w₁ .bytes) h₁ i j a₁)) p)
-      (subst₂ Perm (sym (edges-left s b n e d f g l (w .bytes) h i j a)) (sym (edges-left s₁ b n′ e′ d′ f′ g′ l′ (w₁ .bytes) h₁ i j a₁)) q))
+      (subst₂ Perm (sym (names-left mode s b n e d f g l (w .bytes) h i j a)) (sym (names-left mode s₁ b n′ e′ d′ f′ g′ l′ (w₁ .bytes) h₁ i j a₁)) p)
+      (subst₂ Perm (sym (edges-left mode s b n e d f g l (w .bytes) h i j a)) (sym (edges-left mode s₁ b n′ e′ d′ f′ g′ l′ (w₁ .bytes) h₁ i j a₁)) q))
 
-pub bytes-demand3 : BytesDemand3
-bytes-demand3 = record {
-  right = right-graph;
-  called = λ s b n e d f g l i j bytes h. right-tables s b n e d f g l bytes h i j (sym (h .answer));
-  permuted = λ s s₁ b k f f₁ p o. alike s s₁ b k f f₁ (demand3 passOver mostNodes mostEdges (textOf b) .permuted (plainAt s) (plainAt s₁) p o);
-  spread = λ s s₁ b k f f₁ p o o₁. alike s s₁ b k f f₁ (demand3 passOver mostNodes mostEdges (textOf b) .spread (plainAt s) (plainAt s₁) p o o₁);
+pub bytes-demand3 : (mode : Mode) → BytesDemand3 mode
+bytes-demand3 mode = record {
+  right = right-graph mode;
+  called = λ s b n e d f g l i j bytes h. right-tables mode s b n e d f g l bytes h i j (sym (h .answer));
+  permuted = λ s s₁ b k f f₁ p o. alike mode s s₁ b k f f₁ (demand3 mode mostNodes mostEdges (textOf b) .permuted (plainAt s) (plainAt s₁) p o);
+  spread = λ s s₁ b k f f₁ p o o₁. alike mode s s₁ b k f f₁ (demand3 mode mostNodes mostEdges (textOf b) .spread (plainAt s) (plainAt s₁) p o o₁);
   called-alike = λ s s₁ b n e d f g l n′ e′ d′ f′ g′ l′ ks w w₁ a h h₁.
-      tables-alike s s₁ b n e d f g l n′ e′ d′ f′ g′ l′ ks w w₁ h h₁ (subst (λ k. Alike s s₁ (graphed passOver s b (lengthsOf n e d f g l))
-      (graphed passOver s₁ b k)) ks a);
+      tables-alike mode s s₁ b n e d f g l n′ e′ d′ f′ g′ l′ ks w w₁ h h₁ (subst (λ k. Alike s s₁ (graphed mode s b (lengthsOf n e d f g l))
+      (graphed mode s₁ b k)) ks a);
 }

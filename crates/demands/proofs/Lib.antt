@@ -8,3 +8,4 @@ pub mod Starred
 pub mod TablesRead
 pub mod Zeros
 pub mod Answers
+pub mod Complete

@@ -1,4 +1,4 @@
--- The four graphs are computed; a built one is not refused, and names that are a permutation of others are among them.
+-- The graphs are computed; a built one is not refused, and names that are a permutation of others are among them.
 -- Assumes nothing.
 use Prim.Native.Nat.{ℕ, zero, suc, _<_}
 use mathlib.Core.Path.{_≡_, refl, sym, _∙_, subst, subst₂}
@@ -44,7 +44,7 @@ use Rattle.library_bundle.specs.Bundle.{bodyAt, filedAt, textsAt, bundleAt, loo
 use Rattle.library_bundle.specs.Reading.{longestOf, longestText}
 use Rattle.scan_rows.specs.Span.{valueIn}
 use Rattle.graph_texts.specs.Texts.{importNames, includeNames, scanText, textOf}
-use Rattle.graph.specs.Nodes.{passOver, addGroups, nodesBy}
+use Rattle.graph.specs.Nodes.{passOver, complete, addGroups, nodesBy}
 use Rattle.text.specs.Refusal.{noRefusal}
 use Rattle.graph.specs.Graph.{textSteps, memE, addBy, run, walkFrom, graphOf}
 use Rattle.graph.specs.Numbers.{numberOf}
@@ -80,7 +80,7 @@ reads-by (bad p) h = both-bools h refl
 formed-by : (s : List ℕ) → lows s ≡ true → isGood (imageAt s) ≡ true → WellFormed s
 formed-by s h k = record { bytes = bytes-by s h; reads = reads-by (imageAt s) k }
 
-formed : WellFormed emptyFirst × WellFormed fullFirst × WellFormed sFirst × WellFormed tFirst
+pub formed : WellFormed emptyFirst × WellFormed fullFirst × WellFormed sFirst × WellFormed tFirst
 unfolding lows isGood libraryOf imageAt libraryAt setAt importOnlyAt moduleAt counted countAt newName among nameAt nameBody printableAt many numberAt groups
     same modulesOf importOnlyOf
 formed = (formed-by emptyFirst refl refl, formed-by fullFirst refl refl, formed-by sFirst refl refl, formed-by tFirst refl refl)
@@ -93,14 +93,17 @@ with-s = (98 ∷ []) ∷ (115 ∷ []) ∷ []
 with-t : List Name
 with-t = (98 ∷ []) ∷ (116 ∷ []) ∷ []
 
-record Computed : Type 0 where
+pub record Computed : Type 0 where
   empty : graphed passOver emptyFirst includes lent .answer ≡ Refused 28 1 noRefusal 0
   full : graphed passOver fullFirst includes lent .answer ≡ Built 2 1
   s-first : graphed passOver sFirst alone lent .answer ≡ Built 2 0
   s-names : names sFirst (graphed passOver sFirst alone lent) ≡ with-s
   t-names : names tFirst (graphed passOver tFirst alone lent) ≡ with-t
+  -- and with all names as nodes
+  pub empty-complete : graphed complete emptyFirst includes lent .answer ≡ Built 2 1
+  pub s-complete : graphed complete sFirst alone lent .answer ≡ Built 3 0
 
-computed : Computed
+pub computed : Computed
 unfolding with-s with-t graphed tooShort wordsAt numberOf graphOf walkFrom run addBy memE textSteps nodesBy addGroups addAll among textOf scanText importNames
     includeNames valueIn longestText longestOf lookUp bundleAt textsAt filedAt bodyAt libraryOf imageAt libraryAt setAt importOnlyAt moduleAt counted countAt
     newName nameAt nameBody printableAt many numberAt groups modulesOf importOnlyOf submodulesOf flatMap joined importStep includeStep unlessFull importHere
@@ -108,7 +111,7 @@ unfolding with-s with-t graphed tooShort wordsAt numberOf graphOf walkFrom run a
     plainOf blockOf openOrPlain afterValue includeAt argumentOf argumentAt afterDue isQuote startsName addedBy afterPlus joinedWith joinedValue ofString
     valueHere valueAt valueBytes closedToken tokenHere statementAt dueNumber dueHere dueAt startsIdent endsKeyword same part keywordAt matchAt gapEnd gapTurn
     afterWhite commentEnd blockEnd closing pairAt runEnd span inRun inIdent classOf turns
-computed = record { empty = refl; full = refl; s-first = refl; s-names = refl; t-names = refl }
+computed = record { empty = refl; full = refl; s-first = refl; s-names = refl; t-names = refl; empty-complete = refl; s-complete = refl }
 
 both-ways : {r : Graphed} {n m number entry place : ℕ} {a : Refusal} → r ≡ Built n m → r ≡ Refused number entry a place → ⊥
 both-ways h k = let e = sym h ∙ k in let z : _≡_ {A = ℕ} 0 1 = cc in omega arith
@@ -131,7 +134,7 @@ single-unlike (both-built h k p q) = not-among (subst₂ Perm (computed .s-names
 m-of : List Name → PlainModule
 m-of subs = record { name = 109 ∷ []; submodules = subs; augmenting = []; deviations = [] }
 
-permuted : Permuted (plainAt emptyFirst) (plainAt fullFirst)
+pub permuted : Permuted (plainAt emptyFirst) (plainAt fullFirst)
 unfolding m-of libraryOf imageAt libraryAt setAt importOnlyAt moduleAt counted countAt newName among nameAt nameBody printableAt many numberAt groups same
     modulesOf importOnlyOf
 permuted = record { modules = Perm·swap (m-of ((115 ∷ []) ∷ [])) (m-of []) []; importOnly = Perm·refl [] }
@@ -156,7 +159,7 @@ within rs rs₁ p = record {
       ∣ (b-of rs₁, List·Memᴰ·head refl, a) ∣₁;
 }
 
-same-entries : SameEntries (plainAt sFirst) (plainAt tFirst)
+pub same-entries : SameEntries (plainAt sFirst) (plainAt tFirst)
 unfolding b-of set-of flatten libraryOf imageAt libraryAt setAt importOnlyAt moduleAt counted countAt newName among nameAt nameBody printableAt many numberAt
     groups same modulesOf importOnlyOf
 same-entries =

@@ -2,12 +2,12 @@
 -- entry and scan answer of each cause are read off.
 -- Assumes nothing.
 use Prim.Native.Nat.{ℕ, _+_}
-use mathlib.Core.Path.{_≡_, refl, ap, _∙_, subst, subst₃}
+use mathlib.Core.Path.{_≡_, refl, sym, ap, _∙_, subst, subst₃}
 use mathlib.Core.Bool.{Bool, true, false, cond}
 use mathlib.Core.Logic.{_↔_, _⊎_, inl, inr}
 use mathlib.Core.List.{List, [], _∷_, List·Memᴰ}
 use native.Mathlib.Omega.{arith}
-use lib.ListN.{length, take, drop}
+use lib.ListN.{length, getD, take, drop}
 use Rattle.text.specs.Keyword.{same}
 use Rattle.text.proofs.Here.{never}
 use Rattle.text.specs.declared.Refusal.{Refusal}
@@ -23,19 +23,22 @@ use Rattle.library_bundle.specs.Bundle.{Text, bundleAt, placeOf, looked, lookIn
 use Rattle.library_bundle.specs.Reading.{longestText}
 use Rattle.library_bundle.specs.declared.TextPlace.{TextPlace}
 use Rattle.library_bundle.specs.declared.TextPlace.the-variants.{At as PlaceAt, Nothing as NoPlace}
-use Rattle.graph.specs.Nodes.{passOver}
+use Rattle.graph.specs.Nodes.{Mode, complete}
 use Rattle.text.specs.Refusal.{noRefusal}
 use Rattle.graph.specs.Graph.{ScanAnswer, refusing, Entry, Graph, graph as drawing, fault}
 use Rattle.graph.specs.Meaning.{Fault, entry-missing, include-missing, scan-refused, import-unknown, listed-unknown, include-unknown, include-no-node, too-deep}
 use Rattle.graph.specs.Meaning.{Cause, names, by-fault, edges}
 use Rattle.graph.proofs.Demand.{demand3}
+use Rattle.graph.proofs.Complete.{cause-has-node}
 use Rattle.graph_nodes.specs.Adding.{plainAt, wordsAt}
 use Rattle.graph_texts.specs.Texts.{scanSeen, scanText, lookText, textOf}
 use Rattle.yangparser.specs.Dependencies.{Dependencies, Scan, good as scanGood, bad as scanBad, dependencies}
 use Rattle.graph_build.specs.Result.{Result, resultOf}
 use Rattle.yanglib.specs.ToGraph.{graphed}
-use Rattle.graph_tables.specs.Lengths.{Lengths, tooShort}
+use Rattle.graph_tables.specs.Lengths.{Lengths, lengthsOf, tooShort}
+use Rattle.graph_build.specs.declared.Graphed.{Graphed}
 use Rattle.graph_build.specs.declared.Graphed.the-variants.{Built, Refused}
+use Rattle.nuvaleta.specs.Words.{graphWords}
 use Rattle.demands.specs.Demand1.{GraphCause, image, bundle, lent, graph, GraphNumbers, Buildable, Demand1}
 use Rattle.demands_scans.proofs.ScanNumbers.{isOne, one-of, is-one, dependencies-refused, dependencies-first}
 use Rattle.demands.proofs.Graphing.{graphHere, before, graph-reached, drawn}
@@ -94,8 +97,8 @@ at-entry n e a k q h i j = record {
   place-none = inl refl;
 }
 
-module _ (s b : List ℕ) where
-  fault-numbers : (x : Entry) (e k : ℕ) → e ≡ k + 1 → {n : ℕ} {a : ScanAnswer} → Fault passOver (textOf b) (plainAt s) x n a → GraphNumbers n e a 0
+module _ (mode : Mode) (s b : List ℕ) where
+  fault-numbers : (x : Entry) (e k : ℕ) → e ≡ k + 1 → {n : ℕ} {a : ScanAnswer} → Fault mode (textOf b) (plainAt s) x n a → GraphNumbers n e a 0
   unfolding isOne
   fault-numbers x e k q (entry-missing h) = at-entry 23 e noRefusal k q refl refl (inl refl)
   fault-numbers x e k q (include-missing r f h) = at-entry 24 e noRefusal k q refl refl (inl refl)
@@ -106,13 +109,13 @@ module _ (s b : List ℕ) where
   fault-numbers x e k q (include-no-node r i m u) = at-entry 28 e noRefusal k q refl refl (inl refl)
   fault-numbers x e k q (too-deep r f) = at-entry 29 e noRefusal k q refl refl (inl refl)
 
-  cause-numbers : {n e : ℕ} {a : ScanAnswer} → Cause passOver (textOf b) (plainAt s) 1024 8192 n e a → GraphNumbers n e a 0
+  cause-numbers : {n e : ℕ} {a : ScanAnswer} → Cause mode (textOf b) (plainAt s) 1024 8192 n e a → GraphNumbers n e a 0
   unfolding isOne
   cause-numbers (names h) = before-walk 30 0 refl refl (inl refl)
   cause-numbers (by-fault {k = e} x f g) = fault-numbers x e (length (f .before)) (f .number) g
   cause-numbers (edges {k = e} x f w es d m h) = at-entry 31 e noRefusal (length (f .before)) (f .number) refl refl (inl refl)
 
-  numbers : (k : Lengths) {n e place : ℕ} {a : Refusal} → GraphCause s b k n e a place → GraphNumbers n e a place
+  numbers : (k : Lengths) {n e place : ℕ} {a : Refusal} → GraphCause mode s b k n e a place → GraphNumbers n e a place
   unfolding isOne
   numbers k (image {p = p} h) = before-walk 20 p refl refl (inr (one-of 20 (20 ∷ 21 ∷ []) refl))
   numbers k (bundle {p = p} r h) = before-walk 21 p refl refl (inr (one-of 21 (20 ∷ 21 ∷ []) refl))
@@ -135,11 +138,11 @@ refused-scan b v a e = look (lookUp b v) e
     look Nothing h = let z : _≡_ {A = ℕ} 0 1 = cc in absurd (omega arith)
     look (At from size) h = scan (dependencies (take size (drop from b)) false) h
 
-module _ (s b : List ℕ) where
+module _ (mode : Mode) (s b : List ℕ) where
   abbrev RefusedText : ScanAnswer → Type 0
   RefusedText a = (v : Name) × (textOf b v ≡ refusing a)
 
-  fault-scan : (x : Entry) {n : ℕ} {a : ScanAnswer} → Fault passOver (textOf b) (plainAt s) x n a → n ≡ 25 → RefusedText a
+  fault-scan : (x : Entry) {n : ℕ} {a : ScanAnswer} → Fault mode (textOf b) (plainAt s) x n a → n ≡ 25 → RefusedText a
   fault-scan x (entry-missing h) e = absurd (omega (arith, e))
   fault-scan x (include-missing r f h) e = absurd (omega (arith, e))
   fault-scan x (scan-refused {v = v} r h) e = (v, h)
@@ -149,12 +152,12 @@ module _ (s b : List ℕ) where
   fault-scan x (include-no-node r i m u) e = absurd (omega (arith, e))
   fault-scan x (too-deep r f) e = absurd (omega (arith, e))
 
-  cause-scan : {n e : ℕ} {a : ScanAnswer} → Cause passOver (textOf b) (plainAt s) 1024 8192 n e a → n ≡ 25 → RefusedText a
+  cause-scan : {n e : ℕ} {a : ScanAnswer} → Cause mode (textOf b) (plainAt s) 1024 8192 n e a → n ≡ 25 → RefusedText a
   cause-scan (names h) q = absurd (omega (arith, q))
   cause-scan (by-fault x f g) q = fault-scan x g q
   cause-scan (edges x f w es d m h) q = absurd (omega (arith, q))
 
-  carried : (k : Lengths) {n e place : ℕ} {a : Refusal} → GraphCause s b k n e a place → n ≡ 25 → RefusedText a
+  carried : (k : Lengths) {n e place : ℕ} {a : Refusal} → GraphCause mode s b k n e a place → n ≡ 25 → RefusedText a
   carried k (image h) q = absurd (omega (arith, q))
   carried k (bundle r h) q = absurd (omega (arith, q))
   carried k (lent r o h) q = absurd (omega (arith, q))
@@ -163,42 +166,61 @@ module _ (s b : List ℕ) where
 -- ---- the ways out
 
 -- a cause of the very refusal
-moved : {s b : List ℕ} {k : Lengths} {n e p n₁ e₁ p₁ : ℕ} {a a₁ : Refusal} → GraphCause s b k n e a p → Refused n e a p ≡ Refused n₁ e₁ a₁ p₁
-    → GraphCause s b k n₁ e₁ a₁ p₁
-moved {s} {b} {k} {n} {e} {p} {n₁} {e₁} {p₁} {a} {a₁} c h =
+moved : {mode : Mode} {s b : List ℕ} {k : Lengths} {n e p n₁ e₁ p₁ : ℕ} {a a₁ : Refusal} → GraphCause mode s b k n e a p → Refused n e a p ≡ Refused n₁ e₁ a₁ p₁
+    → GraphCause mode s b k n₁ e₁ a₁ p₁
+moved {mode} {s} {b} {k} {n} {e} {p} {n₁} {e₁} {p₁} {a} {a₁} c h =
     let i : n ≡ n₁ = cc in
     let j : e ≡ e₁ = cc in
     let l : a ≡ a₁ = cc in
     let m : p ≡ p₁ = cc in
-    subst (λ x. GraphCause s b k n₁ e₁ a₁ x) m (subst₃ (λ x y z. GraphCause s b k x y z p) i j l c)
+    subst (λ x. GraphCause mode s b k n₁ e₁ a₁ x) m (subst₃ (λ x y z. GraphCause mode s b k x y z p) i j l c)
 
-module _ (s b : List ℕ) (k : Lengths) where
-  caused : (number entry place : ℕ) (a : Refusal) → graphed passOver s b k .answer ≡ Refused number entry a place → GraphCause s b k number entry a place
+module _ (mode : Mode) (s b : List ℕ) (k : Lengths) where
+  pub caused : (number entry place : ℕ) (a : Refusal) → graphed mode s b k .answer ≡ Refused number entry a place → GraphCause mode s b k number entry a place
   unfolding graphed
-  caused number entry place a h = go (imageAt s) (bundleAt b) (tooShort (longestText b) k) (graphHere s b) refl refl refl refl h
+  caused number entry place a h = go (imageAt s) (bundleAt b) (tooShort (longestText b) k) (graphHere mode s b) refl refl refl refl h
     where
       go : (x : Ans Library) (y : Ans (List Text)) (short : Bool) (g : Graph) → imageAt s ≡ x → bundleAt b ≡ y → tooShort (longestText b) k ≡ short
-          → graphHere s b ≡ g → before x y short (resultOf (wordsAt passOver s) g) .answer ≡ Refused number entry a place
-          → GraphCause s b k number entry a place
+          → graphHere mode s b ≡ g → before x y short (resultOf (wordsAt mode s) g) .answer ≡ Refused number entry a place
+          → GraphCause mode s b k number entry a place
       go (bad p) y short g e f t q h = moved (image e) h
       go (good l i) (bad p) short g e f t q h = moved (bundle (record { value = l; end = i; read = e }) f) h
       go (good l i) (good o j) true g e f t q h = moved (lent (record { value = l; end = i; read = e }) (record { value = o; end = j; read = f }) t) h
       go (good l i) (good o j) false (drawing ns es) e f t q h = let z : _≡_ {A = ℕ} 0 1 = cc in absurd (omega arith)
       go (good l i) (good o j) false (fault n m c) e f t q h =
-          let d = demand3 passOver 1024 8192 (textOf b) .refused (plainAt s) n m c q in
+          let d = demand3 mode 1024 8192 (textOf b) .refused (plainAt s) n m c q in
           moved (graph (record { value = l; end = i; read = e }) (record { value = o; end = j; read = f }) t d) h
 
-  buildable : (n m : ℕ) → graphed passOver s b k .answer ≡ Built n m → Buildable s b k
+  buildable : (n m : ℕ) → graphed mode s b k .answer ≡ Built n m → Buildable mode s b k
   buildable n m h =
-      let d = drawn s b k n m h in
-      let o = demand3 passOver 1024 8192 (textOf b) .built (plainAt s) .0 (d .ns, d .es, d .graphIs) in
+      let d = drawn mode s b k n m h in
+      let o = demand3 mode 1024 8192 (textOf b) .built (plainAt s) .0 (d .ns, d .es, d .graphIs) in
       record { image = d .reads; bundle = d .bundle; lent = d .long; sound = o }
 
-  built : Buildable s b k → (n : ℕ) × (m : ℕ) × (graphed passOver s b k .answer ≡ Built n m)
+  built : Buildable mode s b k → (n : ℕ) × (m : ℕ) × (graphed mode s b k .answer ≡ Built n m)
   built c =
-      let g = demand3 passOver 1024 8192 (textOf b) .built (plainAt s) .1 (c .sound) in
-      let e = graph-reached s b k (c .image) (c .bundle) (c .lent) ∙ ap (resultOf (wordsAt passOver s)) (g .2) in
+      let g = demand3 mode 1024 8192 (textOf b) .built (plainAt s) .1 (c .sound) in
+      let e = graph-reached mode s b k (c .image) (c .bundle) (c .lent) ∙ ap (resultOf (wordsAt mode s)) (g .2) in
       (length (g .0), length (g .1), ap (λ (x : Result). x .answer) e)
+
+-- ---- 28
+
+-- the words of a graph's answer begin with its number, or with 0
+begun : (x : Graphed) → getD (graphWords x) 0 0 ≡ 28 → (entry place : ℕ) × (a : Refusal) × (x ≡ Refused 28 entry a place)
+unfolding graphWords
+begun (Built n m) h = absurd (omega (arith, h))
+begun (Refused number entry a place) h = (entry, place, a, ap (λ n. Refused n entry a place) h)
+
+pub never-28 : (s b : List ℕ) (k : Lengths) {number entry place : ℕ} {a : Refusal} → GraphCause complete s b k number entry a place → number ≡ 28 → ⊥
+never-28 s b k (image h) q = omega (arith, q)
+never-28 s b k (bundle r h) q = omega (arith, q)
+never-28 s b k (lent r o h) q = omega (arith, q)
+never-28 s b k (graph r o h c) q = cause-has-node (textOf b) (plainAt s) 1024 8192 c q
+
+never-begun : (s b : List ℕ) (k : Lengths) → getD (graphWords (graphed complete s b k .answer)) 0 0 ≡ 28 → ⊥
+never-begun s b k h =
+    let r = begun (graphed complete s b k .answer) h in
+    never-28 s b k (caused complete s b k 28 (r .0) (r .1) (r .2) (r .3)) refl
 
 pub demand1 : Demand1
 unfolding findModule findSubmodule findImportModule
@@ -213,11 +235,14 @@ demand1 = record {
   import-found = λ s t p. find-broken (firstImportOnly t)
       (λ l. never-broken (λ (m : ImportOnly). m .name) (λ m. m .name .place) (λ m. length (m .revisions)) t (importOnlyOf l)) s p;
   text-found = text-broken;
-  graph-refused = λ s b k number entry place a h. let c = caused s b k number entry place a h in (c, numbers s b k c);
-  scan-carried = λ s b k entry place a h.
-      let x = carried s b k (caused s b k 25 entry place a h) refl in
+  graph-refused = λ mode s b k number entry place a h. let c = caused mode s b k number entry place a h in (c, numbers mode s b k c);
+  scan-carried = λ mode s b k entry place a h.
+      let x = carried mode s b k (caused mode s b k 25 entry place a h) refl in
       let d = refused-scan b (x .0) a (x .1) in
       (x .0, d .0, d .1);
-  graph-built = λ s b k. (λ x. buildable s b k (x .0) (x .1) (x .2), built s b k);
+  graph-built = λ mode s b k. (λ x. buildable mode s b k (x .0) (x .1) (x .2), built mode s b k);
+  has-node = λ s b n e d f g l h.
+      let q = never-begun s b (lengthsOf n e d f g l) in
+      (λ z. q (sym (h .told .number) ∙ z), λ z. q (ap (λ w. getD w 0 0) (sym (h .told .answered)) ∙ z));
   zeros = zeros-left;
 }

@@ -18,7 +18,7 @@ use Rattle.graph.specs.Numbers.{Row}
 use Rattle.graph.proofs.Numbers.{mem-row}
 use Rattle.graph_edges.specs.Edges.{rowsIn}
 use Rattle.library_bundle.specs.Reading.{longestText}
-use Rattle.graph.specs.Nodes.{passOver}
+use Rattle.graph.specs.Nodes.{Mode}
 use Rattle.yanglib.specs.ToGraph.{graphed, AnswerFits, Graphs}
 use Rattle.graph_tables.specs.Tables.{nodeWords, rowWords}
 use Rattle.graph_tables.specs.Lengths.{lengthsOf, tooShort}
@@ -189,22 +189,22 @@ all-small n (r ∷ rs) h =
     let k = h r (List·Memᴰ·head refl) in
     rw (lt-ltb (r .from) n (k .0), lt-ltb (r .to) n (k .1), all-small n rs (λ q j. h q (List·Memᴰ·tail j)))
 
-module _ (s b n e d f g l : List ℕ) (i j : ℕ) {n₁ e₁ d₁ f₁ g₁ l₁ : List ℕ} (bytes : AllBytes s)
-    (h : Graphs s b n e d f g l (Built i j) n₁ e₁ d₁ f₁ g₁ l₁) where
+module _ (mode : Mode) (s b n e d f g l : List ℕ) (i j : ℕ) {n₁ e₁ d₁ f₁ g₁ l₁ : List ℕ} (bytes : AllBytes s)
+    (h : Graphs mode s b n e d f g l (Built i j) n₁ e₁ d₁ f₁ g₁ l₁) where
   few : (i ≤ 1024) × (j ≤ 8192)
   unfolding AnswerFits
-  few = subst AnswerFits (sym (h .answer)) (answer-fits passOver s b bytes (lengthsOf n e d f g l))
+  few = subst AnswerFits (sym (h .answer)) (answer-fits mode s b bytes (lengthsOf n e d f g l))
 
   lent : tooShort (longestText b) (lengthsOf n e d f g l) ≡ false
-  lent = demand1 .graph-built s b (lengthsOf n e d f g l) .0 (i, j, sym (h .answer)) .lent
+  lent = demand1 .graph-built mode s b (lengthsOf n e d f g l) .0 (i, j, sym (h .answer)) .lent
 
   enough : Enough (longestText b) (lengthsOf n e d f g l)
   enough = long-enough (longestText b) (lengthsOf n e d f g l) lent
 
   tables-fit : fits (length n₁) i e₁ j ≡ true
   tables-fit =
-      let r = bytes-demand3 .called s b n e d f g l i j bytes h in
-      let x = graphed passOver s b (lengthsOf n e d f g l) in
+      let r = bytes-demand3 mode .called s b n e d f g l i j bytes h in
+      let x = graphed mode s b (lengthsOf n e d f g l) in
       let a : 2048 ≤ length n₁ = rw (h .nodes) (omega (arith, enough .nodes, padded-least (length n) (nodeWords (x .nodes)))) in
       let c : 16384 ≤ length e₁ = rw (h .edges) (omega (arith, enough .edges, padded-least (length e) (rowWords (x .rows)))) in
       rw (
@@ -220,7 +220,7 @@ order-calls = record {
   ordered = answers;
   check = check-given;
   tables-fit = tables-fit;
-  registered = λ s b n e d f g l i j table {n₁} {e₁} bytes h z u v p q k.
-      let r = bytes-demand3 .called s b n e d f g l i j bytes h in
+  registered = λ mode s b n e d f g l i j table {n₁} {e₁} bytes h z u v p q k.
+      let r = bytes-demand3 mode .called s b n e d f g l i j bytes h in
       answers (length n₁) i e₁ j table .order z .valid .unbroken u v (mem-row (r .exact u v p q .1 k));
 }

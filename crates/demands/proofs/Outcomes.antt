@@ -21,7 +21,6 @@ use Rattle.nuvaleta.specs.Graphs.{Drawn}
 use Rattle.nuvaleta.specs.Orders.{orderWords}
 use Rattle.order.specs.declared.Ordered.{Ordered}
 use Rattle.order.specs.Order.{orderOf}
-use Rattle.graph.specs.Nodes.{passOver}
 use Rattle.graph_build.specs.Result.{Result}
 use Rattle.yanglib.specs.ToGraph.{graphed, Leaves as GraphLeft}
 use Rattle.graph_tables.specs.Tables.{nodeWords, rowWords}
@@ -228,8 +227,8 @@ one-outcome = record {
   host-import = λ s t a b. told-one a b;
   host-text = λ s t a b. told-one a b;
   put = λ x n t t′ l a b. a .words [] ∙ ap (λ k. padded k (nodeWords (namesIn [] x n))) l ∙ sym (b .words []);
-  graph = λ s b n e d f g l n′ e′ d′ f′ g′ l′ ks h k. graph-one (ap (graphed passOver s b) ks) ks h k;
-  host-graph = λ s b n e d f g l n′ e′ d′ f′ g′ l′ ks h k. drawn-one (ap (graphed passOver s b) ks) ks h k;
+  graph = λ mode s b n e d f g l n′ e′ d′ f′ g′ l′ ks h k. graph-one (ap (graphed mode s b) ks) ks h k;
+  host-graph = λ mode s b n e d f g l n′ e′ d′ f′ g′ l′ ks h k. drawn-one (ap (graphed mode s b) ks) ks h k;
   order = λ x i w j t t′ ts {r} {r′} h k.
       let xe = ap (orderOf (length x) i w j) ts in (
         ordered-as r r′ (equals (λ o. o .number) xe (h .number) (k .number)) (equals (λ o. length (o .nodes)) xe (h .count) (k .count)),

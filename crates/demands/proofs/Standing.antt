@@ -20,7 +20,7 @@ use Rattle.library_items.specs.Table.{setsRead, Reads}
 use Rattle.library_items.proofs.Told.{library-told}
 use Rattle.graph_nodes.specs.Adding.{Adding, so, isEntry, isSub, addName, addItem, addItems, plainAt, wordsAt}
 use Rattle.graph_nodes.proofs.Gathering.{added}
-use Rattle.graph.specs.Nodes.{passOver, nodesOf}
+use Rattle.graph.specs.Nodes.{Mode, passOver, complete, modeOf, nodesOf}
 use Rattle.graph_build.proofs.Outcome.{nodes-named, image-here, revised-here}
 use Rattle.demands.specs.Demand3.{nameOf}
 
@@ -103,32 +103,36 @@ module _ (s : List ℕ) where
       go true = f
       go false = and-stand w f e
 
-  item-added : (a : Adding) (x : ItemOf PlacedName) → AllStand (a .nodes) → nameOf s (x .name) ≡ x .name .text → AllStand (addItem a x .nodes)
+  item-added : (c : Bool) (a : Adding) (x : ItemOf PlacedName) → AllStand (a .nodes) → nameOf s (x .name) ≡ x .name .text → AllStand (addItem c a x .nodes)
   unfolding addItem
-  item-added a x f e = go (isEntry (x .kind)) (a .adding && isSub (x .kind))
+  item-added c a x f e = go (isEntry (x .kind)) (a .adding && isSub c (x .kind))
     where
-      go : (t u : Bool) → AllStand (cond t (addName a false (x .name)) (cond u (addName a true (x .name)) a) .nodes)
-      go true u = name-added a false (x .name) f e
+      go : (t u : Bool) → AllStand (cond t (addName a c (x .name)) (cond u (addName a true (x .name)) a) .nodes)
+      go true u = name-added a c (x .name) f e
       go false true = name-added a true (x .name) f e
       go false false = f
 
-  items-added : (xs : Items) (a : Adding) → AllStand (a .nodes) → Standing xs → AllStand (addItems a xs .nodes)
+  items-added : (c : Bool) (xs : Items) (a : Adding) → AllStand (a .nodes) → Standing xs → AllStand (addItems c a xs .nodes)
   unfolding addItems
-  items-added [] a f h = f
-  items-added (x ∷ xs) a f h = items-added xs (addItem a x) (item-added a x f (h x (List·Memᴰ·head refl))) (λ y m. h y (List·Memᴰ·tail m))
+  items-added c [] a f h = f
+  items-added c (x ∷ xs) a f h = items-added c xs (addItem c a x) (item-added c a x f (h x (List·Memᴰ·head refl))) (λ y m. h y (List·Memᴰ·tail m))
 
   module _ (bytes : AllBytes s) (reads : Reads (imageAt s)) where
-    words-stand : AllStand (wordsAt passOver s)
+    gathered-stand : (c : Bool) → AllStand (wordsAt (modeOf c) s)
     unfolding wordsAt
-    words-stand =
+    gathered-stand c =
         let e : setsRead s 0 ≡ good (itemsOf (reads .value)) (reads .end) = library-told s 0 (accepted s (reads .read) .read) in
         let h : Standing (itemsOf (libraryOf s))
         = subst (λ l. Standing (itemsOf l)) (sym (image-here s reads)) (sets-sure (itemsOf (reads .value)) (reads .end) e) in
-        subst AllStand (added (libraryOf s) (revised-here s reads bytes)) (items-added (itemsOf (libraryOf s)) (so [] false) none-stand h)
+        subst AllStand (added c (libraryOf s) (revised-here s reads bytes)) (items-added c (itemsOf (libraryOf s)) (so [] false) none-stand h)
+
+    words-stand : (mode : Mode) → AllStand (wordsAt mode s)
+    words-stand passOver = gathered-stand false
+    words-stand complete = gathered-stand true
 
     -- read from the bytes at place and length, the names are the nodes of the library
-    pub names-read : map (nameOf s) (wordsAt passOver s) ≡ nodesOf passOver (plainAt s)
-    names-read = go (wordsAt passOver s) words-stand ∙ nodes-named passOver s
+    pub names-read : (mode : Mode) → map (nameOf s) (wordsAt mode s) ≡ nodesOf mode (plainAt s)
+    names-read mode = go (wordsAt mode s) (words-stand mode) ∙ nodes-named mode s
       where
         go : (ws : List PlacedName) → AllStand ws → map (nameOf s) ws ≡ map plainName ws
         go [] f = refl

@@ -22,7 +22,7 @@ use Rattle.library_image.specs.Image.{imageAt}
 use Rattle.library_image.specs.Library.{Library}
 use Rattle.library_bundle.specs.Bundle.{Text, bundleAt}
 use Rattle.library_bundle.specs.Reading.{longestText}
-use Rattle.graph.specs.Nodes.{passOver}
+use Rattle.graph.specs.Nodes.{Mode}
 use Rattle.graph.specs.Graph.{Graph, graph, fault}
 use Rattle.graph_nodes.specs.Adding.{wordsAt}
 use Rattle.graph_tables.specs.Tables.{nodeWords, rowWords}
@@ -101,14 +101,14 @@ record Undrawn (x : Result) : Type 0 where
   nodes : x .nodes ≡ []
   rows : x .rows ≡ []
 
-undrawn : (s b : List ℕ) (k : Lengths) (number entry : ℕ) (a : Refusal) (place : ℕ) → graphed passOver s b k .answer ≡ RefusedGraph number entry a place
-    → Undrawn (graphed passOver s b k)
+undrawn : (mode : Mode) (s b : List ℕ) (k : Lengths) (number entry : ℕ) (a : Refusal) (place : ℕ) → graphed mode s b k .answer ≡ RefusedGraph number entry a place
+    → Undrawn (graphed mode s b k)
 unfolding graphed
-undrawn s b k number entry a place h = go (imageAt s) (bundleAt b) (tooShort (longestText b) k) (graphHere s b) h
+undrawn mode s b k number entry a place h = go (imageAt s) (bundleAt b) (tooShort (longestText b) k) (graphHere mode s b) h
   where
     go : (x : Ans Library) (y : Ans (List Text)) (short : Bool) (g : Graph)
-        → before x y short (resultOf (wordsAt passOver s) g) .answer ≡ RefusedGraph number entry a place
-        → Undrawn (before x y short (resultOf (wordsAt passOver s) g))
+        → before x y short (resultOf (wordsAt mode s) g) .answer ≡ RefusedGraph number entry a place
+        → Undrawn (before x y short (resultOf (wordsAt mode s) g))
     go (wrong p) y short g h = record { nodes = refl; rows = refl }
     go (read l i) (wrong p) short g h = record { nodes = refl; rows = refl }
     go (read l i) (read o j) true g h = record { nodes = refl; rows = refl }
@@ -157,8 +157,8 @@ zeros-left = record {
         ap (λ (y : YangModuleMetadata). y .used) (h .answer) ∙ m .used,
         emptied (λ z. z) (m .kept) refl d (h .stored),
       );
-  graph = λ s b n e d f g l {number} {entry} {place} {a} h.
-      graph-left h (undrawn s b (lengthsOf n e d f g l) number entry a place (sym (h .answer)));
+  graph = λ mode s b n e d f g l {number} {entry} {place} {a} h.
+      graph-left h (undrawn mode s b (lengthsOf n e d f g l) number entry a place (sym (h .answer)));
   host-dependencies = λ s d t u h f.
       let r = refused-scan _ (λ z. f (h .number ∙ z)) in
       let z = scan-zero (h .scan) (nothing-kept _ (r .0) (r .1)) in
@@ -179,9 +179,9 @@ zeros-left = record {
         h .words ∙ ap recordWords (m .values) ∙ no-words,
         ap (drop 3) (h .answer) ∙ ap (λ n. n ∷ []) (m .used),
       );
-  host-graph = λ s b n e d f g l h q.
+  host-graph = λ mode s b n e d f g l h q.
       let t = told _ (λ z. q (h .told .number ∙ z)) in (
-        graph-left (h .graph) (undrawn s b (lengthsOf n e d f g l) (t .number) (t .entry) (t .scan) (t .place) (t .refused)),
+        graph-left (h .graph) (undrawn mode s b (lengthsOf n e d f g l) (t .number) (t .entry) (t .scan) (t .place) (t .refused)),
         ap (drop 6) (h .told .answered) ∙ t .behind,
       );
 }

@@ -8,7 +8,7 @@ use mathlib.Core.Path.{_≡_}
 use mathlib.Core.Bool.{Bool, true, false}
 use mathlib.Core.Logic.{_↔_, _⊎_}
 use mathlib.Core.List.{List, [], _∷_, List·Memᴰ}
-use lib.ListN.{length, drop}
+use lib.ListN.{length, getD, drop}
 use Rattle.text.specs.declared.Refusal.{Refusal}
 use Rattle.library_form.specs.Form.{bad}
 use Rattle.library_form.specs.declared.LookUp.the-variants.{Broken}
@@ -30,7 +30,7 @@ use Rattle.nuvaleta.specs.Host.{DependenciesAnswered, PrintedAnswered}
 use Rattle.nuvaleta.specs.Record.{MetadataAnswered}
 use Rattle.nuvaleta.specs.Graphs.{GraphAnswered}
 use Rattle.library_items.specs.Table.{Reads}
-use Rattle.graph.specs.Nodes.{passOver}
+use Rattle.graph.specs.Nodes.{Mode, complete}
 use Rattle.text.specs.Refusal.{noRefusal}
 use Rattle.graph.specs.Meaning.{Sound, Cause}
 use Rattle.graph_nodes.specs.Adding.{plainAt}
@@ -43,12 +43,12 @@ use Rattle.demands_scans.specs.Refusals.{FirstRefusal, RefusedAs, DependenciesR
 -- ---- graphs
 
 -- why: the first of image, bundle, what is lent, and then what crate graph says of the library and the texts
-pub data GraphCause (s b : List ℕ) (k : Lengths) : (number entry : ℕ) → Refusal → (place : ℕ) → Type 0 where
-  image : {p : ℕ} → imageAt s ≡ bad p → GraphCause s b k 20 0 noRefusal p
-  bundle : {p : ℕ} → Reads (imageAt s) → bundleAt b ≡ bad p → GraphCause s b k 21 0 noRefusal p
-  lent : Reads (imageAt s) → Reads (bundleAt b) → tooShort (longestText b) k ≡ true → GraphCause s b k 22 0 noRefusal 0
+pub data GraphCause (mode : Mode) (s b : List ℕ) (k : Lengths) : (number entry : ℕ) → Refusal → (place : ℕ) → Type 0 where
+  image : {p : ℕ} → imageAt s ≡ bad p → GraphCause mode s b k 20 0 noRefusal p
+  bundle : {p : ℕ} → Reads (imageAt s) → bundleAt b ≡ bad p → GraphCause mode s b k 21 0 noRefusal p
+  lent : Reads (imageAt s) → Reads (bundleAt b) → tooShort (longestText b) k ≡ true → GraphCause mode s b k 22 0 noRefusal 0
   graph : {n e : ℕ} {a : Refusal} → Reads (imageAt s) → Reads (bundleAt b) → tooShort (longestText b) k ≡ false
-      → Cause passOver (textOf b) (plainAt s) 1024 8192 n e a → GraphCause s b k n e a 0
+      → Cause mode (textOf b) (plainAt s) 1024 8192 n e a → GraphCause mode s b k n e a 0
 
 pub record GraphNumbers (number entry : ℕ) (a : Refusal) (place : ℕ) : Type 0 where
   pub number-in : List·Memᴰ number (20 ∷ 21 ∷ 22 ∷ 23 ∷ 24 ∷ 25 ∷ 26 ∷ 27 ∷ 28 ∷ 29 ∷ 30 ∷ 31 ∷ [])
@@ -58,11 +58,11 @@ pub record GraphNumbers (number entry : ℕ) (a : Refusal) (place : ℕ) : Type 
   pub place-none : (place ≡ 0) ⊎ List·Memᴰ number (20 ∷ 21 ∷ [])
 
 -- what it takes to be built
-pub record Buildable (s b : List ℕ) (k : Lengths) : Type 0 where
+pub record Buildable (mode : Mode) (s b : List ℕ) (k : Lengths) : Type 0 where
   pub image : Reads (imageAt s)
   pub bundle : Reads (bundleAt b)
   pub lent : tooShort (longestText b) k ≡ false
-  pub sound : Sound passOver (textOf b) (plainAt s) 1024 8192
+  pub sound : Sound mode (textOf b) (plainAt s) 1024 8192
 
 -- ---- zeros
 
@@ -88,8 +88,8 @@ pub record Zeros : Type 0 where
       → (x .length ≡ 0) × Zeroed d e × Zeroed t f × Zeroed u g × Zeroed p q
   pub metadata : (s d : List ℕ) {x : YangModuleMetadata} {e : List ℕ} → MetadataPromises.Extracts s d x e → (x .answer .number ≡ 0 → ⊥)
       → (x .values ≡ Metadata.noValues) × (x .used ≡ 0) × Zeroed d e
-  pub graph : (s b n e d f g l : List ℕ) {number entry place : ℕ} {a : Refusal} {n₁ e₁ d₁ f₁ g₁ l₁ : List ℕ}
-      → Graphs s b n e d f g l (Refused number entry a place) n₁ e₁ d₁ f₁ g₁ l₁ → ZeroedGraph n e d f g l n₁ e₁ d₁ f₁ g₁ l₁
+  pub graph : (mode : Mode) (s b n e d f g l : List ℕ) {number entry place : ℕ} {a : Refusal} {n₁ e₁ d₁ f₁ g₁ l₁ : List ℕ}
+      → Graphs mode s b n e d f g l (Refused number entry a place) n₁ e₁ d₁ f₁ g₁ l₁ → ZeroedGraph n e d f g l n₁ e₁ d₁ f₁ g₁ l₁
   -- the same of a host's calls: i is the number returned, a the answer, w the record. Behind the words that tell the refusal the answer is 0 too
   pub host-dependencies : (s d t u : List ℕ) {i : ℕ} {e f g a : List ℕ} → DependenciesAnswered s d t u i e f g a → (i ≡ 0 → ⊥)
       → Zeroed d e × Zeroed t f × Zeroed u g × (drop 3 a ≡ Padded.zeros 3)
@@ -97,8 +97,8 @@ pub record Zeros : Type 0 where
       → Zeroed d e × Zeroed t f × Zeroed u g × Zeroed p q × (drop 3 a ≡ Padded.zeros 4)
   pub host-metadata : (s d : List ℕ) {i : ℕ} {e w a : List ℕ} → MetadataAnswered s d i e w a → (i ≡ 0 → ⊥)
       → Zeroed d e × (w ≡ Padded.zeros 18) × (drop 3 a ≡ Padded.zeros 1)
-  pub host-graph : (s b n e d f g l : List ℕ) {i : ℕ} {n₁ e₁ d₁ f₁ g₁ l₁ a : List ℕ} → GraphAnswered s b n e d f g l i n₁ e₁ d₁ f₁ g₁ l₁ a
-      → (i ≡ 0 → ⊥) → ZeroedGraph n e d f g l n₁ e₁ d₁ f₁ g₁ l₁ × (drop 6 a ≡ Padded.zeros 2)
+  pub host-graph : (mode : Mode) (s b n e d f g l : List ℕ) {i : ℕ} {n₁ e₁ d₁ f₁ g₁ l₁ a : List ℕ}
+      → GraphAnswered mode s b n e d f g l i n₁ e₁ d₁ f₁ g₁ l₁ a → (i ≡ 0 → ⊥) → ZeroedGraph n e d f g l n₁ e₁ d₁ f₁ g₁ l₁ × (drop 6 a ≡ Padded.zeros 2)
 
 -- ---- the demand
 
@@ -115,12 +115,15 @@ pub record Demand1 : Type 0 where
   pub submodule-found : (s t : List ℕ) (p : ℕ) → (findSubmodule s t ≡ Broken p) ↔ (imageAt s ≡ bad p)
   pub import-found : (s t : List ℕ) (p : ℕ) → (findImportModule s t ≡ Broken p) ↔ (imageAt s ≡ bad p)
   pub text-found : (s t : List ℕ) (p : ℕ) → (lookUp s t ≡ Broken p) ↔ (bundleAt s ≡ bad p)
-  -- to_graph
-  pub graph-refused : (s b : List ℕ) (k : Lengths) (number entry place : ℕ) (a : Refusal) → graphed passOver s b k .answer ≡ Refused number entry a place
-      → GraphCause s b k number entry a place × GraphNumbers number entry a place
+  -- to_graph, in each mode
+  pub graph-refused : (mode : Mode) (s b : List ℕ) (k : Lengths) (number entry place : ℕ) (a : Refusal)
+      → graphed mode s b k .answer ≡ Refused number entry a place → GraphCause mode s b k number entry a place × GraphNumbers number entry a place
   -- 25 carries the answer of the scan of a text in the bundle
-  pub scan-carried : (s b : List ℕ) (k : Lengths) (entry place : ℕ) (a : Refusal) → graphed passOver s b k .answer ≡ Refused 25 entry a place
+  pub scan-carried : (mode : Mode) (s b : List ℕ) (k : Lengths) (entry place : ℕ) (a : Refusal) → graphed mode s b k .answer ≡ Refused 25 entry a place
       → (v : Name) × (d : Dependencies.Dependencies) × (Dependencies.dependencies (textUnder b v) false ≡ Dependencies.bad a d)
-  pub graph-built : (s b : List ℕ) (k : Lengths) → ((n : ℕ) × (m : ℕ) × (graphed passOver s b k .answer ≡ Built n m)) ↔ Buildable s b k
+  pub graph-built : (mode : Mode) (s b : List ℕ) (k : Lengths) → ((n : ℕ) × (m : ℕ) × (graphed mode s b k .answer ≡ Built n m)) ↔ Buildable mode s b k
+  -- nuvaleta_graph_complete never answers 28: i is the number returned, a the answer
+  pub has-node : (s b n e d f g l : List ℕ) {i : ℕ} {n₁ e₁ d₁ f₁ g₁ l₁ a : List ℕ}
+      → GraphAnswered complete s b n e d f g l i n₁ e₁ d₁ f₁ g₁ l₁ a → (i ≡ 28 → ⊥) × (getD a 0 0 ≡ 28 → ⊥)
   -- every refusal leaves zeros
   pub zeros : Zeros

@@ -1,6 +1,7 @@
--- Demand 3, from bytes to names. `graphed passOver s b k` (crate yanglib) is what to_graph promises for an image s, a bundle b and the lengths k of what is
--- lent: its answer, the rows of the node table and those of the edge table. What is an edge (`IsEdge`), and when two libraries are the same but for their
--- order (`Permuted`, `SameEntries`) and each name stands once (`Once`), is in crate graph: Meaning and Demand3.
+-- Demand 3, from bytes to names, in each mode. `graphed mode s b k` (crate yanglib) is what to_graph promises for an image s, a bundle b and the lengths k of
+-- what is lent: its answer, the rows of the node table and those of the edge table. What is an edge (`IsEdge`), and when two libraries are the same but for
+-- their order (`Permuted`, `SameEntries`) and each name stands once (`Once`), is in crate graph: Meaning and Demand3. What the mode `complete` gives beyond it
+-- is in Complete.
 -- Assumes nothing.
 use Prim.Native.Nat.{ℕ, zero, suc, _+_, _*_, _<_}
 use mathlib.Core.Path.{_≡_}
@@ -13,7 +14,7 @@ use Rattle.library_form.specs.Writer.{AllBytes}
 use Rattle.library_image.specs.Image.{imageAt}
 use Rattle.library_image.specs.Library.{Name, PlainLibrary}
 use Rattle.library_items.specs.Table.{Reads}
-use Rattle.graph.specs.Nodes.{passOver, nodesOf}
+use Rattle.graph.specs.Nodes.{Mode, nodesOf}
 use Rattle.graph.specs.Graph.{Text, Edge, edge}
 use Rattle.graph.specs.Numbers.{Row, row}
 use Rattle.graph.specs.Meaning.{IsEdge}
@@ -58,8 +59,8 @@ tableEdges s n m w x = map (between (tableNames s n w)) (rowsIn m x)
 -- ---- first part: what a built graph is
 
 -- n and m: the counts answered; ns: the names of the nodes; rs: the edges in numbers
-pub record RightGraph (text : Name → Text) (l : PlainLibrary) (n m : ℕ) (ns : List Name) (rs : List Row) : Type 0 where
-  pub nodes : ns ≡ nodesOf passOver l
+pub record RightGraph (mode : Mode) (text : Name → Text) (l : PlainLibrary) (n m : ℕ) (ns : List Name) (rs : List Row) : Type 0 where
+  pub nodes : ns ≡ nodesOf mode l
   pub node-count : n ≡ length ns
   pub edge-count : m ≡ length rs
   pub names-differ : List·Nodup ns
@@ -96,20 +97,20 @@ pub data AlikeCalls (s s₁ : List ℕ) : (r : Graphed) (nodes edges : List ℕ)
 
 -- ---- the demand; whatever a slice of bytes lends fulfils AllBytes
 
-pub record BytesDemand3 : Type 0 where
-  pub right : (s b : List ℕ) (k : Lengths) (n m : ℕ) → AllBytes s → graphed passOver s b k .answer ≡ Built n m
-      → RightGraph (textOf b) (plainAt s) n m (names s (graphed passOver s b k)) (graphed passOver s b k .rows)
+pub record BytesDemand3 (mode : Mode) : Type 0 where
+  pub right : (s b : List ℕ) (k : Lengths) (n m : ℕ) → AllBytes s → graphed mode s b k .answer ≡ Built n m
+      → RightGraph mode (textOf b) (plainAt s) n m (names s (graphed mode s b k)) (graphed mode s b k .rows)
   -- the same of the tables that a call leaves: n₁ with the nodes, e₁ with the edges
   pub called : (s b n e d f g l : List ℕ) (i j : ℕ) {n₁ e₁ d₁ f₁ g₁ l₁ : List ℕ} → AllBytes s
-      → Graphs s b n e d f g l (Built i j) n₁ e₁ d₁ f₁ g₁ l₁ → RightGraph (textOf b) (plainAt s) i j (tableNames s i n₁) (rowsIn j e₁)
+      → Graphs mode s b n e d f g l (Built i j) n₁ e₁ d₁ f₁ g₁ l₁ → RightGraph mode (textOf b) (plainAt s) i j (tableNames s i n₁) (rowsIn j e₁)
   -- the same modules and import-only modules in other sets and another order
   pub permuted : (s s₁ b : List ℕ) (k : Lengths) → WellFormed s → WellFormed s₁ → Permuted (plainAt s) (plainAt s₁) → Once (plainAt s)
-      → Alike s s₁ (graphed passOver s b k) (graphed passOver s₁ b k)
+      → Alike s s₁ (graphed mode s b k) (graphed mode s₁ b k)
   -- the stronger one: the names in their lists may stand in another order too
   pub spread : (s s₁ b : List ℕ) (k : Lengths) → WellFormed s → WellFormed s₁ → SameEntries (plainAt s) (plainAt s₁) → Once (plainAt s)
-      → Once (plainAt s₁) → Alike s s₁ (graphed passOver s b k) (graphed passOver s₁ b k)
+      → Once (plainAt s₁) → Alike s s₁ (graphed mode s b k) (graphed mode s₁ b k)
   -- and with either of these the tables that two calls leave are alike too, whatever they held, if the same lengths are lent; the second call has an accent
   pub called-alike : (s s₁ b n e d f g l n′ e′ d′ f′ g′ l′ : List ℕ) → lengthsOf n e d f g l ≡ lengthsOf n′ e′ d′ f′ g′ l′ → WellFormed s → WellFormed s₁
-      → Alike s s₁ (graphed passOver s b (lengthsOf n e d f g l)) (graphed passOver s₁ b (lengthsOf n e d f g l))
-      → {r r′ : Graphed} {n₁ e₁ d₁ f₁ g₁ l₁ n₁′ e₁′ d₁′ f₁′ g₁′ l₁′ : List ℕ} → Graphs s b n e d f g l r n₁ e₁ d₁ f₁ g₁ l₁
-      → Graphs s₁ b n′ e′ d′ f′ g′ l′ r′ n₁′ e₁′ d₁′ f₁′ g₁′ l₁′ → AlikeCalls s s₁ r n₁ e₁ r′ n₁′ e₁′
+      → Alike s s₁ (graphed mode s b (lengthsOf n e d f g l)) (graphed mode s₁ b (lengthsOf n e d f g l))
+      → {r r′ : Graphed} {n₁ e₁ d₁ f₁ g₁ l₁ n₁′ e₁′ d₁′ f₁′ g₁′ l₁′ : List ℕ} → Graphs mode s b n e d f g l r n₁ e₁ d₁ f₁ g₁ l₁
+      → Graphs mode s₁ b n′ e′ d′ f′ g′ l′ r′ n₁′ e₁′ d₁′ f₁′ g₁′ l₁′ → AlikeCalls s s₁ r n₁ e₁ r′ n₁′ e₁′

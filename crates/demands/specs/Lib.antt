@@ -5,3 +5,4 @@ pub mod Demand1
 pub mod OrderCalls
 pub mod Starred
 pub mod Answers
+pub mod Complete

@@ -13,6 +13,7 @@ use Rattle.library_image.specs.Image.{imageBroken}
 use Rattle.library_lists.specs.Lists.{readSeen}
 use Rattle.library_find.specs.Find.{findModule, findSubmodule, findImportModule}
 use Rattle.library_bundle.specs.Bundle.{bundleBroken, looked, lookUp}
+use Rattle.graph.specs.Nodes.{Mode}
 use Rattle.graph.specs.declared.NodeIndex.{NodeIndex}
 use Rattle.graph_marks.specs.Marks.{resolvedCode, includedCode}
 use Rattle.graph_tables.specs.Tables.{Named}
@@ -99,14 +100,14 @@ pub record OneOutcome : Type 1 where
   pub host-text : (s t : List ℕ) {n n′ : ℕ} {a a′ : List ℕ} → let w = toldWords bundleBroken (lookUp s t) in Told w n a → Told w n′ a′ → (n ≡ n′) × (a ≡ a′)
   -- put_nodes; x: index table, n: names in it, t: node table
   pub put : (x : List ℕ) (n : ℕ) (t t′ : List ℕ) → length t ≡ length t′ → {y y′ : List ℕ} → Named x n t y → Named x n t′ y′ → y ≡ y′
-  -- to_graph and nuvaleta_graph; s: image, b: bundle; x₁ to x₆: node table, edge table, value store, import table, include table, levels; y: at exit
-  pub graph : (s b : List ℕ) (x₁ x₂ x₃ x₄ x₅ x₆ x₁′ x₂′ x₃′ x₄′ x₅′ x₆′ : List ℕ) → lengthsOf x₁ x₂ x₃ x₄ x₅ x₆ ≡ lengthsOf x₁′ x₂′ x₃′ x₄′ x₅′ x₆′
+  -- to_graph, nuvaleta_graph and nuvaleta_graph_complete; s: image, b: bundle; x₁ to x₆: node table, edge table, value store, import table, include table, levels; y: at exit
+  pub graph : (mode : Mode) (s b : List ℕ) (x₁ x₂ x₃ x₄ x₅ x₆ x₁′ x₂′ x₃′ x₄′ x₅′ x₆′ : List ℕ) → lengthsOf x₁ x₂ x₃ x₄ x₅ x₆ ≡ lengthsOf x₁′ x₂′ x₃′ x₄′ x₅′ x₆′
       → {r r′ : Graphed} {y₁ y₂ y₃ y₄ y₅ y₆ y₁′ y₂′ y₃′ y₄′ y₅′ y₆′ : List ℕ}
-      → Graphs s b x₁ x₂ x₃ x₄ x₅ x₆ r y₁ y₂ y₃ y₄ y₅ y₆ → Graphs s b x₁′ x₂′ x₃′ x₄′ x₅′ x₆′ r′ y₁′ y₂′ y₃′ y₄′ y₅′ y₆′
+      → Graphs mode s b x₁ x₂ x₃ x₄ x₅ x₆ r y₁ y₂ y₃ y₄ y₅ y₆ → Graphs mode s b x₁′ x₂′ x₃′ x₄′ x₅′ x₆′ r′ y₁′ y₂′ y₃′ y₄′ y₅′ y₆′
       → (r ≡ r′) × (y₁ ≡ y₁′) × (y₂ ≡ y₂′) × (y₃ ≡ y₃′) × (y₄ ≡ y₄′) × (y₅ ≡ y₅′) × (y₆ ≡ y₆′)
-  pub host-graph : (s b : List ℕ) (x₁ x₂ x₃ x₄ x₅ x₆ x₁′ x₂′ x₃′ x₄′ x₅′ x₆′ : List ℕ) → lengthsOf x₁ x₂ x₃ x₄ x₅ x₆ ≡ lengthsOf x₁′ x₂′ x₃′ x₄′ x₅′ x₆′
+  pub host-graph : (mode : Mode) (s b : List ℕ) (x₁ x₂ x₃ x₄ x₅ x₆ x₁′ x₂′ x₃′ x₄′ x₅′ x₆′ : List ℕ) → lengthsOf x₁ x₂ x₃ x₄ x₅ x₆ ≡ lengthsOf x₁′ x₂′ x₃′ x₄′ x₅′ x₆′
       → {n n′ : ℕ} {y₁ y₂ y₃ y₄ y₅ y₆ a y₁′ y₂′ y₃′ y₄′ y₅′ y₆′ a′ : List ℕ}
-      → GraphAnswered s b x₁ x₂ x₃ x₄ x₅ x₆ n y₁ y₂ y₃ y₄ y₅ y₆ a → GraphAnswered s b x₁′ x₂′ x₃′ x₄′ x₅′ x₆′ n′ y₁′ y₂′ y₃′ y₄′ y₅′ y₆′ a′
+      → GraphAnswered mode s b x₁ x₂ x₃ x₄ x₅ x₆ n y₁ y₂ y₃ y₄ y₅ y₆ a → GraphAnswered mode s b x₁′ x₂′ x₃′ x₄′ x₅′ x₆′ n′ y₁′ y₂′ y₃′ y₄′ y₅′ y₆′ a′
       → (n ≡ n′) × (y₁ ≡ y₁′) × (y₂ ≡ y₂′) × (y₃ ≡ y₃′) × (y₄ ≡ y₄′) × (y₅ ≡ y₅′) × (y₆ ≡ y₆′) × (a ≡ a′)
   -- order and nuvaleta_order; x: node table, w: edge table, t: order table
   pub order : (x : List ℕ) (i : ℕ) (w : List ℕ) (j : ℕ) (t t′ : List ℕ) → length t ≡ length t′ → {r r′ : Ordered} {y y′ : List ℕ}

@@ -8,6 +8,7 @@ use mathlib.Core.Logic.{_↔_}
 use mathlib.Core.List.{List, []}
 use lib.ListN.{length, getD, take}
 use Rattle.library_form.specs.Writer.{AllBytes}
+use Rattle.graph.specs.Nodes.{Mode}
 use Rattle.graph.specs.Meaning.{IsEdge}
 use Rattle.graph_edges.specs.Edges.{rowsIn}
 use Rattle.graph_nodes.specs.Adding.{plainAt}
@@ -54,10 +55,10 @@ pub record OrderCalls : Type 0 where
   pub check : (nodes n : ℕ) (edges : List ℕ) (m : ℕ) (list : List ℕ) (k p : ℕ)
       → (checkOf nodes n edges m list ≡ checked k p) ↔ CheckCause nodes n edges m list k p
   -- the tables that to_graph leaves fit: 43 never comes for a built graph; n₁ with the nodes, e₁ with the edges
-  pub tables-fit : (s b n e d f g l : List ℕ) (i j : ℕ) {n₁ e₁ d₁ f₁ g₁ l₁ : List ℕ} → AllBytes s
-      → Graphs s b n e d f g l (Built i j) n₁ e₁ d₁ f₁ g₁ l₁ → fits (length n₁) i e₁ j ≡ true
+  pub tables-fit : (mode : Mode) (s b n e d f g l : List ℕ) (i j : ℕ) {n₁ e₁ d₁ f₁ g₁ l₁ : List ℕ} → AllBytes s
+      → Graphs mode s b n e d f g l (Built i j) n₁ e₁ d₁ f₁ g₁ l₁ → fits (length n₁) i e₁ j ≡ true
   -- and where they are ordered, a schema that must be registered before another is: u stands in the order before v
-  pub registered : (s b n e d f g l : List ℕ) (i j table : ℕ) {n₁ e₁ d₁ f₁ g₁ l₁ : List ℕ} → AllBytes s
-      → Graphs s b n e d f g l (Built i j) n₁ e₁ d₁ f₁ g₁ l₁ → orderOf (length n₁) i e₁ j table .number ≡ 0 → (u v : ℕ) → u < i → v < i
+  pub registered : (mode : Mode) (s b n e d f g l : List ℕ) (i j table : ℕ) {n₁ e₁ d₁ f₁ g₁ l₁ : List ℕ} → AllBytes s
+      → Graphs mode s b n e d f g l (Built i j) n₁ e₁ d₁ f₁ g₁ l₁ → orderOf (length n₁) i e₁ j table .number ≡ 0 → (u v : ℕ) → u < i → v < i
       → IsEdge (textOf b) (plainAt s) (named (tableNames s i n₁) u) (named (tableNames s i n₁) v)
       → mem u (until v (orderOf (length n₁) i e₁ j table .nodes)) ≡ true

@@ -32,8 +32,8 @@ use Rattle.graph.proofs.Permuted.{permuted-agree}
 
 -- ---- a list with no repetition is no longer than one that holds it
 
-taken : {e : Edge} {ys : List Edge} → List·Memᴰ e ys
-    → (zs : List Edge) × (length ys ≡ suc (length zs)) × ((x : Edge) → List·Memᴰ x ys → (x ≡ e) ⊎ List·Memᴰ x zs)
+taken : {A : Type 0} {e : A} {ys : List A} → List·Memᴰ e ys
+    → (zs : List A) × (length ys ≡ suc (length zs)) × ((x : A) → List·Memᴰ x ys → (x ≡ e) ⊎ List·Memᴰ x zs)
 taken (List·Memᴰ·head {xs = ys} p) = (ys, refl, λ x m. ⊎-elim (λ q. inl (q ∙ sym p)) (λ n. inr n) (List·Memᴰ·cases-cons m))
 taken (List·Memᴰ·tail {x = y} m) =
     let t = taken m in (
@@ -43,7 +43,7 @@ taken (List·Memᴰ·tail {x = y} m) =
           (List·Memᴰ·cases-cons n),
     )
 
-pub no-longer : (xs ys : List Edge) → List·Nodup xs → ((e : Edge) → List·Memᴰ e xs → List·Memᴰ e ys) → length xs ≤ length ys
+pub no-longer : {A : Type 0} (xs ys : List A) → List·Nodup xs → ((e : A) → List·Memᴰ e xs → List·Memᴰ e ys) → length xs ≤ length ys
 no-longer [] ys d f = omega arith
 no-longer (x ∷ xs) ys d f =
     let t = taken (f x (List·Memᴰ·head refl)) in

@@ -7,7 +7,7 @@ use Prim.Native.Nat.{ℕ}
 use Rattle.text.specs.Keyword.{same}
 use Rattle.library_image.specs.Library.{Name, PlainModule, PlainImportOnly, PlainSet, PlainLibrary, modulesOf, importOnlyOf, submodulesOf}
 use Rattle.library_index.specs.Names.{among, addAll}
-use Rattle.graph.specs.Nodes.{passOver, addGroups, nodesBy}
+use Rattle.graph.specs.Nodes.{passOver, complete, addGroups, nodesBy}
 use Rattle.text.specs.Refusal.{noRefusal}
 use Rattle.graph.specs.Graph.{ScanAnswer, Text, missing, refusing, deps, noEntryText, noIncludedText, scanRefused, unknownModule, unknownSubmodule}
 use Rattle.graph.specs.Graph.{noNode, tooDeep, tooManyNodes, tooManyEdges, textSteps, edge, memE, addBy, run, Graph, graph, fault, walkFrom, graphOf}
@@ -135,7 +135,46 @@ all-right : map (λ (x : Example). graphOf passOver (x .nodeLimit) (x .edgeLimit
 unfolding examples find flatMap modulesOf importOnlyOf submodulesOf same among addAll addGroups nodesBy textSteps memE addBy run walkFrom graphOf
 all-right = refl
 
--- the first of them in numbers
+-- the same with all names as nodes (request 2026-02)
+complete-examples : List Example
+complete-examples =
+    -- refused with 28 above: only the nodes differ, and the rest is as above
+    case (under m [] (s ∷ []) ∷ under s [] [] ∷ []) (set-of (module-of m [] [] [] ∷ []) ∷ set-of (module-of m (s ∷ []) [] [] ∷ []) ∷ [])
+    (graph (m ∷ s ∷ []) (edge s m ∷ [])) ∷
+    case (under m [] (s ∷ []) ∷ []) (set-of (module-of m [] [] [] ∷ []) ∷ set-of (module-of m (s ∷ []) [] [] ∷ []) ∷ [])
+    (fault noIncludedText 1 noRefusal) ∷
+    case (under m [] [] ∷ under s [] (b ∷ []) ∷ under b [] [] ∷ []) (set-of (module-of m (s ∷ []) [] [] ∷ module-of s (b ∷ []) [] [] ∷ []) ∷ [])
+    (graph (m ∷ s ∷ b ∷ []) (edge b s ∷ [])) ∷
+    -- each name where it comes first
+    case (under m [] [] ∷ under b [] [] ∷ [])
+    (set-of (module-of m [] [] [] ∷ module-of b [] [] [] ∷ []) ∷ set-of (module-of m (s ∷ []) [] [] ∷ []) ∷ []) (graph (m ∷ b ∷ s ∷ []) []) ∷
+    -- all revisions count, and their submodules are still not found by the search
+    case (under b [] [] ∷ []) (both-of [] (import-of b ((s ∷ []) ∷ (m ∷ []) ∷ []) ∷ []) ∷ []) (graph (b ∷ s ∷ m ∷ []) []) ∷
+    case (under m [] (s ∷ []) ∷ under b [] [] ∷ []) (both-of (module-of m [] [] [] ∷ []) (import-of b ((s ∷ []) ∷ []) ∷ []) ∷ [])
+    (fault unknownSubmodule 1 noRefusal) ∷
+    -- 30 goes by all names: m, then m again with two submodules
+    record {
+      nodeLimit = 3;
+      edgeLimit = 3;
+      bundle = under m [] [] ∷ [];
+      library = set-of (module-of m [] [] [] ∷ []) ∷ set-of (module-of m (s ∷ b ∷ []) [] [] ∷ []) ∷ [];
+      answer = graph (m ∷ s ∷ b ∷ []) [];
+    } ∷
+    record {
+      nodeLimit = 2;
+      edgeLimit = 3;
+      bundle = under m [] [] ∷ [];
+      library = set-of (module-of m [] [] [] ∷ []) ∷ set-of (module-of m (s ∷ b ∷ []) [] [] ∷ []) ∷ [];
+      answer = fault tooManyNodes 0 noRefusal;
+    } ∷
+    []
+
+all-complete-right : map (λ (x : Example). graphOf complete (x .nodeLimit) (x .edgeLimit) (find (x .bundle)) (x .library)) complete-examples
+    ≡ map (λ (x : Example). x .answer) complete-examples
+unfolding complete-examples find flatMap modulesOf importOnlyOf submodulesOf same among addAll addGroups nodesBy textSteps memE addBy run walkFrom graphOf
+all-complete-right = refl
+
+-- the first of all in numbers
 drawn-first : drawingOf passOver 8192 (find texts) two ≡ drawn (row 2 0 ∷ row 1 0 ∷ row 2 1 ∷ [])
 unfolding find flatMap modulesOf importOnlyOf submodulesOf same among addAll addGroups nodesBy numberOf memR addBy eachO walkCodes walkEntryCodes drawFrom
     codesAt drawingIn drawingOf

@@ -6,7 +6,7 @@ use mathlib.Core.List.{List, [], _∷_, flatMap, List·Memᴰ, List·Memᴰ·hea
 use mathlib.Core.List.{List·Memᴰ·eq-of-singleton, List·Memᴰ·not-nil, Memᴰ·append-left, Memᴰ·append-right}
 use mathlib.Core.Logic.{⊎-elim}
 use mathlib.Core.Bool.{Bool, true, false, cond}
-use Prim.Native.Nat.{ℕ, zero, suc}
+use Prim.Native.Nat.{ℕ, zero, suc, _<_}
 use native.Mathlib.Omega.{arith}
 use Rattle.library_image.specs.Library.{Name, PlainLibrary}
 use Rattle.graph.specs.Nodes.{Mode, nodesOf, memb}
@@ -35,6 +35,17 @@ module _ (mode : Mode) (text : Name → Text) (l : PlainLibrary) (x : Entry) whe
 
   abbrev steps : List Step
   steps = entrySteps W x
+
+  -- ---- the numbers of faults
+  pub fault-below : {n : ℕ} {a : ScanAnswer} → Fault mode text l x n a → n < 30
+  fault-below (entry-missing h) = omega arith
+  fault-below (include-missing r f h) = omega arith
+  fault-below (scan-refused r h) = omega arith
+  fault-below (import-unknown r i u) = omega arith
+  fault-below (listed-unknown m u) = omega arith
+  fault-below (include-unknown r i u) = omega arith
+  fault-below (include-no-node r i m u) = omega arith
+  fault-below (too-deep r f) = omega arith
 
   -- ---- a refusal is a fault
   fault : {n k : ℕ} {a b : ScanAnswer} → List·Memᴰ (stop n a) (stop k b ∷ []) → Fault mode text l x k b → Fault mode text l x n a

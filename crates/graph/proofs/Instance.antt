@@ -14,14 +14,15 @@ use Rattle.text.specs.Keyword.{same}
 use Rattle.text.specs.Refusal.{noRefusal}
 use Rattle.library_image.specs.Library.{Name, PlainModule, PlainImportOnly, PlainLibrary, modulesOf, importOnlyOf, submodulesOf}
 use Rattle.library_index.specs.Names.{among, addAll}
-use Rattle.graph.specs.Nodes.{passOver, addGroups, nodesBy, memb}
+use Rattle.graph.specs.Nodes.{passOver, complete, addGroups, nodesBy, memb}
 use Rattle.graph.specs.Graph.{ScanAnswer, Text, deps, textSteps, Edge, edge, memE, addBy, run, Entry, moduleEntry, entries, graph, fault, walkFrom}
 use Rattle.graph.specs.Graph.{graphOf}
-use Rattle.graph.specs.Meaning.{Gives, imports, includes, lists, AllGivenBy, Fault, entry-missing, include-missing, scan-refused, import-unknown}
-use Rattle.graph.specs.Meaning.{listed-unknown, include-unknown, include-no-node, too-deep, Cause, names, by-fault, edges}
+use Rattle.graph.specs.Meaning.{Gives, imports, includes, lists, AllGivenBy, Fault, Cause, names, by-fault, edges}
 use Rattle.graph.specs.Demand3.{allNames, Once, Permuted, Agree}
 use Rattle.graph.proofs.Tests.{both-bools, mem-memb}
+use Rattle.graph.proofs.Faults.{fault-below}
 use Rattle.graph.proofs.Demand.{no-longer, demand3}
+use Rattle.graph.proofs.Complete.{complete-demand3}
 
 -- names that differ, by test
 unfoldable differ : List Name → Bool
@@ -76,6 +77,10 @@ second : graphOf passOver 1024 8192 text two-sets ≡ graph ((98 ∷ []) ∷ (11
 unfolding text flatMap modulesOf importOnlyOf submodulesOf same among addAll addGroups nodesBy textSteps memE addBy run walkFrom graphOf
 second = refl
 
+-- each name stands once in it, so the other mode gives the same graph
+complete-same : graphOf complete 1024 8192 text one-set ≡ graphOf passOver 1024 8192 text one-set
+complete-same = complete-demand3 1024 8192 text .once one-set once
+
 -- ---- 31 tells the entry with which the edges become too many: a and b each augment themselves, and there is room for one edge
 
 abbrev alone : Name → PlainModule
@@ -104,14 +109,7 @@ one-edge {u} (includes r f) =
 one-edge (lists q k n) = ap₂ edge q (List·Memᴰ·eq-of-singleton k)
 
 no-fault : (x : Entry) {n : ℕ} {a : ScanAnswer} → Fault passOver empty a-and-b x n a → n ≡ 31 → ⊥
-no-fault x (entry-missing h) e = omega (arith, e)
-no-fault x (include-missing r f h) e = omega (arith, e)
-no-fault x (scan-refused r h) e = omega (arith, e)
-no-fault x (import-unknown r i u) e = omega (arith, e)
-no-fault x (listed-unknown m u) e = omega (arith, e)
-no-fault x (include-unknown r i u) e = omega (arith, e)
-no-fault x (include-no-node r i m u) e = omega (arith, e)
-no-fault x (too-deep r f) e = omega (arith, e)
+no-fault x f e = omega (arith, e, fault-below passOver empty a-and-b x f)
 
 not-the-first : {n k : ℕ} {a : ScanAnswer} → Cause passOver empty a-and-b 1024 1 n k a → n ≡ 31 → k ≡ 1 → ⊥
 unfolding flatMap

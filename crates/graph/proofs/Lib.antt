@@ -14,5 +14,6 @@ pub mod Faults
 pub mod Spread
 pub mod Permuted
 pub mod Demand
+pub mod Complete
 pub mod Examples
 pub mod Instance

@@ -69,7 +69,7 @@ unfolding addAll
 names-kept [] ns v m = m
 names-kept (w ∷ ws) ns v m = names-kept ws (addNew itself ns w) v (add-kept ns w v m)
 
-names-new : (ws ns : List Name) (v : Name) → List·Memᴰ v ws → List·Memᴰ v (addAll itself ns ws)
+pub names-new : (ws ns : List Name) (v : Name) → List·Memᴰ v ws → List·Memᴰ v (addAll itself ns ws)
 unfolding addAll
 names-new [] ns v m = absurd (List·Memᴰ·not-nil m)
 names-new (w ∷ ws) ns v m =

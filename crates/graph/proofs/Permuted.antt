@@ -12,7 +12,7 @@ use native.Mathlib.Omega.{arith}
 use Rattle.library_image.specs.Library.{Name, PlainLibrary, modulesOf, importOnlyOf}
 use Rattle.graph.specs.Nodes.{Mode, moduleGroup, revisionGroups, setGroups, groups}
 use Rattle.graph.specs.Graph.{Text, graphOf}
-use Rattle.graph.specs.Demand3.{groupNames, Once, Within, Permuted, Agree}
+use Rattle.graph.specs.Demand3.{groupNames, allNames, Once, Within, SameEntries, Permuted, Agree}
 use Rattle.graph.proofs.Tests.{flatMap-append}
 use Rattle.graph.proofs.Spread.{graphs-agree}
 
@@ -56,6 +56,10 @@ groups-perm {l} {l₁} p =
     Perm·trans (groups-apart l)
     (Perm·trans (Perm·append (Perm·map moduleGroup (p .modules)) (flat-perm revisionGroups (p .importOnly))) (Perm·symm (groups-apart l₁)))
 
+-- so all names are the same but for their order
+pub names-perm : {l l₁ : PlainLibrary} → Permuted l l₁ → Perm (allNames l) (allNames l₁)
+names-perm p = flat-perm groupNames (groups-perm p)
+
 within : {l l₁ : PlainLibrary} → Permuted l l₁ → Within l l₁
 within p = record {
   modules =
@@ -79,10 +83,13 @@ only (s ∷ r ∷ l) t = absurd (∥∥₁-elim t ⊥-prop (λ x. let q = x .1 i
 
 once-too : {l l₁ : PlainLibrary} → Permuted l l₁ → Once l → Once l₁
 once-too p o = record {
-  differ = Perm·nodup (flat-perm groupNames (groups-perm p)) (o .differ);
+  differ = Perm·nodup (names-perm p) (o .differ);
   single = λ i k. only (i .revisions) (∥∥₁-map (Perm·mem-iff (p .importOnly) .1 ∣ k ∣₁) (λ j. o .single i j));
 }
 
+pub same-entries : {l l₁ : PlainLibrary} → Permuted l l₁ → SameEntries l l₁
+same-entries p = record { there = within p; back = within (turned p) }
+
 pub permuted-agree : (mode : Mode) (nodeLimit edgeLimit : ℕ) (text : Name → Text) (l l₁ : PlainLibrary) → Permuted l l₁ → Once l
     → Agree (graphOf mode nodeLimit edgeLimit text l) (graphOf mode nodeLimit edgeLimit text l₁)
-permuted-agree mode nl el text l l₁ p once = graphs-agree mode nl el text l l₁ (record { there = within p; back = within (turned p) }) once (once-too p once)
+permuted-agree mode nl el text l l₁ p once = graphs-agree mode nl el text l l₁ (same-entries p) once (once-too p once)

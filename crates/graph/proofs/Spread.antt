@@ -1,5 +1,5 @@
--- Two spreads of one library, in each of which every name stands once, are both refused or both give the same names and edges: what a walk asks of the
--- library and which steps it takes hang on membership alone.
+-- Two spreads of one library that have the same nodes are both refused or both give the same names and edges: what a walk asks of the library and which steps
+-- it takes hang on membership alone. Where every name stands once they have the same nodes, in each mode.
 -- Assumes nothing.
 use mathlib.Core.Path.{_≡_, refl, sym, ap, _∙_, subst, subst₂}
 use mathlib.Core.List.{List, [], _∷_, _++_, map, flatMap, flatten, List·Mem, List·Memᴰ, List·Memᴰ·head, List·Memᴰ·tail, List·Memᴰ·cases-cons}
@@ -18,6 +18,7 @@ use Rattle.graph.specs.Nodes.{Mode, Group, groups, nodesOf, memb}
 use Rattle.text.specs.Refusal.{noRefusal}
 use Rattle.graph.specs.Graph.{Text, noEntryText, tooManyNodes, deepest, Edge, Step, arc, stop, World, given, textSteps, Entry, moduleEntry, importEntry}
 use Rattle.graph.specs.Graph.{entries, entrySteps, entryNames, submoduleNames, world, Graph, graph, fault, walkOf, graphOf}
+use Rattle.graph.specs.Meaning.{Revised}
 use Rattle.graph.specs.Demand3.{groupNames, allNames, Once, AlikeModule, AlikeImport, Within, SameEntries, Agree, both-refused, both-built}
 use Rattle.graph.proofs.Tests.{both-bools, memᴰ, memb-same, each-in, each-out}
 use Rattle.graph.proofs.Sets.{submodule-in, submodule-out}
@@ -37,7 +38,7 @@ perm-lengthᴰ (List·Permᴰ·trans d f) = perm-lengthᴰ d ∙ perm-lengthᴰ 
 pub perm-length : {A : Type 0} {l l₁ : List A} → Perm l l₁ → length l ≡ length l₁
 perm-length {l = l} {l₁ = l₁} p = ∥∥₁-elim p (ℕ-set (length l) (length l₁)) perm-lengthᴰ
 
-perm-memᴰ : {ws xs : List Name} {v : Name} → Perm ws xs → List·Memᴰ v ws → List·Memᴰ v xs
+pub perm-memᴰ : {ws xs : List Name} {v : Name} → Perm ws xs → List·Memᴰ v ws → List·Memᴰ v xs
 perm-memᴰ p m = memᴰ (Perm·mem-iff p .0 ∣ m ∣₁)
 
 flat-out : {v : Name} (l : List (List Name)) → List·Memᴰ v (flatten l) → (r : List Name) × List·Memᴰ r l × List·Memᴰ v r
@@ -54,6 +55,15 @@ flat-in (List·Memᴰ·tail {x = x} n) m = Memᴰ·append-right x (flat-in n m)
 
 merely : {A : Type 0} {v : Name} {ws : List Name} → ∥ A ∥₁ → (A → List·Memᴰ v ws) → List·Memᴰ v ws
 merely t f = memᴰ (∥∥₁-map t f)
+
+-- each node of the one is a node of the other
+abbrev pub NodesIn : Mode → (l l₁ : PlainLibrary) → Type 0
+NodesIn mode l l₁ = (v : Name) → List·Memᴰ v (nodesOf mode l) → List·Memᴰ v (nodesOf mode l₁)
+
+once-revised : (l : PlainLibrary) → Once l → Revised l
+once-revised l once i m =
+    let e = once .single i m in
+    (e .0, subst (λ (rs : List (List Name)). List·Memᴰ (e .0) rs) (sym (e .1)) (List·Memᴰ·head refl))
 
 module _ {l l₁ : PlainLibrary} (within : Within l l₁) where
   entries-in : (v : Name) → List·Memᴰ v (entryNames l) → List·Memᴰ v (entryNames l₁)
@@ -73,8 +83,8 @@ module _ {l l₁ : PlainLibrary} (within : Within l l₁) where
   submodules-in v m = let q = submodule-out (modulesOf l) m in
       merely (within .modules (q .0) (q .1)) (λ r. submodule-in (modulesOf l₁) (r .1) (perm-memᴰ (r .2 .submodules) (q .2)))
 
-  names-in : Once l₁ → (v : Name) → List·Memᴰ v (allNames l) → List·Memᴰ v (allNames l₁)
-  names-in once v m = let q = each-out groupNames (groups l) m in go (q .0) (grouped l (q .1)) (q .2)
+  pub names-in : Revised l₁ → (v : Name) → List·Memᴰ v (allNames l) → List·Memᴰ v (allNames l₁)
+  names-in revised v m = let q = each-out groupNames (groups l) m in go (q .0) (grouped l (q .1)) (q .2)
     where
       of-import : (j : PlainImportOnly) → List·Memᴰ j (importOnlyOf l₁) → {subs : List Name} → List·Memᴰ subs (j .revisions) → List·Memᴰ v (j .name ∷ subs)
           → List·Memᴰ v (allNames l₁)
@@ -82,9 +92,7 @@ module _ {l l₁ : PlainLibrary} (within : Within l l₁) where
 
       like-import : (i : PlainImportOnly) (r : List Name) → List·Memᴰ r (i .revisions) → (v ≡ i .name) ⊎ List·Memᴰ v r
           → (j : PlainImportOnly) × List·Memᴰ j (importOnlyOf l₁) × AlikeImport i j → List·Memᴰ v (allNames l₁)
-      like-import i r n (inl p) (j, k, a) =
-          let e = once .single j k in
-          of-import j k (subst (λ (l : List (List Name)). List·Memᴰ (e .0) l) (sym (e .1)) (List·Memᴰ·head refl)) (List·Memᴰ·head (p ∙ a .name))
+      like-import i r n (inl p) (j, k, a) = of-import j k (revised j k .1) (List·Memᴰ·head (p ∙ a .name))
       like-import i r n (inr o) (j, k, a) =
           let e = flat-out (j .revisions) (perm-memᴰ (a .submodules) (flat-in n o)) in
           of-import j k (e .1) (List·Memᴰ·tail (e .2))
@@ -101,8 +109,8 @@ module _ {l l₁ : PlainLibrary} (within : Within l l₁) where
           merely (within .importOnly i k) (like-import i (q .0) (q .1) (List·Memᴰ·cases-cons
           (subst (λ (x : Group Name). List·Memᴰ v (groupNames x)) (sym (q .2)) o)))
 
-  nodes-in : (mode : Mode) → Once l₁ → (v : Name) → List·Memᴰ v (nodesOf mode l) → List·Memᴰ v (nodesOf mode l₁)
-  nodes-in mode once v m = nodes-whole mode l₁ (once .differ) v (names-in once v (nodes-only mode l v m))
+  nodes-in : (mode : Mode) → Once l₁ → NodesIn mode l l₁
+  nodes-in mode once v m = nodes-whole mode l₁ (once .differ) v (names-in (once-revised l₁ once) v (nodes-only mode l v m))
 
 -- an entry of the same name that lists no less takes the same steps
 entry-steps : (W : World) (x y : Entry) (s : Step) → x .name ≡ y .name → ((u : Name) → List·Memᴰ u (x .lists) → List·Memᴰ u (y .lists))
@@ -136,33 +144,34 @@ steps-in {l} {l₁} within W s m = let q = each-out (entrySteps W) (entries l) m
 
 -- ---- both are refused, or both are built and the same
 
-record Spread (l l₁ : PlainLibrary) : Type 0 where
-  alike : SameEntries l l₁
-  once : Once l
-  once₁ : Once l₁
-
-turn : {l l₁ : PlainLibrary} → Spread l l₁ → Spread l₁ l
-turn s = record { alike = record { there = s .alike .back; back = s .alike .there }; once = s .once₁; once₁ = s .once }
-
 module _ (mode : Mode) where
-  same-world : {l l₁ : PlainLibrary} → SameEntries l l₁ → Once l → Once l₁ → (text : Name → Text) → world mode text l ≡ world mode text l₁
-  same-world {l} {l₁} alike once once₁ text =
+  record Spread (l l₁ : PlainLibrary) : Type 0 where
+    alike : SameEntries l l₁
+    nodes : NodesIn mode l l₁
+    back : NodesIn mode l₁ l
+
+  turn : {l l₁ : PlainLibrary} → Spread l l₁ → Spread l₁ l
+  turn s = record { alike = record { there = s .alike .back; back = s .alike .there }; nodes = s .back; back = s .nodes }
+
+  same-world : {l l₁ : PlainLibrary} → Spread l l₁ → (text : Name → Text) → world mode text l ≡ world mode text l₁
+  same-world {l} {l₁} sp text =
+      let alike = sp .alike in
       let p : (u : Name) → memb u (entryNames l) ≡ memb u (entryNames l₁) = λ u. memb-same u (entryNames l) (entryNames l₁) (entries-in (alike .there) u)
       (entries-in (alike .back) u) in
       let q : (u : Name) → memb u (submoduleNames l) ≡ memb u (submoduleNames l₁) = λ u. memb-same u (submoduleNames l) (submoduleNames l₁)
       (submodules-in (alike .there) u) (submodules-in (alike .back) u) in
       let r : (u : Name) → memb u (nodesOf mode l) ≡ memb u (nodesOf mode l₁) = λ u. memb-same u (nodesOf mode l) (nodesOf mode l₁)
-      (nodes-in (alike .there) mode once₁ u) (nodes-in (alike .back) mode once u) in
+      (sp .nodes u) (sp .back u) in
       λ i. record { known = λ u. p u i; listed = λ u. q u i; node = λ u. r u i; text = text }
 
   trace-in : {l l₁ : PlainLibrary} → Spread l l₁ → (text : Name → Text) (s : Step) → List·Memᴰ s (trace mode text l) → List·Mem s (trace mode text l₁)
   trace-in {l} {l₁} sp text s m =
       steps-in (sp .alike .there) (world mode text l₁) s (subst (λ W. List·Memᴰ s (flatMap (entrySteps W) (entries l)))
-      (same-world (sp .alike) (sp .once) (sp .once₁) text) m)
+      (same-world sp text) m)
 
   same-nodes : {l l₁ : PlainLibrary} → Spread l l₁ → Perm (nodesOf mode l) (nodesOf mode l₁)
   same-nodes {l} {l₁} sp = perm-ext-iff-of-nodup (nodes-differ mode l) (nodes-differ mode l₁) .1
-      (λ v. (λ m. ∥∥₁-map m (nodes-in (sp .alike .there) mode (sp .once₁) v), λ m. ∥∥₁-map m (nodes-in (sp .alike .back) mode (sp .once) v)))
+      (λ v. (λ m. ∥∥₁-map m (sp .nodes v), λ m. ∥∥₁-map m (sp .back v)))
 
   abbrev allEdges : (Name → Text) → PlainLibrary → List Edge
   allEdges text l = adds [] (trace mode text l)
@@ -205,14 +214,14 @@ module _ (mode : Mode) where
       go (fault n k a) (graph ns es) h h₁ = let q = built-too limit text (turn sp) h₁ in let z : _≡_ {A = ℕ} 0 1 = cc in absurd (omega arith)
       go (fault n k a) (fault n₁ k₁ a₁) h h₁ = both-refused
 
-  pub graphs-agree : (nodeLimit edgeLimit : ℕ) (text : Name → Text) (l l₁ : PlainLibrary) → SameEntries l l₁ → Once l → Once l₁
+  pub nodes-agree : (nodeLimit edgeLimit : ℕ) (text : Name → Text) (l l₁ : PlainLibrary) → SameEntries l l₁ → NodesIn mode l l₁ → NodesIn mode l₁ l
       → Agree (graphOf mode nodeLimit edgeLimit text l) (graphOf mode nodeLimit edgeLimit text l₁)
   unfolding graphOf
-  graphs-agree nl el text l l₁ alike once once₁ =
+  nodes-agree nl el text l l₁ alike nodes back =
       go (ltb nl (length (nodesOf mode l))) (ltb nl (length (nodesOf mode l₁))) (ap (ltb nl) (perm-length (same-nodes sp)))
     where
       sp : Spread l l₁
-      sp = record { alike = alike; once = once; once₁ = once₁ }
+      sp = record { alike = alike; nodes = nodes; back = back }
 
       go : (b c : Bool) → b ≡ c
           → Agree (cond b (fault tooManyNodes 0 noRefusal) (walkOf mode el text l)) (cond c (fault tooManyNodes 0 noRefusal) (walkOf mode el text l₁))
@@ -220,3 +229,8 @@ module _ (mode : Mode) where
       go false false q = walks-agree el text sp
       go true false q = both-bools refl q
       go false true q = both-bools q refl
+
+  pub graphs-agree : (nodeLimit edgeLimit : ℕ) (text : Name → Text) (l l₁ : PlainLibrary) → SameEntries l l₁ → Once l → Once l₁
+      → Agree (graphOf mode nodeLimit edgeLimit text l) (graphOf mode nodeLimit edgeLimit text l₁)
+  graphs-agree nl el text l l₁ alike once once₁ =
+      nodes-agree nl el text l l₁ alike (nodes-in (alike .there) mode once₁) (nodes-in (alike .back) mode once)

@@ -10,6 +10,7 @@ use Rattle.library_index.specs.Names.{among, addNew, addAll}
 use Rattle.library_index.proofs.First.{among-map}
 use Rattle.graph.specs.Nodes.{Mode, passOver, complete, Group, moduleGroup, revisionGroups, setGroups, groups, addGroup, addGroups, nodesBy, itself, memb}
 use Rattle.graph.specs.Nodes.{wordNodes, nodesOf}
+use Rattle.graph.specs.Demand3.{groupNames, allNames}
 
 abbrev texts : List PlacedName → List Name
 texts ws = map plainName ws
@@ -85,3 +86,12 @@ groups-plain (s ∷ l) = map-append plainGroup (setGroups s) (groups l)
 pub node-names : (mode : Mode) (l : Library) → map plainName (wordNodes mode l) ≡ nodesOf mode (plain l)
 unfolding nodesBy
 node-names mode l = groups-added mode (groups l) [] ∙ ap (addGroups itself mode []) (groups-plain l)
+
+-- all names that may become nodes, without places
+group-names-plain : (gs : List (Group PlacedName)) → map plainName (flatMap groupNames gs) ≡ flatMap groupNames (map plainGroup gs)
+unfolding flatMap
+group-names-plain [] = refl
+group-names-plain (g ∷ gs) = map-append plainName (groupNames g) (flatMap groupNames gs) ∙ ap (λ l. texts (groupNames g) ++ l) (group-names-plain gs)
+
+pub names-plain : (l : Library) → map plainName (flatMap groupNames (groups l)) ≡ allNames (plain l)
+names-plain l = group-names-plain (groups l) ∙ ap (flatMap groupNames) (groups-plain l)

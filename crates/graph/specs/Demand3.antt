@@ -13,7 +13,7 @@ use Rattle.graph.specs.Numbers.{numberOf, Row, row, rowOf}
 use Rattle.graph.specs.Meaning.{Revised, IsEdge, Sound, Cause}
 
 -- every name that may become a node, as often as it stands there
-abbrev pub groupNames : Group Name → List Name
+abbrev pub groupNames : {A : Type 0} → Group A → List A
 groupNames g = g .head ∷ g .subs
 
 abbrev pub allNames : PlainLibrary → List Name

@@ -4,3 +4,4 @@ pub mod Graph
 pub mod Numbers
 pub mod Meaning
 pub mod Demand3
+pub mod Complete

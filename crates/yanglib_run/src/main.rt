@@ -1,4 +1,4 @@
-// Replays recorded graphs of the Rust: nodes, edges in order, or which refusal.
+// Replays recorded graphs, those of the Rust and those of a plain reading with all names as nodes: nodes, edges in order, or which refusal.
 use graph_build::Graphed;
 use replay::Tally;
 use text::Refusal;
@@ -41,7 +41,14 @@ fn refusal_agrees(answer: &[u8], number: u32, scan: Refusal) -> bool {
 }
 
 // The graph of an image and a bundle; behind the answer stand the places of the nodes' names and the edges.
-fn graph_agrees(image: &[u8], bundle: &[u8], answer: &[u8], data: &[u8], nodes_at: usize) -> bool {
+fn graph_agrees(
+    image: &[u8],
+    bundle: &[u8],
+    complete: bool,
+    answer: &[u8],
+    data: &[u8],
+    nodes_at: usize,
+) -> bool {
     let mut nodes = [0u32; 2048];
     let mut edges = [0u32; 16384];
     let mut store = [0u8; 65536];
@@ -51,6 +58,7 @@ fn graph_agrees(image: &[u8], bundle: &[u8], answer: &[u8], data: &[u8], nodes_a
     let graphed = yanglib::to_graph(
         image,
         bundle,
+        complete,
         &mut nodes,
         &mut edges,
         &mut store,
@@ -70,12 +78,13 @@ fn graph_agrees(image: &[u8], bundle: &[u8], answer: &[u8], data: &[u8], nodes_a
 }
 
 // A record: image; bundle; number, and the scan's number, keyword and position; the places of the nodes' names; the edges.
-fn record_agrees(data: &[u8], at: usize) -> bool {
+fn record_agrees(complete: bool, data: &[u8], at: usize) -> bool {
     let bundle_at = replay::after(data, at);
     let answer_at = replay::after(data, bundle_at);
     graph_agrees(
         replay::field(data, at),
         replay::field(data, bundle_at),
+        complete,
         replay::field(data, answer_at),
         data,
         replay::after(data, answer_at),
@@ -83,25 +92,33 @@ fn record_agrees(data: &[u8], at: usize) -> bool {
 }
 
 // One record more, if there is one. It has five fields.
-fn step(data: &[u8], run: Tally) -> Tally {
+fn step(complete: bool, data: &[u8], run: Tally) -> Tally {
     let at = run.at;
     if data.len() <= at {
         return run;
     }
-    run.past(record_agrees(data, at), replay::after_fields(data, at, 5))
+    run.past(
+        record_agrees(complete, data, at),
+        replay::after_fields(data, at, 5),
+    )
 }
 
 // All records of a file. A record takes a byte at least.
-fn replay_all(data: &[u8]) -> Tally {
+fn replay_all(complete: bool, data: &[u8]) -> Tally {
     let mut run = replay::start();
     for _ in 0..data.len() {
-        run = step(data, run);
+        run = step(complete, data, run);
     }
     run
 }
 
-fn main() {
+fn replay_file(name: &[u8], complete: bool, what: &[u8]) {
     let mut space = [0u8; 524288];
-    let n = replay::read_file(b"graph.vec", &mut space);
-    replay_all(&space[..n]).say(b" graphs");
+    let n = replay::read_file(name, &mut space);
+    replay_all(complete, &space[..n]).say(what);
+}
+
+fn main() {
+    replay_file(b"graph.vec", false, b" graphs");
+    replay_file(b"complete.vec", true, b" complete graphs");
 }

@@ -1,6 +1,7 @@
 //! nuvaleta order --all FOLDER: the orders of registration of all routers of a folder, on all processors at hand. A router is a pair of files,
 //! NAME.image and NAME.bundle.
 
+use crate::args::Args;
 use crate::io::{printed, put, say};
 use crate::json;
 use crate::router::{order_within, shown, Bench, Outcome, Router, ENDINGS};
@@ -26,14 +27,16 @@ struct Job<'a> {
     folder: &'a Path,
     into: Option<&'a Path>,
     json: bool,
+    /// Whether graphs are drawn with complete nodes.
+    complete: bool,
     /// After so many seconds a router is given up.
     seconds: Option<u32>,
     /// By name: whether there is an image, and a bundle.
     routers: Vec<(OsString, [bool; 2])>,
 }
 
-pub fn run(folder: &OsStr, into: Option<&OsStr>, json: bool, seconds: Option<u32>) -> ExitCode {
-    let (folder, into) = (Path::new(folder), into.map(Path::new));
+pub fn run(folder: &OsStr, args: &Args, seconds: Option<u32>) -> ExitCode {
+    let (folder, into) = (Path::new(folder), args.value("--into").map(Path::new));
     let routers = match routers(folder) {
         Ok(routers) => routers,
         Err(why) => return say(2, format!("nuvaleta: {}: {why}", folder.display())),
@@ -42,7 +45,7 @@ pub fn run(folder: &OsStr, into: Option<&OsStr>, json: bool, seconds: Option<u32
         Some(into) if !into.is_dir() => {
             say(2, format!("nuvaleta: {}: {}", into.display(), if into.exists() { "no folder" } else { "no such folder" }))
         }
-        _ => all(&Job { folder, into, json, seconds, routers }),
+        _ => all(&Job { folder, into, json: args.has("--json"), complete: args.has("--complete"), seconds, routers }),
     }
 }
 
@@ -127,7 +130,7 @@ impl Worker<'_> {
 
     fn one(&mut self, place: usize) -> Done {
         let (name, halves) = &self.job.routers[place];
-        let router = Router { folder: self.job.folder, name, halves: *halves };
+        let router = Router { folder: self.job.folder, name, halves: *halves, complete: self.job.complete };
         let outcome = match self.job.seconds {
             Some(seconds) if *halves == [true; 2] => order_within(&router, seconds),
             _ => self.bench.order(&router),

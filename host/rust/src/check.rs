@@ -82,8 +82,17 @@ pub struct Checked {
 /// assert!(nuvaleta::check(image, b"\x02\x01m\x00\x01b\x00").faults.is_empty());
 /// ```
 pub fn check(image: &[u8], bundle: &[u8]) -> Checked {
+    checked(false, image, bundle)
+}
+
+/// The same for [`crate::graph_complete`]: there is no fault exactly if that graph has an order.
+pub fn check_complete(image: &[u8], bundle: &[u8]) -> Checked {
+    checked(true, image, bundle)
+}
+
+fn checked(complete: bool, image: &[u8], bundle: &[u8]) -> Checked {
     let mut buffers = Buffers::new();
-    let refused = buffers.graph(image, bundle).and_then(|graph| graph.order().map(drop)).err();
+    let refused = buffers.draw(complete, image, bundle).and_then(|graph| graph.order().map(drop)).err();
     let (sets, texts) = match (form::read_image(image), form::read_bundle(bundle)) {
         (Ok(sets), Ok(texts)) => (sets, texts),
         _ => return Checked { faults: refused.into_iter().collect(), warnings: Vec::new() },

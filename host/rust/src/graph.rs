@@ -49,9 +49,18 @@ impl Buffers {
 
     /// The graph of an image and a bundle, or why it is refused.
     pub fn graph<'a>(&mut self, image: &'a [u8], bundle: &[u8]) -> Result<Graph<'a>, Refusal> {
+        self.draw(false, image, bundle)
+    }
+
+    /// The same with complete nodes: [`graph_complete`] says when that is needed.
+    pub fn graph_complete<'a>(&mut self, image: &'a [u8], bundle: &[u8]) -> Result<Graph<'a>, Refusal> {
+        self.draw(true, image, bundle)
+    }
+
+    pub(crate) fn draw<'a>(&mut self, complete: bool, image: &'a [u8], bundle: &[u8]) -> Result<Graph<'a>, Refusal> {
         // no text is longer than the bundle that holds it
         self.store.resize(bundle.len().min(GRAPH_STORE), 0);
-        let answer = sys::graph(image, bundle, self);
+        let answer = sys::graph(complete, image, bundle, self);
         if answer[0] != 0 {
             return Err(refusal::told(answer, image, bundle, self));
         }
@@ -70,6 +79,26 @@ impl Buffers {
 /// includes the next one many times, keep it longer than anyone waits. Texts that are not trusted are for a process that can be ended.
 pub fn graph<'a>(image: &'a [u8], bundle: &[u8]) -> Result<Graph<'a>, Refusal> {
     Buffers::new().graph(image, bundle)
+}
+
+/// The same with complete nodes, for a library that lists a module more than once, with other submodules each time.
+///
+/// The nodes of [`graph`] are the original's: where a module's name is a node already, its submodules are passed over. If a router lists a module in two
+/// sets and a submodule in the second alone, an include of that submodule is refused (28). Here it is a node, and so are the submodules of every revision
+/// of an import-only module. Each name is one node, in the place where it first comes. 28 does not come, and 30 counts these nodes too; all else is as in
+/// [`graph`], and where each name stands once, so are the nodes.
+///
+/// ```
+/// let image = b"\x02\x01\x01m\0\0\0\0\x01\x01m\x01\x01s\0\0\0"; // m in two sets, and with the submodule s in the second
+/// let bundle = b"\x02\x01m\x0ainclude s;\x01s\0";
+/// assert_eq!(nuvaleta::graph(image, bundle).unwrap_err().number(), 28);
+/// let graph = nuvaleta::graph_complete(image, bundle)?;
+/// assert_eq!(graph.nodes, ["m", "s"]);
+/// assert_eq!(graph.order()?.names, ["s", "m"]);
+/// # Ok::<(), nuvaleta::Refusal>(())
+/// ```
+pub fn graph_complete<'a>(image: &'a [u8], bundle: &[u8]) -> Result<Graph<'a>, Refusal> {
+    Buffers::new().graph_complete(image, bundle)
 }
 
 /// All nodes, then all edges by names, one a line.

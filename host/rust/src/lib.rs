@@ -48,10 +48,10 @@ mod walk;
 mod warning;
 mod words;
 
-pub use check::{check, texts, About, Checked};
+pub use check::{check, check_complete, texts, About, Checked};
 pub use clash::Clash;
 pub use find::{find_import_module, find_module, find_submodule, text, ImportModule};
-pub use graph::{graph, Buffers, Edge, Graph};
+pub use graph::{graph, graph_complete, Buffers, Edge, Graph};
 pub use looks::Looks;
 pub use meaning::Meaning;
 pub use order::Order;

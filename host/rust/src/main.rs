@@ -42,9 +42,14 @@ const HELP: &str = include_str!("help/nuvaleta.txt");
 const COMMANDS: [Command; 8] = [
     Command { name: "deps", help: include_str!("help/deps.txt"), options: &["--json"], run: deps },
     Command { name: "meta", help: include_str!("help/meta.txt"), options: &["--json"], run: meta },
-    Command { name: "graph", help: include_str!("help/graph.txt"), options: &["--json"], run: graph },
-    Command { name: "order", help: include_str!("help/order.txt"), options: &["--json", "--all", "--into", "--seconds"], run: order },
-    Command { name: "check", help: include_str!("help/check.txt"), options: &["--json"], run: check },
+    Command { name: "graph", help: include_str!("help/graph.txt"), options: &["--json", "--complete"], run: graph },
+    Command {
+        name: "order",
+        help: include_str!("help/order.txt"),
+        options: &["--json", "--complete", "--all", "--into", "--seconds"],
+        run: order,
+    },
+    Command { name: "check", help: include_str!("help/check.txt"), options: &["--json", "--complete"], run: check },
     Command { name: "texts", help: include_str!("help/texts.txt"), options: &["--json"], run: texts },
     Command { name: "pack", help: include_str!("help/pack.txt"), options: &["--json"], run: pack },
     Command { name: "explain", help: include_str!("help/explain.txt"), options: &["--json", "--keyword", "--at"], run: explain::run },
@@ -121,13 +126,15 @@ fn half(file: &OsStr) -> Result<Vec<u8>, Wrong> {
 /// What is made of the graph of two files.
 fn drawn(args: &Args, made: fn(&Args, nuvaleta::Graph) -> Result<String, Refusal>) -> Ended {
     let [image, bundle] = both(args)?;
-    let told = nuvaleta::graph(&image, &bundle).and_then(|graph| made(args, graph));
+    let draw = if args.has("--complete") { nuvaleta::graph_complete } else { nuvaleta::graph };
+    let told = draw(&image, &bundle).and_then(|graph| made(args, graph));
     Ok(end(args, told, json::refusal))
 }
 
 fn check(args: &Args) -> Ended {
     let [image, bundle] = both(args)?;
-    let checked = nuvaleta::check(&image, &bundle);
+    let check = if args.has("--complete") { nuvaleta::check_complete } else { nuvaleta::check };
+    let checked = check(&image, &bundle);
     Ok(print(u8::from(!checked.faults.is_empty()), &shaped(args, &checked, json::checked)))
 }
 
@@ -147,9 +154,9 @@ fn graph(args: &Args) -> Ended {
 }
 
 fn order(args: &Args) -> Ended {
-    match (args.has("--all"), args.value("--into"), args.words.as_slice()) {
-        (true, into, [folder]) => Ok(all::run(folder, into, args.has("--json"), seconds(args)?)),
-        (false, None, _) if !args.has("--seconds") => drawn(args, |args, graph| Ok(shaped(args, &graph.order()?, json::order))),
+    match (args.has("--all"), args.words.as_slice()) {
+        (true, [folder]) => Ok(all::run(folder, args, seconds(args)?)),
+        (false, _) if !args.has("--into") && !args.has("--seconds") => drawn(args, |args, graph| Ok(shaped(args, &graph.order()?, json::order))),
         _ => usage(),
     }
 }
@@ -218,7 +225,7 @@ fn main() -> ExitCode {
         return help(&args.words).unwrap_or_else(|why| wrong(why, HELP));
     }
     if word == router::ALONE {
-        return router::alone(&args.words);
+        return router::alone(&args);
     }
     match COMMANDS.iter().find(|command| word == command.name) {
         Some(command) => run(command, &args).unwrap_or_else(|why| wrong(why, command.help)),

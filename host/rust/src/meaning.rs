@@ -92,7 +92,8 @@ static MEANINGS: [Meaning; 27] = [
     ),
     row(
         28, "a submodule is included which is no node, since its module was passed over: that module's name was a node already", "",
-        "the library has that module's name twice, and what the second one lists is passed over: list the submodule where the name stands first",
+        "the library has that module's name twice, and the submodules of the second one are passed over: draw the graph with --complete (in a program: \
+         graph_complete), or list the submodule where the name stands first",
     ),
     row(29, "includes go deeper than eight texts, or in a circle", "", "include the submodules from the module itself, or break the circle"),
     row(30, "more than 1,024 nodes", "", "split the library: the different names of modules, import-only modules and their submodules are counted"),

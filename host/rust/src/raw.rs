@@ -1,4 +1,4 @@
-//! include/nuvaleta.h, said in Rust: its lengths and its ten calls, as they are.
+//! include/nuvaleta.h, said in Rust: its lengths and its eleven calls, as they are.
 //!
 //! **The calls are `unsafe`, the one unsafe part of this crate's interface**, for programs that lend buffers of their own. The header says what each
 //! takes, writes and answers, and what a caller owes: lengths that are those of the slices, an `answer` and a `record` that are not null and as long as
@@ -71,7 +71,7 @@ pub const GRAPH_STORE: usize = NUMBER_MOST;
 pub const NODE_ROW: usize = 2;
 /// Words of a row of the edge table.
 pub const EDGE_ROW: usize = 2;
-/// Words of `answer` of [`nuvaleta_graph`].
+/// Words of `answer` of [`nuvaleta_graph`] and [`nuvaleta_graph_complete`].
 pub const GRAPH_ANSWER: usize = 8;
 
 /// Words of an order table that is long enough for every graph.
@@ -105,6 +105,12 @@ extern "C" {
     pub fn nuvaleta_text(bundle: *const u8, bundle_len: usize, name: *const u8, name_len: usize, answer: *mut u32) -> u32;
     /// The graph of an image and a bundle. `answer`: number, entry, the scan's number, keyword and position, place of the fault, nodes, edges.
     pub fn nuvaleta_graph(
+        image: *const u8, image_len: usize, bundle: *const u8, bundle_len: usize, nodes: *mut u32, nodes_len: usize, edges: *mut u32,
+        edges_len: usize, store: *mut u8, store_len: usize, imports: *mut u32, imports_len: usize, includes: *mut u32, includes_len: usize,
+        levels: *mut u32, levels_len: usize, answer: *mut u32,
+    ) -> u32;
+    /// The same with complete nodes: where a name comes again, its submodules are nodes too.
+    pub fn nuvaleta_graph_complete(
         image: *const u8, image_len: usize, bundle: *const u8, bundle_len: usize, nodes: *mut u32, nodes_len: usize, edges: *mut u32,
         edges_len: usize, store: *mut u8, store_len: usize, imports: *mut u32, imports_len: usize, includes: *mut u32, includes_len: usize,
         levels: *mut u32, levels_len: usize, answer: *mut u32,

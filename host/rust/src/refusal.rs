@@ -101,7 +101,7 @@ pub enum Why {
     UnknownModule(Option<Listed>),
     /// 27: an include that is no submodule of a module.
     UnknownSubmodule(Option<Listed>),
-    /// 28: one that is, but not a node.
+    /// 28: one that is, but not a node. With [`crate::graph_complete`] this does not come.
     NoNode,
     /// 29: a text due at depth 9.
     TooDeep,

@@ -1,10 +1,11 @@
 //! One router of a folder: its order of registration, worked out here or in a process of its own, which ends itself when its time is up. (A call of the
 //! library cannot be interrupted inside a thread.)
 
+use crate::args::Args;
 use crate::io::{print, read_into};
 use crate::json;
 use nuvaleta::{Buffers, BUNDLE_MOST, IMAGE_MOST};
-use std::ffi::{OsStr, OsString};
+use std::ffi::OsStr;
 use std::fs::{self, File};
 use std::io;
 use std::os::unix::ffi::OsStrExt;
@@ -25,6 +26,8 @@ pub struct Router<'a> {
     pub folder: &'a Path,
     pub name: &'a OsStr,
     pub halves: [bool; 2],
+    /// Whether its graph is drawn with complete nodes.
+    pub complete: bool,
 }
 
 /// How one ends.
@@ -82,8 +85,8 @@ impl Bench {
         if let Err(why) = self.read(router) {
             return Outcome::NotReadable(why);
         }
-        let graph = self.buffers.graph(&self.image, &self.bundle);
-        match graph.and_then(|graph| Ok((graph.order()?, graph.edges.len()))) {
+        let draw = if router.complete { Buffers::graph_complete } else { Buffers::graph };
+        match draw(&mut self.buffers, &self.image, &self.bundle).and_then(|graph| Ok((graph.order()?, graph.edges.len()))) {
             Ok((order, edges)) => Outcome::InOrder { names: order.to_string(), edges },
             Err(refusal) => Outcome::Refused { said: refusal.to_string(), json: json::refusal(&refusal) },
         }
@@ -135,7 +138,8 @@ pub fn order_within(router: &Router, seconds: u32) -> Outcome {
         Err(e) => return Outcome::GivenUp(format!("since this program is not found: {e}")),
     };
     let words = [OsStr::new(&seconds.to_string()), router.folder.as_os_str(), router.name].map(OsStr::to_os_string);
-    let ran = Command::new(this).arg(ALONE).arg("--").args(words).stdin(Stdio::null()).stderr(Stdio::null()).output();
+    let option = router.complete.then_some("--complete");
+    let ran = Command::new(this).arg(ALONE).args(option).arg("--").args(words).stdin(Stdio::null()).stderr(Stdio::null()).output();
     match ran {
         Ok(ran) if ran.status.code() == Some(i32::from(TIME_UP)) => Outcome::GivenUp(format!("after {seconds} s")),
         Ok(ran) => {
@@ -147,8 +151,8 @@ pub fn order_within(router: &Router, seconds: u32) -> Outcome {
 }
 
 /// Such a process: the seconds, the folder and the name, of which both files are there.
-pub fn alone(words: &[OsString]) -> ExitCode {
-    let (seconds, folder, name) = match words {
+pub fn alone(args: &Args) -> ExitCode {
+    let (seconds, folder, name) = match args.words.as_slice() {
         [seconds, folder, name] => (seconds.to_str().and_then(|seconds| seconds.parse().ok()), folder, name),
         _ => return ExitCode::from(2),
     };
@@ -160,8 +164,9 @@ pub fn alone(words: &[OsString]) -> ExitCode {
         thread::sleep(seconds);
         exit(i32::from(TIME_UP))
     });
+    let router = Router { folder: Path::new(folder), name, halves: [true; 2], complete: args.has("--complete") };
     match clock {
-        Ok(_) => print(0, &Bench::new().order(&Router { folder: Path::new(folder), name, halves: [true; 2] }).written()),
+        Ok(_) => print(0, &Bench::new().order(&router).written()),
         Err(_) => ExitCode::from(2),
     }
 }

@@ -65,12 +65,13 @@ pub fn look_up(what: LookUp, form: &[u8], name: &[u8]) -> [u32; raw::FIND_ANSWER
     answer
 }
 
-/// Number, entry, the scan's number, keyword and position, place, nodes, edges.
-pub fn graph(image: &[u8], bundle: &[u8], b: &mut Buffers) -> [u32; raw::GRAPH_ANSWER] {
+/// Number, entry, the scan's number, keyword and position, place, nodes, edges. With or without complete nodes.
+pub fn graph(complete: bool, image: &[u8], bundle: &[u8], b: &mut Buffers) -> [u32; raw::GRAPH_ANSWER] {
+    let call = if complete { raw::nuvaleta_graph_complete } else { raw::nuvaleta_graph };
     let mut answer = [0; raw::GRAPH_ANSWER];
-    // SAFETY: as above.
+    // SAFETY: as above; the header gives both calls the same form.
     unsafe {
-        raw::nuvaleta_graph(
+        call(
             image.as_ptr(), image.len(), bundle.as_ptr(), bundle.len(), b.nodes.as_mut_ptr(), b.nodes.len(), b.edges.as_mut_ptr(), b.edges.len(),
             b.store.as_mut_ptr(), b.store.len(), b.imports.as_mut_ptr(), b.imports.len(), b.includes.as_mut_ptr(), b.includes.len(),
             b.levels.as_mut_ptr(), b.levels.len(), answer.as_mut_ptr(),

@@ -1,6 +1,6 @@
 //! Whatever is lent, every function answers: bytes of all kinds, damaged images and bundles, graphs and lists that no image gives.
 
-use nuvaleta::{check, dependencies, find_import_module, find_module, find_submodule, graph, metadata, text, Edge, Graph, Line, Refusal};
+use nuvaleta::{check, dependencies, find_import_module, find_module, find_submodule, graph, graph_complete, metadata, text, Edge, Graph, Line, Refusal};
 use vectors::libraries;
 use vectors::rng::Rng;
 use vectors::texts;
@@ -40,6 +40,7 @@ fn damaged_libraries() {
         }
         let list: Vec<usize> = (0..r.below(9)).map(|_| r.below(9)).collect();
         seen[through(graph(&image, &bundle), &list) as usize] += 1;
+        assert_ne!(through(graph_complete(&image, &bundle), &list), 28);
         assert!(check(&image, &bundle).to_string().lines().last().map_or(false, |line| line.contains(" fault")));
     }
     assert!([0, 20, 21, 23, 24, 25, 26, 27, 40].iter().all(|number| seen[*number] > 0), "{seen:?}");
@@ -64,6 +65,7 @@ fn any_bytes() {
         let (some, name) = (bytes(&mut r, 60), bytes(&mut r, 4));
         through(graph(&some, &name), &[]);
         through(graph(b"\0", &some), &[]);
+        through(graph_complete(&some, &name), &[]);
         assert!(check(&some, &name).to_string().contains(" fault"));
         let mut one = [b"\x01\x01t", &[some.len() as u8][..]].concat();
         one.extend(&some);

@@ -1,6 +1,6 @@
 //! All faults of a library at once: beside the graph's own refusal, and mended one by one and together.
 
-use nuvaleta::{check, graph, By, Listed, Looks, Refusal, Why};
+use nuvaleta::{check, check_complete, graph, graph_complete, By, Listed, Looks, Refusal, Why};
 use std::collections::HashSet;
 use vectors::libraries::{self, module, of, only, small, words, ImportOnly, Library, Set};
 use vectors::rng::Rng;
@@ -106,6 +106,24 @@ fn others() {
     library.texts = (0..1_500).map(|i| (format!("m{i}"), String::new())).collect();
     assert_eq!(numbers(&library), [30]);
     assert_eq!(numbers(&Library::default()), []);
+}
+
+/// With complete nodes: 28 is no fault, and all others are the same but for 30, which goes by the complete list.
+#[test]
+fn complete() {
+    let told = |library: &Library| check_complete(&library.image(), &library.bundle()).faults;
+    let sets: [(&[_], &[_]); 2] = [(&[module("m", "")], &[]), (&[module("m", "s")], &[])];
+    assert_eq!(told(&of(&sets, &[("m", "include s;"), ("s", "")])), []);
+    assert_eq!(told(&of(&sets, &[("m", "include s;include x;")])).iter().map(Refusal::number).collect::<Vec<_>>(), [24, 27]);
+    let mut r = Rng::new(83);
+    for _ in 0..2_000 {
+        let library = libraries::library(&mut r);
+        let (image, bundle) = (library.image(), library.bundle());
+        let refused = graph_complete(&image, &bundle).and_then(|graph| graph.order().map(drop)).err();
+        let others = faults(&library).into_iter().filter(|fault| fault.number() <= 27);
+        let due: Vec<Refusal> = others.chain(refused.filter(|refusal| refusal.number() > 27)).collect();
+        assert_eq!(told(&library), due);
+    }
 }
 
 /// Includes that go through two thousand texts, one behind the other: the walk needs no stack for them.

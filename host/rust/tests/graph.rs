@@ -1,6 +1,7 @@
 //! Graphs and refusals through the crate: names, and every refusal in words.
 
-use nuvaleta::{graph, Edge, Refusal, Why};
+use nuvaleta::{graph, graph_complete, Edge, Graph, Refusal, Why};
+use std::iter::once;
 use vectors::libraries::{self, module, of, only, small, words, Library, Set};
 use vectors::rng::Rng;
 
@@ -9,7 +10,7 @@ fn set(modules: impl Iterator<Item = String>) -> Set {
 }
 
 /// What is said of a refusal, whose last line is what can be done about it.
-fn told(refused: Result<nuvaleta::Graph, Refusal>) -> String {
+fn told(refused: Result<Graph, Refusal>) -> String {
     let refusal = refused.expect_err("a refusal");
     assert_eq!(refusal.to_string(), format!("{}\nTo do: {}", refusal.told(), refusal.advice()));
     assert!(!refusal.advice().is_empty());
@@ -48,7 +49,117 @@ fn buffers_are_used_again() {
     for _ in 0..2 {
         assert_eq!(buffers.graph(&good.image(), &good.bundle()).expect("a graph").edges.len(), 1);
         assert_eq!(buffers.graph(&bad.image(), &bad.bundle()).expect_err("a refusal").number(), 27);
+        assert_eq!(buffers.graph_complete(&good.image(), &good.bundle()).expect("a graph").edges.len(), 1);
+        assert_eq!(buffers.graph_complete(&bad.image(), &bad.bundle()).expect_err("a refusal").number(), 27);
     }
+}
+
+// ---- complete nodes
+
+/// Nodes and edges in a line, or a refusal's number and entry.
+fn short(drawn: Result<Graph, Refusal>) -> String {
+    let edge = |edge: &Edge| format!(", {}-{}", edge.from, edge.to);
+    match drawn {
+        Ok(graph) => graph.nodes.join(" ") + &graph.edges.iter().map(edge).collect::<String>(),
+        Err(refusal @ Refusal::Walk { .. }) => format!("{} {}", refusal.number(), refusal.words().split(':').next().unwrap_or_default()),
+        Err(refusal) => refusal.number().to_string(),
+    }
+}
+
+/// Both graphs of a library, the one with complete nodes behind the other.
+fn both(library: &Library) -> [String; 2] {
+    let (image, bundle) = (library.image(), library.bundle());
+    [graph(&image, &bundle), graph_complete(&image, &bundle)].map(short)
+}
+
+#[test]
+fn a_submodule_in_the_second_set_alone() {
+    let twice = |texts: &[(&str, &str)]| both(&of(&[(&[module("m", "")], &[]), (&[module("m", "s")], &[])], texts));
+    let refused = "module m (set 1, entry 1)";
+    assert_eq!(twice(&[("m", "include s;"), ("s", "")]), [format!("28 {refused}"), "m s, 1-0".to_string()]);
+    assert_eq!(twice(&[("m", "include s;")]), [28, 24].map(|number| format!("{number} {refused}")));
+    assert_eq!(twice(&[("m", "include s;"), ("s", "include s;")]), [28, 29].map(|number| format!("{number} {refused}")));
+    assert_eq!(twice(&[("m", ""), ("s", "")]), ["m", "m s"]);
+}
+
+/// Each name is a node where it first comes, its place in the image too.
+#[test]
+fn order_of_complete_nodes() {
+    let sets: [(&[_], &[_]); 2] = [(&[module("m", ""), module("b", "")], &[]), (&[module("m", "s b m")], &[])];
+    let library = of(&sets, &[("m", ""), ("b", "")]);
+    assert_eq!(both(&library), ["m b", "m b s"]);
+    let (image, bundle) = (library.image(), library.bundle());
+    let drawn = graph_complete(&image, &bundle).expect("a graph");
+    let places: Vec<usize> = drawn.nodes.iter().map(|name| name.as_ptr() as usize - image.as_ptr() as usize).collect();
+    assert_eq!(places, [3, 8, 18]);
+}
+
+/// A name that is a node as a submodule, as a module or as an import-only module, and comes again as another of them.
+#[test]
+fn names_that_come_again() {
+    let of_one = |modules: &[_], import_only: &[_]| both(&of(&[(modules, import_only)], &[("m", ""), ("s", "include t;"), ("t", ""), ("b", "")]));
+    assert_eq!(of_one(&[module("m", "s"), module("s", "t")], &[]), ["28 module s (set 1, entry 2)", "m s t, 2-1"]);
+    assert_eq!(of_one(&[module("m", "")], &[only("m", &["t"])]), ["m", "m t"]);
+    assert_eq!(of_one(&[], &[only("b", &["s", "t"])]), ["b s", "b s t"]);
+    assert_eq!(of_one(&[], &[only("b", &["", "s b", "t s"])]), ["b", "b s t"]);
+}
+
+/// A submodule of an import-only module is a node, and still no include finds it.
+#[test]
+fn includes_of_import_only_submodules() {
+    let library = of(&[(&[module("m", "")], &[only("b", &["", "t"])])], &[("m", "include t;"), ("b", ""), ("t", "")]);
+    assert_eq!(both(&library), ["27 module m (set 1, entry 1)"; 2]);
+    let library = of(&[(&[module("m", "")], &[only("b", &["", "t"])])], &[("m", ""), ("b", "include t;"), ("t", "")]);
+    assert_eq!(both(&library), ["27 import-only module b (set 1, entry 2)"; 2]);
+}
+
+/// 30 goes by the complete list.
+#[test]
+fn too_many_complete_nodes() {
+    let some = |from: usize, count: usize| set((from..from + count).map(|i| format!("m{i}")));
+    let mut library = Library { sets: vec![some(0, 512), some(512, 511), set(once("m7".to_string()))], ..Library::default() };
+    library.texts = (0..1_023).map(|i| (format!("m{i}"), String::new())).collect();
+    let counted = |drawn: Result<Graph, Refusal>| drawn.map_or_else(|refusal| refusal.number() as usize, |graph| graph.nodes.len());
+    for (submodules, complete) in [("", 1_023), ("x", 1_024), ("x y", 30)] {
+        library.sets[2].modules = vec![module("m7", submodules)];
+        let (image, bundle) = (library.image(), library.bundle());
+        assert_eq!([graph(&image, &bundle), graph_complete(&image, &bundle)].map(counted), [1_023, complete]);
+    }
+}
+
+/// All names of a library in its order, each where it first comes.
+fn names(library: &Library) -> Vec<&str> {
+    let mut out: Vec<&str> = Vec::new();
+    for set in &library.sets {
+        let modules = set.modules.iter().flat_map(|m| once(&m.name).chain(&m.submodules));
+        let import_only = set.import_only.iter().flat_map(|i| i.revisions.iter().flat_map(move |submodules| once(&i.name).chain(submodules)));
+        modules.chain(import_only).for_each(|name| if !out.contains(&name.as_str()) { out.push(name) });
+    }
+    out
+}
+
+/// Over generated libraries: the nodes are all names, the edges by their names those of the other graph, and the refusals too, but for 28.
+#[test]
+fn complete_beside_the_other() {
+    let by_names = |graph: &Graph| graph.to_string().split("\n\n").nth(1).map(str::to_string);
+    let mut r = Rng::new(37);
+    let mut seen = [0; 3];
+    for _ in 0..6_000 {
+        let library = libraries::library(&mut r);
+        let (image, bundle) = (library.image(), library.bundle());
+        match (graph(&image, &bundle), graph_complete(&image, &bundle)) {
+            (Ok(first), Ok(all)) => {
+                assert_eq!((&all.nodes, by_names(&all)), (&names(&library), by_names(&first)));
+                seen[usize::from(first.nodes.len() < all.nodes.len())] += 1;
+            }
+            (Err(first), all) if first.number() == 28 => {
+                assert!(all.map_or_else(|refusal| refusal.number() != 28, |all| all.nodes == names(&library)));
+                seen[2] += 1;
+            }
+            (first, all) => assert_eq!(first, all),
+        }
+    }
+    assert!(seen.iter().all(|n| *n > 20), "{seen:?}");
 }
 
 // ---- refusals before the walk

@@ -41,13 +41,13 @@ fn parameters(list: &str) -> Vec<String> {
 #[test]
 fn the_calls() {
     let (declared, said) = (calls(HEADER, "uint32_t"), calls(RAW, "    pub fn"));
-    assert_eq!(declared.len(), 10);
+    assert_eq!(declared.len(), 11);
     assert!(declared.keys().eq(said.keys()));
     for (name, list) in &declared {
         let translated: Vec<String> = parameters(list).iter().map(|parameter| translated(parameter)).collect();
         assert_eq!(translated, parameters(said[name]), "{name}");
     }
-    assert_eq!(RAW.matches(") -> u32;").count(), 10);
+    assert_eq!(RAW.matches(") -> u32;").count(), 11);
 }
 
 /// What the header gives a name in an enum.

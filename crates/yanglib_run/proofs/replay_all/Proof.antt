@@ -6,10 +6,10 @@ use Rattle.yanglib_run.proofs.replay_all.Statement.{statement}
 use Rattle.yanglib_run.proofs.replay_all.Tie as tie
 
 abbrev Inv-loop : tie.InvT-loop
-Inv-loop «data» run₀ counter₀ end run counter = Unit {0}
+Inv-loop complete «data» run₀ counter₀ end run counter = Unit {0}
 
 abbrev μ-loop : tie.MeasureT-loop
-μ-loop «data» run₀ counter₀ end run counter = end - counter
+μ-loop complete «data» run₀ counter₀ end run counter = end - counter
 
 pub replay-all-spec : {M : Type 1} → statement M
 replay-all-spec =
