@@ -96,7 +96,8 @@ module _ (mode : Mode) (s b : List ℕ) (k : Lengths) where
 
 -- ---- names and edges of a result
 
-module _ (mode : Mode) (s b : List ℕ) (bytes : AllBytes s) (reads : Reads (imageAt s)) {ns : List Name} {es : List Edge} (e : graphHere mode s b ≡ graph ns es) where
+module _ (mode : Mode) (s b : List ℕ) (bytes : AllBytes s) (reads : Reads (imageAt s)) {ns : List Name} {es : List Edge}
+    (e : graphHere mode s b ≡ graph ns es) where
   right : Right mode (textOf b) (plainAt s) ns es
   right = demand3 mode mostNodes mostEdges (textOf b) .right (plainAt s) ns es e
 
@@ -156,7 +157,8 @@ right-graph mode s b k n m bytes h =
     (subst₂ (λ x y. RightGraph mode (textOf b) (plainAt s) x y (d .ns) (map (rowOf (d .ns)) (d .es))) i j (right-here mode s b bytes (d .reads) (d .graphIs))))
 
 -- and of what a call leaves
-module _ (mode : Mode) (s b n e d f g l : List ℕ) {r : Graphed} {n₁ e₁ d₁ f₁ g₁ l₁ : List ℕ} (bytes : AllBytes s) (h : Graphs mode s b n e d f g l r n₁ e₁ d₁ f₁ g₁ l₁) where
+module _ (mode : Mode) (s b n e d f g l : List ℕ) {r : Graphed} {n₁ e₁ d₁ f₁ g₁ l₁ : List ℕ} (bytes : AllBytes s)
+    (h : Graphs mode s b n e d f g l r n₁ e₁ d₁ f₁ g₁ l₁) where
   abbrev left : Result
   left = graphed mode s b (lengthsOf n e d f g l)
 
@@ -200,8 +202,8 @@ module _ (mode : Mode) (s s₁ b : List ℕ) (k : Lengths) (f : WellFormed s) (f
       (alike-behind (bundleAt b) (tooShort (longestText b) k) (graphs-alike (graphHere mode s b) (graphHere mode s₁ b) refl refl h))
 
 -- and of what two calls leave
-module _ (mode : Mode) (s s₁ b n e d f g l n′ e′ d′ f′ g′ l′ : List ℕ) (ks : lengthsOf n e d f g l ≡ lengthsOf n′ e′ d′ f′ g′ l′) (w : WellFormed s) (w₁ : WellFormed s₁)
-    {r r′ : Graphed} {n₁ e₁ d₁ f₁ g₁ l₁ n₁′ e₁′ d₁′ f₁′ g₁′ l₁′ : List ℕ} (h : Graphs mode s b n e d f g l r n₁ e₁ d₁ f₁ g₁ l₁)
+module _ (mode : Mode) (s s₁ b n e d f g l n′ e′ d′ f′ g′ l′ : List ℕ) (ks : lengthsOf n e d f g l ≡ lengthsOf n′ e′ d′ f′ g′ l′)
+    (w : WellFormed s) (w₁ : WellFormed s₁) {r r′ : Graphed} {n₁ e₁ d₁ f₁ g₁ l₁ n₁′ e₁′ d₁′ f₁′ g₁′ l₁′ : List ℕ} (h : Graphs mode s b n e d f g l r n₁ e₁ d₁ f₁ g₁ l₁)
     (h₁ : Graphs mode s₁ b n′ e′ d′ f′ g′ l′ r′ n₁′ e₁′ d₁′ f₁′ g₁′ l₁′) where
   abbrev Calls : Graphed → Graphed → Type 0
   Calls x y = AlikeCalls s s₁ x n₁ e₁ y n₁′ e₁′

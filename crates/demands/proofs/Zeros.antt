@@ -101,8 +101,8 @@ record Undrawn (x : Result) : Type 0 where
   nodes : x .nodes ≡ []
   rows : x .rows ≡ []
 
-undrawn : (mode : Mode) (s b : List ℕ) (k : Lengths) (number entry : ℕ) (a : Refusal) (place : ℕ) → graphed mode s b k .answer ≡ RefusedGraph number entry a place
-    → Undrawn (graphed mode s b k)
+undrawn : (mode : Mode) (s b : List ℕ) (k : Lengths) (number entry : ℕ) (a : Refusal) (place : ℕ)
+    → graphed mode s b k .answer ≡ RefusedGraph number entry a place → Undrawn (graphed mode s b k)
 unfolding graphed
 undrawn mode s b k number entry a place h = go (imageAt s) (bundleAt b) (tooShort (longestText b) k) (graphHere mode s b) h
   where

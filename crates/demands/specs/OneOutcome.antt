@@ -100,12 +100,13 @@ pub record OneOutcome : Type 1 where
   pub host-text : (s t : List ℕ) {n n′ : ℕ} {a a′ : List ℕ} → let w = toldWords bundleBroken (lookUp s t) in Told w n a → Told w n′ a′ → (n ≡ n′) × (a ≡ a′)
   -- put_nodes; x: index table, n: names in it, t: node table
   pub put : (x : List ℕ) (n : ℕ) (t t′ : List ℕ) → length t ≡ length t′ → {y y′ : List ℕ} → Named x n t y → Named x n t′ y′ → y ≡ y′
-  -- to_graph, nuvaleta_graph and nuvaleta_graph_complete; s: image, b: bundle; x₁ to x₆: node table, edge table, value store, import table, include table, levels; y: at exit
-  pub graph : (mode : Mode) (s b : List ℕ) (x₁ x₂ x₃ x₄ x₅ x₆ x₁′ x₂′ x₃′ x₄′ x₅′ x₆′ : List ℕ) → lengthsOf x₁ x₂ x₃ x₄ x₅ x₆ ≡ lengthsOf x₁′ x₂′ x₃′ x₄′ x₅′ x₆′
+  -- to_graph; nuvaleta_graph and nuvaleta_graph_complete; s: image, b: bundle; x₁ to x₆: node table, edge table, value store, import table, include table,
+  -- levels; y: at exit
+  pub graph : (mode : Mode) (s b x₁ x₂ x₃ x₄ x₅ x₆ x₁′ x₂′ x₃′ x₄′ x₅′ x₆′ : List ℕ) → lengthsOf x₁ x₂ x₃ x₄ x₅ x₆ ≡ lengthsOf x₁′ x₂′ x₃′ x₄′ x₅′ x₆′
       → {r r′ : Graphed} {y₁ y₂ y₃ y₄ y₅ y₆ y₁′ y₂′ y₃′ y₄′ y₅′ y₆′ : List ℕ}
       → Graphs mode s b x₁ x₂ x₃ x₄ x₅ x₆ r y₁ y₂ y₃ y₄ y₅ y₆ → Graphs mode s b x₁′ x₂′ x₃′ x₄′ x₅′ x₆′ r′ y₁′ y₂′ y₃′ y₄′ y₅′ y₆′
       → (r ≡ r′) × (y₁ ≡ y₁′) × (y₂ ≡ y₂′) × (y₃ ≡ y₃′) × (y₄ ≡ y₄′) × (y₅ ≡ y₅′) × (y₆ ≡ y₆′)
-  pub host-graph : (mode : Mode) (s b : List ℕ) (x₁ x₂ x₃ x₄ x₅ x₆ x₁′ x₂′ x₃′ x₄′ x₅′ x₆′ : List ℕ) → lengthsOf x₁ x₂ x₃ x₄ x₅ x₆ ≡ lengthsOf x₁′ x₂′ x₃′ x₄′ x₅′ x₆′
+  pub host-graph : (mode : Mode) (s b x₁ x₂ x₃ x₄ x₅ x₆ x₁′ x₂′ x₃′ x₄′ x₅′ x₆′ : List ℕ) → lengthsOf x₁ x₂ x₃ x₄ x₅ x₆ ≡ lengthsOf x₁′ x₂′ x₃′ x₄′ x₅′ x₆′
       → {n n′ : ℕ} {y₁ y₂ y₃ y₄ y₅ y₆ a y₁′ y₂′ y₃′ y₄′ y₅′ y₆′ a′ : List ℕ}
       → GraphAnswered mode s b x₁ x₂ x₃ x₄ x₅ x₆ n y₁ y₂ y₃ y₄ y₅ y₆ a → GraphAnswered mode s b x₁′ x₂′ x₃′ x₄′ x₅′ x₆′ n′ y₁′ y₂′ y₃′ y₄′ y₅′ y₆′ a′
       → (n ≡ n′) × (y₁ ≡ y₁′) × (y₂ ≡ y₂′) × (y₃ ≡ y₃′) × (y₄ ≡ y₄′) × (y₅ ≡ y₅′) × (y₆ ≡ y₆′) × (a ≡ a′)

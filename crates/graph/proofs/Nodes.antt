@@ -14,7 +14,8 @@ use native.Mathlib.Omega.{arith}
 use lib.ListN.{length, length-append}
 use Rattle.library_image.specs.Library.{Name, PlainModule, PlainImportOnly, PlainSet, PlainLibrary, modulesOf, importOnlyOf}
 use Rattle.library_index.specs.Names.{among, addNew, addAll}
-use Rattle.graph.specs.Nodes.{Mode, passOver, complete, Group, moduleGroup, revisionGroups, setGroups, groups, addGroup, addGroups, nodesBy, itself, nodesOf, memb}
+use Rattle.graph.specs.Nodes.{Mode, passOver, complete, Group, moduleGroup, revisionGroups, setGroups, groups, addGroup, addGroups, nodesBy, itself}
+use Rattle.graph.specs.Nodes.{nodesOf, memb}
 use Rattle.graph.specs.Graph.{entryNames}
 use Rattle.graph.specs.Meaning.{Revised}
 use Rattle.graph.specs.Demand3.{groupNames, allNames}

@@ -186,8 +186,8 @@ module _ (c : Bool) (s table before : List ℕ) (count : ℕ) where
           (subst (λ (u : Grown). GrownAs u s after (addItem c (so (namesIn s tab n) b) (itemWord s (itemIn table i)))) q (w .answer)) in
           record { holding = k .0; adding = k .1; kept = w .kept ∙ g .kept; room = omega arith }
 
-      pub build-full : r ≡ Full → Grew s tab (addItem c (so (namesIn s tab n) b) (itemWord s (itemIn table i))) r after → {entry : List ℕ} → Cleared entry before
-          → Itemized s count table → Bytes s → i < count → Constructed (modeOf c) s entry TooMany after
+      pub build-full : r ≡ Full → Grew s tab (addItem c (so (namesIn s tab n) b) (itemWord s (itemIn table i))) r after → {entry : List ℕ}
+          → Cleared entry before → Itemized s count table → Bytes s → i < count → Constructed (modeOf c) s entry TooMany after
       build-full q w k₀ m bytes l =
           let k : mostNodes < length (so-far c s table (i + 1) .nodes) =
           subst (λ (x : Adding). GrownAs Full s after x) next-so-far (subst

@@ -82,6 +82,11 @@ fn a_submodule_in_the_second_set_alone() {
     assert_eq!(twice(&[("m", ""), ("s", "")]), ["m", "m s"]);
 }
 
+/// Where the nodes' names stand in the image.
+fn places(drawn: Result<Graph, Refusal>, image: &[u8]) -> Vec<usize> {
+    drawn.expect("a graph").nodes.iter().map(|name| name.as_ptr() as usize - image.as_ptr() as usize).collect()
+}
+
 /// Each name is a node where it first comes, its place in the image too.
 #[test]
 fn order_of_complete_nodes() {
@@ -89,9 +94,17 @@ fn order_of_complete_nodes() {
     let library = of(&sets, &[("m", ""), ("b", "")]);
     assert_eq!(both(&library), ["m b", "m b s"]);
     let (image, bundle) = (library.image(), library.bundle());
-    let drawn = graph_complete(&image, &bundle).expect("a graph");
-    let places: Vec<usize> = drawn.nodes.iter().map(|name| name.as_ptr() as usize - image.as_ptr() as usize).collect();
-    assert_eq!(places, [3, 8, 18]);
+    assert_eq!(places(graph_complete(&image, &bundle), &image), [3, 8, 18]);
+}
+
+/// A name below a listing that is passed over is a node where it comes behind that one.
+#[test]
+fn another_place_of_complete_nodes() {
+    let library = of(&[(&[module("m", "")], &[]), (&[module("m", "s"), module("c", "s")], &[])], &[("m", ""), ("c", "")]);
+    assert_eq!(both(&library), ["m c s", "m s c"]);
+    let (image, bundle) = (library.image(), library.bundle());
+    assert_eq!(places(graph(&image, &bundle), &image), [3, 17, 20]);
+    assert_eq!(places(graph_complete(&image, &bundle), &image), [3, 13, 17]);
 }
 
 /// A name that is a node as a submodule, as a module or as an import-only module, and comes again as another of them.
