@@ -35,7 +35,7 @@ const char *make_name(struct choices *from);
 
 /* As many modules, as many edges by imports, at most 255 each module. */
 void make_wide(size_t modules, size_t edges, struct bytes *image, struct bytes *bundle);
-/* So many names, from 66 to 1,026, all but ten in lists of a module and in revisions that come again. */
+/* So many names, from 66 to 1,026, all but ten in lists of a module that comes again and of later revisions. */
 void make_again(size_t names, struct bytes *image, struct bytes *bundle);
 /* As many names as an image of the longest length has room for: in the lists of modules, as modules without lists, or in the revisions of import-only
  * modules; and a bundle with so many empty texts. 600 are one for each name. */

@@ -11,7 +11,7 @@ NUMBER = 2_097_151
 SCANNED = 1_048_576  # the longest text that a scan takes, shorter than what a bundle takes
 
 TO_DO = {
-    "sets": "put several of them together in the document: a graph does not depend on how its modules are spread over sets",
+    "sets": "put several of them together in the document; list a module that stands in two of them once, with the lists of both",
     "submodules": "leave those out that nothing includes; or name the module once more in another set, with the rest, and take --complete",
     "augmenting modules": "name the module once more in another set, with the rest of the list",
     "deviations": "name the module once more in another set, with the rest of the list",

@@ -44,7 +44,7 @@ pub record BytesComplete : Type 0 where
       → Alike s s₁ (graphed complete s b k) (graphed complete s₁ b k)
   pub spread : (s s₁ b : List ℕ) (k : Lengths) → WellFormed s → WellFormed s₁ → SameEntries (plainAt s) (plainAt s₁)
       → Alike s s₁ (graphed complete s b k) (graphed complete s₁ b k)
-  -- where each name stands once, both modes give the same answer, the same nodes with their places and the same edges
+  -- where each name stands once and each import-only module has one revision, both modes give the same answer, the same nodes with their places and the same edges
   pub once : (s b : List ℕ) (k : Lengths) → Once (plainAt s) → graphed complete s b k ≡ graphed passOver s b k
 
 -- the images of Demand3Needs, whose graphs are not alike in the mode `passOver`: now they are, and they are built

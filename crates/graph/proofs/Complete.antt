@@ -1,32 +1,27 @@
--- The mode `complete`: a group adds each of its names that is new, so all groups together add all names, one after another. Where each name stands once, both
--- modes put one group behind the other.
+-- The mode `complete`: a group adds each of its names that is new, so all groups together add all names, one after another.
 -- Assumes nothing.
 use Prim.Native.Nat.{ℕ, _<_}
 use mathlib.Core.Path.{_≡_, refl, sym, ap, _∙_, subst}
-use mathlib.Core.Logic.{_↔_, ⊎-elim}
-use mathlib.Core.Bool.{Bool, true, false, cond}
-use mathlib.Core.List.{List, [], _∷_, _++_, append-assoc, append-nil, map, map-append, flatMap, List·Memᴰ, List·Memᴰ·head, List·Memᴰ·tail, Perm·symm}
+use mathlib.Core.Bool.{cond}
+use mathlib.Core.List.{List, [], _∷_, _++_, map, flatMap, List·Memᴰ, List·Memᴰ·tail, Perm·symm}
 use mathlib.Core.List.{List·Nodup}
-use mathlib.Mathlib.Data.List.Nodup.{of-append-left, disjoint}
 use native.Mathlib.Omega.{arith}
 use lib.ListN.{length}
 use lib.Dec.{ltb}
 use borrow.Author.Tests.{lt-ltb}
 use Rattle.text.specs.Refusal.{noRefusal}
-use Rattle.library_form.specs.Form.{PlacedName}
 use Rattle.library_image.specs.Library.{Name, PlainLibrary, Library, plainName, plain, modulesOf}
-use Rattle.library_index.specs.Names.{among, addNew, addAll}
-use Rattle.library_index.proofs.First.{among-map}
-use Rattle.graph.specs.Nodes.{Mode, passOver, complete, Group, groups, addGroup, addGroups, nodesBy, itself, nodesOf, memb, wordNodes}
-use Rattle.graph.specs.Graph.{ScanAnswer, Text, noNode, tooManyNodes, Edge, Entry, entries, entrySteps, submoduleNames, worldOver, Graph, graph, fault}
+use Rattle.library_index.specs.Names.{addNew, addAll}
+use Rattle.graph.specs.Nodes.{Mode, passOver, complete, Group, groups, addGroups, nodesBy, itself, nodesOf, wordNodes}
+use Rattle.graph.specs.Graph.{ScanAnswer, Text, noNode, tooManyNodes, Entry, entries, entrySteps, submoduleNames, worldOver, fault}
 use Rattle.graph.specs.Graph.{walkFrom, graphOf}
-use Rattle.graph.specs.Meaning.{Revised, Fault, entry-missing, include-missing, scan-refused, import-unknown, listed-unknown, include-unknown}
+use Rattle.graph.specs.Meaning.{Fault, entry-missing, include-missing, scan-refused, import-unknown, listed-unknown, include-unknown}
 use Rattle.graph.specs.Meaning.{include-no-node, too-deep, Cause, names, by-fault, edges}
-use Rattle.graph.specs.Demand3.{groupNames, allNames, Once, SameEntries, Permuted, Agree, Right}
+use Rattle.graph.specs.Demand3.{groupNames, allNames, Once}
 use Rattle.graph.specs.Complete.{EachOnce, CompleteDemand3}
-use Rattle.graph.proofs.Tests.{memb-mem, each-in}
+use Rattle.graph.proofs.Tests.{each-in}
 use Rattle.graph.proofs.Sets.{submodule-out}
-use Rattle.graph.proofs.Nodes.{module-group, names-new, nodes-differ, nodes-only}
+use Rattle.graph.proofs.Nodes.{names-new, groups-new, module-group, nodes-differ, nodes-only, nodes-new}
 use Rattle.graph.proofs.WordNodes.{names-plain}
 use Rattle.graph.proofs.Faults.{fault-below}
 use Rattle.graph.proofs.Spread.{perm-memᴰ, NodesIn, names-in, nodes-agree}
@@ -47,57 +42,6 @@ module _ {A : Type 0} (name : A → Name) where
   groups-all (g ∷ gs) ns =
       groups-all gs (addAll name ns (groupNames g)) ∙ sym (all-append (groupNames g) (flatMap groupNames gs) ns)
 
-  -- ---- each name once
-
-  -- a name that stands only once is not there yet
-  is-new : (ns : List A) (w : A) (ws : List A) → List·Nodup (map name (ns ++ (w ∷ ws))) → among name (name w) ns ≡ false
-  is-new ns w ws d = go (among name (name w) ns) (among-map itself name (name w) ns)
-    where
-      go : (b : Bool) → memb (name w) (map name ns) ≡ b → b ≡ false
-      go true q =
-          absurd (disjoint (subst (λ l. List·Nodup l) (map-append name ns (w ∷ ws)) d) (name w) ∣ memb-mem (name w) (map name ns) q ∣₁ ∣ List·Memᴰ·head refl ∣₁)
-      go false q = refl
-
-  shifted : (ns : List A) (w : A) (ws : List A) → List·Nodup (map name (ns ++ (w ∷ ws))) → List·Nodup (map name ((ns ++ (w ∷ [])) ++ ws))
-  shifted ns w ws d = subst (λ l. List·Nodup (map name l)) (sym (append-assoc ns (w ∷ []) ws)) d
-
-  all-new : (ws ns : List A) → List·Nodup (map name (ns ++ ws)) → addAll name ns ws ≡ ns ++ ws
-  unfolding addAll
-  all-new [] ns d = sym (append-nil ns)
-  all-new (w ∷ ws) ns d =
-      ap (λ b. addAll name (cond b ns (ns ++ (w ∷ []))) ws) (is-new ns w ws d)
-      ∙ all-new ws (ns ++ (w ∷ [])) (shifted ns w ws d)
-      ∙ append-assoc ns (w ∷ []) ws
-
-  group-new : (mode : Mode) (g : Group A) (ns : List A) → List·Nodup (map name (ns ++ groupNames g)) → addGroup name mode ns g ≡ ns ++ groupNames g
-  group-new passOver g ns d =
-      ap (λ b. cond b ns (addAll name (ns ++ (g .head ∷ [])) (g .subs))) (is-new ns (g .head) (g .subs) d)
-      ∙ all-new (g .subs) (ns ++ (g .head ∷ [])) (shifted ns (g .head) (g .subs) d)
-      ∙ append-assoc ns (g .head ∷ []) (g .subs)
-  group-new complete g ns d = all-new (groupNames g) ns d
-
-  groups-new : (mode : Mode) (gs : List (Group A)) (ns : List A) → List·Nodup (map name (ns ++ flatMap groupNames gs))
-      → addGroups name mode ns gs ≡ ns ++ flatMap groupNames gs
-  unfolding addGroups flatMap
-  groups-new mode [] ns d = sym (append-nil ns)
-  groups-new mode (g ∷ gs) ns d =
-      let e : List·Nodup (map name ((ns ++ groupNames g) ++ flatMap groupNames gs))
-      = subst (λ l. List·Nodup (map name l)) (sym (append-assoc ns (groupNames g) (flatMap groupNames gs))) d in
-      let f : List·Nodup (map name (ns ++ groupNames g))
-      = of-append-left (map name (flatMap groupNames gs)) (subst (λ l. List·Nodup l) (map-append name (ns ++ groupNames g) (flatMap groupNames gs)) e) in
-      ap (λ ns₁. addGroups name mode ns₁ gs) (group-new mode g ns f)
-      ∙ groups-new mode gs (ns ++ groupNames g) e
-      ∙ append-assoc ns (groupNames g) (flatMap groupNames gs)
-
-unmapped : (l : List Name) → map itself l ≡ l
-unmapped [] = refl
-unmapped (v ∷ l) = ap (λ t. v ∷ t) (unmapped l)
-
--- the nodes are then all names, in each mode
-nodes-new : (mode : Mode) (l : PlainLibrary) → List·Nodup (allNames l) → nodesOf mode l ≡ allNames l
-unfolding nodesBy
-nodes-new mode l d = groups-new itself mode (groups l) [] (subst (λ t. List·Nodup t) (sym (unmapped (allNames l))) d)
-
 places-new : (mode : Mode) (l : Library) → List·Nodup (allNames (plain l)) → wordNodes mode l ≡ flatMap groupNames (groups l)
 unfolding nodesBy
 places-new mode l d = groups-new plainName mode (groups l) [] (subst (λ t. List·Nodup t) (sym (names-plain l)) d)
@@ -107,6 +51,10 @@ places-new mode l d = groups-new plainName mode (groups l) [] (subst (λ t. List
 nodes-order : (l : PlainLibrary) → nodesOf complete l ≡ addAll itself [] (allNames l)
 unfolding nodesBy
 nodes-order l = groups-all itself (groups l) []
+
+nodes-placed : (l : Library) → wordNodes complete l ≡ addAll plainName [] (flatMap groupNames (groups l))
+unfolding nodesBy
+nodes-placed l = groups-all plainName (groups l) []
 
 name-node : (l : PlainLibrary) (v : Name) → List·Memᴰ v (allNames l) → List·Memᴰ v (nodesOf complete l)
 name-node l v m = subst (λ ns. List·Memᴰ v ns) (sym (nodes-order l)) (names-new (allNames l) [] v m)
@@ -170,6 +118,8 @@ module _ (text : Name → Text) (l : PlainLibrary) where
 pub complete-demand3 : (nodeLimit edgeLimit : ℕ) (text : Name → Text) → CompleteDemand3 nodeLimit edgeLimit text
 complete-demand3 nl el text = record {
   order = nodes-order;
+  placed = nodes-placed;
+  all-once = nodes-each;
   right = λ l ns es h.
       let r = demand3 complete nl el text .right l ns es h in
       (r, subst (λ ws. EachOnce ws (allNames l)) (sym (r .nodes)) (nodes-each l));

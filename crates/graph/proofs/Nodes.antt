@@ -1,19 +1,20 @@
--- The nodes: their names differ, each module and import-only module is one, and where each name stands once every name is one. A name is added only if
+-- The nodes: their names differ, each module and import-only module is one, and where each name stands once they are all names. A name is added only if
 -- it is not there, a group is passed over only if its head is there, and nothing is taken away.
 -- Assumes nothing.
-use mathlib.Core.Path.{_≡_, refl, sym, ap, subst}
+use mathlib.Core.Path.{_≡_, refl, sym, ap, _∙_, subst}
 use mathlib.Core.List.{List, [], _∷_, _++_, map, flatMap, List·Memᴰ, List·Memᴰ·head, List·Memᴰ·tail, List·Memᴰ·cases-cons, List·Memᴰ·append-cases}
 use mathlib.Core.List.{List·Memᴰ·eq-of-singleton, List·Memᴰ·not-nil, Memᴰ·append-left, Memᴰ·append-right, Memᴰ·cast, Memᴰ·map, Memᴰ·of-map, List·Nodup}
-use mathlib.Core.List.{nodup-nil, concat-eq-append}
+use mathlib.Core.List.{nodup-nil, concat-eq-append, append-assoc, append-nil, map-append}
 use mathlib.Core.Logic.{_⊎_, inl, inr, ⊎-elim, ∥∥₁-elim}
 use mathlib.Core.HLevel.{⊥-prop}
 use mathlib.Core.Bool.{Bool, true, false, cond}
-use mathlib.Mathlib.Data.List.Nodup.{concat as nodup-snoc, of-append-right, disjoint}
+use mathlib.Mathlib.Data.List.Nodup.{concat as nodup-snoc, of-append-left, disjoint}
 use Prim.Native.Nat.{_≤_}
 use native.Mathlib.Omega.{arith}
 use lib.ListN.{length, length-append}
 use Rattle.library_image.specs.Library.{Name, PlainModule, PlainImportOnly, PlainSet, PlainLibrary, modulesOf, importOnlyOf}
 use Rattle.library_index.specs.Names.{among, addNew, addAll}
+use Rattle.library_index.proofs.First.{among-map}
 use Rattle.graph.specs.Nodes.{Mode, passOver, complete, Group, moduleGroup, revisionGroups, setGroups, groups, addGroup, addGroups, nodesBy, itself}
 use Rattle.graph.specs.Nodes.{nodesOf, memb}
 use Rattle.graph.specs.Graph.{entryNames}
@@ -124,20 +125,6 @@ group-only passOver ns g v m = go (memb (g .head) ns) m
         (names-only (g .subs) (ns ++ (g .head ∷ [])) v m)
 group-only complete ns g v m = names-only (g .head ∷ g .subs) ns v m
 
--- a group whose head is new is added whole
-group-whole : (mode : Mode) (ns : List Name) (g : Group Name) (v : Name) → (List·Memᴰ (g .head) ns → ⊥) → List·Memᴰ v (groupNames g)
-    → List·Memᴰ v (addGroup itself mode ns g)
-group-whole passOver ns g v f m = go (memb (g .head) ns) refl
-  where
-    go : (t : Bool) → memb (g .head) ns ≡ t → List·Memᴰ v (cond t ns (addAll itself (ns ++ (g .head ∷ [])) (g .subs)))
-    go true q = absurd (f (memb-mem (g .head) ns q))
-    go false q =
-        ⊎-elim
-        (λ p. names-kept (g .subs) (ns ++ (g .head ∷ [])) v (Memᴰ·append-right ns (List·Memᴰ·head p)))
-        (λ n. names-new (g .subs) (ns ++ (g .head ∷ [])) v n)
-        (List·Memᴰ·cases-cons m)
-group-whole complete ns g v f m = names-new (g .head ∷ g .subs) ns v m
-
 -- ---- all groups
 
 groups-nodup : (mode : Mode) (gs : List (Group Name)) (ns : List Name) → List·Nodup ns → List·Nodup (addGroups itself mode ns gs)
@@ -169,20 +156,6 @@ groups-only mode (g ∷ gs) ns v m =
     (λ n. inr (Memᴰ·append-right (groupNames g) n))
     (groups-only mode gs (addGroup itself mode ns g) v m)
 
-groups-whole : (mode : Mode) (gs : List (Group Name)) (ns : List Name) → ((w : Name) → List·Memᴰ w ns → List·Memᴰ w (flatMap groupNames gs) → ⊥)
-    → List·Nodup (flatMap groupNames gs)
-    → (v : Name) → List·Memᴰ v (flatMap groupNames gs) → List·Memᴰ v (addGroups itself mode ns gs)
-unfolding addGroups flatMap
-groups-whole mode [] ns f d v m = absurd (List·Memᴰ·not-nil m)
-groups-whole mode (g ∷ gs) ns f d v m =
-    ⊎-elim
-    (λ n. groups-kept mode gs (addGroup itself mode ns g) v (group-whole mode ns g v (λ o. f (g .head) o (List·Memᴰ·head refl)) n))
-    (groups-whole mode gs (addGroup itself mode ns g) apart (of-append-right (groupNames g) d) v)
-    (List·Memᴰ·append-cases (groupNames g) m)
-  where
-    apart : (w : Name) → List·Memᴰ w (addGroup itself mode ns g) → List·Memᴰ w (flatMap groupNames gs) → ⊥
-    apart w m n = ⊎-elim (λ o. f w o (Memᴰ·append-right (groupNames g) n)) (λ o. disjoint d w ∣ o ∣₁ ∣ n ∣₁) (group-only mode ns g w m)
-
 -- ---- the list only grows: a name that is one too many on the way is one too many in the end
 
 module _ {A : Type 0} (name : A → Name) where
@@ -210,6 +183,53 @@ module _ {A : Type 0} (name : A → Name) where
   unfolding addGroups
   groups-grow mode [] ns = omega arith
   groups-grow mode (g ∷ gs) ns = omega (arith, group-grows mode ns g, groups-grow mode gs (addGroup name mode ns g))
+
+-- ---- where each name stands once, one group is put behind the other, in each mode
+
+module _ {A : Type 0} (name : A → Name) where
+  -- a name that stands only once is not there yet
+  is-new : (ns : List A) (w : A) (ws : List A) → List·Nodup (map name (ns ++ (w ∷ ws))) → among name (name w) ns ≡ false
+  is-new ns w ws d = go (among name (name w) ns) (among-map itself name (name w) ns)
+    where
+      go : (b : Bool) → memb (name w) (map name ns) ≡ b → b ≡ false
+      go true q =
+          absurd (disjoint (subst (λ l. List·Nodup l) (map-append name ns (w ∷ ws)) d) (name w) ∣ memb-mem (name w) (map name ns) q ∣₁ ∣ List·Memᴰ·head refl ∣₁)
+      go false q = refl
+
+  shifted : (ns : List A) (w : A) (ws : List A) → List·Nodup (map name (ns ++ (w ∷ ws))) → List·Nodup (map name ((ns ++ (w ∷ [])) ++ ws))
+  shifted ns w ws d = subst (λ l. List·Nodup (map name l)) (sym (append-assoc ns (w ∷ []) ws)) d
+
+  all-new : (ws ns : List A) → List·Nodup (map name (ns ++ ws)) → addAll name ns ws ≡ ns ++ ws
+  unfolding addAll
+  all-new [] ns d = sym (append-nil ns)
+  all-new (w ∷ ws) ns d =
+      ap (λ b. addAll name (cond b ns (ns ++ (w ∷ []))) ws) (is-new ns w ws d)
+      ∙ all-new ws (ns ++ (w ∷ [])) (shifted ns w ws d)
+      ∙ append-assoc ns (w ∷ []) ws
+
+  group-new : (mode : Mode) (g : Group A) (ns : List A) → List·Nodup (map name (ns ++ groupNames g)) → addGroup name mode ns g ≡ ns ++ groupNames g
+  group-new passOver g ns d =
+      ap (λ b. cond b ns (addAll name (ns ++ (g .head ∷ [])) (g .subs))) (is-new ns (g .head) (g .subs) d)
+      ∙ all-new (g .subs) (ns ++ (g .head ∷ [])) (shifted ns (g .head) (g .subs) d)
+      ∙ append-assoc ns (g .head ∷ []) (g .subs)
+  group-new complete g ns d = all-new (groupNames g) ns d
+
+  pub groups-new : (mode : Mode) (gs : List (Group A)) (ns : List A) → List·Nodup (map name (ns ++ flatMap groupNames gs))
+      → addGroups name mode ns gs ≡ ns ++ flatMap groupNames gs
+  unfolding addGroups flatMap
+  groups-new mode [] ns d = sym (append-nil ns)
+  groups-new mode (g ∷ gs) ns d =
+      let e : List·Nodup (map name ((ns ++ groupNames g) ++ flatMap groupNames gs))
+      = subst (λ l. List·Nodup (map name l)) (sym (append-assoc ns (groupNames g) (flatMap groupNames gs))) d in
+      let f : List·Nodup (map name (ns ++ groupNames g))
+      = of-append-left (map name (flatMap groupNames gs)) (subst (λ l. List·Nodup l) (map-append name (ns ++ groupNames g) (flatMap groupNames gs)) e) in
+      ap (λ ns₁. addGroups name mode ns₁ gs) (group-new mode g ns f)
+      ∙ groups-new mode gs (ns ++ groupNames g) e
+      ∙ append-assoc ns (groupNames g) (flatMap groupNames gs)
+
+unmapped : (l : List Name) → map itself l ≡ l
+unmapped [] = refl
+unmapped (v ∷ l) = ap (λ t. v ∷ t) (unmapped l)
 
 -- ---- where a group comes from
 
@@ -243,9 +263,13 @@ pub nodes-only : (mode : Mode) (l : PlainLibrary) (v : Name) → List·Memᴰ v 
 unfolding nodesBy
 nodes-only mode l v m = ⊎-elim (λ n. absurd (List·Memᴰ·not-nil n)) (λ n. n) (groups-only mode (groups l) [] v m)
 
-pub nodes-whole : (mode : Mode) (l : PlainLibrary) → List·Nodup (allNames l) → (v : Name) → List·Memᴰ v (allNames l) → List·Memᴰ v (nodesOf mode l)
+-- where each name stands once, they are all names
+pub nodes-new : (mode : Mode) (l : PlainLibrary) → List·Nodup (allNames l) → nodesOf mode l ≡ allNames l
 unfolding nodesBy
-nodes-whole mode l d v m = groups-whole mode (groups l) [] (λ w n. absurd (List·Memᴰ·not-nil n)) d v m
+nodes-new mode l d = groups-new itself mode (groups l) [] (subst (λ t. List·Nodup t) (sym (unmapped (allNames l))) d)
+
+pub nodes-whole : (mode : Mode) (l : PlainLibrary) → List·Nodup (allNames l) → (v : Name) → List·Memᴰ v (allNames l) → List·Memᴰ v (nodesOf mode l)
+nodes-whole mode l d v m = subst (λ ns. List·Memᴰ v ns) (sym (nodes-new mode l d)) m
 
 -- each entry is a node
 pub entry-node : (mode : Mode) (l : PlainLibrary) → Revised l → (v : Name) → List·Memᴰ v (entryNames l) → List·Memᴰ v (nodesOf mode l)

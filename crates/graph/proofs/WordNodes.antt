@@ -1,9 +1,8 @@
 -- The names of the nodes with their places are the nodes of the library without places: whether a name is added hangs on names alone.
 -- Assumes nothing.
 use mathlib.Core.Path.{_≡_, refl, sym, ap, ap₂, _∙_}
-use mathlib.Core.Bool.{Bool, true, false, cond, _||_}
+use mathlib.Core.Bool.{Bool, true, false, cond}
 use mathlib.Core.List.{List, [], _∷_, _++_, map, map-append, flatMap}
-use Rattle.text.specs.Keyword.{same}
 use Rattle.library_form.specs.Form.{PlacedName}
 use Rattle.library_image.specs.Library.{Name, Module, ImportOnly, Library, plainName, plainModule, plainImportOnly, plain}
 use Rattle.library_index.specs.Names.{among, addNew, addAll}

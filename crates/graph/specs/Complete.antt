@@ -4,14 +4,14 @@
 use Prim.Native.Nat.{ℕ, _<_}
 use mathlib.Core.Path.{_≡_}
 use mathlib.Core.Logic.{_↔_}
-use mathlib.Core.List.{List, [], List·Memᴰ, List·Nodup}
+use mathlib.Core.List.{List, [], flatMap, List·Memᴰ, List·Nodup}
 use lib.ListN.{length}
-use Rattle.library_image.specs.Library.{Name, PlainLibrary, Library, plain}
+use Rattle.library_image.specs.Library.{Name, PlainLibrary, Library, plainName, plain}
 use Rattle.library_index.specs.Names.{addAll}
-use Rattle.graph.specs.Nodes.{passOver, complete, itself, nodesOf, wordNodes}
+use Rattle.graph.specs.Nodes.{passOver, complete, groups, itself, nodesOf, wordNodes}
 use Rattle.graph.specs.Graph.{ScanAnswer, Text, noNode, tooManyNodes, Edge, graph, fault, graphOf}
 use Rattle.graph.specs.Meaning.{Revised}
-use Rattle.graph.specs.Demand3.{allNames, Once, SameEntries, Permuted, Agree, Right}
+use Rattle.graph.specs.Demand3.{groupNames, allNames, Once, SameEntries, Permuted, Agree, Right}
 
 -- ws are the names of a list, each of them once
 pub record EachOnce (ws all : List Name) : Type 0 where
@@ -19,8 +19,10 @@ pub record EachOnce (ws all : List Name) : Type 0 where
   pub same : (v : Name) → List·Memᴰ v ws ↔ List·Memᴰ v all
 
 pub record CompleteDemand3 (nodeLimit edgeLimit : ℕ) (text : Name → Text) : Type 0 where
-  -- the nodes are all names in the library's order, each where it comes first
+  -- the nodes are all names in the library's order, each where it comes first; and so are their places
   pub order : (l : PlainLibrary) → nodesOf complete l ≡ addAll itself [] (allNames l)
+  pub placed : (l : Library) → wordNodes complete l ≡ addAll plainName [] (flatMap groupNames (groups l))
+  pub all-once : (l : PlainLibrary) → EachOnce (nodesOf complete l) (allNames l)
   -- a built graph is right, and its nodes are exactly all names
   pub right : (l : PlainLibrary) (ns : List Name) (es : List Edge) → graphOf complete nodeLimit edgeLimit text l ≡ graph ns es
       → Right complete text l ns es × EachOnce ns (allNames l)
@@ -34,6 +36,6 @@ pub record CompleteDemand3 (nodeLimit edgeLimit : ℕ) (text : Name → Text) : 
       → Agree (graphOf complete nodeLimit edgeLimit text l) (graphOf complete nodeLimit edgeLimit text l₁)
   pub permuted : (l l₁ : PlainLibrary) → Permuted l l₁
       → Agree (graphOf complete nodeLimit edgeLimit text l) (graphOf complete nodeLimit edgeLimit text l₁)
-  -- where each name stands once, both modes give the same graph, and the nodes have the same places
+  -- where each name stands once and each import-only module has one revision, both modes give the same graph, and the nodes have the same places
   pub once : (l : PlainLibrary) → Once l → graphOf complete nodeLimit edgeLimit text l ≡ graphOf passOver nodeLimit edgeLimit text l
   pub places : (l : Library) → Once (plain l) → wordNodes complete l ≡ wordNodes passOver l

@@ -34,7 +34,8 @@ pub record AlikeModule (m n : PlainModule) : Type 0 where
   pub augmenting : Perm (m .augmenting) (n .augmenting)
   pub deviations : Perm (m .deviations) (n .deviations)
 
--- the same import-only module but for the order of its submodules; revisions are run together, since Once has one of them
+-- the same import-only module but for the order of its submodules; revisions are run together: with Once there is one, and in the mode `complete` it does not
+-- matter how submodules are spread over them
 pub record AlikeImport (i j : PlainImportOnly) : Type 0 where
   pub name : i .name ≡ j .name
   pub submodules : Perm (flatten (i .revisions)) (flatten (j .revisions))

@@ -81,7 +81,7 @@ fn add_name(s: &[u8], tab: &mut [u32], n: usize, there: bool, place: usize, size
     Grown::On(n + 1, true)
 }
 
-// What the i-th item adds to the nodes. `complete`: an entry that is a node is not passed over with its submodules.
+// What the i-th item adds to the nodes. `complete`: the submodules of an entry that is already a node are added too, and those of later revisions.
 fn add_item(
     s: &[u8],
     complete: bool,

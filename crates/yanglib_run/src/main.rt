@@ -112,6 +112,7 @@ fn replay_all(complete: bool, data: &[u8]) -> Tally {
     run
 }
 
+// A file of recorded graphs, of the one mode or the other.
 fn replay_file(name: &[u8], complete: bool, what: &[u8]) {
     let mut space = [0u8; 524288];
     let n = replay::read_file(name, &mut space);

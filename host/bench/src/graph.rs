@@ -71,8 +71,8 @@ fn listed(what: &str, modules: usize, others: impl Fn(usize) -> Vec<usize>) -> I
     Input::of(what.to_string(), &library)
 }
 
-/// 15 sets with the same two import-only modules, each with eight revisions of 64 submodules, all of them out of 1,000 names: as many names that come again as
-/// there is about room for.
+/// 15 sets with the same two import-only modules, each with eight revisions of 64 submodules, all of them out of 1,000 names: about as many repeated names as
+/// an image has room for.
 fn again() -> Input {
     let name = |i: usize| format!("{:03}", i % 1_000);
     let revision = |k: usize| (64 * k..64 * k + 64).map(name).collect();

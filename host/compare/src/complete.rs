@@ -7,7 +7,7 @@ use crate::orders::short;
 use crate::port::{self, Graphed};
 use std::collections::HashSet;
 use vectors::answers::Refusal;
-use vectors::form::{self, Set};
+use vectors::form;
 use vectors::graphs::{self, Drawn, Links, Mode};
 use vectors::libraries;
 use vectors::rng::Rng;
@@ -50,36 +50,38 @@ fn named<'a>(image: &'a [u8], g: &Graphed) -> Vec<[&'a [u8]; 2]> {
     g.edges.chunks(2).take(g.answer[7] as usize).map(|row| [row[0], row[1]].map(|v| names[v as usize])).collect()
 }
 
-/// Whether a name comes again; that of an import-only module does with each revision but the first.
-fn repeats(sets: &[Set]) -> bool {
+/// Whether a name of an image that is read comes again; that of an import-only module does with each revision but the first.
+fn repeats(image: &[u8]) -> bool {
     let mut seen = HashSet::new();
-    graphs::groups(sets).any(|(name, below)| [name].iter().chain(below).any(|n| !seen.insert(n.text)))
+    let sets = form::read_image(image).unwrap_or_default();
+    graphs::groups(&sets).any(|(name, below)| [name].iter().chain(below).any(|n| !seen.insert(n.text)))
 }
 
 /// What holds of the two graphs whatever they are. 28 never comes in the new mode. Where no name comes again, both calls leave the very same words. But for
 /// 28 in the present mode and 30 in the new one both give the same refusal, or the same edges by names, and the new nodes have all names that the present
 /// ones have.
-fn related(image: &[u8], present: &Graphed, complete: &Graphed) -> bool {
-    let once = form::read_image(image).is_ok_and(|sets| !repeats(&sets));
+fn related(image: &[u8], again: bool, present: &Graphed, complete: &Graphed) -> bool {
     let apart = present.answer[0] == 28 || complete.answer[0] == 30;
     let more: HashSet<&[u8]> = names(image, complete).into_iter().collect();
     complete.answer[0] != 28
-        && (!once || present == complete)
+        && (again || present == complete)
         && (apart || present.answer[..6] == complete.answer[..6])
         && (apart || named(image, present) == named(image, complete))
         && (apart || names(image, present).iter().all(|name| more.contains(name)))
 }
 
-/// How often the modes differ: 28 in the present one, 30 in the new one alone, both built.
+/// In how many libraries that are read a name comes again, and how often the modes differ: 28 in the present one, 30 in the new one alone, both built.
 #[derive(Default)]
 struct Tally {
+    repeated: usize,
     no_node: usize,
     too_many: usize,
     other_nodes: usize,
 }
 
 impl Tally {
-    fn count(&mut self, [present, complete]: &[Drawn; 2]) {
+    fn count(&mut self, again: bool, [present, complete]: &[Drawn; 2]) {
+        self.repeated += usize::from(again);
         match [present.number, complete.number] {
             [28, _] => self.no_node += 1,
             [0, 0] => self.other_nodes += usize::from(present != complete),
@@ -97,12 +99,12 @@ fn told(mode: Mode, input: &str, due: &Drawn, g: &Graphed) -> String {
 
 /// Both modes of one library, with so many words more than there must be.
 fn one(run: &mut Run, tally: &mut Tally, image: &[u8], bundle: &[u8], more: usize) {
-    let due = due(image, bundle);
+    let (due, again) = (due(image, bundle), repeats(image));
     let [present, complete] = Mode::BOTH.map(|mode| drawn(mode, image, bundle, more));
     let [one, other] = [agrees(&due[0], &present), agrees(&due[1], &complete)];
     run.count(one, || told(Mode::Present, &shown(image, bundle), &due[0], &present));
-    run.count(other && (!one || related(image, &present, &complete)), || told(Mode::Complete, &shown(image, bundle), &due[1], &complete));
-    tally.count(&due);
+    run.count(other && (!one || related(image, again, &present, &complete)), || told(Mode::Complete, &shown(image, bundle), &due[1], &complete));
+    tally.count(again, &due);
 }
 
 /// Mostly few names, which come again; of four one in which fewer do; of 200 one with hundreds of names, and one with a chain of includes.
@@ -132,7 +134,7 @@ pub fn graphs(run: &mut Run, seed: u64, count: u64) {
         }
         one(run, &mut tally, &image, &bundle, i as usize % 3);
     }
-    let Tally { no_node, too_many, other_nodes } = tally;
-    println!("compare: the modes differ on {} of the libraries: {no_node} are 28 in the present one,", no_node + too_many + other_nodes);
-    println!("compare: {too_many} are 30 in the new one alone, {other_nodes} are built with other nodes");
+    let Tally { repeated, no_node, too_many, other_nodes } = tally;
+    println!("compare: a name comes again in {repeated} of the libraries, and the modes differ on {}:", no_node + too_many + other_nodes);
+    println!("compare: {no_node} are 28 in the present one, {too_many} are 30 in the new one alone, {other_nodes} are built with other nodes");
 }

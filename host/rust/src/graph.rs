@@ -86,7 +86,7 @@ pub fn graph<'a>(image: &'a [u8], bundle: &[u8]) -> Result<Graph<'a>, Refusal> {
 /// The nodes of [`graph`] are the original's: where a module's name is a node already, its submodules are passed over. If a router lists a module in two
 /// sets and a submodule in the second alone, an include of that submodule is refused (28). Here it is a node, and so are the submodules of every revision
 /// of an import-only module. Each name is one node, in the place where it first comes. 28 does not come, and 30 counts these nodes too; all else is as in
-/// [`graph`], and where each name stands once, so are the nodes.
+/// [`graph`]. Where each name stands once and each import-only module has one revision, so are the nodes.
 ///
 /// ```
 /// let image = b"\x02\x01\x01m\0\0\0\0\x01\x01m\x01\x01s\0\0\0"; // m in two sets, and with the submodule s in the second

@@ -296,30 +296,46 @@ fn high_bytes() {
     assert!(told.ends_with(due), "{told}");
 }
 
-/// Whatever a generated library is refused for by its names and texts, the walk that looks for it ends at the same refusal.
+/// Whether the cause of a refusal by names and texts was found, and which of the four it is; nothing of another one.
+fn found(why: &Why) -> Option<(bool, usize)> {
+    match why {
+        Why::NoIncludedText(listed) => Some((listed.is_some(), 0)),
+        Why::Scan { spot, .. } => Some((spot.is_some(), 1)),
+        Why::UnknownModule(listed) => Some((listed.is_some(), 2)),
+        Why::UnknownSubmodule(listed) => Some((listed.is_some(), 3)),
+        _ => None,
+    }
+}
+
+/// Whatever a generated library is refused for by its names and texts, with complete nodes or without, the walk that looks for it ends at the same refusal.
 #[test]
 fn the_cause_is_found() {
     let mut r = Rng::new(31);
-    let mut seen = [0; 4];
-    for _ in 0..3_000 {
-        let library = libraries::library(&mut r);
+    let mut seen = [[0; 4]; 2];
+    for i in 0..6_000 {
+        let library = if i % 2 == 0 { libraries::library(&mut r) } else { libraries::repeated(&mut r) };
         let (image, bundle) = (library.image(), library.bundle());
-        let why = match graph(&image, &bundle) {
-            Err(Refusal::Walk { why, .. }) => why,
-            _ => continue,
-        };
-        let found = match &why {
-            Why::NoIncludedText(listed) | Why::UnknownModule(listed) | Why::UnknownSubmodule(listed) => listed.is_some(),
-            Why::Scan { spot, .. } => spot.is_some(),
-            _ => continue,
-        };
-        assert!(found, "{why}: image {image:02X?}, bundle {:?}", String::from_utf8_lossy(&bundle));
-        seen[match why {
-            Why::NoIncludedText(_) => 0,
-            Why::Scan { .. } => 1,
-            Why::UnknownModule(_) => 2,
-            _ => 3,
-        }] += 1;
+        for (seen, drawn) in seen.iter_mut().zip([graph(&image, &bundle), graph_complete(&image, &bundle)]) {
+            let why = match drawn {
+                Err(Refusal::Walk { why, .. }) => why,
+                _ => continue,
+            };
+            if let Some((found, which)) = found(&why) {
+                assert!(found, "{why}: image {image:02X?}, bundle {:?}", String::from_utf8_lossy(&bundle));
+                seen[which] += 1;
+            }
+        }
     }
-    assert!(seen.iter().all(|n| *n > 20), "{seen:?}");
+    assert!(seen.iter().flatten().all(|n| *n > 20), "{seen:?}");
+}
+
+/// A cause behind an include that is refused with 28 without complete nodes.
+#[test]
+fn a_cause_behind_28() {
+    let library = of(&[(&[module("m", "")], &[]), (&[module("m", "s")], &[])], &[("m", "include s;"), ("s", "import x{prefix x;}")]);
+    let (image, bundle) = (library.image(), library.bundle());
+    assert_eq!(graph(&image, &bundle).expect_err("a refusal").number(), 28);
+    let refusal = graph_complete(&image, &bundle).expect_err("a refusal");
+    assert_eq!(refusal.number(), 26);
+    assert!(refusal.words().contains("the text of s"), "{}", refusal.words());
 }

@@ -7,9 +7,9 @@
 use std::collections::BTreeMap;
 use std::path::{Path, PathBuf};
 use vectors::answers::{self, Graph, Scan};
+use vectors::graphs::{self, Links, Mode, Texts};
 use vectors::oracle::Oracle;
 use vectors::rng::Rng;
-use vectors::graphs::{self, Links, Mode, Texts};
 use vectors::{form, libraries, orders, records, routers, texts};
 
 fn main() {
