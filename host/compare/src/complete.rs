@@ -1,4 +1,4 @@
-//! The graphs of both modes of libraries in which names come again, beside a plain reading of document 01 and of request 2026-02
+//! The graphs of both modes of generated libraries, in most of which names come again, beside a plain reading of document 01 and of request 2026-02
 //! (`../../vectors/src/graphs.rs`). The texts are scanned by the port itself; the other comparisons hold its scans against the original.
 
 use crate::Run;
