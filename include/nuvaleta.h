@@ -327,8 +327,8 @@ uint32_t nuvaleta_text(const uint8_t *bundle, size_t bundle_len, const uint8_t *
  *
  * WHICH OF THE TWO. nuvaleta_graph gives the graph of NetGauze's Rust. If a router lists a module in two sets, with a submodule in the second alone, that
  * submodule is no node there, and an include of it is refused (28); and a submodule that only a later revision of an import-only module has is no node
- * either. For such a router take nuvaleta_graph_complete, which has complete nodes: all names of the image. Where each name stands once and each
- * import-only module has one revision, both answer and leave the same; else a node may have another number, and so the order may be another one.
+ * either. For such a router take nuvaleta_graph_complete, which has complete nodes: the names of all modules and submodules. Where each name stands once
+ * and each import-only module has one revision, both answer and leave the same; else a node may have another number, and so the order may be another one.
  *
  * An edge from u to v says that u must be registered before v. The entries, set by set each module and then each import-only module, are walked: the text
  * of an entry v gives an edge from each module that it imports to v, then from each submodule that it includes, whose own text is walked likewise before

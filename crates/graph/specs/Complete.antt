@@ -19,9 +19,10 @@ pub record EachOnce (ws all : List Name) : Type 0 where
   pub same : (v : Name) → List·Memᴰ v ws ↔ List·Memᴰ v all
 
 pub record CompleteDemand3 (nodeLimit edgeLimit : ℕ) (text : Name → Text) : Type 0 where
-  -- the nodes are all names in the library's order, each where it comes first; and so are their places
+  -- the nodes are all names in the library's order, each where it comes first, and with that place
   pub order : (l : PlainLibrary) → nodesOf complete l ≡ addAll itself [] (allNames l)
   pub placed : (l : Library) → wordNodes complete l ≡ addAll plainName [] (flatMap groupNames (groups l))
+  -- so each name is one node, and nothing else is
   pub all-once : (l : PlainLibrary) → EachOnce (nodesOf complete l) (allNames l)
   -- a built graph is right, and its nodes are exactly all names
   pub right : (l : PlainLibrary) (ns : List Name) (es : List Edge) → graphOf complete nodeLimit edgeLimit text l ≡ graph ns es
