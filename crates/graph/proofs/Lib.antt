@@ -8,6 +8,9 @@ pub mod Plain
 pub mod Entries
 pub mod Revised
 pub mod Numbers
+pub mod Rowing
+pub mod Circles
+pub mod Remembering
 pub mod Drawing
 pub mod Meaning
 pub mod Faults
