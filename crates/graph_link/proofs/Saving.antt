@@ -58,6 +58,7 @@ pub record Saving (n : ℕ) (s : List ℕ) (ns : List Name) (store includes : Li
   pub inside : base + levelWords ≤ length levels₀
   pub sofar : wordsFrom levels base i ++ includesFrom s ns store includes k i ≡ includeCodes s ns store includes k
   pub low : Words n levels base i
+  pub under : (j : ℕ) → j < base → getD levels j 0 ≡ getD levels₀ j 0
   pub above : drop (base + levelWords) levels ≡ drop (base + levelWords) levels₀
   pub long : length levels ≡ length levels₀
 
@@ -70,6 +71,7 @@ saving-begins n s ns store includes k base levels h = record {
   inside = h .level-room;
   sofar = rw (sub-zero k);
   low = record { low = λ j z. absurd (omega arith) };
+  under = λ j z. refl;
   above = refl;
   long = refl;
 }
@@ -85,6 +87,7 @@ module _ (n : ℕ) (s : List ℕ) (ns : List Name) (store includes : List ℕ) (
             ∙ ap (λ l. wordsFrom levels base i ++ map (includedAt s ns) (includeNames store l)) (sym (rows-done (includeAt includes) includeSize k i h))
             ∙ g .sofar;
         low = rw q at (g .low);
+        under = g .under;
         above = g .above;
         kept = g .long;
       }
@@ -117,6 +120,7 @@ module _ (n : ℕ) (s : List ℕ) (ns : List Name) (store includes : List ℕ) (
               ∙ ap (λ l. wordsFrom levels base i ++ l) (sym due)
               ∙ g .sofar;
           low = record { low = λ j y. go j y (ltb j i) refl };
+          under = λ j y. getD-set-other levels (base + i) j w 0 (λ e. omega arith) ∙ g .under j y;
           above = drop-set-lt (base + levelWords) levels (base + i) w (omega (arith, g .few)) ∙ g .above;
           long = length-set levels (base + i) w ∙ g .long;
         }

@@ -11,8 +11,9 @@ use mir.Val.{Fits}
 use Rattle.text.specs.declared.Refusal.{Refusal}
 use Rattle.library_image.specs.Library.{Name}
 use Rattle.text.specs.Refusal.{noRefusal}
-use Rattle.graph.specs.Graph.{Out, built, refused, thenO}
-use Rattle.graph.specs.Numbers.{Row, row, addRow, includeCode}
+use Rattle.graph.specs.Graph.{Out, built, refused}
+use Rattle.graph.specs.Numbers.{Row, row, addRow}
+use Rattle.graph.specs.Once.{Marks, thenRows, Below, includeOnce, belowOnce}
 use Rattle.graph_edges.specs.Edges.{linkSeen, Linked, rowsIn}
 use Rattle.graph_edges.specs.declared.Link.{Link}
 use Rattle.graph_edges.specs.declared.Link.the-variants.{Count, Full}
@@ -22,15 +23,15 @@ use Rattle.graph_marks.specs.Marks.{Desk, knownAt, resolvedCode, includedCode, 
 use Rattle.graph_marks.specs.declared.Resolved.{Resolved}
 use Rattle.graph_marks.specs.declared.Resolved.the-variants.{Unknown, Node}
 use Rattle.graph_marks.specs.declared.Included.{Included}
-use Rattle.graph_marks.specs.declared.Included.the-variants.{Node as Below}
-use Rattle.graph_link.specs.Link.{eitherCode, belowOf, linkWalked, Drew, Stepped}
+use Rattle.graph_marks.specs.declared.Included.the-variants.{Node as Among}
+use Rattle.graph_link.specs.Link.{eitherCode, linkWalked, Drew, Stepped}
 use Rattle.graph_link.specs.declared.Walked.{Walked}
 use Rattle.graph_link.specs.declared.Walked.the-variants.{Built, Refused}
 use Rattle.graph_link.specs.declared.Stepping.the-variants.{Down, Stopped as Halted}
 
 -- ---- the word of an include
 
-module _ (r : Included) (v : NodeIndex) (row : ℕ) (e : r ≡ Below v) (z : row ≡ v .0) where
+module _ (r : Included) (v : NodeIndex) (row : ℕ) (e : r ≡ Among v) (z : row ≡ v .0) where
   code-low : IncludedNode r mostNodes → row < mostNodes
   code-low h = let k : v .0 < mostNodes = rw e at h in omega arith
 
@@ -95,17 +96,17 @@ module _ (s : List ℕ) (ns : List Name) (u : Name) (r : Resolved) (k : resolved
 
 module _ (word left v : ℕ) (rs : List Row) (edges chains : List ℕ) where
   pub no-submodule : word ≡ 0 → Stepped word left v rs edges chains (Halted 27) edges chains
-  no-submodule e = record { seen = λ at. rw e; ready = tt; kept-edges = refl; kept-chains = refl }
+  no-submodule e = record { seen = λ at m. rw e; ready = tt; kept-edges = refl; kept-chains = refl }
 
   pub no-node : word ≡ 1 → Stepped word left v rs edges chains (Halted 28) edges chains
-  no-node e = record { seen = λ at. rw e; ready = tt; kept-edges = refl; kept-chains = refl }
+  no-node e = record { seen = λ at m. rw e; ready = tt; kept-edges = refl; kept-chains = refl }
 
 -- a word that is a node
-by-node : (word v : ℕ) (rs : List Row) (below : ℕ → List Row → Out Row) → (word ≡ 0 → ⊥) → (word ≡ 1 → ⊥)
-    → includeCode mostEdges below v word rs ≡ thenO (addRow mostEdges rs (row (word - 2) v)) (below (word - 2))
-by-node zero v rs below h k = absurd (h refl)
-by-node (suc zero) v rs below h k = absurd (k refl)
-by-node (suc (suc u)) v rs below h k = let q : suc (suc u) - 2 ≡ u = omega arith in rw q
+by-node : (word v : ℕ) (rs : List Row) (f : Below) (m : Marks) → (word ≡ 0 → ⊥) → (word ≡ 1 → ⊥)
+    → includeOnce mostEdges f v word rs m ≡ thenRows (addRow mostEdges rs (row (word - 2) v)) (λ rs₁. f (word - 2) rs₁ m)
+by-node zero v rs f m h k = absurd (h refl)
+by-node (suc zero) v rs f m h k = absurd (k refl)
+by-node (suc (suc u)) v rs f m h k = let q : suc (suc u) - 2 ≡ u = omega arith in rw q
 
 module _ (word left v : ℕ) (rs : List Row) (edges chains edges₁ chains₁ : List ℕ) (x : Link) (u : NodeIndex) (z : u .0 ≡ word - 2)
     (o : Linked rs (row (u .0) v) edges chains x edges₁ chains₁) (h : word ≡ 0 → ⊥) (k : word ≡ 1 → ⊥) where
@@ -115,21 +116,21 @@ module _ (word left v : ℕ) (rs : List Row) (edges chains edges₁ chains₁ : 
   pub no-room : x ≡ Full → Stepped word left v rs edges chains (Halted 31) edges₁ chains₁
   no-room e =
       let q : addRow mostEdges rs (row (word - 2) v) ≡ refused 31 noRefusal = sym (l .seen) ∙ ap (λ x. linkSeen x edges₁) e in
-      record { seen = λ at. sym (by-node word v rs (belowOf at left) h k ∙ rw q); ready = tt; kept-edges = l .kept-edges; kept-chains = l .kept-chains }
+      record { seen = λ at marks. sym (by-node word v rs (belowOnce at mostEdges left) marks h k ∙ rw q); ready = tt; kept-edges = l .kept-edges; kept-chains = l .kept-chains }
 
   module _ (m : ℕ) (e : x ≡ Count m) where
-    added : (below : ℕ → List Row → Out Row) → includeCode mostEdges below v word rs ≡ below (word - 2) (rowsIn m edges₁)
-    added below =
+    added : (f : Below) (marks : Marks) → includeOnce mostEdges f v word rs marks ≡ f (word - 2) (rowsIn m edges₁) marks
+    added f marks =
         let q : addRow mostEdges rs (row (word - 2) v) ≡ built (rowsIn m edges₁) = sym (l .seen) ∙ ap (λ x. linkSeen x edges₁) e in
-        by-node word v rs below h k ∙ rw q
+        by-node word v rs f marks h k ∙ rw q
 
     pub too-deep : left ≡ 0 → Stepped word left v rs edges chains (Halted 29) edges₁ chains₁
-    unfolding belowOf
-    too-deep d = record { seen = λ at. sym (added (belowOf at left) ∙ rw d); ready = tt; kept-edges = l .kept-edges; kept-chains = l .kept-chains }
+    unfolding belowOnce
+    too-deep d = record { seen = λ at marks. sym (added (belowOnce at mostEdges left) marks ∙ rw d); ready = tt; kept-edges = l .kept-edges; kept-chains = l .kept-chains }
 
     pub down : (left ≡ 0 → ⊥) → Stepped word left v rs edges chains (Down u m) edges₁ chains₁
     down d = record {
-      seen = λ at. ap (λ j. belowOf at left j (rowsIn m edges₁)) z ∙ sym (added (belowOf at left));
+      seen = λ at marks. ap (λ j. belowOnce at mostEdges left j (rowsIn m edges₁) marks) z ∙ sym (added (belowOnce at mostEdges left) marks);
       ready = record { node = go word h k z; deep = pos-of-ne-zero d; filed = rw e at (l .filed) };
       kept-edges = l .kept-edges;
       kept-chains = l .kept-chains;

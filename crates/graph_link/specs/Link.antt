@@ -9,13 +9,15 @@ use lib.ListN.{length, getD, drop}
 use Rattle.scan_rows.specs.Rows.{importSize, includeSize, mostRows, importsIn, includesIn}
 use Rattle.library_image.specs.Library.{Name}
 use Rattle.text.specs.Refusal.{noRefusal}
-use Rattle.graph.specs.Graph.{deepest, noIncludedText, tooDeep, tooManyEdges, Out, built, refused}
+use Rattle.graph.specs.Graph.{deepest, tooManyEdges, Out, built, refused}
 use Rattle.graph.specs.Limits.{mostEdges}
-use Rattle.graph.specs.Numbers.{Row, Codes, importCode, givenCode, includeCode, walkCodes}
+use Rattle.graph.specs.Numbers.{Row, Codes, importCode, givenCode}
+use Rattle.graph.specs.Once.{Marks, Walked as Went, halted, Below, includeOnce, belowOnce}
 use Rattle.graph_edges.specs.Edges.{rowsIn, Filed}
 use Rattle.graph_edges.specs.declared.Link.{Link}
 use Rattle.graph_edges.specs.declared.Link.the-variants.{Count, Full}
 use Rattle.graph_marks.specs.Marks.{knownAt, includedAt}
+use Rattle.graph_memory.specs.Memory.{memoryWords}
 use Rattle.graph_texts.specs.Texts.{importNames, includeNames}
 use Rattle.graph_link.specs.declared.Walked.{Walked}
 use Rattle.graph_link.specs.declared.Walked.the-variants.{Built, Refused}
@@ -26,9 +28,13 @@ use Rattle.graph_link.specs.declared.Stepping.the-variants.{Down, Stoppe
 abbrev pub levelWords : ℕ
 levelWords = 256
 
--- the words of all levels, an entry's own text among them
+-- where the level of a text with so much depth left begins: above the memory and the levels of the texts below it
+abbrev pub levelAt : (left : ℕ) → ℕ
+levelAt left = memoryWords + left * levelWords
+
+-- the words of the memory and of all levels, an entry's own text among them
 abbrev pub allLevels : ℕ
-allLevels = (deepest + 1) * levelWords
+allLevels = levelAt (deepest + 1)
 
 -- an edge between v and the module of a code: one that v lists, or one that v imports
 abbrev pub eitherCode : (listed : Bool) → (v code : ℕ) → List Row → Out Row
@@ -40,11 +46,6 @@ importCodes s ns store imports m = map (knownAt s ns) (importNames store (import
 
 unfoldable pub includeCodes : (image : List ℕ) → (ns : List Name) → (store includes : List ℕ) → ℕ → List ℕ
 includeCodes s ns store includes k = map (includedAt s ns) (includeNames store (includesIn includes k))
-
--- what an included text comes to with so much depth left: no text is read below 0
-unfoldable pub belowOf : (at : ℕ → Codes) → (left : ℕ) → ℕ → List Row → Out Row
-belowOf at zero u rs = refused tooDeep noRefusal
-belowOf at (suc left) u rs = walkCodes at mostEdges left noIncludedText u rs
 
 -- ---- the words of a level
 
@@ -90,17 +91,18 @@ pub record Drew (expected : Out Row) (edges chains : List ℕ) (r : Walked) (edg
   pub kept-edges : length edges₁ ≡ length edges
   pub kept-chains : length chains₁ ≡ length chains
 
--- the codes of a text's includes, saved from `base` on; words of the levels above are as they were
+-- the codes of a text's includes, saved from `base` on; the words under it and those of the levels above are as they were
 pub record Saved (n : ℕ) (codes : List ℕ) (base count : ℕ) (levels after : List ℕ) : Type 0 where
   pub words : wordsFrom after base count ≡ codes
   pub low : Words n after base count
+  pub under : (j : ℕ) → j < base → getD after j 0 ≡ getD levels j 0
   pub above : drop (base + levelWords) after ≡ drop (base + levelWords) levels
   pub kept : length after ≡ length levels
 
 -- one include, up to the walk of its text
-abbrev pub stepSeen : (below : ℕ → List Row → Out Row) → Stepping → List ℕ → Out Row
-stepSeen below (Down u n) edges = below (u .0) (rowsIn n edges)
-stepSeen below (Stopped number) edges = refused number noRefusal
+abbrev pub stepSeen : Below → Stepping → List ℕ → Marks → Went
+stepSeen f (Down u n) edges m = f (u .0) (rowsIn n edges) m
+stepSeen f (Stopped number) edges m = halted number noRefusal
 
 pub record Descends (word left u count : ℕ) (edges chains : List ℕ) : Type 0 where
   pub node : u + 2 ≡ word
@@ -112,7 +114,8 @@ StepReady word left (Down u n) edges chains = Descends word left (u .0) n edges 
 StepReady word left (Stopped number) edges chains = Unit {0}
 
 pub record Stepped (word left v : ℕ) (before : List Row) (edges chains : List ℕ) (r : Stepping) (edges₁ chains₁ : List ℕ) : Type 0 where
-  pub seen : (at : ℕ → Codes) → stepSeen (belowOf at left) r edges₁ ≡ includeCode mostEdges (belowOf at left) v word before
+  pub seen : (at : ℕ → Codes) (m : Marks)
+      → stepSeen (belowOnce at mostEdges left) r edges₁ m ≡ includeOnce mostEdges (belowOnce at mostEdges left) v word before m
   pub ready : StepReady word left r edges₁ chains₁
   pub kept-edges : length edges₁ ≡ length edges
   pub kept-chains : length chains₁ ≡ length chains

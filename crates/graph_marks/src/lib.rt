@@ -17,14 +17,6 @@ ghost use Rattle.graph_marks.specs.Marks.{IncludedNode};
 // How many words the marks have: two a node.
 pub const MARK_TABLE: usize = 2048;
 
-// Where a node's two marks stand.
-fn mark_row(v: NodeIndex) -> usize
-    requires { ⌜ v .0 < mostNodes ⌝ }
-    ensures { λ r. ⌜ r ≡ v .0 * 2 ⌝ }
-{
-    graph::node_row(v) * 2
-}
-
 // The mark that the i-th item gives a node, if its name is one.
 fn mark_item(s: &[u8], table: &[u32], i: usize, tab: &[u32], n: usize, marks: &mut [u32])
     requires { ⌜ Marking (now s) (now table) i (now tab) n (now marks) ⌝ }
@@ -37,7 +29,7 @@ fn mark_item(s: &[u8], table: &[u32], i: usize, tab: &[u32], n: usize, marks: &m
     let Found::At(k) = library_index::find(s, tab, n, &s[place..end]) else {
         return;
     };
-    let at = mark_row(graph::node_of(k));
+    let at = graph::pair_row(graph::node_of(k));
     if graph_nodes::is_entry(x.kind) {
         marks[at] = 1;
         return;
@@ -86,7 +78,7 @@ pub fn find_known(s: &[u8], tab: &[u32], n: usize, marks: &[u32], name: &[u8]) -
         return Resolved::Unknown;
     };
     let u = graph::node_of(k);
-    let at = mark_row(u);
+    let at = graph::pair_row(u);
     if marks[at] == 0 {
         return Resolved::Unknown;
     }
@@ -102,7 +94,7 @@ pub fn find_included(s: &[u8], tab: &[u32], n: usize, marks: &[u32], name: &[u8]
         return no_node(s, name);
     };
     let u = graph::node_of(k);
-    let at = mark_row(u) + 1;
+    let at = graph::pair_row(u) + 1;
     if marks[at] == 0 {
         return Included::NotFound;
     }

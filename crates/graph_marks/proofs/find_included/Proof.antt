@@ -12,8 +12,8 @@ returns c = (search included-nowhere, search never-node)
 node-of-requires : tie.Need-node-of-requires
 node-of-requires c κs = search found-low
 
-mark-row-requires : tie.Need-mark-row-requires
-mark-row-requires c κs = search found-node
+pair-row-requires : tie.Need-pair-row-requires
+pair-row-requires c κs = search found-node
 
 add-at : tie.Need-add-at
 add-at c = search next-fits
@@ -40,7 +40,7 @@ find-included-spec =
     (λ c κs. search needs)
     returns
     node-of-requires
-    mark-row-requires
+    pair-row-requires
     add-at
     mul-if1
     shared-slice-read-if1

@@ -11,8 +11,8 @@ returns c = (search known-nowhere, tt)
 node-of-requires : tie.Need-node-of-requires
 node-of-requires c κs = search found-low
 
-mark-row-requires : tie.Need-mark-row-requires
-mark-row-requires c κs = search found-node
+pair-row-requires : tie.Need-pair-row-requires
+pair-row-requires c κs = search found-node
 
 mul-if1 : tie.Need-mul-if1
 mul-if1 c = search at-bytes
@@ -35,7 +35,7 @@ find-known-spec =
     (λ c. search needs)
     returns
     node-of-requires
-    mark-row-requires
+    pair-row-requires
     mul-if1
     shared-slice-read-if1
     returns-2

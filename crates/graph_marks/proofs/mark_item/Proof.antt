@@ -19,8 +19,8 @@ returns c = (search mark-nowhere, refl)
 node-of-requires : tie.Need-node-of-requires
 node-of-requires c κs = search row-low
 
-mark-row-requires : tie.Need-mark-row-requires
-mark-row-requires c κs = search node-low
+pair-row-requires : tie.Need-pair-row-requires
+pair-row-requires c κs = search node-low
 
 mul-marks : tie.Need-mul-marks
 mul-marks c = search at-bytes
@@ -60,7 +60,7 @@ mark-item-spec =
     (λ c. search needs)
     returns
     node-of-requires
-    mark-row-requires
+    pair-row-requires
     (λ c κs. search needs)
     mul-marks
     slice-write-marks
