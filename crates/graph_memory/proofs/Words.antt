@@ -1,16 +1,16 @@
 -- The words of the memory as marks: what is put down is the mark of one node and no other, and what lies above stays.
 -- Assumes nothing.
-use Prim.Native.Nat.{ℕ, zero, suc, max, _+_, _*_, _≤_, _<_}
+use Prim.Native.Nat.{ℕ, suc, max, _+_, _-_, _*_, _≤_, _<_}
 use mathlib.Core.Path.{_≡_, refl, sym, ap, ap₂, _∙_, fun-ext}
-use mathlib.Core.Bool.{Bool, true, false, cond}
+use mathlib.Core.Bool.{Bool, true, false, cond, true≢false}
 use mathlib.Core.List.{List}
 use native.Mathlib.Omega.{arith}
 use lib.Dec.{eqb, ltb, leb}
 use mir.Syntax.{w64}
 use mir.Val.{Fits}
 use lib.ListN.{length, getD, set, drop, length-set}
-use lib.Seq.{getD-set-same, getD-set-other, drop-set-lt}
-use borrow.Author.Tests.{ltb-true, ltb-false, lt-ltb, le-ltb, le-leb, lt-leb, eqb-true, eqb-false, eq-eqb, ne-eqb}
+use lib.Seq.{getD-set-same, getD-set-other, drop-set-lt, drop-drop}
+use borrow.Author.Tests.{ltb-true, lt-ltb, leb-true, le-leb, lt-leb, eqb-true, eqb-false, ne-eqb}
 use Rattle.text_lent.specs.Padded.{zeros}
 use Rattle.text_lent.proofs.Zeros.{zeros-zero}
 use Rattle.graph.specs.Limits.{mostNodes}
@@ -19,6 +19,10 @@ use Rattle.graph.specs.Once.{Mark, unread, reading, below, Marks, nothingRead, 
 use Rattle.graph_memory.specs.Memory.{memoryWords, markOf, heightIn, remembered, recalled, StaysRead, Remembers}
 use Rattle.graph_memory.specs.declared.Recalled.{Recalled}
 use Rattle.graph_memory.specs.declared.Recalled.the-variants.{Unread, Known, TooDeep}
+
+-- lists that agree from a on agree from b on
+pub later : (a b : ℕ) (x y : List ℕ) → a ≤ b → drop a x ≡ drop a y → drop b x ≡ drop b y
+later a b x y h e = let q : a + (b - a) ≡ b = omega arith in rw (← q, ← drop-drop (b - a) a x, ← drop-drop (b - a) a y, e)
 
 -- ---- the mark of a node
 
@@ -49,6 +53,17 @@ blank levels n z = fun-ext (λ u. go u (ltb u mostNodes) (ap (λ (l : List ℕ).
 
 -- ---- the ways out of `recall`
 
+abbrev isKnown : Recalled → Bool
+isKnown Known = true
+isKnown Unread = false
+isKnown TooDeep = false
+
+no-unread : Known ≡ Unread → ⊥
+no-unread q = true≢false (ap isKnown q)
+
+no-deep : Known ≡ TooDeep → ⊥
+no-deep q = true≢false (ap isKnown q)
+
 module _ (levels : List ℕ) (left v at : ℕ) (z : at ≡ v * 2) (l : v < mostNodes) where
   its : remembered levels v ≡ markOf (getD levels at 0) (getD levels (at + 1) 0)
   its = rw z (node-mark levels v l)
@@ -66,8 +81,22 @@ module _ (levels : List ℕ) (left v at : ℕ) (z : at ≡ v * 2) (l : v < mostN
     pub recall-deep : left < h → TooDeep ≡ recalled left (remembered levels v)
     recall-deep k = rw (walked-mark, lt-leb h left k) refl
 
-    pub recall-known : h ≤ left → Known h ≡ recalled left (remembered levels v)
+    pub recall-known : h ≤ left → Known ≡ recalled left (remembered levels v)
     recall-known k = rw (walked-mark, le-leb h left k) refl
+
+-- what is known: how many includes lie below it, and that there is so much depth left
+pub known-height : (levels : List ℕ) (left v : ℕ) → v < mostNodes → Known ≡ recalled left (remembered levels v)
+    → (remembered levels v ≡ below (heightIn levels v)) × (heightIn levels v ≤ left)
+known-height levels left v l k = go (eqb (getD levels (v * 2) 0) 0) (eqb (getD levels (v * 2) 0) 1) (leb (heightIn levels v) left) refl (node-mark levels v l)
+    (k ∙ ap (recalled left) (node-mark levels v l))
+  where
+    go : (a b c : Bool) → leb (heightIn levels v) left ≡ c → remembered levels v ≡ cond a unread (cond b reading (below (heightIn levels v)))
+        → Known ≡ recalled left (cond a unread (cond b reading (below (heightIn levels v))))
+        → (remembered levels v ≡ below (heightIn levels v)) × (heightIn levels v ≤ left)
+    go true b c t e q = absurd (no-unread q)
+    go false true c t e q = absurd (no-deep q)
+    go false false true t e q = (e, leb-true (heightIn levels v) left t)
+    go false false false t e q = absurd (no-deep (q ∙ ap (λ (d : Bool). cond d Known TooDeep) t))
 
 -- ---- the ways out of `raise`
 

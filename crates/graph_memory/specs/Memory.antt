@@ -29,7 +29,7 @@ remembered levels u = cond (ltb u mostNodes) (markOf (getD levels (u * 2) 0) (he
 abbrev pub recalled : (left : ℕ) → Mark → Recalled
 recalled left unread = Unread
 recalled left reading = TooDeep
-recalled left (below h) = cond (leb h left) (Known h) TooDeep
+recalled left (below h) = cond (leb h left) Known TooDeep
 
 -- a text that was read stays so: no text becomes one that is not read yet
 pub record StaysRead (levels after : List ℕ) : Type 0 where

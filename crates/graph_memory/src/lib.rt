@@ -16,11 +16,11 @@ pub const READING: u32 = 1;
 
 pub const WALKED: u32 = 2;
 
-// A text that is met: not read yet; known, with so many includes below it; or too deep, since it has more of them than there is depth left, or is being walked
+// A text that is met: not read yet; walked, with no more includes below it than there is depth left; or too deep, since it has more of them, or is being walked
 // and so lies on a circle of includes.
 pub enum Recalled {
     Unread,
-    Known(usize),
+    Known,
     TooDeep,
 }
 
@@ -41,7 +41,7 @@ pub fn recall(levels: &[u32], left: usize, v: NodeIndex) -> Recalled
     if left < below {
         return Recalled::TooDeep;
     }
-    Recalled::Known(below)
+    Recalled::Known
 }
 
 // Puts down what is known of the text of a node.

@@ -2,26 +2,56 @@
 -- Assumes nothing.
 use Prim.Native.Nat.{ℕ, _+_, _≤_}
 use mathlib.Core.Path.{_≡_, refl, sym, ap, _∙_}
+use mathlib.Core.Bool.{Bool, true, false, cond, true≢false}
 use mathlib.Core.List.{List, []}
 use native.Mathlib.Omega.{arith}
 use lib.ListN.{length, getD}
+use borrow.Author.Tests.{eq-eqb}
 use Rattle.text.specs.declared.Refusal.{Refusal}
 use Rattle.scan_rows.specs.Rows.{mostRows}
 use Rattle.library_image.specs.Library.{Name}
 use Rattle.text.specs.Refusal.{noRefusal}
-use Rattle.graph.specs.Graph.{Text, built, refused}
+use Rattle.graph.specs.Graph.{Text, built, refused, deepest}
 use Rattle.graph.specs.Numbers.{noText, refusedScan, codes, codesOf, codesAt, eachO, importCode}
 use Rattle.graph.specs.Limits.{mostEdges}
+use Rattle.graph.specs.Once.{Mark, unread, reading, below, Marks, mark, Walked as Went, Below}
 use Rattle.graph_edges.specs.Edges.{rowsIn}
 use Rattle.graph_marks.specs.Marks.{knownAt, includedAt}
+use Rattle.graph_memory.specs.Memory.{memoryWords, remembered, Remembers}
+use Rattle.graph_memory.proofs.Words.{later, same-memory, stays-on, stays-equal, stays-marked}
 use Rattle.graph_texts.specs.Texts.{textOf, textSeen, SeenAs, ScanRoom}
 use Rattle.graph_texts.specs.declared.Seen.{Seen}
 use Rattle.graph_texts.specs.declared.Seen.the-variants.{Missing, Refused as Unread, Rows}
-use Rattle.graph_link.specs.Link.{levelWords, importCodes, includeCodes, ImportRows, IncludeRows, walkSeen, Drew, Saved}
-use Rattle.graph_visit.specs.Visit.{worldOf, codesHere, Kept, Called}
+use Rattle.graph_link.specs.Link.{levelWords, levelAt, wordsFrom, importCodes, includeCodes, ImportRows, IncludeRows, walkSeen, Drew, Saved}
+use Rattle.graph_visit.specs.Visit.{worldOf, codesHere, Room, Kept, Called, visited, metHere}
 use Rattle.graph_link.specs.declared.Walked.{Walked}
 use Rattle.graph_link.specs.declared.Walked.the-variants.{Built, Refused}
 use Rattle.graph_visit.specs.declared.Visited.the-variants.{Children, Stopped}
+
+-- ---- the marks
+
+abbrev isReading : Mark → Bool
+isReading reading = true
+isReading unread = false
+isReading (below h) = false
+
+pub reading-read : reading ≡ unread → ⊥
+reading-read q = true≢false (ap isReading q)
+
+-- saved words lie above the memory
+pub saved-same : (left : ℕ) {n : ℕ} {cs : List ℕ} {k : ℕ} {levels levels₁ : List ℕ} → Saved n cs (levelAt left) k levels levels₁
+    → remembered levels₁ ≡ remembered levels
+saved-same left {levels = levels} {levels₁ = levels₁} a = same-memory levels levels₁ (λ j h. a .under j (omega arith))
+
+saved-marks : (left : ℕ) {n v : ℕ} {cs : List ℕ} {k : ℕ} {levels levels₀ levels₁ : List ℕ} → Remembers levels v reading levels₀
+    → Saved n cs (levelAt left) k levels₀ levels₁ → remembered levels₁ ≡ mark (remembered levels) v reading
+saved-marks left y a = saved-same left a ∙ y .marks
+
+-- the mark of v after that
+pub marked-read : {levels : List ℕ} {v : ℕ} {levels₀ : List ℕ} → Remembers levels v reading levels₀ → (levels₁ : List ℕ)
+    → remembered levels₁ ≡ remembered levels₀ → remembered levels₁ v ≡ unread → ⊥
+marked-read {levels} {v} y levels₁ q e =
+    reading-read (sym (ap (λ (b : Bool). cond b reading (remembered levels v)) (eq-eqb v v refl)) ∙ ap (λ (m : Marks). m v) (sym (q ∙ y .marks)) ∙ e)
 
 module _ (s b : List ℕ) (ns : List Name) (v : ℕ) (name : List ℕ) (p : name ≡ getD ns v []) where
   under : codesHere s b ns v ≡ codesOf (worldOf s b ns) ns (textOf b name)
@@ -32,39 +62,45 @@ module _ (s b : List ℕ) (ns : List Name) (v : ℕ) (name : List ℕ) (p : name
     no-text : r ≡ Missing → codesHere s b ns v ≡ noText
     no-text z = under ∙ ap (codesOf (worldOf s b ns) ns) (sym (l .seen) ∙ ap (λ r. textSeen r e f g) z)
 
-    unread : (a : Refusal) → r ≡ Unread a → codesHere s b ns v ≡ refusedScan a
-    unread a z = under ∙ ap (codesOf (worldOf s b ns) ns) (sym (l .seen) ∙ ap (λ r. textSeen r e f g) z)
+    refused-text : (a : Refusal) → r ≡ Unread a → codesHere s b ns v ≡ refusedScan a
+    refused-text a z = under ∙ ap (codesOf (worldOf s b ns) ns) (sym (l .seen) ∙ ap (λ r. textSeen r e f g) z)
 
     read : (m k : ℕ) → r ≡ Rows m k → codesHere s b ns v ≡ codes (importCodes s ns e f m) (includeCodes s ns e g k)
     unfolding importCodes includeCodes knownAt includedAt worldOf
     read m k z = under ∙ ap (codesOf (worldOf s b ns) ns) (sym (l .seen) ∙ ap (λ r. textSeen r e f g) z)
 
-    module _ (n base absent count : ℕ) (edges chains : List ℕ) where
-      pub text-missing : (a : Refusal) (levels : List ℕ) → r ≡ Missing → a ≡ noRefusal
-          → Called (codesHere s b ns) n base absent v (rowsIn count edges) edges chains (Stopped absent a) levels edges chains
-      text-missing a levels z t = record { seen = λ below. rw (no-text z, t); ready = tt; kept-edges = refl; kept-chains = refl }
+    module _ (n left absent count : ℕ) (levels edges chains : List ℕ) where
+      abbrev expected : Below → Went
+      expected f = visited (codesHere s b ns) absent v (rowsIn count edges) levels f
 
-      pub text-refused : (a : Refusal) (levels : List ℕ) → r ≡ Unread a
-          → Called (codesHere s b ns) n base absent v (rowsIn count edges) edges chains (Stopped 25 a) levels edges chains
-      text-refused a levels z = record { seen = λ below. rw (unread a z); ready = tt; kept-edges = refl; kept-chains = refl }
+      pub text-missing : (a : Refusal) (levels₁ : List ℕ) → r ≡ Missing → a ≡ noRefusal
+          → Called expected n left v count edges chains (Stopped absent a) levels₁ edges chains
+      unfolding visited
+      text-missing a levels₁ z t = record { seen = λ below. rw (no-text z, t); ready = tt; kept-edges = refl; kept-chains = refl }
+
+      pub text-refused : (a : Refusal) (levels₁ : List ℕ) → r ≡ Unread a → Called expected n left v count edges chains (Stopped 25 a) levels₁ edges chains
+      unfolding visited
+      text-refused a levels₁ z = record { seen = λ below. rw (refused-text a z); ready = tt; kept-edges = refl; kept-chains = refl }
 
       module _ (m k : ℕ) (z : r ≡ Rows m k) (w : Walked) (edges₁ chains₁ : List ℕ)
           (o : Drew (eachO (importCode mostEdges v) (importCodes s ns e f m) (rowsIn count edges)) edges chains w edges₁ chains₁) where
-        pub import-refused : (number : ℕ) (a : Refusal) (levels : List ℕ) → w ≡ Refused number a
-            → Called (codesHere s b ns) n base absent v (rowsIn count edges) edges chains (Stopped number a) levels edges₁ chains₁
-        import-refused number a levels t =
+        pub import-refused : (number : ℕ) (a : Refusal) (levels₁ : List ℕ) → w ≡ Refused number a
+            → Called expected n left v count edges chains (Stopped number a) levels₁ edges₁ chains₁
+        unfolding visited
+        import-refused number a levels₁ t =
             let q : eachO (importCode mostEdges v) (importCodes s ns e f m) (rowsIn count edges) ≡ refused number a = sym (o .seen)
             ∙ ap (λ w. walkSeen w edges₁) t in
             record { seen = λ below. rw (read m k z, q); ready = tt; kept-edges = o .kept-edges; kept-chains = o .kept-chains }
 
-        pub called : (total : ℕ) (levels levels₁ : List ℕ) → Saved n (includeCodes s ns e g k) base k levels levels₁ → w ≡ Built total
-            → Called (codesHere s b ns) n base absent v (rowsIn count edges) edges chains (Children k total) levels₁ edges₁ chains₁
-        called total levels levels₁ a t =
+        pub called : (total : ℕ) (levels₀ levels₁ : List ℕ) → Remembers levels v reading levels₀ → Saved n (includeCodes s ns e g k) (levelAt left) k levels₀ levels₁ → w ≡ Built total
+            → Called expected n left v count edges chains (Children k total) levels₁ edges₁ chains₁
+        unfolding visited
+        called total levels₀ levels₁ y a t =
             let q : eachO (importCode mostEdges v) (importCodes s ns e f m) (rowsIn count edges) ≡ built (rowsIn total edges₁) = sym (o .seen)
             ∙ ap (λ w. walkSeen w edges₁) t in
             let few : (m ≤ mostRows) × (k ≤ mostRows) = rw z at (l .few) in
             record {
-              seen = λ below. rw (read m k z, q, a .words);
+              seen = λ below. rw (read m k z, q, saved-marks left y a, a .words);
               ready = record { filed = rw t at (o .filed); few = few .1; low = a .low };
               kept-edges = o .kept-edges;
               kept-chains = o .kept-chains;
@@ -84,21 +120,95 @@ module _ (t : Text) (d f₀ g₀ : List ℕ) (r : Seen) (e f g : List ℕ) (l : 
       let few : (m ≤ mostRows) × (k ≤ mostRows) = rw z at (l .few) in
       record { few = few .1; room = omega (arith, o .include-room, l .kept-includes); level-room = h }
 
-  pub kept-levels : (base : ℕ) (levels : List ℕ) → Kept (base + 256) d f₀ g₀ levels e f g levels
-  kept-levels base levels = record {
-    store-long = l .kept-store;
-    imports-long = l .kept-imports;
-    includes-long = l .kept-includes;
-    levels-long = refl;
-    above-kept = refl;
+  module _ (left : ℕ) {v : ℕ} {levels levels₀ : List ℕ} (y : Remembers levels v reading levels₀) where
+    pub kept-levels : Kept (levelAt (left + 1)) d f₀ g₀ levels e f g levels₀
+    kept-levels = record {
+      store-long = l .kept-store;
+      imports-long = l .kept-imports;
+      includes-long = l .kept-includes;
+      levels-long = y .long;
+      stays-read = stays-marked y reading-read;
+      above-kept = later memoryWords (levelAt (left + 1)) levels₀ levels (omega arith) (y .above);
+    }
+
+    pub kept-above : (n : ℕ) (cs : List ℕ) (k : ℕ) (levels₁ : List ℕ) → Saved n cs (levelAt left) k levels₀ levels₁
+        → Kept (levelAt (left + 1)) d f₀ g₀ levels e f g levels₁
+    kept-above n cs k levels₁ a =
+        let q : levelAt left + levelWords ≡ levelAt (left + 1) = omega arith in
+        record {
+          store-long = l .kept-store;
+          imports-long = l .kept-imports;
+          includes-long = l .kept-includes;
+          levels-long = a .kept ∙ y .long;
+          stays-read = stays-on (stays-marked y reading-read) (stays-equal levels₀ levels₁ (saved-same left a));
+          above-kept = rw q at (a .above) ∙ later memoryWords (levelAt (left + 1)) levels₀ levels (omega arith) (y .above);
+        }
+
+pub level-in : {bundle store imports includes levels edges chains : List ℕ} {left count : ℕ} → Room bundle store imports includes levels edges chains left count
+    → {v : ℕ} {x : Mark} {levels₀ : List ℕ} → Remembers levels v x levels₀ → levelAt left + levelWords ≤ length levels₀
+level-in r y = omega (arith, r .level-room, y .long)
+
+-- ---- a text that is met
+
+pub kept-same : (above : ℕ) (store imports includes levels : List ℕ) → Kept above store imports includes levels store imports includes levels
+kept-same above store imports includes levels = record {
+  store-long = refl;
+  imports-long = refl;
+  includes-long = refl;
+  levels-long = refl;
+  stays-read = stays-same levels;
+  above-kept = refl;
+}
+
+module _ (at : ℕ → Codes) (n left absent v count : ℕ) (levels edges chains : List ℕ) (q : Recalled) (e : q ≡ recalled left (remembered levels v)) where
+  unread-mark : (x : Mark) → q ≡ recalled left x → q ≡ Unread → x ≡ unread
+  unread-mark unread p z = refl
+  unread-mark reading p z = absurd (no-deep (sym p ∙ z))
+  unread-mark (below h) p z = go (leb h left) (sym p ∙ z)
+    where
+      go : (b : Bool) → cond b Known TooDeep ≡ Unread → below h ≡ unread
+      go true y = absurd (no-known y)
+      go false y = absurd (no-deep y)
+
+  pub visit-asked : q ≡ Unread → remembered levels v ≡ unread
+  visit-asked z = unread-mark (remembered levels v) e z
+
+  abbrev meeting : Below → Went
+  meeting f = metHere at left absent v (rowsIn count edges) levels f
+
+  too-deep : (x : Mark) → q ≡ recalled left x → q ≡ TooDeep → (rs : List Row) (m : Marks) (w : Went) → met x left rs m w ≡ halted 29 noRefusal
+  too-deep unread p z rs m w = absurd (no-deep (sym z ∙ p))
+  too-deep reading p z rs m w = refl
+  too-deep (below h) p z rs m w = go (leb h left) (sym z ∙ p)
+    where
+      go : (b : Bool) → TooDeep ≡ cond b Known TooDeep → cond b (walked rs m h) (halted 29 noRefusal) ≡ halted 29 noRefusal
+      go true y = absurd (no-deep-known y)
+      go false y = refl
+
+  pub met-deep : (a : Refusal) → q ≡ TooDeep → a ≡ noRefusal → Called meeting n left v count edges chains (Stopped 29 a) levels edges chains
+  unfolding metHere
+  met-deep a z t = record {
+    seen = λ f. ap (λ (b : Refusal). halted 29 b) t ∙ sym (too-deep (remembered levels v) e z _ _ _); ready = tt; kept-edges = refl; kept-chains = refl;
   }
 
-  pub kept-above : (n : ℕ) (cs : List ℕ) (base k : ℕ) (levels levels₁ : List ℕ) → Saved n cs base k levels levels₁
-      → Kept (base + 256) d f₀ g₀ levels e f g levels₁
-  kept-above n cs base k levels levels₁ a = record {
-    store-long = l .kept-store;
-    imports-long = l .kept-imports;
-    includes-long = l .kept-includes;
-    levels-long = a .kept;
-    above-kept = a .above;
+  pub met-known : q ≡ Known → v < mostNodes → Filed edges chains count → Called meeting n left v count edges chains Known₁ levels edges chains
+  unfolding metHere
+  met-known z l o =
+      let k = known-height levels left v l (sym z ∙ e) in
+      record {
+        seen = λ f. sym (ap (λ (x : Mark). met x left _ _ _) (k .0) ∙ ap (λ (b : Bool). cond b _ _) (le-leb (heightIn levels v) left (k .1)));
+        ready = record { filed = o; low = k .1 };
+        kept-edges = refl;
+        kept-chains = refl;
+      }
+
+  pub met-unread : q ≡ Unread → {r : Visited} {levels₁ edges₁ chains₁ : List ℕ}
+      → Called (visited at absent v (rowsIn count edges) levels) n left v count edges chains r levels₁ edges₁ chains₁
+      → Called meeting n left v count edges chains r levels₁ edges₁ chains₁
+  unfolding metHere
+  met-unread z d = record {
+    seen = λ f. d .seen f ∙ sym (ap (λ (x : Mark). met x left _ _ _) (visit-asked z));
+    ready = d .ready;
+    kept-edges = d .kept-edges;
+    kept-chains = d .kept-chains;
   }
