@@ -11,6 +11,7 @@ pub mod Numbers
 pub mod Rowing
 pub mod Circles
 pub mod Remembering
+pub mod ReadOnce
 pub mod Drawing
 pub mod Meaning
 pub mod Faults

@@ -33,7 +33,7 @@ heightOf (below h) = h
 heightOf unread = 0
 heightOf reading = 0
 
-mark-here : (m : Marks) (v : ℕ) (x : Mark) → mark m v x v ≡ x
+pub mark-here : (m : Marks) (v : ℕ) (x : Mark) → mark m v x v ≡ x
 mark-here m v x = rw (eq-eqb v v refl) refl
 
 mark-other : (m : Marks) (v : ℕ) (x : Mark) (u : ℕ) → (u ≡ v → ⊥) → mark m v x u ≡ m u
@@ -45,6 +45,41 @@ module _ (at : ℕ → Codes) (limit : ℕ) where
   unfolding walkOnce belowOnce
   once-is zero absent v rs m = refl
   once-is (suc left) absent v rs m = refl
+
+  -- a walk leaves its height in the mark, whatever the marks were
+  abbrev Told : (v : ℕ) → Walked → Type 0
+  Told v (walked rs m h) = m v ≡ below h
+  Told v (halted n a) = Unit {0}
+
+  told : (left absent v : ℕ) (rs : List Row) (m : Marks) → Told v (walkOnce at limit left absent v rs m)
+  told left absent v rs m = rw (once-is left absent v rs m) (go (m v) refl (visitOnce limit (belowOnce at limit left) absent v (at v) rs m) (visit (at v)))
+    where
+      end : (w : Walked) → Told v (thenW w (ended v))
+      end (walked rs₁ m₁ h) = mark-here m₁ v (below h)
+      end (halted n a) = tt
+
+      visit : (c : Codes) → Told v (visitOnce limit (belowOnce at limit left) absent v c rs m)
+      visit noText = tt
+      visit (refusedScan a) = tt
+      visit (codes imports includes) = imported (eachO (importCode limit v) imports rs)
+        where
+          imported : (o : Out Row)
+              → Told v (thenRows o (λ rs₁. thenW (includesOnce limit (belowOnce at limit left) v includes rs₁ (mark m v reading) 0) (ended v)))
+          imported (built rs₁) = end (includesOnce limit (belowOnce at limit left) v includes rs₁ (mark m v reading) 0)
+          imported (refused n a) = tt
+
+      known : (h : ℕ) → m v ≡ below h → (b : Bool) → Told v (cond b (walked rs m h) (halted tooDeep noRefusal))
+      known h e true = e
+      known h e false = tt
+
+      go : (x : Mark) → m v ≡ x → (w : Walked) → Told v w → Told v (met x left rs m w)
+      go unread e w l = l
+      go reading e w l = tt
+      go (below h) e w l = known h e (leb h left)
+
+  pub once-height : (left absent v : ℕ) (rs : List Row) (m : Marks) {rs₁ : List Row} {m₁ : Marks} {h : ℕ}
+      → walkOnce at limit left absent v rs m ≡ walked rs₁ m₁ h → m₁ v ≡ below h
+  once-height left absent v rs m e = subst (λ (w : Walked). Told v w) e (told left absent v rs m)
 
   -- ---- what holds throughout
 
