@@ -20,4 +20,5 @@ pub mod Permuted
 pub mod Demand
 pub mod Complete
 pub mod Examples
+pub mod OnceExamples
 pub mod Instance
