@@ -8,9 +8,10 @@ use mathlib.Core.Bool.{Bool, true, false, cond}
 use mathlib.Core.List.{List, [], _∷_, _++_, List·Nodup}
 use lib.Dec.{eqb, leb}
 use Rattle.text.specs.Refusal.{noRefusal}
-use Rattle.graph.specs.Graph.{ScanAnswer, noEntryText, noIncludedText, scanRefused, unknownSubmodule, noNode, tooDeep, deepest, Out, built, refused, onOut}
-use Rattle.graph.specs.Numbers.{Row, row, memR, addRow, Codes, noText, refusedScan, codes, eachO, importCode, givenCode, walkCodes, Drawing, drawn, faulty}
-use Rattle.graph.specs.Numbers.{EntryCode, drawFrom}
+use Rattle.graph.specs.Graph.{ScanAnswer, noEntryText, noIncludedText, scanRefused, unknownSubmodule, noNode, tooDeep, deepest, Out, built, refused}
+use Rattle.graph.specs.Graph.{onOut}
+use Rattle.graph.specs.Numbers.{Row, row, memR, addRow, Codes, noText, refusedScan, codes, eachO, importCode, givenCode, walkCodes, Drawing, drawn}
+use Rattle.graph.specs.Numbers.{faulty, EntryCode, drawFrom}
 
 -- ---- the marks
 
