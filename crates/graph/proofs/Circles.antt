@@ -1,7 +1,7 @@
 -- A text that was walked, met again: it adds nothing, and is too deep exactly if more includes lie below it than there is depth left. Texts that are being
 -- walked and lead to each other are too deep at any depth.
 -- Assumes nothing.
-use Prim.Native.Nat.{ℕ, zero, suc, max, _≤_}
+use Prim.Native.Nat.{ℕ, zero, suc, _≤_}
 use mathlib.Core.Path.{_≡_, refl, ap, _∙_}
 use mathlib.Core.Bool.{Bool, true, false, cond}
 use mathlib.Core.List.{List, [], _∷_, _++_}
@@ -11,7 +11,7 @@ use borrow.Author.Tests.{leb-true, leb-false, le-leb, lt-leb}
 use Rattle.text.specs.Refusal.{noRefusal}
 use Rattle.graph.specs.Graph.{noIncludedText, tooDeep, Out, built, refused, thenO}
 use Rattle.graph.specs.Numbers.{Row, row, memR, addRow, Codes, codes, eachO, includeCode, visitCodes, walkCodes}
-use Rattle.graph.specs.Once.{Grows, unlessDeep, Done}
+use Rattle.graph.specs.Once.{raised, Grows, unlessDeep, Done}
 use Rattle.graph.proofs.Rowing.{each-append, add-there, Imported, imported-grows, imports-there}
 
 abbrev pub deep : Out Row
@@ -36,7 +36,7 @@ module _ (at : ℕ → Codes) (limit : ℕ) where
   pub data Gone (v : ℕ) (rs : List Row) : List ℕ → ℕ → Type 0 where
     none : Gone v rs [] 0
     more : {cs : List ℕ} {h : ℕ} → Gone v rs cs h → (u k : ℕ) → memR (row u v) rs ≡ true → Done at limit k u rs
-        → Gone v rs (cs ++ (suc (suc u) ∷ [])) (max h (suc k))
+        → Gone v rs (cs ++ (suc (suc u) ∷ [])) (raised h k)
 
   pub gone-grows : {v : ℕ} {rs : List Row} {cs : List ℕ} {h : ℕ} (rs₁ : List Row) → Grows rs rs₁ → Gone v rs cs h → Gone v rs₁ cs h
   gone-grows rs₁ g none = none
@@ -44,22 +44,22 @@ module _ (at : ℕ → Codes) (limit : ℕ) where
 
   -- one include more, whose text has k below, where h lie below those before it
   one-more : (left h k u : ℕ) (rs : List Row) → ((absent : ℕ) (l : ℕ) → walkCodes at limit l absent u rs ≡ unlessDeep k l rs)
-      → thenO (unlessDeep h left rs) (λ rs₁. thenO (under left u rs₁) built) ≡ unlessDeep (max h (suc k)) left rs
+      → thenO (unlessDeep h left rs) (λ rs₁. thenO (under left u rs₁) built) ≡ unlessDeep (raised h k) left rs
   one-more zero h k u rs d = go (leb h zero)
     where
-      go : (b : Bool) → thenO (cond b (built rs) deep) (λ rs₁. deep) ≡ unlessDeep (max h (suc k)) zero rs
-      go true = rw (lt-leb (max h (suc k)) zero (omega arith)) refl
-      go false = rw (lt-leb (max h (suc k)) zero (omega arith)) refl
+      go : (b : Bool) → thenO (cond b (built rs) deep) (λ rs₁. deep) ≡ unlessDeep (raised h k) zero rs
+      go true = rw (lt-leb (raised h k) zero (omega arith)) refl
+      go false = rw (lt-leb (raised h k) zero (omega arith)) refl
   one-more (suc l) h k u rs d = go (leb h (suc l)) refl
     where
-      inner : (b : Bool) → leb k l ≡ b → h ≤ suc l → thenO (cond b (built rs) deep) built ≡ unlessDeep (max h (suc k)) (suc l) rs
-      inner true q p = let e = leb-true k l q in rw (le-leb (max h (suc k)) (suc l) (omega (arith, e, p))) refl
-      inner false q p = let e = leb-false k l q in rw (lt-leb (max h (suc k)) (suc l) (omega (arith, e))) refl
+      inner : (b : Bool) → leb k l ≡ b → h ≤ suc l → thenO (cond b (built rs) deep) built ≡ unlessDeep (raised h k) (suc l) rs
+      inner true q p = let e = leb-true k l q in rw (le-leb (raised h k) (suc l) (omega (arith, e, p))) refl
+      inner false q p = let e = leb-false k l q in rw (lt-leb (raised h k) (suc l) (omega (arith, e))) refl
 
       go : (b : Bool) → leb h (suc l) ≡ b
-          → thenO (cond b (built rs) deep) (λ rs₁. thenO (walkCodes at limit l noIncludedText u rs₁) built) ≡ unlessDeep (max h (suc k)) (suc l) rs
+          → thenO (cond b (built rs) deep) (λ rs₁. thenO (walkCodes at limit l noIncludedText u rs₁) built) ≡ unlessDeep (raised h k) (suc l) rs
       go true q = rw (d noIncludedText l) (inner (leb k l) refl (leb-true h (suc l) q))
-      go false q = let e = leb-false h (suc l) q in rw (lt-leb (max h (suc k)) (suc l) (omega (arith, e))) refl
+      go false q = let e = leb-false h (suc l) q in rw (lt-leb (raised h k) (suc l) (omega (arith, e))) refl
 
   -- the plain walk of such includes, met again
   pub gone-each : {v : ℕ} {rs : List Row} {cs : List ℕ} {h : ℕ} → Gone v rs cs h → (rs₁ : List Row) → Grows rs rs₁ → (left : ℕ)

@@ -1,6 +1,6 @@
 -- Request 2026-10 as a theorem: the walk that remembers draws what the plain walk draws, and no text is read twice.
 -- Assumes nothing.
-use Prim.Native.Nat.{ℕ, zero, suc, max, _+_}
+use Prim.Native.Nat.{ℕ, zero, suc, _+_}
 use mathlib.Core.Path.{_≡_, refl, ap}
 use mathlib.Core.Logic.{∥∥₁-elim}
 use mathlib.Core.HLevel.{⊥-prop}
@@ -14,7 +14,7 @@ use Rattle.graph.specs.Numbers.{Row, row, addRow, Codes, noText, refused
 use Rattle.graph.specs.Numbers.{EntryCode, drawFrom}
 use Rattle.graph.specs.Once.{Mark, unread, reading, below, Marks, nothingRead, mark, Walked, walked, halted, thenRows, thenW, Below, includesOnce, ended}
 use Rattle.graph.specs.Once.{visitOnce, met, walkOnce, onWalked, drawOnce, isUnread, Reads, includesRead, visitRead, walkRead, entriesRead, Grows}
-use Rattle.graph.specs.Once.{Between, OnceDemand}
+use Rattle.graph.specs.Once.{raised, Between, OnceDemand}
 use Rattle.graph.proofs.Tests.{both-bools}
 use Rattle.graph.proofs.Rowing.{OnBuilt, each-grows, given-grows}
 use Rattle.graph.proofs.Remembering.{mark-here, Right, entry-right, at-first, between-through, between-grows}
@@ -100,14 +100,14 @@ module _ (limit : ℕ) (f : Below) (t : Reads) (right : (u : ℕ) (rs : List Row
 
       on : (xs : List ℕ) (w : Walked) → ReadBy m xs w → Rest
           → ReadBy m (xs ++ onWalked w (λ rs₂ m₂. includesRead limit f t v cs rs₂ m₂) (λ n a. []))
-          (thenW w (λ rs₂ m₂ k. includesOnce limit f v cs rs₂ m₂ (max h (suc k))))
+          (thenW w (λ rs₂ m₂ k. includesOnce limit f v cs rs₂ m₂ (raised h k)))
       on xs (walked rs₂ m₂ k) r ih =
-          then-read m xs m₂ (includesRead limit f t v cs rs₂ m₂) r (includesOnce limit f v cs rs₂ m₂ (max h (suc k))) (ih rs₂ m₂ (max h (suc k)))
+          then-read m xs m₂ (includesRead limit f t v cs rs₂ m₂) r (includesOnce limit f v cs rs₂ m₂ (raised h k)) (ih rs₂ m₂ (raised h k))
       on xs (halted n a) r ih = (r .0, turns-append m xs (r .0) [] (r .0) (r .1) (nothing (r .0)))
 
       go : (o : Out Row) → Rest
           → ReadBy m (onOut o (λ rs₁. t u rs₁ m ++ onWalked (f u rs₁ m) (λ rs₂ m₂. includesRead limit f t v cs rs₂ m₂) (λ n a. [])) (λ n a. []))
-          (thenW (thenRows o (λ rs₁. f u rs₁ m)) (λ rs₂ m₂ k. includesOnce limit f v cs rs₂ m₂ (max h (suc k))))
+          (thenW (thenRows o (λ rs₁. f u rs₁ m)) (λ rs₂ m₂ k. includesOnce limit f v cs rs₂ m₂ (raised h k)))
       go (built rs₁) ih = on (t u rs₁ m) (f u rs₁ m) (right u rs₁ m) ih
       go (refused n a) ih = (m, nothing m)
 

@@ -1,6 +1,6 @@
 -- The walk that remembers is the plain walk: the same rows in the same order, the same refusals.
 -- Assumes nothing.
-use Prim.Native.Nat.{ℕ, zero, suc, max}
+use Prim.Native.Nat.{ℕ, zero, suc}
 use mathlib.Core.Path.{_≡_, refl, sym, ap, _∙_, subst, subst₂}
 use mathlib.Core.Logic.{_⊎_, inl, inr, ⊎-elim}
 use mathlib.Core.Bool.{Bool, true, false, cond}
@@ -11,7 +11,7 @@ use Rattle.text.specs.Refusal.{noRefusal}
 use Rattle.graph.specs.Graph.{noIncludedText, tooDeep, Out, built, refused, thenO}
 use Rattle.graph.specs.Numbers.{Row, row, addRow, Codes, noText, refusedScan, codes, eachO, importCode, includeCode, visitCodes, walkCodes}
 use Rattle.graph.specs.Once.{Mark, unread, reading, below, Marks, nothingRead, mark, Walked, walked, halted, thenRows, thenW, includesOnce, ended}
-use Rattle.graph.specs.Once.{visitOnce, met, walkOnce, belowOnce, Grows, Done, Between}
+use Rattle.graph.specs.Once.{raised, visitOnce, met, walkOnce, belowOnce, Grows, Done, Between}
 use Rattle.graph.proofs.Tests.{both-bools}
 use Rattle.graph.proofs.Rowing.{same-rows, OnBuilt, Added, added, Imported, imported-grows, Imports, imports-done}
 use Rattle.graph.proofs.Circles.{deep, under, plain-is, done-grows, Gone, none, more, gone-grows, text-done, Frame, frame-grows, stuck}
@@ -48,42 +48,6 @@ module _ (at : ℕ → Codes) (limit : ℕ) where
   unfolding walkOnce belowOnce
   once-is zero absent v rs m = refl
   once-is (suc left) absent v rs m = refl
-
-  -- a walk leaves its height in the mark, whatever the marks were
-  abbrev Told : (v : ℕ) → Walked → Type 0
-  Told v (walked rs m h) = m v ≡ below h
-  Told v (halted n a) = Unit {0}
-
-  told : (left absent v : ℕ) (rs : List Row) (m : Marks) → Told v (walkOnce at limit left absent v rs m)
-  told left absent v rs m =
-      rw (once-is left absent v rs m) (go (m v) refl (visitOnce limit (belowOnce at limit left) absent v (at v) rs m) (visit (at v)))
-    where
-      end : (w : Walked) → Told v (thenW w (ended v))
-      end (walked rs₁ m₁ h) = mark-here m₁ v (below h)
-      end (halted n a) = tt
-
-      visit : (c : Codes) → Told v (visitOnce limit (belowOnce at limit left) absent v c rs m)
-      visit noText = tt
-      visit (refusedScan a) = tt
-      visit (codes imports includes) = imported (eachO (importCode limit v) imports rs)
-        where
-          imported : (o : Out Row)
-              → Told v (thenRows o (λ rs₁. thenW (includesOnce limit (belowOnce at limit left) v includes rs₁ (mark m v reading) 0) (ended v)))
-          imported (built rs₁) = end (includesOnce limit (belowOnce at limit left) v includes rs₁ (mark m v reading) 0)
-          imported (refused n a) = tt
-
-      known : (h : ℕ) → m v ≡ below h → (b : Bool) → Told v (cond b (walked rs m h) (halted tooDeep noRefusal))
-      known h e true = e
-      known h e false = tt
-
-      go : (x : Mark) → m v ≡ x → (w : Walked) → Told v w → Told v (met x left rs m w)
-      go unread e w l = l
-      go reading e w l = tt
-      go (below h) e w l = known h e (leb h left)
-
-  pub once-height : (left absent v : ℕ) (rs : List Row) (m : Marks) {rs₁ : List Row} {m₁ : Marks} {h : ℕ}
-      → walkOnce at limit left absent v rs m ≡ walked rs₁ m₁ h → m₁ v ≡ below h
-  once-height left absent v rs m e = subst (λ (w : Walked). Told v w) e (told left absent v rs m)
 
   -- ---- what holds throughout
 
@@ -159,7 +123,7 @@ module _ (at : ℕ → Codes) (limit : ℕ) where
   -- the next include
   next : (imports before cs : List ℕ) (h v u : ℕ) (rs : List Row) (m : Marks) → At imports before (suc (suc u) ∷ cs) h v rs m → (rs₁ : List Row)
       → Added (row u v) rs rs₁ → (rs₂ : List Row) (m₂ : Marks) (k : ℕ) {plain : Out Row} → Through m rs₁ u rs₂ m₂ k plain
-      → At imports (before ++ (suc (suc u) ∷ [])) cs (max h (suc k)) v rs₂ m₂
+      → At imports (before ++ (suc (suc u) ∷ [])) cs (raised h k) v rs₂ m₂
   next imports before cs h v u rs m a rs₁ d rs₂ m₂ k t = record {
     text = a .text ∙ ap (codes imports) (sym (append-assoc before (suc (suc u) ∷ []) cs));
     imported = imported-grows imports v rs rs₂ grow (a .imported);
@@ -217,15 +181,15 @@ module _ (at : ℕ → Codes) (limit : ℕ) where
       joined (halted n x) p rs₂ m₂ g o r = r
 
       inside : (rs₁ : List Row) → Added (row u v) rs rs₁ → Rest → (w : Walked) (p : Out Row) → Right m rs₁ u w p
-          → RightAlong imports m rs v (before ++ (suc (suc u) ∷ cs)) (thenW w (λ rs₂ m₂ k. on rs₂ m₂ (max h (suc k)))) (thenO p onPlain)
+          → RightAlong imports m rs v (before ++ (suc (suc u) ∷ cs)) (thenW w (λ rs₂ m₂ k. on rs₂ m₂ (raised h k))) (thenO p onPlain)
       inside rs₁ d rest (walked rs₂ m₂ k) p t =
-          rw (t .same) (joined (on rs₂ m₂ (max h (suc k))) (onPlain rs₂) rs₂ m₂ (λ x q. t .grows x (d .grows x q)) (t .opens)
-          (rest (max h (suc k)) rs₂ m₂ (next imports before cs h v u rs m a rs₁ d rs₂ m₂ k t)))
+          rw (t .same) (joined (on rs₂ m₂ (raised h k)) (onPlain rs₂) rs₂ m₂ (λ x q. t .grows x (d .grows x q)) (t .opens)
+          (rest (raised h k) rs₂ m₂ (next imports before cs h v u rs m a rs₁ d rs₂ m₂ k t)))
       inside rs₁ d rest (halted n x) p t = rw t refl
 
       go : (o : Out Row) → OnBuilt o (Added (row u v) rs) → Rest
           → RightAlong imports m rs v (before ++ (suc (suc u) ∷ cs))
-          (thenW (thenRows o (λ rs₁. belowOnce at limit left u rs₁ m)) (λ rs₂ m₂ k. on rs₂ m₂ (max h (suc k))))
+          (thenW (thenRows o (λ rs₁. belowOnce at limit left u rs₁ m)) (λ rs₂ m₂ k. on rs₂ m₂ (raised h k)))
           (thenO (thenO o (under at limit left u)) onPlain)
       go (built rs₁) d rest =
           inside rs₁ d rest (belowOnce at limit left u rs₁ m) (under at limit left u rs₁)
@@ -333,6 +297,8 @@ module _ (at : ℕ → Codes) (limit : ℕ) where
   once-right zero = from-below zero (λ u rs m s o. refl)
   once-right (suc left) = from-below (suc left) (once-right left noIncludedText)
 
+  -- ---- entries, one after another
+
   -- before the first entry nothing is read
   pub at-first : Between at limit nothingRead []
   at-first = record { done = λ u h e. both-bools refl (ap isBelow (sym e)); closed = λ u e. both-bools refl (ap isReading (sym e)) }
@@ -349,3 +315,40 @@ module _ (at : ℕ → Codes) (limit : ℕ) where
 
   pub between-grows : (m : Marks) (rs rs₁ : List Row) → Grows rs rs₁ → Between at limit m rs → Between at limit m rs₁
   between-grows m rs rs₁ g b = record { done = sound-grows m rs rs₁ g (record { done = b .done }) .done; closed = b .closed }
+
+  -- ---- a walk leaves its height in the mark, whatever the marks were
+
+  abbrev Told : (v : ℕ) → Walked → Type 0
+  Told v (walked rs m h) = m v ≡ below h
+  Told v (halted n a) = Unit {0}
+
+  told : (left absent v : ℕ) (rs : List Row) (m : Marks) → Told v (walkOnce at limit left absent v rs m)
+  told left absent v rs m =
+      rw (once-is left absent v rs m) (go (m v) refl (visitOnce limit (belowOnce at limit left) absent v (at v) rs m) (visit (at v)))
+    where
+      end : (w : Walked) → Told v (thenW w (ended v))
+      end (walked rs₁ m₁ h) = mark-here m₁ v (below h)
+      end (halted n a) = tt
+
+      visit : (c : Codes) → Told v (visitOnce limit (belowOnce at limit left) absent v c rs m)
+      visit noText = tt
+      visit (refusedScan a) = tt
+      visit (codes imports includes) = imported (eachO (importCode limit v) imports rs)
+        where
+          imported : (o : Out Row)
+              → Told v (thenRows o (λ rs₁. thenW (includesOnce limit (belowOnce at limit left) v includes rs₁ (mark m v reading) 0) (ended v)))
+          imported (built rs₁) = end (includesOnce limit (belowOnce at limit left) v includes rs₁ (mark m v reading) 0)
+          imported (refused n a) = tt
+
+      known : (h : ℕ) → m v ≡ below h → (b : Bool) → Told v (cond b (walked rs m h) (halted tooDeep noRefusal))
+      known h e true = e
+      known h e false = tt
+
+      go : (x : Mark) → m v ≡ x → (w : Walked) → Told v w → Told v (met x left rs m w)
+      go unread e w l = l
+      go reading e w l = tt
+      go (below h) e w l = known h e (leb h left)
+
+  pub once-height : (left absent v : ℕ) (rs : List Row) (m : Marks) {rs₁ : List Row} {m₁ : Marks} {h : ℕ}
+      → walkOnce at limit left absent v rs m ≡ walked rs₁ m₁ h → m₁ v ≡ below h
+  once-height left absent v rs m e = subst (λ (w : Walked). Told v w) e (told left absent v rs m)
