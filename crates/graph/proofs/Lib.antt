@@ -18,6 +18,7 @@ pub mod Faults
 pub mod Spread
 pub mod Permuted
 pub mod Demand
+pub mod ReadFew
 pub mod Complete
 pub mod Examples
 pub mod OnceExamples
