@@ -11,12 +11,15 @@ pub mod Numbers
 pub mod Rowing
 pub mod Circles
 pub mod Remembering
+pub mod ReadOnce
 pub mod Drawing
 pub mod Meaning
 pub mod Faults
 pub mod Spread
 pub mod Permuted
 pub mod Demand
+pub mod ReadFew
 pub mod Complete
 pub mod Examples
+pub mod OnceExamples
 pub mod Instance

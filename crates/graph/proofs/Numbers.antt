@@ -76,7 +76,7 @@ row-inj ns e f j k h =
     let q = number-inj ns (e .to) (f .to) (j .1) (k .1) (ap (λ (r : Row). r .to) h) in
     λ i. record { from = p i; to = q i }
 
-row-mem : (rs : List Row) (r : Row) → memR r rs ≡ true → List·Memᴰ r rs
+pub row-mem : (rs : List Row) (r : Row) → memR r rs ≡ true → List·Memᴰ r rs
 unfolding memR
 row-mem [] r h = both-bools h refl
 row-mem (x ∷ rs) r h = go (eqb (x .from) (r .from)) (eqb (x .to) (r .to)) refl refl (row-mem rs r) h

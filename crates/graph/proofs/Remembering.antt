@@ -1,17 +1,17 @@
 -- The walk that remembers is the plain walk: the same rows in the same order, the same refusals.
 -- Assumes nothing.
-use Prim.Native.Nat.{ℕ, zero, suc, max}
-use mathlib.Core.Path.{_≡_, refl, sym, ap, _∙_, subst}
-use mathlib.Core.Logic.{_⊎_, inl, inr}
+use Prim.Native.Nat.{ℕ, zero, suc}
+use mathlib.Core.Path.{_≡_, refl, sym, ap, _∙_, subst, subst₂}
+use mathlib.Core.Logic.{_⊎_, inl, inr, ⊎-elim}
 use mathlib.Core.Bool.{Bool, true, false, cond}
 use mathlib.Core.List.{List, [], _∷_, _++_, append-assoc, append-nil}
 use lib.Dec.{eqb, leb}
 use borrow.Author.Tests.{eqb-true, eqb-false, eq-eqb, ne-eqb}
 use Rattle.text.specs.Refusal.{noRefusal}
-use Rattle.graph.specs.Graph.{noIncludedText, tooDeep, ScanAnswer, Out, built, refused, thenO}
-use Rattle.graph.specs.Numbers.{Row, row, memR, addRow, Codes, noText, refusedScan, codes, eachO, importCode, includeCode, visitCodes, walkCodes}
-use Rattle.graph.specs.Once.{Mark, unread, reading, below, Marks, nothingRead, mark, Walked, walked, halted, thenRows, thenW, includeOnce, includesOnce}
-use Rattle.graph.specs.Once.{ended, visitOnce, met, walkOnce, belowOnce, Grows, unlessDeep, Done, Between}
+use Rattle.graph.specs.Graph.{noIncludedText, tooDeep, Out, built, refused, thenO}
+use Rattle.graph.specs.Numbers.{Row, row, addRow, Codes, noText, refusedScan, codes, eachO, importCode, includeCode, visitCodes, walkCodes}
+use Rattle.graph.specs.Once.{Mark, unread, reading, below, Marks, nothingRead, mark, Walked, walked, halted, thenRows, thenW, includesOnce, ended}
+use Rattle.graph.specs.Once.{raised, visitOnce, met, walkOnce, belowOnce, Grows, Done, Between}
 use Rattle.graph.proofs.Tests.{both-bools}
 use Rattle.graph.proofs.Rowing.{same-rows, OnBuilt, Added, added, Imported, imported-grows, Imports, imports-done}
 use Rattle.graph.proofs.Circles.{deep, under, plain-is, done-grows, Gone, none, more, gone-grows, text-done, Frame, frame-grows, stuck}
@@ -28,16 +28,19 @@ isReading reading = true
 isReading unread = false
 isReading (below h) = false
 
-abbrev heightOf : Mark → ℕ
-heightOf (below h) = h
-heightOf unread = 0
-heightOf reading = 0
-
-mark-here : (m : Marks) (v : ℕ) (x : Mark) → mark m v x v ≡ x
+pub mark-here : (m : Marks) (v : ℕ) (x : Mark) → mark m v x v ≡ x
 mark-here m v x = rw (eq-eqb v v refl) refl
 
 mark-other : (m : Marks) (v : ℕ) (x : Mark) (u : ℕ) → (u ≡ v → ⊥) → mark m v x u ≡ m u
 mark-other m v x u n = rw (ne-eqb u v n) refl
+
+-- where v was marked, u is v, or has the mark that it had
+mark-cases : (m : Marks) (v : ℕ) (x : Mark) (u : ℕ) {y : Mark} → mark m v x u ≡ y → ((u ≡ v) × (x ≡ y)) ⊎ ((u ≡ v → ⊥) × (m u ≡ y))
+mark-cases m v x u {y} e = go (eqb u v) refl e
+  where
+    go : (b : Bool) → eqb u v ≡ b → cond b x (m u) ≡ y → ((u ≡ v) × (x ≡ y)) ⊎ ((u ≡ v → ⊥) × (m u ≡ y))
+    go true q e = inl (eqb-true u v q, e)
+    go false q e = inr (eqb-false u v q, e)
 
 module _ (at : ℕ → Codes) (limit : ℕ) where
   pub once-is : (left absent v : ℕ) (rs : List Row) (m : Marks)
@@ -97,7 +100,8 @@ module _ (at : ℕ → Codes) (limit : ℕ) where
     others : (u : ℕ) → m u ≡ reading → (u ≡ v → ⊥) → (x : ℕ) × Frame at limit u x rs × (m x ≡ reading)
 
   -- what is asked when v goes to its include u
-  opened : (imports before cs : List ℕ) (h v u : ℕ) (rs : List Row) (m : Marks) → At imports before (suc (suc u) ∷ cs) h v rs m → (rs₁ : List Row) → Added (row u v) rs rs₁ → Open m rs₁ u
+  opened : (imports before cs : List ℕ) (h v u : ℕ) (rs : List Row) (m : Marks) → At imports before (suc (suc u) ∷ cs) h v rs m → (rs₁ : List Row)
+      → Added (row u v) rs rs₁ → Open m rs₁ u
   opened imports before cs h v u rs m a rs₁ d = record { frame = λ w e. go w e (eqb w v) refl }
     where
       mine : Frame at limit v u rs₁
@@ -117,8 +121,9 @@ module _ (at : ℕ → Codes) (limit : ℕ) where
       go w e false q = let o = a .others w e (eqb-false w v q) in (o .0, frame-grows at limit rs₁ (d .grows) (o .1), inl (o .2))
 
   -- the next include
-  next : (imports before cs : List ℕ) (h v u : ℕ) (rs : List Row) (m : Marks) → At imports before (suc (suc u) ∷ cs) h v rs m → (rs₁ : List Row) → Added (row u v) rs rs₁
-      → (rs₂ : List Row) (m₂ : Marks) (k : ℕ) {plain : Out Row} → Through m rs₁ u rs₂ m₂ k plain → At imports (before ++ (suc (suc u) ∷ [])) cs (max h (suc k)) v rs₂ m₂
+  next : (imports before cs : List ℕ) (h v u : ℕ) (rs : List Row) (m : Marks) → At imports before (suc (suc u) ∷ cs) h v rs m → (rs₁ : List Row)
+      → Added (row u v) rs rs₁ → (rs₂ : List Row) (m₂ : Marks) (k : ℕ) {plain : Out Row} → Through m rs₁ u rs₂ m₂ k plain
+      → At imports (before ++ (suc (suc u) ∷ [])) cs (raised h k) v rs₂ m₂
   next imports before cs h v u rs m a rs₁ d rs₂ m₂ k t = record {
     text = a .text ∙ ap (codes imports) (sym (append-assoc before (suc (suc u) ∷ []) cs));
     imported = imported-grows imports v rs rs₂ grow (a .imported);
@@ -131,23 +136,40 @@ module _ (at : ℕ → Codes) (limit : ℕ) where
       grow : Grows rs rs₂
       grow r p = t .grows r (d .grows r p)
 
-  -- all includes of v, from those that are done on; `below`: the walk of an included text is right
-  along : (left : ℕ) → ((u : ℕ) (rs : List Row) (m : Marks) → Sound m rs → Open m rs u → Right m rs u (belowOnce at limit left u rs m) (under at limit left u rs))
-      → (imports before cs : List ℕ) (h v : ℕ) (rs : List Row) (m : Marks) → At imports before cs h v rs m
-      → RightAlong imports m rs v (before ++ cs) (includesOnce limit (belowOnce at limit left) v cs rs m h) (eachO (includeCode limit (under at limit left) v) cs rs)
+  -- the walk of an included text is right
+  abbrev RightBelow : (left : ℕ) → Type 0
+  RightBelow left = (u : ℕ) (rs : List Row) (m : Marks) → Sound m rs → Open m rs u → Right m rs u (belowOnce at limit left u rs m) (under at limit left u rs)
+
+  -- all includes of v, from those that are done on
+  along : (left : ℕ) → RightBelow left → (imports before cs : List ℕ) (h v : ℕ) (rs : List Row) (m : Marks) → At imports before cs h v rs m
+      → RightAlong imports m rs v (before ++ cs)
+      (includesOnce limit (belowOnce at limit left) v cs rs m h) (eachO (includeCode limit (under at limit left) v) cs rs)
   unfolding includesOnce eachO
-  along left right imports before [] h v rs m a =
-      record { same = refl; grows = same-rows rs; sound = a .sound; opens = record { there = λ u e. e; back = λ u e. e }; gone = subst (λ (cs : List ℕ). Gone at limit v rs cs h) (sym (append-nil before)) (a .gone); imported = a .imported }
+  along left right imports before [] h v rs m a = record {
+    same = refl;
+    grows = same-rows rs;
+    sound = a .sound;
+    opens = record { there = λ u e. e; back = λ u e. e };
+    gone = subst (λ (cs : List ℕ). Gone at limit v rs cs h) (sym (append-nil before)) (a .gone);
+    imported = a .imported;
+  }
   along left right imports before (zero ∷ cs) h v rs m a = refl
   along left right imports before (suc zero ∷ cs) h v rs m a = refl
-  along left right imports before (suc (suc u) ∷ cs) h v rs m a = go (addRow limit rs (row u v)) (added limit (row u v) rs) (λ k rs₂ m₂ b. along left right imports (before ++ (suc (suc u) ∷ [])) cs k v rs₂ m₂ b)
+  along left right imports before (suc (suc u) ∷ cs) h v rs m a =
+      go (addRow limit rs (row u v)) (added limit (row u v) rs) (λ k rs₂ m₂ b. along left right imports (before ++ (suc (suc u) ∷ [])) cs k v rs₂ m₂ b)
     where
+      on : List Row → Marks → ℕ → Walked
+      on rs₂ m₂ k = includesOnce limit (belowOnce at limit left) v cs rs₂ m₂ k
+
+      onPlain : List Row → Out Row
+      onPlain rs₂ = eachO (includeCode limit (under at limit left) v) cs rs₂
+
       Rest : Type 0
       Rest = (k : ℕ) (rs₂ : List Row) (m₂ : Marks) → At imports (before ++ (suc (suc u) ∷ [])) cs k v rs₂ m₂
-          → RightAlong imports m₂ rs₂ v ((before ++ (suc (suc u) ∷ [])) ++ cs) (includesOnce limit (belowOnce at limit left) v cs rs₂ m₂ k) (eachO (includeCode limit (under at limit left) v) cs rs₂)
+          → RightAlong imports m₂ rs₂ v ((before ++ (suc (suc u) ∷ [])) ++ cs) (on rs₂ m₂ k) (onPlain rs₂)
 
-      joined : (w : Walked) (p : Out Row) (rs₂ : List Row) (m₂ : Marks) → Grows rs rs₂ → SameOpen m m₂ → RightAlong imports m₂ rs₂ v ((before ++ (suc (suc u) ∷ [])) ++ cs) w p
-          → RightAlong imports m rs v (before ++ (suc (suc u) ∷ cs)) w p
+      joined : (w : Walked) (p : Out Row) (rs₂ : List Row) (m₂ : Marks) → Grows rs rs₂ → SameOpen m m₂
+          → RightAlong imports m₂ rs₂ v ((before ++ (suc (suc u) ∷ [])) ++ cs) w p → RightAlong imports m rs v (before ++ (suc (suc u) ∷ cs)) w p
       joined (walked rs₃ m₃ k) p rs₂ m₂ g o r = record {
         same = r .same;
         grows = λ x q. r .grows x (g x q);
@@ -159,81 +181,87 @@ module _ (at : ℕ → Codes) (limit : ℕ) where
       joined (halted n x) p rs₂ m₂ g o r = r
 
       inside : (rs₁ : List Row) → Added (row u v) rs rs₁ → Rest → (w : Walked) (p : Out Row) → Right m rs₁ u w p
-          → RightAlong imports m rs v (before ++ (suc (suc u) ∷ cs)) (thenW w (λ rs₂ m₂ k. includesOnce limit (belowOnce at limit left) v cs rs₂ m₂ (max h (suc k)))) (thenO p (eachO (includeCode limit (under at limit left) v) cs))
-      inside rs₁ d rest (walked rs₂ m₂ k) p t = rw (t .same)
-          (joined (includesOnce limit (belowOnce at limit left) v cs rs₂ m₂ (max h (suc k))) (eachO (includeCode limit (under at limit left) v) cs rs₂) rs₂ m₂ (λ x q. t .grows x (d .grows x q)) (t .opens)
-          (rest (max h (suc k)) rs₂ m₂ (next imports before cs h v u rs m a rs₁ d rs₂ m₂ k t)))
+          → RightAlong imports m rs v (before ++ (suc (suc u) ∷ cs)) (thenW w (λ rs₂ m₂ k. on rs₂ m₂ (raised h k))) (thenO p onPlain)
+      inside rs₁ d rest (walked rs₂ m₂ k) p t =
+          rw (t .same) (joined (on rs₂ m₂ (raised h k)) (onPlain rs₂) rs₂ m₂ (λ x q. t .grows x (d .grows x q)) (t .opens)
+          (rest (raised h k) rs₂ m₂ (next imports before cs h v u rs m a rs₁ d rs₂ m₂ k t)))
       inside rs₁ d rest (halted n x) p t = rw t refl
 
       go : (o : Out Row) → OnBuilt o (Added (row u v) rs) → Rest
-          → RightAlong imports m rs v (before ++ (suc (suc u) ∷ cs)) (thenW (thenRows o (λ rs₁. belowOnce at limit left u rs₁ m)) (λ rs₂ m₂ k. includesOnce limit (belowOnce at limit left) v cs rs₂ m₂ (max h (suc k)))) (thenO (thenO o (under at limit left u)) (eachO (includeCode limit (under at limit left) v) cs))
-      go (built rs₁) d rest = inside rs₁ d rest (belowOnce at limit left u rs₁ m) (under at limit left u rs₁) (right u rs₁ m (sound-grows m rs rs₁ (d .grows) (a .sound)) (opened imports before cs h v u rs m a rs₁ d))
+          → RightAlong imports m rs v (before ++ (suc (suc u) ∷ cs))
+          (thenW (thenRows o (λ rs₁. belowOnce at limit left u rs₁ m)) (λ rs₂ m₂ k. on rs₂ m₂ (raised h k)))
+          (thenO (thenO o (under at limit left u)) onPlain)
+      go (built rs₁) d rest =
+          inside rs₁ d rest (belowOnce at limit left u rs₁ m) (under at limit left u rs₁)
+          (right u rs₁ m (sound-grows m rs rs₁ (d .grows) (a .sound)) (opened imports before cs h v u rs m a rs₁ d))
       go (refused n x) d rest = refl
 
   -- ---- a text that is not read yet
-
-  fresh : (m : Marks) (rs : List Row) (v : ℕ) → m v ≡ unread → (u : ℕ) → mark m v reading u ≡ reading → (u ≡ v → ⊥) → m u ≡ reading
-  fresh m rs v f u e n = sym (mark-other m v reading u n) ∙ e
 
   not-reading : {A : Type 0} {x : Mark} → x ≡ unread → x ≡ reading → A
   not-reading p q = both-bools (ap isReading q) (ap isReading p)
 
   -- where v begins: its imports are done
-  begun : (imports includes : List ℕ) (v : ℕ) (rs : List Row) (m : Marks) → at v ≡ codes imports includes → m v ≡ unread → Sound m rs → Open m rs v → (rs₁ : List Row) → Imports imports v rs rs₁
-      → At imports [] includes 0 v rs₁ (mark m v reading)
+  begun : (imports includes : List ℕ) (v : ℕ) (rs : List Row) (m : Marks) → at v ≡ codes imports includes → m v ≡ unread → Sound m rs → Open m rs v
+      → (rs₁ : List Row) → Imports imports v rs rs₁ → At imports [] includes 0 v rs₁ (mark m v reading)
   begun imports includes v rs m e f s o rs₁ i = record {
     text = e;
     imported = i .there;
     gone = none;
     its = mark-here m v reading;
-    sound = record { done = λ u h q. done-grows at limit rs₁ (i .grows) (s .done u h (kept u h q (eqb u v) refl)) };
-    others = λ u q n. let k = o .frame u (fresh m rs v f u q n) in (k .0, frame-grows at limit rs₁ (i .grows) (k .1), still (k .0) (k .2));
+    sound = record { done = λ u h q. done-grows at limit rs₁ (i .grows) (s .done u h (kept u h q)) };
+    others = λ u q n. let k = o .frame u (sym (mark-other m v reading u n) ∙ q) in (k .0, frame-grows at limit rs₁ (i .grows) (k .1), still (k .0) (k .2));
   }
     where
-      kept : (u h : ℕ) → mark m v reading u ≡ below h → (b : Bool) → eqb u v ≡ b → m u ≡ below h
-      kept u h q true z = both-bools refl (ap isReading (sym (mark-here m v reading) ∙ subst (λ (w : ℕ). mark m v reading w ≡ below h) (eqb-true u v z) q))
-      kept u h q false z = sym (mark-other m v reading u (eqb-false u v z)) ∙ q
+      kept : (u h : ℕ) → mark m v reading u ≡ below h → m u ≡ below h
+      kept u h q = ⊎-elim (λ c. both-bools refl (ap isReading (c .1))) (λ c. c .1) (mark-cases m v reading u q)
 
       still : (x : ℕ) → (m x ≡ reading) ⊎ (x ≡ v) → mark m v reading x ≡ reading
       still x (inr p) = subst (λ (w : ℕ). mark m v reading w ≡ reading) (sym p) (mark-here m v reading)
       still x (inl q) = mark-other m v reading x (λ p. not-reading f (subst (λ (w : ℕ). m w ≡ reading) p q)) ∙ q
 
   -- where it ends
-  finished : (imports includes : List ℕ) (v : ℕ) (rs : List Row) (m : Marks) → at v ≡ codes imports includes → m v ≡ unread → (rs₁ : List Row) → Grows rs rs₁ → (w : Walked) (p : Out Row)
-      → RightAlong imports (mark m v reading) rs₁ v includes w p → Right m rs v (thenW w (ended v)) p
+  finished : (imports includes : List ℕ) (v : ℕ) (rs : List Row) (m : Marks) → at v ≡ codes imports includes → m v ≡ unread → (rs₁ : List Row)
+      → Grows rs rs₁ → (w : Walked) (p : Out Row) → RightAlong imports (mark m v reading) rs₁ v includes w p → Right m rs v (thenW w (ended v)) p
   finished imports includes v rs m e f rs₁ g (walked rs₂ m₂ h) p a = record {
     same = a .same;
     grows = λ r q. a .grows r (g r q);
     its = mark-here m₂ v (below h);
-    sound = record { done = λ u k q. go u k q (eqb u v) refl };
-    opens = record { there = λ u q. forth u q (eqb u v) refl; back = λ u q. backward u q (eqb u v) refl };
+    sound = record { done = λ u k q. ⊎-elim (here u k) (λ c. a .sound .done u k (c .1)) (mark-cases m₂ v (below h) u q) };
+    opens = record { there = forth; back = backward };
   }
     where
-      go : (u k : ℕ) → mark m₂ v (below h) u ≡ below k → (b : Bool) → eqb u v ≡ b → Done at limit k u rs₂
-      go u k q true z =
-          let same-height : h ≡ k = ap heightOf (sym (mark-here m₂ v (below h)) ∙ subst (λ (w : ℕ). mark m₂ v (below h) w ≡ below k) (eqb-true u v z) q) in
-          subst (λ (y : ℕ). Done at limit y u rs₂) same-height (subst (λ (w : ℕ). Done at limit h w rs₂) (sym (eqb-true u v z)) (text-done at limit v imports includes h rs₂ e (a .imported) (a .gone)))
-      go u k q false z = a .sound .done u k (sym (mark-other m₂ v (below h) u (eqb-false u v z)) ∙ q)
+      here : (u k : ℕ) → (u ≡ v) × (below h ≡ below k) → Done at limit k u rs₂
+      here u k c =
+          let e₁ : h ≡ k = cc (c .1) in
+          subst₂ (λ y w. Done at limit y w rs₂) e₁ (sym (c .0)) (text-done at limit v imports includes h rs₂ e (a .imported) (a .gone))
 
-      forth : (u : ℕ) → m u ≡ reading → (b : Bool) → eqb u v ≡ b → mark m₂ v (below h) u ≡ reading
-      forth u q true z = not-reading f (subst (λ (w : ℕ). m w ≡ reading) (eqb-true u v z) q)
-      forth u q false z = mark-other m₂ v (below h) u (eqb-false u v z) ∙ a .opens .there u (mark-other m v reading u (eqb-false u v z) ∙ q)
+      forth : (u : ℕ) → m u ≡ reading → mark m₂ v (below h) u ≡ reading
+      forth u q =
+          let n : u ≡ v → ⊥ = λ p. not-reading f (subst (λ (w : ℕ). m w ≡ reading) p q) in
+          mark-other m₂ v (below h) u n ∙ a .opens .there u (mark-other m v reading u n ∙ q)
 
-      backward : (u : ℕ) → mark m₂ v (below h) u ≡ reading → (b : Bool) → eqb u v ≡ b → m u ≡ reading
-      backward u q true z = both-bools refl (ap isBelow (sym (mark-here m₂ v (below h)) ∙ subst (λ (w : ℕ). mark m₂ v (below h) w ≡ reading) (eqb-true u v z) q))
-      backward u q false z = sym (mark-other m v reading u (eqb-false u v z)) ∙ a .opens .back u (sym (mark-other m₂ v (below h) u (eqb-false u v z)) ∙ q)
+      backward : (u : ℕ) → mark m₂ v (below h) u ≡ reading → m u ≡ reading
+      backward u q =
+          ⊎-elim (λ c. both-bools refl (ap isBelow (c .1))) (λ c. sym (mark-other m v reading u (c .0)) ∙ a .opens .back u (c .1))
+          (mark-cases m₂ v (below h) u q)
   finished imports includes v rs m e f rs₁ g (halted n x) p a = a
 
-  visited : (left : ℕ) → ((u : ℕ) (rs : List Row) (m : Marks) → Sound m rs → Open m rs u → Right m rs u (belowOnce at limit left u rs m) (under at limit left u rs))
-      → (absent v : ℕ) (rs : List Row) (m : Marks) → m v ≡ unread → Sound m rs → Open m rs v → (c : Codes) → at v ≡ c
+  visited : (left : ℕ) → RightBelow left → (absent v : ℕ) (rs : List Row) (m : Marks) → m v ≡ unread → Sound m rs → Open m rs v → (c : Codes) → at v ≡ c
       → Right m rs v (visitOnce limit (belowOnce at limit left) absent v c rs m) (visitCodes limit (under at limit left) absent v c rs)
   visited left right absent v rs m f s o noText e = refl
   visited left right absent v rs m f s o (refusedScan a) e = refl
   visited left right absent v rs m f s o (codes imports includes) e = go (eachO (importCode limit v) imports rs) (imports-done limit v imports rs)
     where
-      go : (x : Out Row) → OnBuilt x (Imports imports v rs)
-          → Right m rs v (thenRows x (λ rs₁. thenW (includesOnce limit (belowOnce at limit left) v includes rs₁ (mark m v reading) 0) (ended v))) (thenO x (eachO (includeCode limit (under at limit left) v) includes))
-      go (built rs₁) i = finished imports includes v rs m e f rs₁ (i .grows) (includesOnce limit (belowOnce at limit left) v includes rs₁ (mark m v reading) 0) (eachO (includeCode limit (under at limit left) v) includes rs₁)
+      all : List Row → Walked
+      all rs₁ = includesOnce limit (belowOnce at limit left) v includes rs₁ (mark m v reading) 0
+
+      allPlain : List Row → Out Row
+      allPlain rs₁ = eachO (includeCode limit (under at limit left) v) includes rs₁
+
+      go : (x : Out Row) → OnBuilt x (Imports imports v rs) → Right m rs v (thenRows x (λ rs₁. thenW (all rs₁) (ended v))) (thenO x allPlain)
+      go (built rs₁) i =
+          finished imports includes v rs m e f rs₁ (i .grows) (all rs₁) (allPlain rs₁)
           (along left right imports [] includes 0 v rs₁ (mark m v reading) (begun imports includes v rs m e f s o rs₁ i))
       go (refused n x) i = refl
 
@@ -252,18 +280,24 @@ module _ (at : ℕ → Codes) (limit : ℕ) where
           go x (inr p) = subst (λ (z : ℕ). m z ≡ reading) (sym p) e
   by-mark left absent v rs m s o (below h) e w r = go (leb h left) (s .done v h e .again left absent rs (same-rows rs))
     where
-      go : (b : Bool) → walkCodes at limit left absent v rs ≡ cond b (built rs) deep → Right m rs v (cond b (walked rs m h) (halted tooDeep noRefusal)) (walkCodes at limit left absent v rs)
+      go : (b : Bool) → walkCodes at limit left absent v rs ≡ cond b (built rs) deep
+          → Right m rs v (cond b (walked rs m h) (halted tooDeep noRefusal)) (walkCodes at limit left absent v rs)
       go true q = record { same = q; grows = same-rows rs; sound = s; opens = record { there = λ u p. p; back = λ u p. p }; its = e }
       go false q = q
 
-  pub once-right : (left absent v : ℕ) (rs : List Row) (m : Marks) → Sound m rs → Open m rs v → Right m rs v (walkOnce at limit left absent v rs m) (walkCodes at limit left absent v rs)
+  from-below : (left : ℕ) → RightBelow left → (absent v : ℕ) (rs : List Row) (m : Marks) → Sound m rs → Open m rs v
+      → Right m rs v (walkOnce at limit left absent v rs m) (walkCodes at limit left absent v rs)
+  from-below left right absent v rs m s o =
+      rw (once-is left absent v rs m) (by-mark left absent v rs m s o (m v) refl (visitOnce limit (belowOnce at limit left) absent v (at v) rs m)
+      (λ f. rw (plain-is at limit left absent v rs) (visited left right absent v rs m f s o (at v) refl)))
+
+  pub once-right : (left absent v : ℕ) (rs : List Row) (m : Marks) → Sound m rs → Open m rs v
+      → Right m rs v (walkOnce at limit left absent v rs m) (walkCodes at limit left absent v rs)
   unfolding belowOnce
-  once-right zero absent v rs m s o =
-      rw (once-is zero absent v rs m) (by-mark zero absent v rs m s o (m v) refl (visitOnce limit (belowOnce at limit zero) absent v (at v) rs m)
-      (λ f. rw (plain-is at limit zero absent v rs) (visited zero (λ u rs₁ m₁ s₁ o₁. refl) absent v rs m f s o (at v) refl)))
-  once-right (suc left) absent v rs m s o =
-      rw (once-is (suc left) absent v rs m) (by-mark (suc left) absent v rs m s o (m v) refl (visitOnce limit (belowOnce at limit (suc left)) absent v (at v) rs m)
-      (λ f. rw (plain-is at limit (suc left) absent v rs) (visited (suc left) (λ u rs₁ m₁ s₁ o₁. once-right left noIncludedText u rs₁ m₁ s₁ o₁) absent v rs m f s o (at v) refl)))
+  once-right zero = from-below zero (λ u rs m s o. refl)
+  once-right (suc left) = from-below (suc left) (once-right left noIncludedText)
+
+  -- ---- entries, one after another
 
   -- before the first entry nothing is read
   pub at-first : Between at limit nothingRead []
@@ -281,3 +315,40 @@ module _ (at : ℕ → Codes) (limit : ℕ) where
 
   pub between-grows : (m : Marks) (rs rs₁ : List Row) → Grows rs rs₁ → Between at limit m rs → Between at limit m rs₁
   between-grows m rs rs₁ g b = record { done = sound-grows m rs rs₁ g (record { done = b .done }) .done; closed = b .closed }
+
+  -- ---- a walk leaves its height in the mark, whatever the marks were
+
+  abbrev Told : (v : ℕ) → Walked → Type 0
+  Told v (walked rs m h) = m v ≡ below h
+  Told v (halted n a) = Unit {0}
+
+  told : (left absent v : ℕ) (rs : List Row) (m : Marks) → Told v (walkOnce at limit left absent v rs m)
+  told left absent v rs m =
+      rw (once-is left absent v rs m) (go (m v) refl (visitOnce limit (belowOnce at limit left) absent v (at v) rs m) (visit (at v)))
+    where
+      end : (w : Walked) → Told v (thenW w (ended v))
+      end (walked rs₁ m₁ h) = mark-here m₁ v (below h)
+      end (halted n a) = tt
+
+      visit : (c : Codes) → Told v (visitOnce limit (belowOnce at limit left) absent v c rs m)
+      visit noText = tt
+      visit (refusedScan a) = tt
+      visit (codes imports includes) = imported (eachO (importCode limit v) imports rs)
+        where
+          imported : (o : Out Row)
+              → Told v (thenRows o (λ rs₁. thenW (includesOnce limit (belowOnce at limit left) v includes rs₁ (mark m v reading) 0) (ended v)))
+          imported (built rs₁) = end (includesOnce limit (belowOnce at limit left) v includes rs₁ (mark m v reading) 0)
+          imported (refused n a) = tt
+
+      known : (h : ℕ) → m v ≡ below h → (b : Bool) → Told v (cond b (walked rs m h) (halted tooDeep noRefusal))
+      known h e true = e
+      known h e false = tt
+
+      go : (x : Mark) → m v ≡ x → (w : Walked) → Told v w → Told v (met x left rs m w)
+      go unread e w l = l
+      go reading e w l = tt
+      go (below h) e w l = known h e (leb h left)
+
+  pub once-height : (left absent v : ℕ) (rs : List Row) (m : Marks) {rs₁ : List Row} {m₁ : Marks} {h : ℕ}
+      → walkOnce at limit left absent v rs m ≡ walked rs₁ m₁ h → m₁ v ≡ below h
+  once-height left absent v rs m e = subst (λ (w : Walked). Told v w) e (told left absent v rs m)

@@ -8,9 +8,10 @@ use mathlib.Core.Bool.{Bool, true, false, cond}
 use mathlib.Core.List.{List, [], _∷_, _++_, List·Nodup}
 use lib.Dec.{eqb, leb}
 use Rattle.text.specs.Refusal.{noRefusal}
-use Rattle.graph.specs.Graph.{ScanAnswer, noEntryText, noIncludedText, scanRefused, unknownSubmodule, noNode, tooDeep, deepest, Out, built, refused, onOut}
-use Rattle.graph.specs.Numbers.{Row, row, memR, addRow, Codes, noText, refusedScan, codes, eachO, importCode, givenCode, walkCodes, Drawing, drawn, faulty}
-use Rattle.graph.specs.Numbers.{EntryCode, drawFrom}
+use Rattle.graph.specs.Graph.{ScanAnswer, noEntryText, noIncludedText, scanRefused, unknownSubmodule, noNode, tooDeep, deepest, Out, built, refused}
+use Rattle.graph.specs.Graph.{onOut}
+use Rattle.graph.specs.Numbers.{Row, row, memR, addRow, Codes, noText, refusedScan, codes, eachO, importCode, givenCode, walkCodes, Drawing, drawn}
+use Rattle.graph.specs.Numbers.{faulty, EntryCode, drawFrom}
 
 -- ---- the marks
 
@@ -53,10 +54,14 @@ includeOnce limit f v zero rs m = halted unknownSubmodule noRefusal
 includeOnce limit f v (suc zero) rs m = halted noNode noRefusal
 includeOnce limit f v (suc (suc u)) rs m = thenRows (addRow limit rs (row u v)) (λ rs₁. f u rs₁ m)
 
+-- the longest chain of includes: h was the longest, and one include more has k below it
+abbrev pub raised : (h k : ℕ) → ℕ
+raised h k = max h (suc k)
+
 -- h: the longest chain below those that came before
 unfoldable pub includesOnce : (limit : ℕ) → Below → (v : ℕ) → List ℕ → List Row → Marks → (h : ℕ) → Walked
 includesOnce limit f v [] rs m h = walked rs m h
-includesOnce limit f v (c ∷ cs) rs m h = thenW (includeOnce limit f v c rs m) (λ rs₁ m₁ h₁. includesOnce limit f v cs rs₁ m₁ (max h (suc h₁)))
+includesOnce limit f v (c ∷ cs) rs m h = thenW (includeOnce limit f v c rs m) (λ rs₁ m₁ h₁. includesOnce limit f v cs rs₁ m₁ (raised h h₁))
 
 abbrev pub ended : (v : ℕ) → List Row → Marks → ℕ → Walked
 ended v rs m h = walked rs (mark m v (below h)) h
