@@ -7,7 +7,7 @@ use lib.ListN.{getD}
 use Rattle.text.specs.Refusal.{noRefusal}
 use Rattle.graph.specs.Graph.{noEntryText, tooDeep, tooManyEdges, deepest, addBy}
 use Rattle.graph.specs.Numbers.{row, memR, Codes, noText, codes, eachO, Drawing, drawn, faulty, EntryCode, drawFrom}
-use Rattle.graph.specs.Once.{nothingRead, Walked, walked, halted, includesOnce, walkOnce, drawOnce, includesRead, walkRead, entriesRead}
+use Rattle.graph.specs.Once.{nothingRead, Went, walked, halted, includesOnce, walkOnce, drawOnce, includesRead, walkRead, entriesRead}
 use Rattle.graph.proofs.ReadOnce.{once-demand}
 
 -- a text by the numbers of what it imports and includes
@@ -92,7 +92,7 @@ unfolding examples memR addBy eachO includesOnce walkOnce includesRead walkRead 
 all-read = refl
 
 -- the longest chain is remembered, not how many there are
-abbrev heightOf : Walked → ℕ
+abbrev heightOf : Went → ℕ
 heightOf (walked rs m h) = h
 heightOf (halted n a) = 0
 

@@ -13,7 +13,7 @@ use borrow.Author.Tests.{eqb-true, eqb-false}
 use Rattle.text.specs.Refusal.{noRefusal}
 use Rattle.graph.specs.Graph.{noEntryText, noIncludedText, tooDeep, deepest, Out, built, refused, onOut}
 use Rattle.graph.specs.Numbers.{Row, row, addRow, Codes, noText, refusedScan, codes, eachO, importCode, givenCode, EntryCode}
-use Rattle.graph.specs.Once.{reading, Marks, nothingRead, mark, Walked, walked, halted, Below, walkOnce, onWalked, isUnread, Reads, includesRead}
+use Rattle.graph.specs.Once.{reading, Marks, nothingRead, mark, Went, walked, halted, Below, walkOnce, onWalked, isUnread, Reads, includesRead}
 use Rattle.graph.specs.Once.{visitRead, walkRead, entriesRead}
 use Rattle.graph.proofs.Demand.{no-longer}
 use Rattle.graph.proofs.ReadOnce.{once-demand}
@@ -45,7 +45,7 @@ module _ (P : ℕ → Type 0) where
     includes-all (suc zero ∷ cs) i rs m = none
     includes-all (suc (suc u) ∷ cs) i rs m = go (addRow limit rs (row u v)) (includes-all cs (λ w n. i w (List·Memᴰ·tail n)))
       where
-        on : (w : Walked) → ((rs₂ : List Row) (m₂ : Marks) → All (includesRead limit f t v cs rs₂ m₂))
+        on : (w : Went) → ((rs₂ : List Row) (m₂ : Marks) → All (includesRead limit f t v cs rs₂ m₂))
             → All (onWalked w (λ rs₂ m₂. includesRead limit f t v cs rs₂ m₂) (λ n a. []))
         on (walked rs₂ m₂ h) ih = ih rs₂ m₂
         on (halted n a) ih = none
@@ -91,7 +91,7 @@ module _ (P : ℕ → Type 0) where
         listed m₁ ih (built rs₂) = ih rs₂ m₁
         listed m₁ ih (refused n a) = none
 
-        go : (w : Walked) → ((rs₂ : List Row) (m₂ : Marks) → All (entriesRead at limit rs₂ m₂ es))
+        go : (w : Went) → ((rs₂ : List Row) (m₂ : Marks) → All (entriesRead at limit rs₂ m₂ es))
             → All (onWalked w
             (λ rs₁ m₁. onOut (eachO (givenCode limit (e .number)) (e .lists) rs₁) (λ rs₂. entriesRead at limit rs₂ m₁ es) (λ n a. []))
             (λ n a. []))

@@ -12,7 +12,7 @@ use Rattle.text.specs.Refusal.{noRefusal}
 use Rattle.graph.specs.Graph.{noEntryText, noIncludedText, tooDeep, deepest, Out, built, refused, thenO, onOut}
 use Rattle.graph.specs.Numbers.{Row, row, addRow, Codes, noText, refusedScan, codes, eachO, importCode, givenCode, walkCodes, walkEntryCodes, faulty}
 use Rattle.graph.specs.Numbers.{EntryCode, drawFrom}
-use Rattle.graph.specs.Once.{Mark, unread, reading, below, Marks, nothingRead, mark, Walked, walked, halted, thenRows, thenW, Below, includesOnce, ended}
+use Rattle.graph.specs.Once.{Mark, unread, reading, below, Marks, nothingRead, mark, Went, walked, halted, thenRows, thenW, Below, includesOnce, ended}
 use Rattle.graph.specs.Once.{visitOnce, met, walkOnce, onWalked, drawOnce, isUnread, Reads, includesRead, visitRead, walkRead, entriesRead, Grows}
 use Rattle.graph.specs.Once.{raised, Between, OnceDemand}
 use Rattle.graph.proofs.Tests.{both-bools}
@@ -75,7 +75,7 @@ turns-differ m (v ∷ xs) m₁ t =
 
 -- ---- a walk reads so; where it is refused, some marks are left
 
-abbrev ReadBy : Marks → List ℕ → Walked → Type 0
+abbrev ReadBy : Marks → List ℕ → Went → Type 0
 ReadBy m xs (walked rs m₁ h) = Turns m xs m₁
 ReadBy m xs (halted n a) = (m₁ : Marks) × Turns m xs m₁
 
@@ -83,7 +83,7 @@ nothing : (m : Marks) → Turns m [] m
 unfolding Turns
 nothing m u e = e
 
-then-read : (m : Marks) (xs : List ℕ) (m₁ : Marks) (ys : List ℕ) → Turns m xs m₁ → (w : Walked) → ReadBy m₁ ys w → ReadBy m (xs ++ ys) w
+then-read : (m : Marks) (xs : List ℕ) (m₁ : Marks) (ys : List ℕ) → Turns m xs m₁ → (w : Went) → ReadBy m₁ ys w → ReadBy m (xs ++ ys) w
 then-read m xs m₁ ys t (walked rs m₂ h) s = turns-append m xs m₁ ys m₂ t s
 then-read m xs m₁ ys t (halted n a) s = (s .0, turns-append m xs m₁ ys (s .0) t (s .1))
 
@@ -98,7 +98,7 @@ module _ (limit : ℕ) (f : Below) (t : Reads) (right : (u : ℕ) (rs : List Row
       Rest : Type 0
       Rest = (rs₂ : List Row) (m₂ : Marks) (k : ℕ) → ReadBy m₂ (includesRead limit f t v cs rs₂ m₂) (includesOnce limit f v cs rs₂ m₂ k)
 
-      on : (xs : List ℕ) (w : Walked) → ReadBy m xs w → Rest
+      on : (xs : List ℕ) (w : Went) → ReadBy m xs w → Rest
           → ReadBy m (xs ++ onWalked w (λ rs₂ m₂. includesRead limit f t v cs rs₂ m₂) (λ n a. []))
           (thenW w (λ rs₂ m₂ k. includesOnce limit f v cs rs₂ m₂ (raised h k)))
       on xs (walked rs₂ m₂ k) r ih =
@@ -118,7 +118,7 @@ module _ (limit : ℕ) (f : Below) (t : Reads) (right : (u : ℕ) (rs : List Row
   visit-read absent (refusedScan a) rs m q = (mark m v reading, (q, nothing (mark m v reading)))
   visit-read absent (codes imports includes) rs m q = go (eachO (importCode limit v) imports rs)
     where
-      on : (xs : List ℕ) (w : Walked) → ReadBy (mark m v reading) xs w → ReadBy m (v ∷ xs) (thenW w (ended v))
+      on : (xs : List ℕ) (w : Went) → ReadBy (mark m v reading) xs w → ReadBy m (v ∷ xs) (thenW w (ended v))
       on xs (walked rs₁ m₁ h) r = (q, turns-after (mark m v reading) xs m₁ (mark m₁ v (below h)) r (marked m₁ v (below h) refl))
       on xs (halted n a) r = (r .0, (q, r .1))
 
@@ -130,7 +130,7 @@ module _ (limit : ℕ) (f : Below) (t : Reads) (right : (u : ℕ) (rs : List Row
           (includes-read includes rs₁ (mark m v reading) 0)
       go (refused n a) = (mark m v reading, (q, nothing (mark m v reading)))
 
-met-read : (left v : ℕ) (rs : List Row) (m : Marks) (xs : List ℕ) (w : Walked) → (isUnread (m v) ≡ true → ReadBy m xs w)
+met-read : (left v : ℕ) (rs : List Row) (m : Marks) (xs : List ℕ) (w : Went) → (isUnread (m v) ≡ true → ReadBy m xs w)
     → ReadBy m (cond (isUnread (m v)) xs []) (met (m v) left rs m w)
 met-read left v rs m xs w r = go (m v) refl
   where
@@ -168,7 +168,7 @@ module _ (at : ℕ → Codes) (limit : ℕ) where
       listed xs m₁ r ih (built rs₂) = let i = ih rs₂ m₁ in (i .0, turns-append m xs m₁ (entriesRead at limit rs₂ m₁ es) (i .0) r (i .1))
       listed xs m₁ r ih (refused n a) = (m₁, turns-append m xs m₁ [] m₁ r (nothing m₁))
 
-      go : (xs : List ℕ) (w : Walked) → ReadBy m xs w → Rest
+      go : (xs : List ℕ) (w : Went) → ReadBy m xs w → Rest
           → (m₂ : Marks) × Turns m (xs ++ onWalked w
           (λ rs₁ m₁. onOut (eachO (givenCode limit (e .number)) (e .lists) rs₁) (λ rs₂. entriesRead at limit rs₂ m₁ es) (λ n a. []))
           (λ n a. [])) m₂
@@ -194,7 +194,7 @@ module _ (at : ℕ → Codes) (limit : ℕ) where
       listed rs₁ m₁ c ih (built rs₂) g = ih rs₂ m₁ (between-grows at limit m₁ rs₁ rs₂ g c)
       listed rs₁ m₁ c ih (refused n a) g = refl
 
-      go : (w : Walked) (p : Out Row) → Right at limit m rs (e .number) w p → Rest
+      go : (w : Went) (p : Out Row) → Right at limit m rs (e .number) w p → Rest
           → onWalked w
           (λ rs₁ m₁. onOut (eachO (givenCode limit (e .number)) (e .lists) rs₁) (λ rs₂. drawOnce at limit (k + 1) rs₂ m₁ es) (λ n a. faulty n k a))
           (λ n a. faulty n k a)

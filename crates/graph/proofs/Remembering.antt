@@ -10,7 +10,7 @@ use borrow.Author.Tests.{eqb-true, eqb-false, eq-eqb, ne-eqb}
 use Rattle.text.specs.Refusal.{noRefusal}
 use Rattle.graph.specs.Graph.{noIncludedText, tooDeep, Out, built, refused, thenO}
 use Rattle.graph.specs.Numbers.{Row, row, addRow, Codes, noText, refusedScan, codes, eachO, importCode, includeCode, visitCodes, walkCodes}
-use Rattle.graph.specs.Once.{Mark, unread, reading, below, Marks, nothingRead, mark, Walked, walked, halted, thenRows, thenW, includesOnce, ended}
+use Rattle.graph.specs.Once.{Mark, unread, reading, below, Marks, nothingRead, mark, Went, walked, halted, thenRows, thenW, includesOnce, ended}
 use Rattle.graph.specs.Once.{raised, visitOnce, met, walkOnce, belowOnce, Grows, Done, Between}
 use Rattle.graph.proofs.Tests.{both-bools}
 use Rattle.graph.proofs.Rowing.{same-rows, OnBuilt, Added, added, Imported, imported-grows, Imports, imports-done}
@@ -73,7 +73,7 @@ module _ (at : ℕ → Codes) (limit : ℕ) where
     pub opens : SameOpen m m₁
     pub its : m₁ v ≡ below h
 
-  abbrev pub Right : (m : Marks) (rs : List Row) (v : ℕ) → Walked → Out Row → Type 0
+  abbrev pub Right : (m : Marks) (rs : List Row) (v : ℕ) → Went → Out Row → Type 0
   Right m rs v (walked rs₁ m₁ h) plain = Through m rs v rs₁ m₁ h plain
   Right m rs v (halted n a) plain = plain ≡ refused n a
 
@@ -86,7 +86,7 @@ module _ (at : ℕ → Codes) (limit : ℕ) where
     gone : Gone at limit v rs₁ cs h
     imported : Imported imports v rs₁
 
-  abbrev RightAlong : (imports : List ℕ) (m : Marks) (rs : List Row) (v : ℕ) (cs : List ℕ) → Walked → Out Row → Type 0
+  abbrev RightAlong : (imports : List ℕ) (m : Marks) (rs : List Row) (v : ℕ) (cs : List ℕ) → Went → Out Row → Type 0
   RightAlong imports m rs v cs (walked rs₁ m₁ h) plain = Along imports m rs v cs rs₁ m₁ h plain
   RightAlong imports m rs v cs (halted n a) plain = plain ≡ refused n a
 
@@ -158,7 +158,7 @@ module _ (at : ℕ → Codes) (limit : ℕ) where
   along left right imports before (suc (suc u) ∷ cs) h v rs m a =
       go (addRow limit rs (row u v)) (added limit (row u v) rs) (λ k rs₂ m₂ b. along left right imports (before ++ (suc (suc u) ∷ [])) cs k v rs₂ m₂ b)
     where
-      on : List Row → Marks → ℕ → Walked
+      on : List Row → Marks → ℕ → Went
       on rs₂ m₂ k = includesOnce limit (belowOnce at limit left) v cs rs₂ m₂ k
 
       onPlain : List Row → Out Row
@@ -168,7 +168,7 @@ module _ (at : ℕ → Codes) (limit : ℕ) where
       Rest = (k : ℕ) (rs₂ : List Row) (m₂ : Marks) → At imports (before ++ (suc (suc u) ∷ [])) cs k v rs₂ m₂
           → RightAlong imports m₂ rs₂ v ((before ++ (suc (suc u) ∷ [])) ++ cs) (on rs₂ m₂ k) (onPlain rs₂)
 
-      joined : (w : Walked) (p : Out Row) (rs₂ : List Row) (m₂ : Marks) → Grows rs rs₂ → SameOpen m m₂
+      joined : (w : Went) (p : Out Row) (rs₂ : List Row) (m₂ : Marks) → Grows rs rs₂ → SameOpen m m₂
           → RightAlong imports m₂ rs₂ v ((before ++ (suc (suc u) ∷ [])) ++ cs) w p → RightAlong imports m rs v (before ++ (suc (suc u) ∷ cs)) w p
       joined (walked rs₃ m₃ k) p rs₂ m₂ g o r = record {
         same = r .same;
@@ -180,7 +180,7 @@ module _ (at : ℕ → Codes) (limit : ℕ) where
       }
       joined (halted n x) p rs₂ m₂ g o r = r
 
-      inside : (rs₁ : List Row) → Added (row u v) rs rs₁ → Rest → (w : Walked) (p : Out Row) → Right m rs₁ u w p
+      inside : (rs₁ : List Row) → Added (row u v) rs rs₁ → Rest → (w : Went) (p : Out Row) → Right m rs₁ u w p
           → RightAlong imports m rs v (before ++ (suc (suc u) ∷ cs)) (thenW w (λ rs₂ m₂ k. on rs₂ m₂ (raised h k))) (thenO p onPlain)
       inside rs₁ d rest (walked rs₂ m₂ k) p t =
           rw (t .same) (joined (on rs₂ m₂ (raised h k)) (onPlain rs₂) rs₂ m₂ (λ x q. t .grows x (d .grows x q)) (t .opens)
@@ -222,7 +222,7 @@ module _ (at : ℕ → Codes) (limit : ℕ) where
 
   -- where it ends
   finished : (imports includes : List ℕ) (v : ℕ) (rs : List Row) (m : Marks) → at v ≡ codes imports includes → m v ≡ unread → (rs₁ : List Row)
-      → Grows rs rs₁ → (w : Walked) (p : Out Row) → RightAlong imports (mark m v reading) rs₁ v includes w p → Right m rs v (thenW w (ended v)) p
+      → Grows rs rs₁ → (w : Went) (p : Out Row) → RightAlong imports (mark m v reading) rs₁ v includes w p → Right m rs v (thenW w (ended v)) p
   finished imports includes v rs m e f rs₁ g (walked rs₂ m₂ h) p a = record {
     same = a .same;
     grows = λ r q. a .grows r (g r q);
@@ -253,7 +253,7 @@ module _ (at : ℕ → Codes) (limit : ℕ) where
   visited left right absent v rs m f s o (refusedScan a) e = refl
   visited left right absent v rs m f s o (codes imports includes) e = go (eachO (importCode limit v) imports rs) (imports-done limit v imports rs)
     where
-      all : List Row → Walked
+      all : List Row → Went
       all rs₁ = includesOnce limit (belowOnce at limit left) v includes rs₁ (mark m v reading) 0
 
       allPlain : List Row → Out Row
@@ -267,7 +267,7 @@ module _ (at : ℕ → Codes) (limit : ℕ) where
 
   -- ---- any text, by its mark
 
-  by-mark : (left absent v : ℕ) (rs : List Row) (m : Marks) → Sound m rs → Open m rs v → (x : Mark) → m v ≡ x → (w : Walked)
+  by-mark : (left absent v : ℕ) (rs : List Row) (m : Marks) → Sound m rs → Open m rs v → (x : Mark) → m v ≡ x → (w : Went)
       → (m v ≡ unread → Right m rs v w (walkCodes at limit left absent v rs)) → Right m rs v (met x left rs m w) (walkCodes at limit left absent v rs)
   by-mark left absent v rs m s o unread e w r = r e
   by-mark left absent v rs m s o reading e w r = stuck at limit (λ u. m u ≡ reading) rs on left absent v e rs (same-rows rs)
@@ -318,7 +318,7 @@ module _ (at : ℕ → Codes) (limit : ℕ) where
 
   -- ---- a walk leaves its height in the mark, whatever the marks were
 
-  abbrev Told : (v : ℕ) → Walked → Type 0
+  abbrev Told : (v : ℕ) → Went → Type 0
   Told v (walked rs m h) = m v ≡ below h
   Told v (halted n a) = Unit {0}
 
@@ -326,7 +326,7 @@ module _ (at : ℕ → Codes) (limit : ℕ) where
   told left absent v rs m =
       rw (once-is left absent v rs m) (go (m v) refl (visitOnce limit (belowOnce at limit left) absent v (at v) rs m) (visit (at v)))
     where
-      end : (w : Walked) → Told v (thenW w (ended v))
+      end : (w : Went) → Told v (thenW w (ended v))
       end (walked rs₁ m₁ h) = mark-here m₁ v (below h)
       end (halted n a) = tt
 
@@ -344,11 +344,11 @@ module _ (at : ℕ → Codes) (limit : ℕ) where
       known h e true = e
       known h e false = tt
 
-      go : (x : Mark) → m v ≡ x → (w : Walked) → Told v w → Told v (met x left rs m w)
+      go : (x : Mark) → m v ≡ x → (w : Went) → Told v w → Told v (met x left rs m w)
       go unread e w l = l
       go reading e w l = tt
       go (below h) e w l = known h e (leb h left)
 
   pub once-height : (left absent v : ℕ) (rs : List Row) (m : Marks) {rs₁ : List Row} {m₁ : Marks} {h : ℕ}
       → walkOnce at limit left absent v rs m ≡ walked rs₁ m₁ h → m₁ v ≡ below h
-  once-height left absent v rs m e = subst (λ (w : Walked). Told v w) e (told left absent v rs m)
+  once-height left absent v rs m e = subst (λ (w : Went). Told v w) e (told left absent v rs m)

@@ -33,23 +33,23 @@ mark m v x u = cond (eqb u v) x (m u)
 -- ---- the walk
 
 -- rows and marks now, and the includes below; or a refusal
-pub data Walked : Type 0 where
-  walked : List Row → Marks → (below : ℕ) → Walked
-  halted : (number : ℕ) → ScanAnswer → Walked
+pub data Went : Type 0 where
+  walked : List Row → Marks → (below : ℕ) → Went
+  halted : (number : ℕ) → ScanAnswer → Went
 
-abbrev pub thenRows : Out Row → (List Row → Walked) → Walked
+abbrev pub thenRows : Out Row → (List Row → Went) → Went
 thenRows (built rs) f = f rs
 thenRows (refused n a) f = halted n a
 
-abbrev pub thenW : Walked → (List Row → Marks → ℕ → Walked) → Walked
+abbrev pub thenW : Went → (List Row → Marks → ℕ → Went) → Went
 thenW (walked rs m h) f = f rs m h
 thenW (halted n a) f = halted n a
 
 -- what becomes of an included text
 abbrev pub Below : Type 0
-Below = ℕ → List Row → Marks → Walked
+Below = ℕ → List Row → Marks → Went
 
-abbrev pub includeOnce : (limit : ℕ) → Below → (v : ℕ) → ℕ → List Row → Marks → Walked
+abbrev pub includeOnce : (limit : ℕ) → Below → (v : ℕ) → ℕ → List Row → Marks → Went
 includeOnce limit f v zero rs m = halted unknownSubmodule noRefusal
 includeOnce limit f v (suc zero) rs m = halted noNode noRefusal
 includeOnce limit f v (suc (suc u)) rs m = thenRows (addRow limit rs (row u v)) (λ rs₁. f u rs₁ m)
@@ -59,27 +59,27 @@ abbrev pub raised : (h k : ℕ) → ℕ
 raised h k = max h (suc k)
 
 -- h: the longest chain below those that came before
-unfoldable pub includesOnce : (limit : ℕ) → Below → (v : ℕ) → List ℕ → List Row → Marks → (h : ℕ) → Walked
+unfoldable pub includesOnce : (limit : ℕ) → Below → (v : ℕ) → List ℕ → List Row → Marks → (h : ℕ) → Went
 includesOnce limit f v [] rs m h = walked rs m h
 includesOnce limit f v (c ∷ cs) rs m h = thenW (includeOnce limit f v c rs m) (λ rs₁ m₁ h₁. includesOnce limit f v cs rs₁ m₁ (raised h h₁))
 
-abbrev pub ended : (v : ℕ) → List Row → Marks → ℕ → Walked
+abbrev pub ended : (v : ℕ) → List Row → Marks → ℕ → Went
 ended v rs m h = walked rs (mark m v (below h)) h
 
 -- a text that is not read yet
-abbrev pub visitOnce : (limit : ℕ) → Below → (absent v : ℕ) → Codes → List Row → Marks → Walked
+abbrev pub visitOnce : (limit : ℕ) → Below → (absent v : ℕ) → Codes → List Row → Marks → Went
 visitOnce limit f absent v noText rs m = halted absent noRefusal
 visitOnce limit f absent v (refusedScan a) rs m = halted scanRefused a
 visitOnce limit f absent v (codes imports includes) rs m =
     thenRows (eachO (importCode limit v) imports rs) (λ rs₁. thenW (includesOnce limit f v includes rs₁ (mark m v reading) 0) (ended v))
 
 -- a text that is met, by its mark; `read`: what it comes to if it is not read yet
-abbrev pub met : Mark → (left : ℕ) → List Row → Marks → (read : Walked) → Walked
+abbrev pub met : Mark → (left : ℕ) → List Row → Marks → (read : Went) → Went
 met unread left rs m read = read
 met reading left rs m read = halted tooDeep noRefusal
 met (below h) left rs m read = cond (leb h left) (walked rs m h) (halted tooDeep noRefusal)
 
-unfoldable pub walkOnce : (at : ℕ → Codes) → (limit left absent v : ℕ) → List Row → Marks → Walked
+unfoldable pub walkOnce : (at : ℕ → Codes) → (limit left absent v : ℕ) → List Row → Marks → Went
 walkOnce at limit zero absent v rs m = met (m v) zero rs m (visitOnce limit (λ u rs₁ m₁. halted tooDeep noRefusal) absent v (at v) rs m)
 walkOnce at limit (suc left) absent v rs m = met (m v) (suc left) rs m (visitOnce limit (walkOnce at limit left noIncludedText) absent v (at v) rs m)
 
@@ -90,7 +90,7 @@ belowOnce at limit (suc left) u rs m = walkOnce at limit left noIncludedText u r
 
 -- ---- all entries, numbered from 1; beside `drawFrom`
 
-abbrev pub onWalked : {A : Type 0} → Walked → (List Row → Marks → A) → (ℕ → ScanAnswer → A) → A
+abbrev pub onWalked : {A : Type 0} → Went → (List Row → Marks → A) → (ℕ → ScanAnswer → A) → A
 onWalked (walked rs m h) f g = f rs m
 onWalked (halted n a) f g = g n a
 

@@ -12,7 +12,7 @@ use Rattle.text.specs.Refusal.{noRefusal}
 use Rattle.graph.specs.Graph.{deepest, tooManyEdges, Out, built, refused}
 use Rattle.graph.specs.Limits.{mostEdges}
 use Rattle.graph.specs.Numbers.{Row, Codes, importCode, givenCode}
-use Rattle.graph.specs.Once.{Marks, Walked as Went, halted, Below, includeOnce, belowOnce}
+use Rattle.graph.specs.Once.{Marks, Went, halted, Below, includeOnce, belowOnce}
 use Rattle.graph_edges.specs.Edges.{rowsIn, Filed}
 use Rattle.graph_edges.specs.declared.Link.{Link}
 use Rattle.graph_edges.specs.declared.Link.the-variants.{Count, Full}

@@ -53,7 +53,7 @@ blank levels n z = fun-ext (λ u. go u (ltb u mostNodes) (ap (λ (l : List ℕ).
 
 -- ---- the ways out of `recall`
 
-abbrev isKnown : Recalled → Bool
+abbrev pub isKnown : Recalled → Bool
 isKnown Known = true
 isKnown Unread = false
 isKnown TooDeep = false

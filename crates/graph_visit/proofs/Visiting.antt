@@ -1,32 +1,37 @@
 -- A text that is read by the name of its node: what there is under the name, the imports linked, the includes saved. One law for each way out.
 -- Assumes nothing.
-use Prim.Native.Nat.{ℕ, _+_, _≤_}
+use Prim.Native.Nat.{ℕ, _+_, _≤_, _<_}
 use mathlib.Core.Path.{_≡_, refl, sym, ap, _∙_}
 use mathlib.Core.Bool.{Bool, true, false, cond, true≢false}
 use mathlib.Core.List.{List, []}
 use native.Mathlib.Omega.{arith}
 use lib.ListN.{length, getD}
-use borrow.Author.Tests.{eq-eqb}
+use lib.Dec.{leb}
+use borrow.Author.Tests.{eq-eqb, le-leb}
 use Rattle.text.specs.declared.Refusal.{Refusal}
 use Rattle.scan_rows.specs.Rows.{mostRows}
 use Rattle.library_image.specs.Library.{Name}
 use Rattle.text.specs.Refusal.{noRefusal}
-use Rattle.graph.specs.Graph.{Text, built, refused, deepest}
-use Rattle.graph.specs.Numbers.{noText, refusedScan, codes, codesOf, codesAt, eachO, importCode}
-use Rattle.graph.specs.Limits.{mostEdges}
-use Rattle.graph.specs.Once.{Mark, unread, reading, below, Marks, mark, Walked as Went, Below}
-use Rattle.graph_edges.specs.Edges.{rowsIn}
+use Rattle.graph.specs.Graph.{Text, built, refused}
+use Rattle.graph.specs.Numbers.{Row, Codes, noText, refusedScan, codes, codesOf, codesAt, eachO, importCode}
+use Rattle.graph.specs.Limits.{mostEdges, mostNodes}
+use Rattle.graph.specs.Once.{Mark, unread, reading, below, Marks, mark, Went, walked, halted, Below, met}
+use Rattle.graph_edges.specs.Edges.{rowsIn, Filed}
 use Rattle.graph_marks.specs.Marks.{knownAt, includedAt}
-use Rattle.graph_memory.specs.Memory.{memoryWords, remembered, Remembers}
-use Rattle.graph_memory.proofs.Words.{later, same-memory, stays-on, stays-equal, stays-marked}
+use Rattle.graph_memory.specs.Memory.{memoryWords, heightIn, remembered, recalled, Remembers}
+use Rattle.graph_memory.specs.declared.Recalled.{Recalled}
+use Rattle.graph_memory.specs.declared.Recalled.the-variants.{Unread, Known as Recall, TooDeep}
+use Rattle.graph_memory.proofs.Words.{later, same-memory, stays-same, stays-on, stays-equal, stays-marked, known-height, isKnown}
 use Rattle.graph_texts.specs.Texts.{textOf, textSeen, SeenAs, ScanRoom}
 use Rattle.graph_texts.specs.declared.Seen.{Seen}
-use Rattle.graph_texts.specs.declared.Seen.the-variants.{Missing, Refused as Unread, Rows}
+use Rattle.graph_texts.specs.declared.Seen.the-variants.{Missing, Refused as Unscanned, Rows}
 use Rattle.graph_link.specs.Link.{levelWords, levelAt, wordsFrom, importCodes, includeCodes, ImportRows, IncludeRows, walkSeen, Drew, Saved}
 use Rattle.graph_visit.specs.Visit.{worldOf, codesHere, Room, Kept, Called, visited, metHere}
+use Rattle.graph.proofs.Tests.{both-bools}
 use Rattle.graph_link.specs.declared.Walked.{Walked}
 use Rattle.graph_link.specs.declared.Walked.the-variants.{Built, Refused}
-use Rattle.graph_visit.specs.declared.Visited.the-variants.{Children, Stopped}
+use Rattle.graph_visit.specs.declared.Visited.{Visited}
+use Rattle.graph_visit.specs.declared.Visited.the-variants.{Children, Known, Stopped}
 
 -- ---- the marks
 
@@ -62,7 +67,7 @@ module _ (s b : List ℕ) (ns : List Name) (v : ℕ) (name : List ℕ) (p : name
     no-text : r ≡ Missing → codesHere s b ns v ≡ noText
     no-text z = under ∙ ap (codesOf (worldOf s b ns) ns) (sym (l .seen) ∙ ap (λ r. textSeen r e f g) z)
 
-    refused-text : (a : Refusal) → r ≡ Unread a → codesHere s b ns v ≡ refusedScan a
+    refused-text : (a : Refusal) → r ≡ Unscanned a → codesHere s b ns v ≡ refusedScan a
     refused-text a z = under ∙ ap (codesOf (worldOf s b ns) ns) (sym (l .seen) ∙ ap (λ r. textSeen r e f g) z)
 
     read : (m k : ℕ) → r ≡ Rows m k → codesHere s b ns v ≡ codes (importCodes s ns e f m) (includeCodes s ns e g k)
@@ -78,7 +83,7 @@ module _ (s b : List ℕ) (ns : List Name) (v : ℕ) (name : List ℕ) (p : name
       unfolding visited
       text-missing a levels₁ z t = record { seen = λ below. rw (no-text z, t); ready = tt; kept-edges = refl; kept-chains = refl }
 
-      pub text-refused : (a : Refusal) (levels₁ : List ℕ) → r ≡ Unread a → Called expected n left v count edges chains (Stopped 25 a) levels₁ edges chains
+      pub text-refused : (a : Refusal) (levels₁ : List ℕ) → r ≡ Unscanned a → Called expected n left v count edges chains (Stopped 25 a) levels₁ edges chains
       unfolding visited
       text-refused a levels₁ z = record { seen = λ below. rw (refused-text a z); ready = tt; kept-edges = refl; kept-chains = refl }
 
@@ -150,6 +155,11 @@ level-in r y = omega (arith, r .level-room, y .long)
 
 -- ---- a text that is met
 
+abbrev isDeep : Recalled → Bool
+isDeep TooDeep = true
+isDeep Unread = false
+isDeep Recall = false
+
 pub kept-same : (above : ℕ) (store imports includes levels : List ℕ) → Kept above store imports includes levels store imports includes levels
 kept-same above store imports includes levels = record {
   store-long = refl;
@@ -161,42 +171,46 @@ kept-same above store imports includes levels = record {
 }
 
 module _ (at : ℕ → Codes) (n left absent v count : ℕ) (levels edges chains : List ℕ) (q : Recalled) (e : q ≡ recalled left (remembered levels v)) where
-  unread-mark : (x : Mark) → q ≡ recalled left x → q ≡ Unread → x ≡ unread
-  unread-mark unread p z = refl
-  unread-mark reading p z = absurd (no-deep (sym p ∙ z))
-  unread-mark (below h) p z = go (leb h left) (sym p ∙ z)
-    where
-      go : (b : Bool) → cond b Known TooDeep ≡ Unread → below h ≡ unread
-      go true y = absurd (no-known y)
-      go false y = absurd (no-deep y)
-
-  pub visit-asked : q ≡ Unread → remembered levels v ≡ unread
-  visit-asked z = unread-mark (remembered levels v) e z
-
   abbrev meeting : Below → Went
   meeting f = metHere at left absent v (rowsIn count edges) levels f
 
-  too-deep : (x : Mark) → q ≡ recalled left x → q ≡ TooDeep → (rs : List Row) (m : Marks) (w : Went) → met x left rs m w ≡ halted 29 noRefusal
-  too-deep unread p z rs m w = absurd (no-deep (sym z ∙ p))
-  too-deep reading p z rs m w = refl
-  too-deep (below h) p z rs m w = go (leb h left) (sym z ∙ p)
+  pub visit-asked : q ≡ Unread → remembered levels v ≡ unread
+  visit-asked z = go (remembered levels v) (sym e ∙ z)
     where
-      go : (b : Bool) → TooDeep ≡ cond b Known TooDeep → cond b (walked rs m h) (halted 29 noRefusal) ≡ halted 29 noRefusal
-      go true y = absurd (no-deep-known y)
-      go false y = refl
+      go : (x : Mark) → recalled left x ≡ Unread → x ≡ unread
+      go unread p = refl
+      go reading p = both-bools refl (ap isDeep p)
+      go (below h) p = by (leb h left) p
+        where
+          by : (b : Bool) → cond b Recall TooDeep ≡ Unread → below h ≡ unread
+          by true y = both-bools refl (ap isKnown y)
+          by false y = both-bools refl (ap isDeep y)
+
+  too-deep : q ≡ TooDeep → (rs : List Row) (m : Marks) (w : Went) → met (remembered levels v) left rs m w ≡ halted 29 noRefusal
+  too-deep z rs m w = go (remembered levels v) (sym e ∙ z)
+    where
+      go : (x : Mark) → recalled left x ≡ TooDeep → met x left rs m w ≡ halted 29 noRefusal
+      go unread p = both-bools (ap isDeep p) refl
+      go reading p = refl
+      go (below h) p = by (leb h left) p
+        where
+          by : (b : Bool) → cond b Recall TooDeep ≡ TooDeep → cond b (walked rs m h) (halted 29 noRefusal) ≡ halted 29 noRefusal
+          by true y = both-bools (ap isDeep y) refl
+          by false y = refl
 
   pub met-deep : (a : Refusal) → q ≡ TooDeep → a ≡ noRefusal → Called meeting n left v count edges chains (Stopped 29 a) levels edges chains
   unfolding metHere
   met-deep a z t = record {
-    seen = λ f. ap (λ (b : Refusal). halted 29 b) t ∙ sym (too-deep (remembered levels v) e z _ _ _); ready = tt; kept-edges = refl; kept-chains = refl;
+    seen = λ f. ap (λ (b : Refusal). halted 29 b) t ∙ sym (too-deep z (rowsIn count edges) (remembered levels) (visited at absent v (rowsIn count edges) levels f)); ready = tt; kept-edges = refl; kept-chains = refl;
   }
 
-  pub met-known : q ≡ Known → v < mostNodes → Filed edges chains count → Called meeting n left v count edges chains Known₁ levels edges chains
+  pub met-known : q ≡ Recall → v < mostNodes → Filed edges chains count → Called meeting n left v count edges chains Known levels edges chains
   unfolding metHere
   met-known z l o =
       let k = known-height levels left v l (sym z ∙ e) in
       record {
-        seen = λ f. sym (ap (λ (x : Mark). met x left _ _ _) (k .0) ∙ ap (λ (b : Bool). cond b _ _) (le-leb (heightIn levels v) left (k .1)));
+        seen = λ f. sym (ap (λ (x : Mark). met x left (rowsIn count edges) (remembered levels) (visited at absent v (rowsIn count edges) levels f)) (k .0)
+            ∙ rw (le-leb (heightIn levels v) left (k .1)));
         ready = record { filed = o; low = k .1 };
         kept-edges = refl;
         kept-chains = refl;
@@ -207,7 +221,8 @@ module _ (at : ℕ → Codes) (n left absent v count : ℕ) (levels edges chains
       → Called meeting n left v count edges chains r levels₁ edges₁ chains₁
   unfolding metHere
   met-unread z d = record {
-    seen = λ f. d .seen f ∙ sym (ap (λ (x : Mark). met x left _ _ _) (visit-asked z));
+    seen = λ f. d .seen f
+        ∙ sym (ap (λ (x : Mark). met x left (rowsIn count edges) (remembered levels) (visited at absent v (rowsIn count edges) levels f)) (visit-asked z));
     ready = d .ready;
     kept-edges = d .kept-edges;
     kept-chains = d .kept-chains;

@@ -9,7 +9,7 @@ use Rattle.library_bundle.specs.Reading.{Held, longestText}
 use Rattle.graph.specs.Graph.{World, worldOver, deepest}
 use Rattle.graph.specs.Limits.{mostEdges}
 use Rattle.graph.specs.Numbers.{Row, Codes, codesAt}
-use Rattle.graph.specs.Once.{Walked as Went, walked, halted, thenW, Below, includesOnce, ended, visitOnce, met}
+use Rattle.graph.specs.Once.{Went, walked, halted, thenW, Below, includesOnce, ended, visitOnce, met}
 use Rattle.graph_edges.specs.Edges.{rowsIn, Filed}
 use Rattle.graph_nodes.specs.Adding.{plainAt}
 use Rattle.graph_marks.specs.Marks.{Desk}
