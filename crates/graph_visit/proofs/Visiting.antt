@@ -170,10 +170,7 @@ kept-same above store imports includes levels = record {
   above-kept = refl;
 }
 
-module _ (at : ℕ → Codes) (n left absent v count : ℕ) (levels edges chains : List ℕ) (q : Recalled) (e : q ≡ recalled left (remembered levels v)) where
-  abbrev meeting : Below → Went
-  meeting f = metHere at left absent v (rowsIn count edges) levels f
-
+module _ (left v : ℕ) (levels : List ℕ) (q : Recalled) (e : q ≡ recalled left (remembered levels v)) where
   pub visit-asked : q ≡ Unread → remembered levels v ≡ unread
   visit-asked z = go (remembered levels v) (sym e ∙ z)
     where
@@ -198,32 +195,36 @@ module _ (at : ℕ → Codes) (n left absent v count : ℕ) (levels edges chains
           by true y = both-bools (ap isDeep y) refl
           by false y = refl
 
-  pub met-deep : (a : Refusal) → q ≡ TooDeep → a ≡ noRefusal → Called meeting n left v count edges chains (Stopped 29 a) levels edges chains
-  unfolding metHere
-  met-deep a z t = record {
-    seen = λ f. ap (λ (b : Refusal). halted 29 b) t ∙ sym (too-deep z (rowsIn count edges) (remembered levels) (visited at absent v (rowsIn count edges) levels f)); ready = tt; kept-edges = refl; kept-chains = refl;
-  }
+  module _ (at : ℕ → Codes) (n absent count : ℕ) (edges chains : List ℕ) where
+    abbrev meeting : Below → Went
+    meeting f = metHere at left absent v (rowsIn count edges) levels f
 
-  pub met-known : q ≡ Recall → v < mostNodes → Filed edges chains count → Called meeting n left v count edges chains Known levels edges chains
-  unfolding metHere
-  met-known z l o =
-      let k = known-height levels left v l (sym z ∙ e) in
-      record {
-        seen = λ f. sym (ap (λ (x : Mark). met x left (rowsIn count edges) (remembered levels) (visited at absent v (rowsIn count edges) levels f)) (k .0)
-            ∙ rw (le-leb (heightIn levels v) left (k .1)));
-        ready = record { filed = o; low = k .1 };
-        kept-edges = refl;
-        kept-chains = refl;
-      }
+    pub met-deep : (a : Refusal) → q ≡ TooDeep → a ≡ noRefusal → Called meeting n left v count edges chains (Stopped 29 a) levels edges chains
+    unfolding metHere
+    met-deep a z t = record {
+      seen = λ f. ap (λ (b : Refusal). halted 29 b) t ∙ sym (too-deep z (rowsIn count edges) (remembered levels) (visited at absent v (rowsIn count edges) levels f)); ready = tt; kept-edges = refl; kept-chains = refl;
+    }
 
-  pub met-unread : q ≡ Unread → {r : Visited} {levels₁ edges₁ chains₁ : List ℕ}
-      → Called (visited at absent v (rowsIn count edges) levels) n left v count edges chains r levels₁ edges₁ chains₁
-      → Called meeting n left v count edges chains r levels₁ edges₁ chains₁
-  unfolding metHere
-  met-unread z d = record {
-    seen = λ f. d .seen f
-        ∙ sym (ap (λ (x : Mark). met x left (rowsIn count edges) (remembered levels) (visited at absent v (rowsIn count edges) levels f)) (visit-asked z));
-    ready = d .ready;
-    kept-edges = d .kept-edges;
-    kept-chains = d .kept-chains;
-  }
+    pub met-known : q ≡ Recall → v < mostNodes → Filed edges chains count → Called meeting n left v count edges chains Known levels edges chains
+    unfolding metHere
+    met-known z l o =
+        let k = known-height levels left v l (sym z ∙ e) in
+        record {
+          seen = λ f. sym (ap (λ (x : Mark). met x left (rowsIn count edges) (remembered levels) (visited at absent v (rowsIn count edges) levels f)) (k .0)
+              ∙ rw (le-leb (heightIn levels v) left (k .1)));
+          ready = record { filed = o; low = k .1 };
+          kept-edges = refl;
+          kept-chains = refl;
+        }
+
+    pub met-unread : q ≡ Unread → {r : Visited} {levels₁ edges₁ chains₁ : List ℕ}
+        → Called (visited at absent v (rowsIn count edges) levels) n left v count edges chains r levels₁ edges₁ chains₁
+        → Called meeting n left v count edges chains r levels₁ edges₁ chains₁
+    unfolding metHere
+    met-unread z d = record {
+      seen = λ f. d .seen f
+          ∙ sym (ap (λ (x : Mark). met x left (rowsIn count edges) (remembered levels) (visited at absent v (rowsIn count edges) levels f)) (visit-asked z));
+      ready = d .ready;
+      kept-edges = d .kept-edges;
+      kept-chains = d .kept-chains;
+    }
