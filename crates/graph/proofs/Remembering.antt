@@ -18,12 +18,12 @@ use Rattle.graph.proofs.Circles.{deep, under, plain-is, done-grows, Gon
 
 -- ---- marks
 
-abbrev isBelow : Mark → Bool
+abbrev pub isBelow : Mark → Bool
 isBelow (below h) = true
 isBelow unread = false
 isBelow reading = false
 
-abbrev isReading : Mark → Bool
+abbrev pub isReading : Mark → Bool
 isReading reading = true
 isReading unread = false
 isReading (below h) = false

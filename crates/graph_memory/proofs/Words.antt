@@ -16,6 +16,7 @@ use Rattle.text_lent.proofs.Zeros.{zeros-zero}
 use Rattle.graph.specs.Limits.{mostNodes}
 use Rattle.graph.specs.Graph.{deepest}
 use Rattle.graph.specs.Once.{Mark, unread, reading, below, Marks, nothingRead, mark}
+use Rattle.graph.proofs.Remembering.{isBelow}
 use Rattle.graph_memory.specs.Memory.{memoryWords, markOf, heightIn, remembered, recalled, StaysRead, Remembers}
 use Rattle.graph_memory.specs.declared.Recalled.{Recalled}
 use Rattle.graph_memory.specs.declared.Recalled.the-variants.{Unread, Known, TooDeep}
@@ -25,6 +26,11 @@ pub later : (a b : ℕ) (x y : List ℕ) → a ≤ b → drop a x ≡ drop a y �
 later a b x y h e = let q : a + (b - a) ≡ b = omega arith in rw (← q, ← drop-drop (b - a) a x, ← drop-drop (b - a) a y, e)
 
 -- ---- the mark of a node
+
+abbrev heightOf : Mark → ℕ
+heightOf (below h) = h
+heightOf unread = 0
+heightOf reading = 0
 
 pub node-mark : (levels : List ℕ) (v : ℕ) → v < mostNodes → remembered levels v ≡ markOf (getD levels (v * 2) 0) (heightIn levels v)
 unfolding remembered
@@ -149,6 +155,15 @@ module _ (levels : List ℕ) (v state h at : ℕ) (r : memoryWords ≤ length le
     above = drop-set-lt memoryWords (set levels at state) (at + 1) h (omega arith) ∙ drop-set-lt memoryWords levels at state (omega arith);
     long = length-set (set levels at state) (at + 1) h ∙ length-set levels at state;
   }
+
+-- how many includes lie below a text that was walked
+pub below-height : (levels : List ℕ) (v h : ℕ) → v < mostNodes → remembered levels v ≡ below h → heightIn levels v ≡ h
+below-height levels v h l e = go (eqb (getD levels (v * 2) 0) 0) (eqb (getD levels (v * 2) 0) 1) (sym (node-mark levels v l) ∙ e)
+  where
+    go : (a b : Bool) → cond a unread (cond b reading (below (heightIn levels v))) ≡ below h → heightIn levels v ≡ h
+    go true b q = absurd (true≢false (sym (ap isBelow q)))
+    go false true q = absurd (true≢false (sym (ap isBelow q)))
+    go false false q = ap heightOf q
 
 -- ---- what stays read
 

@@ -28,17 +28,13 @@ use Rattle.graph_texts.specs.declared.Seen.the-variants.{Missing, Refused as Un
 use Rattle.graph_link.specs.Link.{levelWords, levelAt, wordsFrom, importCodes, includeCodes, ImportRows, IncludeRows, walkSeen, Drew, Saved}
 use Rattle.graph_visit.specs.Visit.{worldOf, codesHere, Room, Kept, Called, visited, metHere}
 use Rattle.graph.proofs.Tests.{both-bools}
+use Rattle.graph.proofs.Remembering.{isReading}
 use Rattle.graph_link.specs.declared.Walked.{Walked}
 use Rattle.graph_link.specs.declared.Walked.the-variants.{Built, Refused}
 use Rattle.graph_visit.specs.declared.Visited.{Visited}
 use Rattle.graph_visit.specs.declared.Visited.the-variants.{Children, Known, Stopped}
 
 -- ---- the marks
-
-abbrev isReading : Mark → Bool
-isReading reading = true
-isReading unread = false
-isReading (below h) = false
 
 pub reading-read : reading ≡ unread → ⊥
 reading-read q = true≢false (ap isReading q)

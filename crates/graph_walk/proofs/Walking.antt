@@ -1,65 +1,75 @@
 -- The includes of a text, taken one after another: what the words from here on come to is what all of them come to. A walk below leaves this level's words.
 -- Assumes nothing.
-use Prim.Native.Nat.{ℕ, zero, suc, _+_, _-_, _*_, _≤_, _<_}
-use mathlib.Core.Path.{_≡_, refl, sym, ap, _∙_}
+use Prim.Native.Nat.{ℕ, zero, suc, max, _+_, _-_, _*_, _≤_, _<_}
+use mathlib.Core.Path.{_≡_, refl, sym, ap, ap₂, _∙_}
+use mathlib.Core.Bool.{true≢false}
 use mathlib.Core.List.{List}
 use native.Mathlib.Omega.{arith}
 use native.Mathlib.Nat.{sub-zero}
 use native.Mathlib.Numerals.{sub-one}
 use lib.ListN.{length, getD, drop}
-use lib.Seq.{drop-drop, getD-drop}
+use lib.Seq.{getD-drop}
 use Rattle.text.specs.declared.Refusal.{Refusal}
 use Rattle.text.specs.Refusal.{noRefusal}
-use Rattle.graph.specs.Graph.{Out, built, refused, thenO}
-use Rattle.graph.specs.Numbers.{Row, Codes, eachO, includeCode, visitCodes, walkCodes}
-use Rattle.graph_edges.specs.Edges.{rowsIn, Filed}
+use Rattle.graph.specs.Graph.{deepest}
+use Rattle.graph.specs.Numbers.{Row, Codes}
+use Rattle.graph.specs.Once.{unread, below, Marks, Went, walked, halted, thenW, Below, includeOnce, includesOnce, ended, walkOnce, belowOnce, raised}
 use Rattle.graph.specs.declared.NodeIndex.{NodeIndex}
 use Rattle.graph.specs.Limits.{mostEdges, mostNodes}
+use Rattle.graph.proofs.Remembering.{isBelow, once-is, mark-here}
+use Rattle.graph_edges.specs.Edges.{rowsIn, Filed}
 use Rattle.graph_marks.specs.Marks.{Desk}
-use Rattle.graph_link.specs.Link.{levelWords, belowOf, wordsFrom, Words, walkSeen, Drew, stepSeen, Descends, Stepped}
-use Rattle.graph_walk.specs.Walk.{Tables}
-use Rattle.graph_visit.specs.Visit.{Room, Kept, visitSeen, Ready, Called}
+use Rattle.graph_memory.specs.Memory.{memoryWords, heightIn, remembered, StaysRead, Remembers}
+use Rattle.graph_memory.proofs.Words.{later, below-height, stays-same, stays-on, stays-marked}
+use Rattle.graph_link.specs.Link.{levelWords, levelAt, wordsFrom, Words, stepSeen, Descends, Stepped}
+use Rattle.graph_visit.specs.Visit.{Room, Kept, visitSeen, Recalls, Ready, Called, metHere, visited}
+use Rattle.graph_walk.specs.Walk.{walkedSeen, Through}
 use Rattle.graph_link.specs.declared.Walked.{Walked}
 use Rattle.graph_link.specs.declared.Walked.the-variants.{Built, Refused}
 use Rattle.graph_visit.specs.declared.Visited.{Visited}
-use Rattle.graph_visit.specs.declared.Visited.the-variants.{Children, Stopped}
+use Rattle.graph_visit.specs.declared.Visited.the-variants.{Children, Known, Stopped}
 use Rattle.graph_link.specs.declared.Stepping.{Stepping}
 use Rattle.graph_link.specs.declared.Stepping.the-variants.{Down, Stopped as Halted}
 
--- lists that agree from a on agree from b on
-later : (a b : ℕ) (x y : List ℕ) → a ≤ b → drop a x ≡ drop a y → drop b x ≡ drop b y
-later a b x y h e = let q : a + (b - a) ≡ b = omega arith in rw (← q, ← drop-drop (b - a) a x, ← drop-drop (b - a) a y, e)
-
 -- a walk by what lies below it
-opened : (at : ℕ → Codes) (left absent v : ℕ) (rs : List Row) → walkCodes at mostEdges left absent v rs
-    ≡ visitCodes mostEdges (belowOf at left) absent v (at v) rs
-unfolding walkCodes belowOf
-opened at zero absent v rs = refl
-opened at (suc left) absent v rs = refl
+pub opened : (at : ℕ → Codes) (left absent v : ℕ) (rs : List Row) (levels edges chains : List ℕ) (r : Walked) (levels₁ edges₁ chains₁ : List ℕ)
+    → Through (metHere at left absent v rs levels (belowOnce at mostEdges left)) left v edges chains r levels₁ edges₁ chains₁
+    → Through (walkOnce at mostEdges left absent v rs (remembered levels)) left v edges chains r levels₁ edges₁ chains₁
+unfolding metHere visited
+opened at left absent v rs levels edges chains r levels₁ edges₁ chains₁ t = record {
+  seen = t .seen ∙ sym (once-is at mostEdges left absent v rs (remembered levels));
+  ready = t .ready;
+  kept-edges = t .kept-edges;
+  kept-chains = t .kept-chains;
+}
 
-one-less : (at : ℕ → Codes) (left u : ℕ) (rs : List Row) → 0 < left → belowOf at left u rs ≡ walkCodes at mostEdges (left - 1) 24 u rs
-unfolding belowOf
-one-less at zero u rs h = absurd (omega arith)
-one-less at (suc left) u rs h = rw sub-one
+one-less : (at : ℕ → Codes) (left u : ℕ) (rs : List Row) (m : Marks) → 0 < left
+    → belowOnce at mostEdges left u rs m ≡ walkOnce at mostEdges (left - 1) 24 u rs m
+unfolding belowOnce
+one-less at zero u rs m h = absurd (omega arith)
+one-less at (suc left) u rs m h = rw sub-one
 
 -- what all includes come to
-abbrev pub ahead : (at : ℕ → Codes) → (left v : ℕ) → (words : List ℕ) → List Row → Out Row
-ahead at left v words rs = eachO (includeCode mostEdges (belowOf at left) v) words rs
+abbrev pub ahead : (at : ℕ → Codes) → (left v : ℕ) → (words : List ℕ) → List Row → Marks → (most : ℕ) → Went
+ahead at left v words rs m most = includesOnce mostEdges (belowOnce at mostEdges left) v words rs m most
 
 -- what the loop keeps
 pub record Walking (at : ℕ → Codes) (n left v base k : ℕ) (levels₀ edges₀ chains₀ : List ℕ) (linked : ℕ) (levels edges chains : List ℕ)
-    (total i : ℕ) : Type 0 where
+    (total most i : ℕ) : Type 0 where
   pub room : i ≤ k
   pub few : k ≤ levelWords
-  pub based : base ≡ left * levelWords
+  pub based : base ≡ levelAt left
   pub inside : base + levelWords ≤ length levels₀
   pub long : length levels ≡ length levels₀
   pub kept : drop base levels ≡ drop base levels₀
+  pub stays-read : StaysRead levels₀ levels
   pub low : Words n levels₀ base k
   pub filed : Filed edges chains total
+  pub high : most ≤ left
   pub long-edges : length edges ≡ length edges₀
   pub long-chains : length chains ≡ length chains₀
-  pub rest : ahead at left v (wordsFrom levels₀ base k) (rowsIn linked edges₀) ≡ ahead at left v (wordsFrom levels₀ (base + i) (k - i)) (rowsIn total edges)
+  pub rest : ahead at left v (wordsFrom levels₀ base k) (rowsIn linked edges₀) (remembered levels₀) 0
+      ≡ ahead at left v (wordsFrom levels₀ (base + i) (k - i)) (rowsIn total edges) (remembered levels) most
 
 pub record Long (store₀ imports₀ includes₀ store imports includes : List ℕ) : Type 0 where
   pub store-long : length store ≡ length store₀
@@ -69,64 +79,83 @@ pub record Long (store₀ imports₀ includes₀ store imports includes : List �
 pub as-long : (store imports includes : List ℕ) → Long store imports includes store imports includes
 as-long store imports includes = record { store-long = refl; imports-long = refl; includes-long = refl }
 
+pub longer : {store₀ imports₀ includes₀ store imports includes store₁ imports₁ includes₁ levels levels₁ : List ℕ} {above : ℕ}
+    → Long store₀ imports₀ includes₀ store imports includes
+    → Kept above store imports includes levels store₁ imports₁ includes₁ levels₁ → Long store₀ imports₀ includes₀ store₁ imports₁ includes₁
+longer l p = record {
+  store-long = p .store-long ∙ l .store-long;
+  imports-long = p .imports-long ∙ l .imports-long;
+  includes-long = p .includes-long ∙ l .includes-long;
+}
+
+below-read : {h : ℕ} → below h ≡ unread → ⊥
+below-read q = true≢false (ap isBelow q)
+
 -- ---- before the loop
 
-pub visit-room : {bundle store imports includes levels edges chains : List ℕ} {left count : ℕ}
-    → Tables bundle store imports includes levels edges chains left count
-    → Room bundle store imports includes levels edges chains (left * 256) count
-visit-room t = record { scan = t .scan; level-room = omega (arith, t .levels-room); edges-so-far = t .edges-so-far }
+module _ (at : ℕ → Codes) (left : ℕ) {n v count : ℕ} {edges chains : List ℕ} {r : Visited} {levels₁ edges₁ chains₁ : List ℕ} {E : Below → Went}
+    (d : Called E n left v count edges chains r levels₁ edges₁ chains₁) where
+  abbrev expected : Went
+  expected = E (belowOnce at mostEdges left)
 
-pub kept-up : (left : ℕ) {store imports includes levels store₁ imports₁ includes₁ levels₁ : List ℕ}
-    → Kept (left * 256 + 256) store imports includes levels store₁ imports₁ includes₁ levels₁
-    → Kept ((left + 1) * 256) store imports includes levels store₁ imports₁ includes₁ levels₁
-kept-up left k = let q : (left + 1) * 256 ≡ left * 256 + 256 = omega arith in rw q k
+  all-seen : expected ≡ visitSeen (belowOnce at mostEdges left) left v count r levels₁ edges₁
+  all-seen = sym (d .seen (belowOnce at mostEdges left))
 
-module _ (left : ℕ) {at : ℕ → Codes} {n base absent v : ℕ} {rs : List Row} {edges chains : List ℕ} {r : Visited} {levels₁ edges₁ chains₁ : List ℕ} where
-  pub not-visited : Called at n base absent v rs edges chains r levels₁ edges₁ chains₁ → (number : ℕ) (a : Refusal) → r ≡ Stopped number a
-      → Drew (walkCodes at mostEdges left absent v rs) edges chains (Refused number a) edges₁ chains₁
-  not-visited d number a z = record {
-    seen = ap (λ r. visitSeen (belowOf at left) v base r levels₁ edges₁) (sym z) ∙ d .seen (belowOf at left) ∙ sym (opened at left absent v rs);
-    filed = tt;
+  pub not-visited : (number : ℕ) (a : Refusal) → r ≡ Stopped number a → Through expected left v edges chains (Refused number a) levels₁ edges₁ chains₁
+  not-visited number a z = record {
+    seen = sym (all-seen ∙ ap (λ r. visitSeen (belowOnce at mostEdges left) left v count r levels₁ edges₁) z);
+    ready = tt;
     kept-edges = d .kept-edges;
     kept-chains = d .kept-chains;
   }
 
-  all-ahead : Called at n base absent v rs edges chains r levels₁ edges₁ chains₁ → (k linked : ℕ) → r ≡ Children k linked
-      → walkCodes at mostEdges left absent v rs ≡ ahead at left v (wordsFrom levels₁ base k) (rowsIn linked edges₁)
-  all-ahead d k linked z = opened at left absent v rs ∙ sym (d .seen (belowOf at left)) ∙ ap (λ r. visitSeen (belowOf at left) v base r levels₁ edges₁) z
+  pub known : r ≡ Known → Through expected left v edges chains (Built count) levels₁ edges₁ chains₁
+  known z = record {
+    seen = sym (all-seen ∙ ap (λ r. visitSeen (belowOnce at mostEdges left) left v count r levels₁ edges₁) z);
+    ready = rw z at (d .ready);
+    kept-edges = d .kept-edges;
+    kept-chains = d .kept-chains;
+  }
 
-pub begun : {at : ℕ → Codes} {n left absent v : ℕ} {rs : List Row} {edges chains : List ℕ} {r : Visited} {levels₁ edges₁ chains₁ : List ℕ} {k linked count : ℕ}
-    {bundle store imports includes levels store₁ imports₁ includes₁ : List ℕ} → Called at n (left * 256) absent v rs edges chains r levels₁ edges₁ chains₁
-    → r ≡ Children k linked
-    → Tables bundle store imports includes levels edges chains left count
-    → Kept (left * 256 + 256) store imports includes levels store₁ imports₁ includes₁ levels₁
-    → Walking at n left v (left * 256) k levels₁ edges₁ chains₁ linked levels₁ edges₁ chains₁ linked 0
-begun {n = n} {left = left} {levels₁ = levels₁} {edges₁ = edges₁} {chains₁ = chains₁} {k = k} {linked = linked} d z t p =
-    let y : Ready n (left * 256) k linked levels₁ edges₁ chains₁ = rw z at (d .ready) in
-    let o : left * 256 + 0 ≡ left * 256 = omega arith in
-    record {
-      room = omega arith;
-      few = y .few;
-      based = refl;
-      inside = omega (arith, t .levels-room, p .levels-long);
-      long = refl;
-      kept = refl;
-      low = y .low;
-      filed = y .filed;
-      long-edges = refl;
-      long-chains = refl;
-      rest = rw (o, sub-zero k);
-    }
+  all-ahead : (k linked : ℕ) → r ≡ Children k linked
+      → expected ≡ thenW (ahead at left v (wordsFrom levels₁ (levelAt left) k) (rowsIn linked edges₁) (remembered levels₁) 0) (ended v)
+  all-ahead k linked z = all-seen ∙ ap (λ r. visitSeen (belowOnce at mostEdges left) left v count r levels₁ edges₁) z
+
+  pub begun : {k linked : ℕ} {bundle store imports includes levels store₁ imports₁ includes₁ : List ℕ} → r ≡ Children k linked
+      → Room bundle store imports includes levels edges chains left count
+      → Kept (levelAt (left + 1)) store imports includes levels store₁ imports₁ includes₁ levels₁
+      → Walking at n left v (levelAt left) k levels₁ edges₁ chains₁ linked levels₁ edges₁ chains₁ linked 0 0
+  begun {k} {linked} z t p =
+      let y : Ready n (levelAt left) k linked levels₁ edges₁ chains₁ = rw z at (d .ready) in
+      let o : levelAt left + 0 ≡ levelAt left = omega arith in
+      record {
+        room = omega arith;
+        few = y .few;
+        based = refl;
+        inside = omega (arith, t .level-room, p .levels-long);
+        long = refl;
+        kept = refl;
+        stays-read = stays-same levels₁;
+        low = y .low;
+        filed = y .filed;
+        high = omega arith;
+        long-edges = refl;
+        long-chains = refl;
+        rest = rw (o, sub-zero k);
+      }
 
 -- ---- in the loop
 
-module _ {at : ℕ → Codes} {n left v base k : ℕ} {levels₀ edges₀ chains₀ : List ℕ} {linked : ℕ} {levels edges chains : List ℕ} {total i : ℕ}
-    (g : Walking at n left v base k levels₀ edges₀ chains₀ linked levels edges chains total i) where
+module _ {at : ℕ → Codes} {n left v base k : ℕ} {levels₀ edges₀ chains₀ : List ℕ} {linked : ℕ} {levels edges chains : List ℕ} {total most i : ℕ}
+    (g : Walking at n left v base k levels₀ edges₀ chains₀ linked levels edges chains total most i) where
   here : getD levels₀ (base + i) 0 ≡ getD levels (base + i) 0
   here = sym (getD-drop base levels₀ i 0) ∙ ap (λ l. getD l i 0) (sym (g .kept)) ∙ getD-drop base levels i 0
 
   pub in-level : i < k → base + i < length levels
   in-level h = omega (arith, g .few, g .inside, g .long)
+
+  pub memory-in : memoryWords ≤ length levels
+  memory-in = omega (arith, g .based, g .inside, g .long)
 
   pub word-low : i < k → getD levels (base + i) 0 < n + 2
   word-low h = rw (← here) (g .low .low i h)
@@ -134,55 +163,78 @@ module _ {at : ℕ → Codes} {n left v base k : ℕ} {levels₀ edges₀ chains
   pub word-node : {s tab marks : List ℕ} → Desk s tab n marks → i < k → getD levels (base + i) 0 < mostNodes + 2
   word-node d h = omega (arith, d .holding .few, word-low h)
 
-  turn : i < k → ahead at left v (wordsFrom levels₀ base k) (rowsIn linked edges₀)
-      ≡ thenO (includeCode mostEdges (belowOf at left) v (getD levels (base + i) 0) (rowsIn total edges))
-      (ahead at left v (wordsFrom levels₀ (base + (i + 1)) (k - (i + 1))))
-  unfolding eachO wordsFrom
+  abbrev onwards : List Row → Marks → ℕ → Went
+  onwards rs m h = ahead at left v (wordsFrom levels₀ (base + (i + 1)) (k - (i + 1))) rs m (raised most h)
+
+  turn : i < k → ahead at left v (wordsFrom levels₀ base k) (rowsIn linked edges₀) (remembered levels₀) 0
+      ≡ thenW (includeOnce mostEdges (belowOnce at mostEdges left) v (getD levels (base + i) 0) (rowsIn total edges) (remembered levels)) onwards
+  unfolding includesOnce wordsFrom
   turn h =
       let q : k - i ≡ suc (k - (i + 1)) = omega arith in
       let o : base + i + 1 ≡ base + (i + 1) = omega arith in
       g .rest ∙ rw (q, o, here)
 
   -- the levels above
-  pub kept-out : {store imports includes levelsE store₀ imports₀ includes₀ store₁ imports₁ includes₁ : List ℕ}
-      → Kept (left * 256 + 256) store imports includes levelsE store₀ imports₀ includes₀ levels₀
-      → Long store₀ imports₀ includes₀ store₁ imports₁ includes₁ → Kept ((left + 1) * 256) store imports includes levelsE store₁ imports₁ includes₁ levels
-  kept-out {levelsE = levelsE} p l = record {
+  kept-loop : {store imports includes levelsE store₀ imports₀ includes₀ store₁ imports₁ includes₁ : List ℕ}
+      → Kept (levelAt (left + 1)) store imports includes levelsE store₀ imports₀ includes₀ levels₀
+      → Long store₀ imports₀ includes₀ store₁ imports₁ includes₁ → (levels₁ : List ℕ) → length levels₁ ≡ length levels → StaysRead levels levels₁
+      → drop base levels₁ ≡ drop base levels → Kept (levelAt (left + 1)) store imports includes levelsE store₁ imports₁ includes₁ levels₁
+  kept-loop {levelsE = levelsE} p l levels₁ e y q = record {
     store-long = l .store-long ∙ p .store-long;
     imports-long = l .imports-long ∙ p .imports-long;
     includes-long = l .includes-long ∙ p .includes-long;
-    levels-long = g .long ∙ p .levels-long;
-    above-kept = later base ((left + 1) * 256) levels levels₀ (omega (arith, g .based)) (g .kept)
-        ∙ later (left * 256 + 256) ((left + 1) * 256) levels₀ levelsE (omega arith) (p .above-kept);
+    levels-long = e ∙ g .long ∙ p .levels-long;
+    stays-read = stays-on (p .stays-read) (stays-on (g .stays-read) y);
+    above-kept = later base (levelAt (left + 1)) levels₁ levels₀ (omega (arith, g .based)) (q ∙ g .kept) ∙ p .above-kept;
   }
 
-  module _ {absent : ℕ} {rs : List Row} {edgesE chainsE : List ℕ} {r : Visited} (d : Called at n base absent v rs edgesE chainsE r levels₀ edges₀ chains₀)
+  pub kept-out : {store imports includes levelsE store₀ imports₀ includes₀ store₁ imports₁ includes₁ : List ℕ}
+      → Kept (levelAt (left + 1)) store imports includes levelsE store₀ imports₀ includes₀ levels₀
+      → Long store₀ imports₀ includes₀ store₁ imports₁ includes₁ → Kept (levelAt (left + 1)) store imports includes levelsE store₁ imports₁ includes₁ levels
+  kept-out p l = kept-loop p l levels refl (stays-same levels) refl
+
+  module _ {count : ℕ} {edgesE chainsE : List ℕ} {r : Visited} {E : Below → Went} (d : Called E n left v count edgesE chainsE r levels₀ edges₀ chains₀)
       (z : r ≡ Children k linked) where
-    pub ended : k ≤ i → Drew (walkCodes at mostEdges left absent v rs) edgesE chainsE (Built total) edges chains
-    unfolding eachO wordsFrom
-    ended h =
-        let q : k - i ≡ 0 = omega arith in
-        record {
-          seen = sym (all-ahead left d k linked z ∙ g .rest ∙ rw q);
-          filed = g .filed;
-          kept-edges = g .long-edges ∙ d .kept-edges;
-          kept-chains = g .long-chains ∙ d .kept-chains;
-        }
+    all-words : expected at left d ≡ thenW (ahead at left v (wordsFrom levels₀ base k) (rowsIn linked edges₀) (remembered levels₀) 0) (ended v)
+    all-words = all-ahead at left d k linked z
+          ∙ ap (λ (j : ℕ). thenW (ahead at left v (wordsFrom levels₀ j k) (rowsIn linked edges₀) (remembered levels₀) 0) (ended v)) (sym (g .based))
+
+    -- the end, where the includes below are put down
+    module _ (l : v < mostNodes) {levels₁ : List ℕ} (y : Remembers levels v (below most) levels₁) where
+      pub ended-all : k ≤ i → Through (expected at left d) left v edgesE chainsE (Built total) levels₁ edges chains
+      unfolding includesOnce wordsFrom
+      ended-all h =
+          let q : k - i ≡ 0 = omega arith in
+          let all : ahead at left v (wordsFrom levels₀ base k) (rowsIn linked edges₀) (remembered levels₀) 0 ≡ walked (rowsIn total edges) (remembered levels) most =
+          g .rest ∙ rw q in
+          let own : heightIn levels₁ v ≡ most = below-height levels₁ v most l (ap (λ (m : Marks). m v) (y .marks) ∙ mark-here (remembered levels) v (below most)) in
+          record {
+            seen = ap₂ (λ (m : Marks) (h : ℕ). walked (rowsIn total edges) m h) (y .marks) own ∙ sym (all-words ∙ ap (λ (w : Went). thenW w (ended v)) all);
+            ready = record { filed = g .filed; low = omega (arith, own, g .high) };
+            kept-edges = g .long-edges ∙ d .kept-edges;
+            kept-chains = g .long-chains ∙ d .kept-chains;
+          }
 
     module _ {x : Stepping} {edges₁ chains₁ : List ℕ} (s : Stepped (getD levels (base + i) 0) left v (rowsIn total edges) edges chains x edges₁ chains₁)
         (h : i < k) where
-      pub halted : {number : ℕ} {a : Refusal} → x ≡ Halted number → a ≡ noRefusal
-          → Drew (walkCodes at mostEdges left absent v rs) edgesE chainsE (Refused number a) edges₁ chains₁
-      halted {number} {a} e y =
-          let q : includeCode mostEdges (belowOf at left) v (getD levels (base + i) 0) (rowsIn total edges) ≡ refused number noRefusal = sym (s .seen at)
-          ∙ ap (λ x. stepSeen (belowOf at left) x edges₁) e in
+      pub halted-here : {number : ℕ} {a : Refusal} → x ≡ Halted number → a ≡ noRefusal
+          → Through (expected at left d) left v edgesE chainsE (Refused number a) levels edges₁ chains₁
+      halted-here {number} {a} e y =
+          let q : includeOnce mostEdges (belowOnce at mostEdges left) v (getD levels (base + i) 0) (rowsIn total edges) (remembered levels)
+          ≡ halted number noRefusal = sym (s .seen at (remembered levels)) ∙ ap (λ x. stepSeen (belowOnce at mostEdges left) x edges₁ (remembered levels)) e in
           record {
-            seen = ap (λ a. refused number a) y ∙ sym (all-ahead left d k linked z ∙ turn h
-                ∙ ap (λ o. thenO o (ahead at left v (wordsFrom levels₀ (base + (i + 1)) (k - (i + 1))))) q);
-            filed = tt;
+            seen = ap (λ a. halted number a) y ∙ sym (all-words ∙ ap (λ (w : Went). thenW w (ended v)) (turn h ∙ ap (λ (w : Went). thenW w onwards) q));
+            ready = tt;
             kept-edges = s .kept-edges ∙ g .long-edges ∙ d .kept-edges;
             kept-chains = s .kept-chains ∙ g .long-chains ∙ d .kept-chains;
           }
+
+  pub kept-end : {store imports includes levelsE store₀ imports₀ includes₀ store₁ imports₁ includes₁ : List ℕ}
+      → Kept (levelAt (left + 1)) store imports includes levelsE store₀ imports₀ includes₀ levels₀
+      → Long store₀ imports₀ includes₀ store₁ imports₁ includes₁ → {levels₁ : List ℕ} → Remembers levels v (below most) levels₁
+      → Kept (levelAt (left + 1)) store imports includes levelsE store₁ imports₁ includes₁ levels₁
+  kept-end p l {levels₁} y =
+      kept-loop p l levels₁ (y .long) (stays-marked y below-read) (later memoryWords base levels₁ levels (omega (arith, g .based)) (y .above))
 
   module _ {x : Stepping} {edges₁ chains₁ : List ℕ} (s : Stepped (getD levels (base + i) 0) left v (rowsIn total edges) edges chains x edges₁ chains₁)
       (h : i < k) {u : NodeIndex} {m : ℕ} (e : x ≡ Down u m) where
@@ -196,80 +248,76 @@ module _ {at : ℕ → Codes} {n left v base k : ℕ} {levels₀ edges₀ chains
     child-low = omega (arith, descends .node, word-low h)
 
     pub child-room : {bundle store imports includes levelsE edgesE chainsE store₀ imports₀ includes₀ store₁ imports₁ includes₁ : List ℕ} {count : ℕ}
-        → Tables bundle store imports includes levelsE edgesE chainsE left count
-        → Kept (left * 256 + 256) store imports includes levelsE store₀ imports₀ includes₀ levels₀ → Long store₀ imports₀ includes₀ store₁ imports₁ includes₁
-        → Tables bundle store₁ imports₁ includes₁ levels edges₁ chains₁ (left - 1) m
+        → Room bundle store imports includes levelsE edgesE chainsE left count
+        → Kept (levelAt (left + 1)) store imports includes levelsE store₀ imports₀ includes₀ levels₀ → Long store₀ imports₀ includes₀ store₁ imports₁ includes₁
+        → Room bundle store₁ imports₁ includes₁ levels edges₁ chains₁ (left - 1) m
     child-room t p l = record {
       scan = record {
         store-room = omega (arith, t .scan .store-room, l .store-long, p .store-long);
         import-room = omega (arith, t .scan .import-room, l .imports-long, p .imports-long);
         include-room = omega (arith, t .scan .include-room, l .includes-long, p .includes-long);
       };
-      levels-room = omega (arith, some-left, g .inside, g .based, g .long);
+      deep = omega (arith, t .deep);
+      level-room = omega (arith, some-left, g .inside, g .based, g .long);
       edges-so-far = descends .filed;
     }
 
-    module _ {w : Walked} {edges₂ chains₂ : List ℕ} (o : Drew (walkCodes at mostEdges (left - 1) 24 (u .0) (rowsIn m edges₁)) edges₁ chains₁ w edges₂ chains₂)
-      where
-        child : includeCode mostEdges (belowOf at left) v (getD levels (base + i) 0) (rowsIn total edges) ≡ walkSeen w edges₂
-        child = sym (s .seen at) ∙ ap (λ x. stepSeen (belowOf at left) x edges₁) e ∙ one-less at left (u .0) (rowsIn m edges₁) some-left ∙ sym (o .seen)
+    module _ {w : Walked} {levels₂ edges₂ chains₂ : List ℕ}
+        (o : Through (walkOnce at mostEdges (left - 1) 24 (u .0) (rowsIn m edges₁) (remembered levels)) (left - 1) (u .0) edges₁ chains₁ w levels₂ edges₂ chains₂)
+        where
+          child : includeOnce mostEdges (belowOnce at mostEdges left) v (getD levels (base + i) 0) (rowsIn total edges) (remembered levels)
+              ≡ walkedSeen (u .0) w levels₂ edges₂
+          child =
+              sym (s .seen at (remembered levels)) ∙ ap (λ x. stepSeen (belowOnce at mostEdges left) x edges₁ (remembered levels)) e
+              ∙ one-less at left (u .0) (rowsIn m edges₁) (remembered levels) some-left ∙ sym (o .seen)
 
-        pub sent-up : {absent : ℕ} {rs : List Row} {edgesE chainsE : List ℕ} {r : Visited} {number : ℕ} {a : Refusal}
-            → Called at n base absent v rs edgesE chainsE r levels₀ edges₀ chains₀ → r ≡ Children k linked
-            → w ≡ Refused number a → Drew (walkCodes at mostEdges left absent v rs) edgesE chainsE w edges₂ chains₂
-        sent-up {number = number} {a = a} d z y =
-            let q : includeCode mostEdges (belowOf at left) v (getD levels (base + i) 0) (rowsIn total edges) ≡ refused number a = child
-            ∙ ap (λ w. walkSeen w edges₂) y in
-            record {
-              seen = ap (λ w. walkSeen w edges₂) y ∙ sym (all-ahead left d k linked z ∙ turn h
-                  ∙ ap (λ o. thenO o (ahead at left v (wordsFrom levels₀ (base + (i + 1)) (k - (i + 1))))) q);
-              filed = o .filed;
-              kept-edges = o .kept-edges ∙ s .kept-edges ∙ g .long-edges ∙ d .kept-edges;
-              kept-chains = o .kept-chains ∙ s .kept-chains ∙ g .long-chains ∙ d .kept-chains;
-            }
-
-        module _ {store imports includes store₁ imports₁ includes₁ levels₁ : List ℕ}
-            (p : Kept ((left - 1 + 1) * 256) store imports includes levels store₁ imports₁ includes₁ levels₁) where
-          same-words : drop base levels₁ ≡ drop base levels₀
-          same-words = let q : base ≡ (left - 1 + 1) * 256 = omega (arith, g .based, some-left) in rw q (p .above-kept) ∙ g .kept
-
-          pub went-on : {t : ℕ} → w ≡ Built t → Walking at n left v base k levels₀ edges₀ chains₀ linked levels₁ edges₂ chains₂ t (i + 1)
-          went-on {t} y =
-              let q : includeCode mostEdges (belowOf at left) v (getD levels (base + i) 0) (rowsIn total edges) ≡ built (rowsIn t edges₂) = child
-              ∙ ap (λ w. walkSeen w edges₂) y in
+          pub sent-up : {count : ℕ} {edgesE chainsE : List ℕ} {r : Visited} {E : Below → Went} {number : ℕ} {a : Refusal}
+              → (d : Called E n left v count edgesE chainsE r levels₀ edges₀ chains₀)
+              → r ≡ Children k linked → w ≡ Refused number a → Through (expected at left d) left v edgesE chainsE w levels₂ edges₂ chains₂
+          sent-up {number = number} {a = a} d z y =
+              let q : includeOnce mostEdges (belowOnce at mostEdges left) v (getD levels (base + i) 0) (rowsIn total edges) (remembered levels) ≡ halted number a =
+              child ∙ ap (λ w. walkedSeen (u .0) w levels₂ edges₂) y in
               record {
-                room = omega arith;
-                few = g .few;
-                based = g .based;
-                inside = g .inside;
-                long = p .levels-long ∙ g .long;
-                kept = same-words;
-                low = g .low;
-                filed = rw y at (o .filed);
-                long-edges = o .kept-edges ∙ s .kept-edges ∙ g .long-edges;
-                long-chains = o .kept-chains ∙ s .kept-chains ∙ g .long-chains;
-                rest = turn h ∙ ap (λ o. thenO o (ahead at left v (wordsFrom levels₀ (base + (i + 1)) (k - (i + 1))))) q;
+                seen = ap (λ w. walkedSeen v w levels₂ edges₂) y
+                    ∙ sym (all-words d z ∙ ap (λ (w : Went). thenW w (ended v)) (turn h ∙ ap (λ (w : Went). thenW w onwards) q));
+                ready = rw y tt;
+                kept-edges = o .kept-edges ∙ s .kept-edges ∙ g .long-edges ∙ d .kept-edges;
+                kept-chains = o .kept-chains ∙ s .kept-chains ∙ g .long-chains ∙ d .kept-chains;
               }
 
-          pub kept-sent : {storeE importsE includesE levelsE store₀ imports₀ includes₀ : List ℕ}
-              → Kept (left * 256 + 256) storeE importsE includesE levelsE store₀ imports₀ includes₀ levels₀
-              → Long store₀ imports₀ includes₀ store imports includes → Kept
-              ((left + 1) * 256) storeE importsE includesE levelsE store₁ imports₁ includes₁ levels₁
-          kept-sent {levelsE = levelsE} f l = record {
-            store-long = p .store-long ∙ l .store-long ∙ f .store-long;
-            imports-long = p .imports-long ∙ l .imports-long ∙ f .imports-long;
-            includes-long = p .includes-long ∙ l .includes-long ∙ f .includes-long;
-            levels-long = p .levels-long ∙ g .long ∙ f .levels-long;
-            above-kept = later base ((left + 1) * 256) levels₁ levels₀ (omega (arith, g .based)) same-words
-                ∙ later (left * 256 + 256) ((left + 1) * 256) levels₀ levelsE (omega arith) (f .above-kept);
-          }
+          module _ {store imports includes store₁ imports₁ includes₁ : List ℕ}
+              (p : Kept (levelAt (left - 1 + 1)) store imports includes levels store₁ imports₁ includes₁ levels₂) where
+            same-words : drop base levels₂ ≡ drop base levels
+            same-words = let q : base ≡ levelAt (left - 1 + 1) = omega (arith, g .based, some-left) in rw q (p .above-kept)
 
-pub longer : {store₀ imports₀ includes₀ store imports includes store₁ imports₁ includes₁ levels levels₁ : List ℕ} {above : ℕ}
-    → Long store₀ imports₀ includes₀ store imports includes
-    → Kept above store imports includes levels store₁ imports₁ includes₁ levels₁ → Long store₀ imports₀ includes₀ store₁ imports₁ includes₁
-longer l p = record {
-  store-long = p .store-long ∙ l .store-long;
-  imports-long = p .imports-long ∙ l .imports-long;
-  includes-long = p .includes-long
-      ∙ l .includes-long;
-}
+            pub child-height : {t : ℕ} → w ≡ Built t → heightIn levels₂ (u .0) + 1 ≤ left
+            child-height {t} y = let q : Recalls (left - 1) (u .0) t levels₂ edges₂ chains₂ = rw y at (o .ready) in omega (arith, q .low, some-left)
+
+            pub went-on : {t most₁ : ℕ} → w ≡ Built t → most₁ ≡ max most (suc (heightIn levels₂ (u .0)))
+                → Walking at n left v base k levels₀ edges₀ chains₀ linked levels₂ edges₂ chains₂ t most₁ (i + 1)
+            went-on {t} {most₁} y f =
+                let q : includeOnce mostEdges (belowOnce at mostEdges left) v (getD levels (base + i) 0) (rowsIn total edges) (remembered levels)
+                ≡ walked (rowsIn t edges₂) (remembered levels₂) (heightIn levels₂ (u .0)) = child ∙ ap (λ w. walkedSeen (u .0) w levels₂ edges₂) y in
+                let c : Recalls (left - 1) (u .0) t levels₂ edges₂ chains₂ = rw y at (o .ready) in
+                record {
+                  room = omega arith;
+                  few = g .few;
+                  based = g .based;
+                  inside = g .inside;
+                  long = p .levels-long ∙ g .long;
+                  kept = same-words ∙ g .kept;
+                  stays-read = stays-on (g .stays-read) (p .stays-read);
+                  low = g .low;
+                  filed = c .filed;
+                  high = omega (arith, f, child-height y, g .high);
+                  long-edges = o .kept-edges ∙ s .kept-edges ∙ g .long-edges;
+                  long-chains = o .kept-chains ∙ s .kept-chains ∙ g .long-chains;
+                  rest = turn h ∙ ap (λ (w : Went). thenW w onwards) q
+                      ∙ ap (λ (j : ℕ). ahead at left v (wordsFrom levels₀ (base + (i + 1)) (k - (i + 1))) (rowsIn t edges₂) (remembered levels₂) j) (sym f);
+                }
+
+            pub kept-sent : {storeE importsE includesE levelsE store₀ imports₀ includes₀ : List ℕ}
+                → Kept (levelAt (left + 1)) storeE importsE includesE levelsE store₀ imports₀ includes₀ levels₀
+                → Long store₀ imports₀ includes₀ store imports includes
+                → Kept (levelAt (left + 1)) storeE importsE includesE levelsE store₁ imports₁ includes₁ levels₂
+            kept-sent f l = kept-loop f (longer l p) levels₂ (p .levels-long) (p .stays-read) same-words

@@ -1,17 +1,19 @@
-// The walk of a text: its imports are linked, then each include is, and the included text is walked before the next.
+// The walk of a text: its imports are linked, then each include is, and the included text is walked before the next. A text that was walked is remembered, with
+// the includes below it, and not walked again.
 use graph_link::Stepping;
 use graph_link::Walked;
 use graph_visit::Sizes;
 use graph_visit::Spot;
 use graph_visit::Visited;
-ghost use Prim.Native.Nat.{_+_, _*_, _<_};
+ghost use Prim.Native.Nat.{_+_, _<_};
 ghost use Rattle.graph.specs.Limits.{mostEdges};
-ghost use Rattle.graph.specs.Numbers.{walkCodes};
+ghost use Rattle.graph.specs.Once.{walkOnce};
 ghost use Rattle.graph_edges.specs.Edges.{rowsIn};
 ghost use Rattle.graph_nodes.specs.Adding.{namesHeld};
-ghost use Rattle.graph_link.specs.Link.{Drew};
-ghost use Rattle.graph_visit.specs.Visit.{codesHere, Ground, Kept};
-ghost use Rattle.graph_walk.specs.Walk.{Tables};
+ghost use Rattle.graph_memory.specs.Memory.{remembered};
+ghost use Rattle.graph_link.specs.Link.{levelAt};
+ghost use Rattle.graph_visit.specs.Visit.{codesHere, Ground, Room, Kept};
+ghost use Rattle.graph_walk.specs.Walk.{Through};
 
 // The refusals of this layer: there is no text of an entry, or of an include.
 pub const NO_ENTRY_TEXT: u32 = 23;
@@ -35,18 +37,18 @@ pub fn walk(
     spot: Spot,
 ) -> Walked
     requires { ⌜ Ground (now image) (now bundle) (now btab) (now ntab) (now marks) sizes
-        × Tables (now bundle) (now store) (now imports) (now includes) (now levels) (now edges) (now chains) (spot .left) (spot .count)
+        × Room (now bundle) (now store) (now imports) (now includes) (now levels) (now edges) (now chains) (spot .left) (spot .count)
         × (spot .node .0 < sizes .nodes) ⌝ }
-    ensures { λ r. ⌜ Drew (walkCodes (codesHere (now (image .entry)) (now (bundle .entry)) (namesHeld (now (image .entry)) (now (ntab .entry)) (sizes .nodes)))
-        mostEdges (spot .left) (spot .absent) (spot .node .0) (rowsIn (spot .count) (now (edges .entry))))
-        (now (edges .entry)) (now (chains .entry)) r (now (edges .exit)) (now (chains .exit))
-        × Kept ((spot .left + 1) * 256) (now (store .entry)) (now (imports .entry)) (now (includes .entry)) (now (levels .entry))
+    ensures { λ r. ⌜ Through (walkOnce (codesHere (now (image .entry)) (now (bundle .entry)) (namesHeld (now (image .entry)) (now (ntab .entry)) (sizes .nodes)))
+        mostEdges (spot .left) (spot .absent) (spot .node .0) (rowsIn (spot .count) (now (edges .entry))) (remembered (now (levels .entry))))
+        (spot .left) (spot .node .0) (now (edges .entry)) (now (chains .entry)) r (now (levels .exit)) (now (edges .exit)) (now (chains .exit))
+        × Kept (levelAt (spot .left + 1)) (now (store .entry)) (now (imports .entry)) (now (includes .entry)) (now (levels .entry))
         (now (store .exit)) (now (imports .exit)) (now (includes .exit)) (now (levels .exit)) ⌝ }
 {
     let left = spot.left;
     let v = spot.node;
-    let base = left * graph_visit::LEVEL;
-    let visited = graph_visit::visit(
+    let base = graph_memory::MEMORY + left * graph_visit::LEVEL;
+    let met = graph_visit::meet(
         image,
         bundle,
         btab,
@@ -61,10 +63,12 @@ pub fn walk(
         chains,
         spot,
     );
-    match visited {
+    match met {
         Visited::Stopped(number, why) => Walked::Refused(number, why),
+        Visited::Known => Walked::Built(spot.count),
         Visited::Children(k, linked) => {
             let mut total = linked;
+            let mut most = 0;
             let mut i = 0;
             while i < k {
                 match graph_link::step(levels[base + i], left, edges, chains, v, total) {
@@ -98,10 +102,12 @@ pub fn walk(
                             return below;
                         };
                         total = t;
+                        most = graph_memory::raise(levels, u, most);
                     }
                 }
                 i += 1;
             }
+            graph_memory::remember(levels, v, graph_memory::WALKED, most);
             Walked::Built(total)
         }
     }
