@@ -15,7 +15,7 @@ use Rattle.demands.specs.Demand3.{WellFormed, Alike}
 
 -- what is lent: enough for texts of up to 16 bytes
 abbrev pub lent : Lengths
-lent = record { nodes = 2048; edges = 16384; store = 16; imports = 1792; includes = 1280; levels = 2304 }
+lent = record { nodes = 2048; edges = 16384; store = 16; imports = 1792; includes = 1280; levels = 4352 }
 
 pub record Unlike (s s₁ b : List ℕ) : Type 0 where
   pub first : WellFormed s

@@ -37,7 +37,7 @@ described (Metadata.bad r bs) = r .number ∷ r .keyword ∷ r .at ∷ []
 
 -- just as much is lent as must be
 unfoldable pub enough : List ℕ → Lengths
-enough b = record { nodes = 2048; edges = 16384; store = longestText b; imports = 1792; includes = 1280; levels = 2304 }
+enough b = record { nodes = 2048; edges = 16384; store = longestText b; imports = 1792; includes = 1280; levels = 4352 }
 
 unfoldable pub drawn : Result → List ℕ
 drawn x = graphWords (x .answer) ++ (nodeWords (x .nodes) ++ rowWords (x .rows))

@@ -5,8 +5,7 @@ use mathlib.Core.Path.{_≡_}
 use mathlib.Core.List.{List}
 use lib.ListN.{length}
 use Rattle.text_lent.specs.Padded.{zeros, padded}
-use Rattle.graph_link.specs.Link.{allLevels}
-use Rattle.graph_visit.specs.Visit.{Kept}
+use Rattle.graph_draw.specs.Draw.{AsLong}
 use Rattle.graph_tables.specs.Lengths.{nodeTable}
 use Rattle.graph_tables.specs.Tables.{nodeWords, rowWords}
 use Rattle.graph_build.specs.Result.{Result}
@@ -22,4 +21,4 @@ pub record Holds (x : Result) (n e d f g l : List ℕ) (r : Graphed) (n₁ e₁ 
   pub answer : r ≡ x .answer
   pub nodes : n₁ ≡ padded (length n) (nodeWords (x .nodes))
   pub edges : e₁ ≡ padded (length e) (rowWords (x .rows))
-  pub kept : Kept allLevels d f g l d₁ f₁ g₁ l₁
+  pub kept : AsLong d f g l d₁ f₁ g₁ l₁

@@ -20,7 +20,6 @@ use Rattle.graph_edges.specs.Edges.{edgeTable, rowsIn}
 use Rattle.graph_nodes.specs.Adding.{plainAt, namesHeld, Holding}
 use Rattle.graph_texts.specs.Texts.{ScanRoom}
 use Rattle.graph_link.specs.Link.{allLevels}
-use Rattle.graph_visit.specs.Visit.{Kept}
 use Rattle.graph_visit.specs.declared.Sizes.{Sizes}
 use Rattle.graph_tables.specs.Tables.{rowWords}
 use Rattle.graph_entries.specs.Entries.{drawItems, drawnSeen}
@@ -46,6 +45,13 @@ pub record Lent (b store imports includes levels edges : List ℕ) : Type 0 wher
   pub edges-room : edgeTable ≤ length edges
   pub edges-zero : edges ≡ zeros (length edges)
 
+-- scratch is as long as before
+pub record AsLong (store imports includes levels store₁ imports₁ includes₁ levels₁ : List ℕ) : Type 0 where
+  pub store-long : length store₁ ≡ length store
+  pub imports-long : length imports₁ ≡ length imports
+  pub includes-long : length includes₁ ≡ length includes
+  pub levels-long : length levels₁ ≡ length levels
+
 -- the edges that there are; a refusal leaves none
 abbrev pub rowsLeft : Drawn → List ℕ → List Row
 rowsLeft (Built m) edges = rowsIn m edges
@@ -56,4 +62,4 @@ pub record Edged (s b : List ℕ) (ns : List Name) (store imports includes level
     (store₁ imports₁ includes₁ levels₁ edges₁ : List ℕ) : Type 0 where
   pub seen : drawnSeen r edges₁ ≡ drawItems s b ns 0 0 [] (itemsAt s)
   pub table : edges₁ ≡ padded (length edges) (rowWords (rowsLeft r edges₁))
-  pub kept : Kept allLevels store imports includes levels store₁ imports₁ includes₁ levels₁
+  pub kept : AsLong store imports includes levels store₁ imports₁ includes₁ levels₁

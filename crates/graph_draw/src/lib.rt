@@ -1,4 +1,5 @@
-// The edges of a library, once image, bundle and nodes are read: the marks and chains that the walk wants are made here, and a refusal leaves no edges.
+// The edges of a library, once image, bundle and nodes are read: the marks and chains that the walk wants are made here, its memory is cleared, since what is lent
+// may hold anything, and a refusal leaves no edges.
 use graph_entries::Drawn;
 use graph_visit::Sizes;
 ghost use Rattle.graph_nodes.specs.Adding.{namesHeld};
@@ -28,6 +29,7 @@ pub fn draw_edges(
     let mut marks: [u32; graph_marks::MARK_TABLE] = [0; graph_marks::MARK_TABLE];
     graph_marks::mark_nodes(image, table, count, ntab, sizes.nodes, &mut marks);
     let mut chains: [u16; graph_edges::CHAIN_TABLE] = [0; graph_edges::CHAIN_TABLE];
+    text_lent::clear_words(levels);
     let drawn = graph_entries::walk_items(
         image,
         bundle,

@@ -13,6 +13,7 @@ use Rattle.graph.specs.Graph.{ScanAnswer, noEntryText, deepest, Entry, moduleEn
 use Rattle.graph.specs.Numbers.{Row, numberOf, Codes, moduleCode, eachO, givenCode, walkCodes, walkEntryCodes, Drawing, faulty, EntryCode, drawFrom, codesAt}
 use Rattle.graph.specs.Numbers.{entryCode, drawingIn}
 use Rattle.graph.specs.Limits.{mostEdges}
+use Rattle.graph.proofs.Rowing.{each-append}
 use Rattle.graph_nodes.specs.Adding.{isEntry, plainAt}
 use Rattle.graph_marks.specs.Marks.{knownAt}
 use Rattle.graph_visit.specs.Visit.{worldOf, codesHere}
@@ -28,16 +29,6 @@ out-then : {F : Type 0} (o : Out Row) (k : List Row → Out Row) (f : List Row �
     → onOut (thenO o k) f h ≡ onOut o (λ rs. onOut (k rs) f h) h
 out-then (built rs) k f h = refl
 out-then (refused n a) k f h = refl
-
-each-append : {A : Type 0} (f : A → List Row → Out Row) (xs ys : List A) (rs : List Row) → eachO f (xs ++ ys) rs ≡ thenO (eachO f xs rs) (eachO f ys)
-unfolding eachO
-each-append f [] ys rs = refl
-each-append f (x ∷ xs) ys rs = go (f x rs) (each-append f xs ys)
-  where
-    go : (o : Out Row) → ((rs₁ : List Row) → eachO f (xs ++ ys) rs₁ ≡ thenO (eachO f xs rs₁) (eachO f ys))
-        → thenO o (eachO f (xs ++ ys)) ≡ thenO (thenO o (eachO f xs)) (eachO f ys)
-    go (built rs₁) ih = ih rs₁
-    go (refused n a) ih = refl
 
 module _ (s b : List ℕ) (ns : List Name) where
   abbrev code : Name → ℕ

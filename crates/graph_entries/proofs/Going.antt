@@ -19,19 +19,25 @@ use Rattle.library_items.specs.Table.{itemIn, itemWord, itemsIn, itemsFrom, Ite
 use Rattle.library_items.proofs.Through.{items-from, items-all}
 use Rattle.graph.specs.Graph.{Out, built, onOut, entryNames}
 use Rattle.graph.specs.Nodes.{memb}
-use Rattle.graph.specs.Numbers.{Row, numberOf, Drawing, faulty, givenCode, walkCodes}
+use Rattle.graph.specs.Numbers.{Row, Codes, numberOf, Drawing, faulty, givenCode, walkCodes}
+use Rattle.graph.specs.Once.{Went, walked, halted, nothingRead, walkOnce, Grows, Between}
+use Rattle.graph.proofs.Rowing.{OnBuilt, given-grows}
+use Rattle.graph.proofs.Remembering.{Right, entry-right, at-first, between-through, between-grows}
 use Rattle.graph.proofs.Tests.{both-bools, same-refl, or-right}
 use Rattle.graph.specs.Limits.{mostEdges}
 use Rattle.graph_edges.specs.Edges.{rowsIn, Filed}
 use Rattle.graph_nodes.specs.Adding.{isEntry, plainAt, namesHeld, Stands}
 use Rattle.graph_marks.specs.Marks.{amongKind, knownAt, Desk}
 use Rattle.graph_marks.proofs.OfKind.{kind-append, known-items}
-use Rattle.graph_link.specs.Link.{walkSeen, Drew, allLevels}
-use Rattle.graph_walk.specs.Walk.{Tables}
-use Rattle.graph_visit.specs.Visit.{codesHere, Kept}
+use Rattle.graph_link.specs.Link.{walkSeen, WalkFiled, Drew, allLevels}
+use Rattle.graph_memory.specs.Memory.{heightIn, remembered}
+use Rattle.graph_walk.specs.Walk.{walkedSeen, WalkReady, Through}
+use Rattle.graph_visit.specs.Visit.{codesHere, Room, Kept}
+use Rattle.graph_memory.proofs.Words.{stays-on}
+use Rattle.graph_visit.proofs.Visiting.{kept-same}
 use Rattle.graph_link.specs.declared.Walked.{Walked}
 use Rattle.graph_link.specs.declared.Walked.the-variants.{Built, Refused}
-use Rattle.graph_entries.specs.Entries.{isListed, itemNode, itemWalk, nextNode, nextEntry, drawItems, Next, Placed, Walks}
+use Rattle.graph_entries.specs.Entries.{isListed, itemNode, itemWalk, nextNode, nextEntry, drawItems, Next, Placed, WalkBetween, Walks}
 use Rattle.graph_entries.specs.declared.Drawn.the-variants.{Built as DrawnBuilt, Refused as DrawnRefused}
 
 -- ---- the ways out of `is_listed`
@@ -78,15 +84,51 @@ module _ (s b : List ℕ) (ns : List Name) (x : Item) (v : ℕ) (rs : List Row) 
   unfolding itemWalk
   asked p q = ap₂ asks (sym p) (sym q)
 
+-- what the walk with a memory leaves is what the plain walk leaves, and what the next entry asks
+plainly : (at : ℕ → Codes) (v : ℕ) (rs : List Row) (levels levels₁ edges₁ : List ℕ) → Between at mostEdges (remembered levels) rs → (w : Walked)
+    → walkedSeen v w levels₁ edges₁ ≡ walkOnce at mostEdges 8 23 v rs (remembered levels)
+    → (walkSeen w edges₁ ≡ walkCodes at mostEdges 8 23 v rs) × WalkBetween at w levels₁ edges₁
+plainly at v rs levels levels₁ edges₁ h (Built n) q =
+    let r : Right at mostEdges (remembered levels) rs v (walked (rowsIn n edges₁) (remembered levels₁) (heightIn levels₁ v)) (walkCodes at mostEdges 8 23 v rs) =
+    subst (λ (o : Went). Right at mostEdges (remembered levels) rs v o (walkCodes at mostEdges 8 23 v rs)) (sym q)
+    (entry-right at mostEdges 23 v rs (remembered levels) h 8) in
+    (sym (r .same), between-through at mostEdges h r)
+plainly at v rs levels levels₁ edges₁ h (Refused number a) q =
+    let r : Right at mostEdges (remembered levels) rs v (halted number a) (walkCodes at mostEdges 8 23 v rs) =
+    subst (λ (o : Went). Right at mostEdges (remembered levels) rs v o (walkCodes at mostEdges 8 23 v rs)) (sym q)
+    (entry-right at mostEdges 23 v rs (remembered levels) h 8) in
+    (sym r, tt)
+
+walk-filed : (left v : ℕ) (levels edges chains : List ℕ) (w : Walked) → WalkReady left v w levels edges chains → WalkFiled w edges chains
+walk-filed left v levels edges chains (Built n) r = r .filed
+walk-filed left v levels edges chains (Refused number a) r = tt
+
+-- an edge more
+pub between-linked : (at : ℕ → Codes) (v c : ℕ) (rs : List Row) (levels edges₁ : List ℕ) → Between at mostEdges (remembered levels) rs → (w : Walked)
+    → walkSeen w edges₁ ≡ givenCode mostEdges v c rs → WalkBetween at w levels edges₁
+between-linked at v c rs levels edges₁ h (Built n) q =
+    between-grows at mostEdges (remembered levels) rs (rowsIn n edges₁) (subst (λ (o : Out Row). OnBuilt o (Grows rs)) (sym q) (given-grows mostEdges v c rs)) h
+between-linked at v c rs levels edges₁ h (Refused number a) q = tt
+
 module _ (s b : List ℕ) {ns : List Name} {n : ℕ} {x : Item} {v : ℕ} (g : Placed s ns n x v) {edges chains : List ℕ} (count : ℕ) {e : Bool}
     (p : e ≡ isEntry (x .kind)) where
-  pub item-walked : e ≡ true → {w : Walked} {edges₁ chains₁ : List ℕ} → Drew
-      (walkCodes (codesHere s b ns) mostEdges 8 23 v (rowsIn count edges)) edges chains w edges₁ chains₁
-      → Drew (itemWalk s b ns (itemWord s x) v (rowsIn count edges)) edges chains w edges₁ chains₁
-  item-walked t {w} {edges₁} {chains₁} d =
-      subst (λ (o : Out Row). Drew o edges chains w edges₁ chains₁)
-      (ap (λ (u : ℕ). walkCodes (codesHere s b ns) mostEdges 8 23 u (rowsIn count edges)) (g .own (sym p ∙ t))
-      ∙ sym (asked s b ns x v (rowsIn count edges) (sym t ∙ p) refl)) d
+  module _ (t : e ≡ true) (levels : List ℕ) (h : Between (codesHere s b ns) mostEdges (remembered levels) (rowsIn count edges)) {w : Walked}
+      {levels₁ edges₁ chains₁ : List ℕ}
+      (d : Through (walkOnce (codesHere s b ns) mostEdges 8 23 v (rowsIn count edges) (remembered levels)) 8 v edges chains w levels₁ edges₁ chains₁) where
+    plain : (walkSeen w edges₁ ≡ walkCodes (codesHere s b ns) mostEdges 8 23 v (rowsIn count edges)) × WalkBetween (codesHere s b ns) w levels₁ edges₁
+    plain = plainly (codesHere s b ns) v (rowsIn count edges) levels levels₁ edges₁ h w (d .seen)
+
+    pub item-walked : Drew (itemWalk s b ns (itemWord s x) v (rowsIn count edges)) edges chains w edges₁ chains₁
+    item-walked = record {
+      seen = plain .0 ∙ (ap (λ (u : ℕ). walkCodes (codesHere s b ns) mostEdges 8 23 u (rowsIn count edges)) (g .own (sym p ∙ t))
+          ∙ sym (asked s b ns x v (rowsIn count edges) (sym t ∙ p) refl));
+      filed = walk-filed 8 v levels₁ edges₁ chains₁ w (d .ready);
+      kept-edges = d .kept-edges;
+      kept-chains = d .kept-chains;
+    }
+
+    pub between-walked : WalkBetween (codesHere s b ns) w levels₁ edges₁
+    between-walked = plain .1
 
   module _ (f : e ≡ false) {l : Bool} (q : l ≡ isListed (x .kind)) where
     pub item-linked : l ≡ true → {w : Walked} {edges₁ chains₁ : List ℕ}
@@ -106,9 +148,6 @@ module _ (s b : List ℕ) {ns : List Name} {n : ℕ} {x : Item} {v : ℕ} (g : P
       kept-edges = refl;
       kept-chains = refl;
     }
-
-pub kept-same : (store imports includes levels : List ℕ) → Kept allLevels store imports includes levels store imports includes levels
-kept-same store imports includes levels = record { store-long = refl; imports-long = refl; includes-long = refl; levels-long = refl; above-kept = refl }
 
 -- ---- the first item is an entry
 
@@ -177,16 +216,17 @@ pub record Going (s b : List ℕ) (ns : List Name) (n : ℕ) (table : List ℕ) 
   pub some : i ≤ items
   pub entries : entry ≤ i
   pub low : 0 < i → v < n
-  pub tables : Tables b store imports includes levels edges chains 8 total
+  pub tables : Room b store imports includes levels edges chains 8 total
+  pub between : Between (codesHere s b ns) mostEdges (remembered levels) (rowsIn total edges)
   pub kept : Kept allLevels store₀ imports₀ includes₀ levels₀ store imports includes levels
   pub kept-edges : length edges ≡ length edges₀
   pub kept-chains : length chains ≡ length chains₀
 
 pub going-none : (s b : List ℕ) (ns : List Name) (n : ℕ) (table : List ℕ) (items : ℕ) (store imports includes levels edges chains : List ℕ) (v : ℕ) → v ≡ 0
-    → Tables b store imports includes levels edges chains 8 0 → Itemized s items table
+    → Room b store imports includes levels edges chains 8 0 → remembered levels ≡ nothingRead → Itemized s items table
     → Going s b ns n table items store imports includes levels edges chains store imports includes levels edges chains 0 0 v 0
 unfolding rowsIn
-going-none s b ns n table items store imports includes levels edges chains v z t g =
+going-none s b ns n table items store imports includes levels edges chains v z t m g =
     let q : items ≡ items - 0 = omega arith in
     record {
       rest = ap₂ (λ (j : ℕ) (xs : List (ItemOf PlacedName)). drawItems s b ns 0 j [] xs) (sym z) (sym (items-all g) ∙ ap (itemsFrom s table 0) q);
@@ -195,7 +235,8 @@ going-none s b ns n table items store imports includes levels edges chains v z t
       entries = omega arith;
       low = λ l. absurd (omega arith);
       tables = t;
-      kept = kept-same store imports includes levels;
+      between = rw m (at-first (codesHere s b ns) mostEdges);
+      kept = kept-same allLevels store imports includes levels;
       kept-edges = refl;
       kept-chains = refl;
     }
@@ -276,6 +317,7 @@ module _ {s b : List ℕ} {ns : List Name} {n : ℕ} {table : List ℕ} {items :
               imports-long = c .imports-long ∙ g .kept .imports-long;
               includes-long = c .includes-long ∙ g .kept .includes-long;
               levels-long = c .levels-long ∙ g .kept .levels-long;
+              stays-read = stays-on (g .kept .stays-read) (c .stays-read);
               above-kept = c .above-kept ∙ g .kept .above-kept;
             }
 
@@ -296,9 +338,9 @@ module _ {s b : List ℕ} {ns : List Name} {n : ℕ} {table : List ℕ} {items :
                 go true z = omega (arith, g .entries)
                 go false z = omega (arith, g .entries)
 
-            pub going-on : {m : ℕ} → w ≡ Built m → Going s b ns n table items store₀ imports₀ includes₀ levels₀ edges₀ chains₀ store₁ imports₁ includes₁
+            pub going-on : {m : ℕ} → w ≡ Built m → WalkBetween (codesHere s b ns) w levels₁ edges₁ → Going s b ns n table items store₀ imports₀ includes₀ levels₀ edges₀ chains₀ store₁ imports₁ includes₁
                 levels₁ edges₁ chains₁ m k u (i + 1)
-            going-on {m} y = record {
+            going-on {m} y q = record {
               rest = turn ∙ ap (λ (w : Walked). behind (itemWord s x) (walkSeen w edges₁) k u) y;
               listed = g .listed;
               some = omega arith;
@@ -310,9 +352,11 @@ module _ {s b : List ℕ} {ns : List Name} {n : ℕ} {table : List ℕ} {items :
                   import-room = omega (arith, g .tables .scan .import-room, c .imports-long);
                   include-room = omega (arith, g .tables .scan .include-room, c .includes-long);
                 };
-                levels-room = omega (arith, g .tables .levels-room, c .levels-long);
+                deep = g .tables .deep;
+                level-room = omega (arith, g .tables .level-room, c .levels-long);
                 edges-so-far = rw y at (d .filed);
               };
+              between = rw y at q;
               kept = kept-on;
               kept-edges = d .kept-edges ∙ g .kept-edges;
               kept-chains = d .kept-chains ∙ g .kept-chains;

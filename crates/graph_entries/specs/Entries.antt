@@ -15,12 +15,16 @@ use Rattle.library_items.specs.Table.{itemWord, ItemFits}
 use Rattle.library_items.specs.Items.{augmentingKind, deviationKind, ItemOf, itemsAt}
 use Rattle.graph.specs.Graph.{noEntryText, deepest, Out, built, onOut}
 use Rattle.graph.specs.Nodes.{memb}
-use Rattle.graph.specs.Numbers.{Row, numberOf, givenCode, walkCodes, Drawing, drawn, faulty}
+use Rattle.graph.specs.Numbers.{Row, Codes, numberOf, givenCode, walkCodes, Drawing, drawn, faulty}
+use Rattle.graph.specs.Once.{Between}
 use Rattle.graph.specs.Limits.{mostEdges}
 use Rattle.graph_edges.specs.Edges.{rowsIn, Filed}
 use Rattle.graph_nodes.specs.Adding.{isEntry, namesHeld, Holding}
 use Rattle.graph_marks.specs.Marks.{knownAt}
+use Rattle.graph_memory.specs.Memory.{remembered}
 use Rattle.graph_link.specs.Link.{allLevels}
+use Rattle.graph_link.specs.declared.Walked.{Walked}
+use Rattle.graph_link.specs.declared.Walked.the-variants.{Built as WalkBuilt, Refused as WalkRefused}
 use Rattle.graph_visit.specs.Visit.{codesHere, Kept}
 use Rattle.graph_entries.specs.declared.Drawn.{Drawn}
 use Rattle.graph_entries.specs.declared.Drawn.the-variants.{Built, Refused}
@@ -72,6 +76,11 @@ pub record Placed (s : List ℕ) (ns : List Name) (n : ℕ) (x : Item) (v : ℕ)
   pub fits : ItemFits s x
   pub low : v < n
   pub own : isEntry (x .kind) ≡ true → v ≡ itemNode ns (itemWord s x)
+
+-- behind an item what is remembered of the texts is true, and none is being walked; so the walk of the next entry's text is the plain walk
+abbrev pub WalkBetween : (at : ℕ → Codes) → Walked → (levels edges : List ℕ) → Type 0
+WalkBetween at (WalkBuilt n) levels edges = Between at mostEdges (remembered levels) (rowsIn n edges)
+WalkBetween at (WalkRefused number a) levels edges = Unit {0}
 
 -- all items were walked, or up to the first refusal; the tables are as long as before
 pub record Walks (s b : List ℕ) (ns : List Name) (store imports includes levels edges chains : List ℕ) (r : Drawn)

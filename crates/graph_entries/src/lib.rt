@@ -9,12 +9,14 @@ ghost use mathlib.Core.Path.{_≡_};
 ghost use mathlib.Core.Bool.{cond};
 ghost use Prim.Native.Nat.{_+_, _<_};
 ghost use Rattle.library_items.specs.Table.{mostItems, itemWord, Itemized};
+ghost use Rattle.graph.specs.Limits.{mostEdges};
+ghost use Rattle.graph.specs.Once.{nothingRead, Between};
 ghost use Rattle.graph_edges.specs.Edges.{rowsIn};
 ghost use Rattle.graph_nodes.specs.Adding.{isEntry, namesHeld};
 ghost use Rattle.graph_link.specs.Link.{Drew, allLevels};
-ghost use Rattle.graph_walk.specs.Walk.{Tables};
-ghost use Rattle.graph_visit.specs.Visit.{Ground, Kept};
-ghost use Rattle.graph_entries.specs.Entries.{isListed, itemWalk, nextNode, Next, Placed, Walks};
+ghost use Rattle.graph_memory.specs.Memory.{remembered};
+ghost use Rattle.graph_visit.specs.Visit.{codesHere, Ground, Room, Kept};
+ghost use Rattle.graph_entries.specs.Entries.{isListed, itemWalk, nextNode, Next, Placed, WalkBetween, Walks};
 
 // The depth left to an entry's own text.
 const DEEPEST: usize = 8;
@@ -76,13 +78,16 @@ fn walk_item(
     count: usize,
 ) -> Walked
     requires { ⌜ Ground (now image) (now bundle) (now btab) (now ntab) (now marks) sizes
-        × Tables (now bundle) (now store) (now imports) (now includes) (now levels) (now edges) (now chains) 8 count
+        × Room (now bundle) (now store) (now imports) (now includes) (now levels) (now edges) (now chains) 8 count
+        × Between (codesHere (now image) (now bundle) (namesHeld (now image) (now ntab) (sizes .nodes))) mostEdges (remembered (now levels)) (rowsIn count (now edges))
         × Placed (now image) (namesHeld (now image) (now ntab) (sizes .nodes)) (sizes .nodes) x (v .0) ⌝ }
     ensures { λ r. ⌜ Drew (itemWalk (now (image .entry)) (now (bundle .entry)) (namesHeld (now (image .entry)) (now (ntab .entry)) (sizes .nodes))
         (itemWord (now (image .entry)) x) (v .0) (rowsIn count (now (edges .entry))))
         (now (edges .entry)) (now (chains .entry)) r (now (edges .exit)) (now (chains .exit))
         × Kept allLevels (now (store .entry)) (now (imports .entry)) (now (includes .entry)) (now (levels .entry))
-        (now (store .exit)) (now (imports .exit)) (now (includes .exit)) (now (levels .exit)) ⌝ }
+        (now (store .exit)) (now (imports .exit)) (now (includes .exit)) (now (levels .exit))
+        × WalkBetween (codesHere (now (image .entry)) (now (bundle .entry)) (namesHeld (now (image .entry)) (now (ntab .entry)) (sizes .nodes)))
+        r (now (levels .exit)) (now (edges .exit)) ⌝ }
 {
     if graph_nodes::is_entry(x.kind) {
         let spot = Spot {
@@ -144,7 +149,8 @@ pub fn walk_items(
     chains: &mut [u16],
 ) -> Drawn
     requires { ⌜ Ground (now image) (now bundle) (now btab) (now ntab) (now marks) sizes
-        × Tables (now bundle) (now store) (now imports) (now includes) (now levels) (now edges) (now chains) 8 0
+        × Room (now bundle) (now store) (now imports) (now includes) (now levels) (now edges) (now chains) 8 0
+        × (remembered (now levels) ≡ nothingRead)
         × Itemized (now image) items (now table) ⌝ }
     ensures { λ r. ⌜ Walks (now (image .entry)) (now (bundle .entry)) (namesHeld (now (image .entry)) (now (ntab .entry)) (sizes .nodes))
         (now (store .entry)) (now (imports .entry)) (now (includes .entry)) (now (levels .entry)) (now (edges .entry)) (now (chains .entry)) r

@@ -39,7 +39,7 @@ module _ (longest nodes edges store imports includes levels : ℕ) where
               rw (le-ltb nodes 2048 enough) (rw (le-ltb edges 16384 enough₁) (rw (le-ltb store longest enough₂) (rw (le-ltb imports 1792 enough₃)
               (rw (lt-ltb includes 1280 h) refl))))
 
-          pub short-levels : 256 * 5 ≤ includes → ltb levels 2304 ≡ tooShort longest lent
+          pub short-levels : 256 * 5 ≤ includes → ltb levels 4352 ≡ tooShort longest lent
           unfolding tooShort
           short-levels h =
               rw (le-ltb nodes 2048 enough) (rw (le-ltb edges 16384 enough₁) (rw (le-ltb store longest enough₂) (rw (le-ltb imports 1792 enough₃)
@@ -52,7 +52,7 @@ pub record Enough (longest : ℕ) (k : Lengths) : Type 0 where
   pub store : longest ≤ k .store
   pub imports : 1792 ≤ k .imports
   pub includes : 1280 ≤ k .includes
-  pub levels : 2304 ≤ k .levels
+  pub levels : 4352 ≤ k .levels
 
 pub long-enough : (longest : ℕ) (k : Lengths) → tooShort longest k ≡ false → Enough longest k
 unfolding tooShort
@@ -62,7 +62,7 @@ long-enough longest k h =
     let d = ltb (k .store) longest in
     let f = ltb (k .imports) 1792 in
     let g = ltb (k .includes) 1280 in
-    let p = neither (n || e || d || f || g) (ltb (k .levels) 2304) h in
+    let p = neither (n || e || d || f || g) (ltb (k .levels) 4352) h in
     let q = neither (n || e || d || f) g (p .0) in
     let r = neither (n || e || d) f (q .0) in
     let t = neither (n || e) d (r .0) in
@@ -73,5 +73,5 @@ long-enough longest k h =
       store = ltb-false (k .store) longest (t .1);
       imports = ltb-false (k .imports) 1792 (r .1);
       includes = ltb-false (k .includes) 1280 (q .1);
-      levels = ltb-false (k .levels) 2304 (p .1);
+      levels = ltb-false (k .levels) 4352 (p .1);
     }

@@ -1,5 +1,5 @@
 -- The lengths of what a call is lent, and whether one of them is too short: the node table, 2,048 words, the edge table, 16,384, a value store as long as the
--- longest text, one pair of scan tables, and 2,304 words for the levels.
+-- longest text, one pair of scan tables, and 4,352 words for the memory and the levels.
 -- Assumes nothing.
 use Prim.Native.Nat.{ℕ, _*_}
 use mathlib.Core.Bool.{Bool, _||_}

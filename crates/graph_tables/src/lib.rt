@@ -3,8 +3,8 @@ ghost use mathlib.Core.Path.{_≡_};
 ghost use Rattle.graph_tables.specs.Lengths.{tooShort};
 ghost use Rattle.graph_tables.specs.Tables.{Puts, Named};
 
-// How many words of levels are lent: nine levels.
-pub const LEVELS: usize = 2304;
+// How many words of levels are lent: the memory, two words for each node, and nine levels.
+pub const LEVELS: usize = 4352;
 
 // Whether a table or scratch is too short. longest: the bytes of the longest text.
 pub fn too_short(

@@ -198,7 +198,10 @@ module _ (left v : ℕ) (levels : List ℕ) (q : Recalled) (e : q ≡ recalled l
     pub met-deep : (a : Refusal) → q ≡ TooDeep → a ≡ noRefusal → Called meeting n left v count edges chains (Stopped 29 a) levels edges chains
     unfolding metHere
     met-deep a z t = record {
-      seen = λ f. ap (λ (b : Refusal). halted 29 b) t ∙ sym (too-deep z (rowsIn count edges) (remembered levels) (visited at absent v (rowsIn count edges) levels f)); ready = tt; kept-edges = refl; kept-chains = refl;
+      seen = λ f. ap (λ (b : Refusal). halted 29 b) t ∙ sym (too-deep z (rowsIn count edges) (remembered levels) (visited at absent v (rowsIn count edges) levels f));
+      ready = tt;
+      kept-edges = refl;
+      kept-chains = refl;
     }
 
     pub met-known : q ≡ Recall → v < mostNodes → Filed edges chains count → Called meeting n left v count edges chains Known levels edges chains

@@ -197,7 +197,7 @@ module _ {at : ℕ → Codes} {n left v base k : ℕ} {levels₀ edges₀ chains
       (z : r ≡ Children k linked) where
     all-words : expected at left d ≡ thenW (ahead at left v (wordsFrom levels₀ base k) (rowsIn linked edges₀) (remembered levels₀) 0) (ended v)
     all-words = all-ahead at left d k linked z
-          ∙ ap (λ (j : ℕ). thenW (ahead at left v (wordsFrom levels₀ j k) (rowsIn linked edges₀) (remembered levels₀) 0) (ended v)) (sym (g .based))
+        ∙ ap (λ (j : ℕ). thenW (ahead at left v (wordsFrom levels₀ j k) (rowsIn linked edges₀) (remembered levels₀) 0) (ended v)) (sym (g .based))
 
     -- the end, where the includes below are put down
     module _ (l : v < mostNodes) {levels₁ : List ℕ} (y : Remembers levels v (below most) levels₁) where
@@ -264,60 +264,60 @@ module _ {at : ℕ → Codes} {n left v base k : ℕ} {levels₀ edges₀ chains
 
     module _ {w : Walked} {levels₂ edges₂ chains₂ : List ℕ}
         (o : Through (walkOnce at mostEdges (left - 1) 24 (u .0) (rowsIn m edges₁) (remembered levels)) (left - 1) (u .0) edges₁ chains₁ w levels₂ edges₂ chains₂)
-        where
-          child : includeOnce mostEdges (belowOnce at mostEdges left) v (getD levels (base + i) 0) (rowsIn total edges) (remembered levels)
-              ≡ walkedSeen (u .0) w levels₂ edges₂
-          child =
-              sym (s .seen at (remembered levels)) ∙ ap (λ x. stepSeen (belowOnce at mostEdges left) x edges₁ (remembered levels)) e
-              ∙ one-less at left (u .0) (rowsIn m edges₁) (remembered levels) some-left ∙ sym (o .seen)
+      where
+        child : includeOnce mostEdges (belowOnce at mostEdges left) v (getD levels (base + i) 0) (rowsIn total edges) (remembered levels)
+            ≡ walkedSeen (u .0) w levels₂ edges₂
+        child =
+            sym (s .seen at (remembered levels)) ∙ ap (λ x. stepSeen (belowOnce at mostEdges left) x edges₁ (remembered levels)) e
+            ∙ one-less at left (u .0) (rowsIn m edges₁) (remembered levels) some-left ∙ sym (o .seen)
 
-          pub sent-up : {count : ℕ} {edgesE chainsE : List ℕ} {r : Visited} {E : Below → Went} {number : ℕ} {a : Refusal}
-              → (d : Called E n left v count edgesE chainsE r levels₀ edges₀ chains₀)
-              → r ≡ Children k linked → w ≡ Refused number a → Through (expected at left d) left v edgesE chainsE w levels₂ edges₂ chains₂
-          sent-up {number = number} {a = a} d z y =
-              let q : includeOnce mostEdges (belowOnce at mostEdges left) v (getD levels (base + i) 0) (rowsIn total edges) (remembered levels) ≡ halted number a =
-              child ∙ ap (λ w. walkedSeen (u .0) w levels₂ edges₂) y in
+        pub sent-up : {count : ℕ} {edgesE chainsE : List ℕ} {r : Visited} {E : Below → Went} {number : ℕ} {a : Refusal}
+            → (d : Called E n left v count edgesE chainsE r levels₀ edges₀ chains₀)
+            → r ≡ Children k linked → w ≡ Refused number a → Through (expected at left d) left v edgesE chainsE w levels₂ edges₂ chains₂
+        sent-up {number = number} {a = a} d z y =
+            let q : includeOnce mostEdges (belowOnce at mostEdges left) v (getD levels (base + i) 0) (rowsIn total edges) (remembered levels) ≡ halted number a =
+            child ∙ ap (λ w. walkedSeen (u .0) w levels₂ edges₂) y in
+            record {
+              seen = ap (λ w. walkedSeen v w levels₂ edges₂) y
+                  ∙ sym (all-words d z ∙ ap (λ (w : Went). thenW w (ended v)) (turn h ∙ ap (λ (w : Went). thenW w onwards) q));
+              ready = rw y tt;
+              kept-edges = o .kept-edges ∙ s .kept-edges ∙ g .long-edges ∙ d .kept-edges;
+              kept-chains = o .kept-chains ∙ s .kept-chains ∙ g .long-chains ∙ d .kept-chains;
+            }
+
+        module _ {store imports includes store₁ imports₁ includes₁ : List ℕ}
+            (p : Kept (levelAt (left - 1 + 1)) store imports includes levels store₁ imports₁ includes₁ levels₂) where
+          same-words : drop base levels₂ ≡ drop base levels
+          same-words = let q : base ≡ levelAt (left - 1 + 1) = omega (arith, g .based, some-left) in rw q (p .above-kept)
+
+          pub child-height : {t : ℕ} → w ≡ Built t → heightIn levels₂ (u .0) + 1 ≤ left
+          child-height {t} y = let q : Recalls (left - 1) (u .0) t levels₂ edges₂ chains₂ = rw y at (o .ready) in omega (arith, q .low, some-left)
+
+          pub went-on : {t most₁ : ℕ} → w ≡ Built t → most₁ ≡ max most (suc (heightIn levels₂ (u .0)))
+              → Walking at n left v base k levels₀ edges₀ chains₀ linked levels₂ edges₂ chains₂ t most₁ (i + 1)
+          went-on {t} {most₁} y f =
+              let q : includeOnce mostEdges (belowOnce at mostEdges left) v (getD levels (base + i) 0) (rowsIn total edges) (remembered levels)
+              ≡ walked (rowsIn t edges₂) (remembered levels₂) (heightIn levels₂ (u .0)) = child ∙ ap (λ w. walkedSeen (u .0) w levels₂ edges₂) y in
+              let c : Recalls (left - 1) (u .0) t levels₂ edges₂ chains₂ = rw y at (o .ready) in
               record {
-                seen = ap (λ w. walkedSeen v w levels₂ edges₂) y
-                    ∙ sym (all-words d z ∙ ap (λ (w : Went). thenW w (ended v)) (turn h ∙ ap (λ (w : Went). thenW w onwards) q));
-                ready = rw y tt;
-                kept-edges = o .kept-edges ∙ s .kept-edges ∙ g .long-edges ∙ d .kept-edges;
-                kept-chains = o .kept-chains ∙ s .kept-chains ∙ g .long-chains ∙ d .kept-chains;
+                room = omega arith;
+                few = g .few;
+                based = g .based;
+                inside = g .inside;
+                long = p .levels-long ∙ g .long;
+                kept = same-words ∙ g .kept;
+                stays-read = stays-on (g .stays-read) (p .stays-read);
+                low = g .low;
+                filed = c .filed;
+                high = omega (arith, f, child-height y, g .high);
+                long-edges = o .kept-edges ∙ s .kept-edges ∙ g .long-edges;
+                long-chains = o .kept-chains ∙ s .kept-chains ∙ g .long-chains;
+                rest = turn h ∙ ap (λ (w : Went). thenW w onwards) q
+                    ∙ ap (λ (j : ℕ). ahead at left v (wordsFrom levels₀ (base + (i + 1)) (k - (i + 1))) (rowsIn t edges₂) (remembered levels₂) j) (sym f);
               }
 
-          module _ {store imports includes store₁ imports₁ includes₁ : List ℕ}
-              (p : Kept (levelAt (left - 1 + 1)) store imports includes levels store₁ imports₁ includes₁ levels₂) where
-            same-words : drop base levels₂ ≡ drop base levels
-            same-words = let q : base ≡ levelAt (left - 1 + 1) = omega (arith, g .based, some-left) in rw q (p .above-kept)
-
-            pub child-height : {t : ℕ} → w ≡ Built t → heightIn levels₂ (u .0) + 1 ≤ left
-            child-height {t} y = let q : Recalls (left - 1) (u .0) t levels₂ edges₂ chains₂ = rw y at (o .ready) in omega (arith, q .low, some-left)
-
-            pub went-on : {t most₁ : ℕ} → w ≡ Built t → most₁ ≡ max most (suc (heightIn levels₂ (u .0)))
-                → Walking at n left v base k levels₀ edges₀ chains₀ linked levels₂ edges₂ chains₂ t most₁ (i + 1)
-            went-on {t} {most₁} y f =
-                let q : includeOnce mostEdges (belowOnce at mostEdges left) v (getD levels (base + i) 0) (rowsIn total edges) (remembered levels)
-                ≡ walked (rowsIn t edges₂) (remembered levels₂) (heightIn levels₂ (u .0)) = child ∙ ap (λ w. walkedSeen (u .0) w levels₂ edges₂) y in
-                let c : Recalls (left - 1) (u .0) t levels₂ edges₂ chains₂ = rw y at (o .ready) in
-                record {
-                  room = omega arith;
-                  few = g .few;
-                  based = g .based;
-                  inside = g .inside;
-                  long = p .levels-long ∙ g .long;
-                  kept = same-words ∙ g .kept;
-                  stays-read = stays-on (g .stays-read) (p .stays-read);
-                  low = g .low;
-                  filed = c .filed;
-                  high = omega (arith, f, child-height y, g .high);
-                  long-edges = o .kept-edges ∙ s .kept-edges ∙ g .long-edges;
-                  long-chains = o .kept-chains ∙ s .kept-chains ∙ g .long-chains;
-                  rest = turn h ∙ ap (λ (w : Went). thenW w onwards) q
-                      ∙ ap (λ (j : ℕ). ahead at left v (wordsFrom levels₀ (base + (i + 1)) (k - (i + 1))) (rowsIn t edges₂) (remembered levels₂) j) (sym f);
-                }
-
-            pub kept-sent : {storeE importsE includesE levelsE store₀ imports₀ includes₀ : List ℕ}
-                → Kept (levelAt (left + 1)) storeE importsE includesE levelsE store₀ imports₀ includes₀ levels₀
-                → Long store₀ imports₀ includes₀ store imports includes
-                → Kept (levelAt (left + 1)) storeE importsE includesE levelsE store₁ imports₁ includes₁ levels₂
-            kept-sent f l = kept-loop f (longer l p) levels₂ (p .levels-long) (p .stays-read) same-words
+          pub kept-sent : {storeE importsE includesE levelsE store₀ imports₀ includes₀ : List ℕ}
+              → Kept (levelAt (left + 1)) storeE importsE includesE levelsE store₀ imports₀ includes₀ levels₀
+              → Long store₀ imports₀ includes₀ store imports includes
+              → Kept (levelAt (left + 1)) storeE importsE includesE levelsE store₁ imports₁ includes₁ levels₂
+          kept-sent f l = kept-loop f (longer l p) levels₂ (p .levels-long) (p .stays-read) same-words

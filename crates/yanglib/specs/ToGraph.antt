@@ -1,6 +1,6 @@
 -- The graph of an image and a bundle, in the order of refusals: first 20, 21, 22, 30, then walk order. Output: node table, 2,048 words (place of the
 -- name's first byte, length), edge table, 16,384 words (from, to), in order of adding; rest zero. A refusal leaves all tables and counts zero. Scratch:
--- a value store as long as the longest text, one pair of scan tables, 2,304 words; zero after every call.
+-- a value store as long as the longest text, one pair of scan tables, 4,352 words; zero after every call.
 -- Assumes nothing.
 use Prim.Native.Nat.{ℕ, _≤_}
 use mathlib.Core.Path.{_≡_}

@@ -54,7 +54,7 @@ fn graph_agrees(
     let mut store = [0u8; 65536];
     let mut imports = [0u32; 1792];
     let mut includes = [0u32; 1280];
-    let mut levels = [0u32; 2304];
+    let mut levels = [0u32; 4352];
     let graphed = yanglib::to_graph(
         image,
         bundle,

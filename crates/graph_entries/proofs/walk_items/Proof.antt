@@ -23,7 +23,7 @@ loop-holds : tie.Need-loop-holds Inv-loop μ-loop
 loop-holds c =
     let node-of1 = c in
     let start = node-of1 .before .before .before .before .before .before .before .before .before .before .before .before .before in
-    going-none _ _ _ _ _ _ _ _ _ _ _ _ _ (node-of1 .node-of .ensures) (start .pre .1) (start .pre .2)
+    going-none _ _ _ _ _ _ _ _ _ _ _ _ _ (node-of1 .node-of .ensures) (start .pre .1) (start .pre .2) (start .pre .3)
 
 get-item-requires : tie.Need-get-item-requires Inv-loop μ-loop
 get-item-requires c κs =
@@ -54,6 +54,7 @@ walk-item-requires c κs =
     let start = loop1 .before .before .before .before .before .before .before .before .before .before .before .before .before .before in (
       start .pre .0,
       loop1 .loop .inv .tables,
+      loop1 .loop .inv .between,
       placed (loop1 .loop .inv) (loop-test1 .loop-test .taken) (get-item1 .get-item .ensures)
           (next-node1 .next-node .ensures .0) (next-node1 .next-node .ensures .1),
     )
@@ -126,7 +127,7 @@ loop-again c =
     let loop1 = loop-test1 .before in
     going-on (loop1 .loop .inv) (loop-test1 .loop-test .taken) (get-item1 .get-item .ensures) (next-node1 .next-node .ensures .0)
     (next-node1 .next-node .ensures .1) (next-entry1 .next-entry .ensures) (walk-item1 .walk-item .ensures .0) (walk-item1 .walk-item .ensures .1)
-    (m1 .m .given .1)
+    (m1 .m .given .1) (walk-item1 .walk-item .ensures .2)
 
 returns-2 : tie.Need-returns-2 Inv-loop μ-loop
 returns-2 c =
