@@ -9,3 +9,4 @@ pub mod TablesRead
 pub mod Zeros
 pub mod Answers
 pub mod Complete
+pub mod Once

@@ -16,6 +16,7 @@ use Rattle.text.specs.declared.Refusal.{Refusal}
 use Rattle.library_items.specs.Table.{Reads}
 use Rattle.graph.specs.Demand3.{AlikeImport, Within, SameEntries, Permuted}
 use Rattle.graph.proofs.Tests.{both-bools, mem-memb}
+use Rattle.graph.specs.Once.{includesOnce, walkOnce, includesRead, walkRead, entriesRead}
 use Rattle.yanglib.specs.ToGraph.{graphed}
 use Rattle.graph_tables.specs.Lengths.{tooShort}
 use Rattle.graph_build.specs.declared.Graphed.{Graphed}
@@ -47,9 +48,10 @@ use Rattle.graph_texts.specs.Texts.{importNames, includeNames, scanText, textOf
 use Rattle.graph.specs.Nodes.{passOver, complete, addGroups, nodesBy}
 use Rattle.text.specs.Refusal.{noRefusal}
 use Rattle.graph.specs.Graph.{textSteps, memE, addBy, run, walkFrom, graphOf}
-use Rattle.graph.specs.Numbers.{numberOf}
+use Rattle.graph.specs.Numbers.{numberOf, codesAt, eachO, memR}
 use Rattle.graph_nodes.specs.Adding.{plainAt, wordsAt}
 use Rattle.demands.specs.Demand3.{names, WellFormed, Alike, both-refused, both-built}
+use Rattle.demands.specs.Once.{textsRead}
 use Rattle.demands.specs.Demand3Needs.{lent, emptyFirst, fullFirst, includes, sFirst, tFirst, alone, Needed}
 
 -- ---- well-formed, by test
@@ -95,23 +97,34 @@ with-t = (98 ∷ []) ∷ (116 ∷ []) ∷ []
 
 pub record Computed : Type 0 where
   empty : graphed passOver emptyFirst includes lent .answer ≡ Refused 28 1 noRefusal 0
-  full : graphed passOver fullFirst includes lent .answer ≡ Built 2 1
+  pub full : graphed passOver fullFirst includes lent .answer ≡ Built 2 1
   s-first : graphed passOver sFirst alone lent .answer ≡ Built 2 0
   s-names : names sFirst (graphed passOver sFirst alone lent) ≡ with-s
   t-names : names tFirst (graphed passOver tFirst alone lent) ≡ with-t
   -- and with all names as nodes
   pub empty-complete : graphed complete emptyFirst includes lent .answer ≡ Built 2 1
   pub s-complete : graphed complete sFirst alone lent .answer ≡ Built 3 0
+  pub read-once : textsRead passOver fullFirst includes ≡ 0 ∷ 1 ∷ []
 
 pub computed : Computed
-unfolding with-s with-t graphed tooShort wordsAt numberOf graphOf walkFrom run addBy memE textSteps nodesBy addGroups addAll among textOf scanText importNames
-    includeNames valueIn longestText longestOf lookUp bundleAt textsAt filedAt bodyAt libraryOf imageAt libraryAt setAt importOnlyAt moduleAt counted countAt
-    newName nameAt nameBody printableAt many numberAt groups modulesOf importOnlyOf submodulesOf flatMap joined importStep includeStep unlessFull importHere
-    includeHere movedTo afterToken headStep stepHere stepAt afterStep scanTurn scanFrom scanned lentAt ifFit dependencies orMatch lastAt orHead headAt orLine
-    plainOf blockOf openOrPlain afterValue includeAt argumentOf argumentAt afterDue isQuote startsName addedBy afterPlus joinedWith joinedValue ofString
-    valueHere valueAt valueBytes closedToken tokenHere statementAt dueNumber dueHere dueAt startsIdent endsKeyword same part keywordAt matchAt gapEnd gapTurn
-    afterWhite commentEnd blockEnd closing pairAt runEnd span inRun inIdent classOf turns
-computed = record { empty = refl; full = refl; s-first = refl; s-names = refl; t-names = refl; empty-complete = refl; s-complete = refl }
+unfolding with-s with-t textsRead entriesRead walkRead includesRead walkOnce includesOnce codesAt eachO memR graphed tooShort wordsAt numberOf graphOf
+    walkFrom run addBy memE textSteps nodesBy addGroups addAll among textOf scanText importNames includeNames valueIn longestText longestOf lookUp bundleAt
+    textsAt filedAt bodyAt libraryOf imageAt libraryAt setAt importOnlyAt moduleAt counted countAt newName nameAt nameBody printableAt many numberAt groups
+    modulesOf importOnlyOf submodulesOf flatMap joined importStep includeStep unlessFull importHere includeHere movedTo afterToken headStep stepHere stepAt
+    afterStep scanTurn scanFrom scanned lentAt ifFit dependencies orMatch lastAt orHead headAt orLine plainOf blockOf openOrPlain afterValue includeAt
+    argumentOf argumentAt afterDue isQuote startsName addedBy afterPlus joinedWith joinedValue ofString valueHere valueAt valueBytes closedToken tokenHere
+    statementAt dueNumber dueHere dueAt startsIdent endsKeyword same part keywordAt matchAt gapEnd gapTurn afterWhite commentEnd blockEnd closing pairAt
+    runEnd span inRun inIdent classOf turns
+computed = record {
+  empty = refl;
+  full = refl;
+  s-first = refl;
+  s-names = refl;
+  t-names = refl;
+  empty-complete = refl;
+  s-complete = refl;
+  read-once = refl;
+}
 
 both-ways : {r : Graphed} {n m number entry place : ℕ} {a : Refusal} → r ≡ Built n m → r ≡ Refused number entry a place → ⊥
 both-ways h k = let e = sym h ∙ k in let z : _≡_ {A = ℕ} 0 1 = cc in omega arith

@@ -6,3 +6,4 @@ pub mod OrderCalls
 pub mod Starred
 pub mod Answers
 pub mod Complete
+pub mod Once

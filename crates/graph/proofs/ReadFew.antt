@@ -5,17 +5,25 @@ use mathlib.Core.Path.{_≡_, refl, sym, ap, subst}
 use mathlib.Core.Logic.{⊎-elim}
 use mathlib.Core.Bool.{Bool, true, false, cond}
 use mathlib.Core.List.{List, [], _∷_, _++_, List·Memᴰ, List·Memᴰ·head, List·Memᴰ·tail, List·Memᴰ·cases-cons, List·Memᴰ·append-cases}
-use mathlib.Core.List.{List·Memᴰ·not-nil}
+use mathlib.Core.List.{List·Memᴰ·not-nil, Memᴰ·of-map, map}
 use native.Mathlib.Omega.{arith}
-use lib.ListN.{length}
+use lib.ListN.{length, getD}
 use lib.Dec.{eqb}
 use borrow.Author.Tests.{eqb-true, eqb-false}
 use Rattle.text.specs.Refusal.{noRefusal}
+use Rattle.library_image.specs.Library.{Name, PlainLibrary}
+use Rattle.graph.specs.Nodes.{Mode, nodesOf, memb}
+use Rattle.graph.specs.Meaning.{Revised}
+use Rattle.graph.specs.Graph.{Text, missing, refusing, deps, World, world, entries}
 use Rattle.graph.specs.Graph.{noEntryText, noIncludedText, tooDeep, deepest, Out, built, refused, onOut}
+use Rattle.graph.specs.Numbers.{numberOf, submoduleCode, codesOf, codesAt, entryCode}
 use Rattle.graph.specs.Numbers.{Row, row, addRow, Codes, noText, refusedScan, codes, eachO, importCode, givenCode, EntryCode}
 use Rattle.graph.specs.Once.{reading, Marks, nothingRead, mark, Went, walked, halted, Below, walkOnce, onWalked, isUnread, Reads, includesRead}
 use Rattle.graph.specs.Once.{visitRead, walkRead, entriesRead}
 use Rattle.graph.proofs.Demand.{no-longer}
+use Rattle.graph.proofs.Tests.{both-bools, memb-mem}
+use Rattle.graph.proofs.Numbers.{number-small}
+use Rattle.graph.proofs.Entries.{entry-is-node}
 use Rattle.graph.proofs.ReadOnce.{once-demand}
 
 -- ---- what holds of the entries, and of an include of each text of which it holds, holds of all that is read
@@ -123,8 +131,49 @@ down-has (suc n) u l = go (eqb u n) refl (down-has n u)
     go true q ih = List·Memᴰ·head (eqb-true u n q)
     go false q ih = List·Memᴰ·tail (ih (omega (arith, eqb-false u n q)))
 
+abbrev isCodes : Codes → Bool
+isCodes (codes is us) = false
+isCodes noText = true
+isCodes (refusedScan a) = true
+
+abbrev includesOf : Codes → List ℕ
+includesOf (codes is us) = us
+includesOf noText = []
+includesOf (refusedScan a) = []
+
 pub read-few : (at : ℕ → Codes) (limit n : ℕ) (es : List EntryCode) → Within at n es → length (entriesRead at limit [] nothingRead es) ≤ n
 read-few at limit n es w =
     let all = entries-all (λ u. u < n) at limit (w .includes) es (w .entries) [] nothingRead in
     let k = no-longer (entriesRead at limit [] nothingRead es) (down n) (once-demand at limit es .once) (λ u m. down-has n u (all u m)) in
     omega (arith, k, down-length n)
+
+-- ---- a library
+
+module _ (mode : Mode) (text : Name → Text) (l : PlainLibrary) (revised : Revised l) where
+  abbrev W : World
+  W = world mode text l
+
+  abbrev ns : List Name
+  ns = nodesOf mode l
+
+  include-small : (w : Name) (u : ℕ) → submoduleCode W ns w ≡ suc (suc u) → u < length ns
+  include-small w u e = go (W .listed w) (W .node w) refl e
+    where
+      go : (a b : Bool) → memb w ns ≡ b → cond a (cond b (suc (suc (numberOf ns w))) 1) 0 ≡ suc (suc u) → u < length ns
+      go true true q p = let k = number-small ns w (memb-mem w ns q) in omega (arith, p)
+      go true false q p = absurd (omega (arith, p))
+      go false b q p = absurd (omega (arith, p))
+
+  text-small : (t : Text) (is us : List ℕ) → codesOf W ns t ≡ codes is us → (u : ℕ) → List·Memᴰ (suc (suc u)) us → u < length ns
+  text-small missing is us e u m = both-bools refl (ap isCodes e)
+  text-small (refusing a) is us e u m = both-bools refl (ap isCodes e)
+  text-small (deps imports includes) is us e u m =
+      let q = Memᴰ·of-map (submoduleCode W ns) includes (subst (λ (cs : List ℕ). List·Memᴰ (suc (suc u)) cs) (sym (ap includesOf e)) m) in include-small (q .0) u (q .2)
+
+  pub library-within : Within (codesAt W ns) (length ns) (map (entryCode W ns) (entries l))
+  unfolding codesAt
+  library-within = record {
+    entries = λ e m. let q = Memᴰ·of-map (entryCode W ns) (entries l) m in
+        subst (λ (x : EntryCode). x .number < length ns) (q .2) (number-small ns (q .0 .name) (entry-is-node mode l revised (q .0) (q .1)));
+    includes = λ v h is us e. text-small (W .text (getD ns v [])) is us e;
+  }

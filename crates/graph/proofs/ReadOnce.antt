@@ -1,7 +1,7 @@
 -- Request 2026-10 as a theorem: the walk that remembers draws what the plain walk draws, and no text is read twice.
 -- Assumes nothing.
 use Prim.Native.Nat.{ℕ, zero, suc, _+_}
-use mathlib.Core.Path.{_≡_, refl, ap}
+use mathlib.Core.Path.{_≡_, refl, sym, ap, subst}
 use mathlib.Core.Logic.{∥∥₁-elim}
 use mathlib.Core.HLevel.{⊥-prop}
 use mathlib.Core.Bool.{Bool, true, false, cond}
@@ -14,7 +14,7 @@ use Rattle.graph.specs.Numbers.{Row, row, addRow, Codes, noText, refused
 use Rattle.graph.specs.Numbers.{EntryCode, drawFrom}
 use Rattle.graph.specs.Once.{Mark, unread, reading, below, Marks, nothingRead, mark, Went, walked, halted, thenRows, thenW, Below, includesOnce, ended}
 use Rattle.graph.specs.Once.{visitOnce, met, walkOnce, onWalked, drawOnce, isUnread, Reads, includesRead, visitRead, walkRead, entriesRead, Grows}
-use Rattle.graph.specs.Once.{raised, Between, OnceDemand}
+use Rattle.graph.specs.Once.{raised, Between, plainly, OnceDemand}
 use Rattle.graph.proofs.Tests.{both-bools}
 use Rattle.graph.proofs.Rowing.{OnBuilt, each-grows, given-grows}
 use Rattle.graph.proofs.Remembering.{mark-here, Right, entry-right, at-first, between-through, between-grows}
@@ -206,10 +206,24 @@ module _ (at : ℕ → Codes) (limit : ℕ) where
 
 -- ---- the request
 
+module _ (at : ℕ → Codes) (limit left absent v : ℕ) (rs : List Row) (m : Marks) (b : Between at limit m rs) where
+  -- an entry's walk beside the plain one
+  abbrev RightHere : Went → Type 0
+  RightHere w = Right at limit m rs v w (walkCodes at limit left absent v rs)
+
+  walk-plain : (w : Went) → RightHere w → plainly w ≡ walkCodes at limit left absent v rs
+  walk-plain (walked rs₁ m₁ h) r = sym (r .same)
+  walk-plain (halted n a) r = sym r
+
+  walk-next : (rs₁ : List Row) (m₁ : Marks) (h : ℕ) → walkOnce at limit left absent v rs m ≡ walked rs₁ m₁ h → Between at limit m₁ rs₁
+  walk-next rs₁ m₁ h e = between-through at limit b (subst RightHere e (entry-right at limit absent v rs m b left))
+
 pub once-demand : (at : ℕ → Codes) (limit : ℕ) (es : List EntryCode) → OnceDemand at limit es
 once-demand at limit es =
     let r = entries-read at limit es [] nothingRead in
     record {
+      walk = λ left absent v rs m b. walk-plain at limit left absent v rs m b (walkOnce at limit left absent v rs m) (entry-right at limit absent v rs m b left);
+      next = walk-next at limit;
       same = draw-same at limit es 1 [] nothingRead (at-first at limit);
       once = turns-differ nothingRead (entriesRead at limit [] nothingRead es) (r .0) (r .1);
     }

@@ -160,7 +160,18 @@ pub record Between (at : ℕ → Codes) (limit : ℕ) (m : Marks) (rs : List Row
 
 -- ---- the request, as one list of statements
 
+-- of a walk, what the plain walk answers too
+abbrev pub plainly : Went → Out Row
+plainly (walked rs m h) = built rs
+plainly (halted n a) = refused n a
+
 pub record OnceDemand (at : ℕ → Codes) (limit : ℕ) (es : List EntryCode) : Type 0 where
+  -- from any rows and marks that there may be between two entries, the walk with a memory gives the rows or the refusal of the plain walk
+  pub walk : (left absent v : ℕ) (rs : List Row) (m : Marks) → Between at limit m rs
+      → plainly (walkOnce at limit left absent v rs m) ≡ walkCodes at limit left absent v rs
+  -- and leaves such rows and marks: none is being walked
+  pub next : (left absent v : ℕ) (rs : List Row) (m : Marks) → Between at limit m rs → (rs₁ : List Row) (m₁ : Marks) (h : ℕ)
+      → walkOnce at limit left absent v rs m ≡ walked rs₁ m₁ h → Between at limit m₁ rs₁
   -- the memory changes no row, no order of rows, no refusal and no entry's number
   pub same : drawOnce at limit 1 [] nothingRead es ≡ drawFrom at limit 1 [] es
   -- no text is read twice
