@@ -53,7 +53,7 @@ pub fn made(modules: usize, each: usize, sets: usize, seed: u64) -> Library {
     library
 }
 
-/// So many modules that all list and include the same submodules, so many, each with so many imports of modules before it.
+/// So many modules that all list and include the same submodules, so many; each text has so many imports, a module's of modules before it.
 pub fn sharing(modules: usize, submodules: usize, each: usize, seed: u64) -> Library {
     let mut r = Rng::new(seed);
     let shared: Vec<String> = (0..submodules).map(|k| format!("example-shared-part{k:02}")).collect();
@@ -65,7 +65,8 @@ pub fn sharing(modules: usize, submodules: usize, each: usize, seed: u64) -> Lib
     }
     for (k, own) in shared.iter().enumerate() {
         let head = format!("submodule {own} {{\n  yang-version 1.1;\n  belongs-to {} {{\n    prefix m0;\n  }}\n\n", name(0));
-        library.texts.insert(own.clone(), written(&head, &[0], &[], &format!("shared-{k}"), ""));
+        let others = imports(&mut r, modules, modules, each);
+        library.texts.insert(own.clone(), written(&head, &others, &[], &format!("shared-{k}"), ""));
     }
     library
 }
