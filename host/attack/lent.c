@@ -142,11 +142,22 @@ static uint8_t *margin(enum lent_way way, const struct loan *loan) {
 
 void lent_filled(size_t number) { filling = &fillings[number % LENT_FILLINGS]; }
 
+/* One word over and over; each copy is as long as all that is there. */
+static void spread(uint8_t *at, size_t length, uint32_t word) {
+    size_t done = length < sizeof word ? length : sizeof word;
+    memcpy(at, &word, done);
+    for (size_t more; done < length; done += more) {
+        more = length - done < done ? length - done : done;
+        memcpy(at + done, at, more);
+    }
+}
+
 void *lent_to_write(enum lent_way way, size_t slot, size_t length) {
     const struct filling words = (*filling)[way];
+    const size_t first = length < FIRST_WORDS * sizeof words.first ? length : FIRST_WORDS * sizeof words.first;
     uint8_t *at = lend(way, slot, regions[way][slot].write, (struct loan){.length = length});
-    for (size_t i = 0; i < length; i += sizeof words.first)
-        memcpy(at + i, i < FIRST_WORDS * sizeof words.first ? &words.first : &words.rest, length - i < sizeof words.first ? length - i : sizeof words.first);
+    spread(at, first, words.first);
+    spread(at + first, length - first, words.rest);
     if (malloced)
         UNDEFINED(at, length);
     else
