@@ -39,8 +39,9 @@
  *
  * nuvaleta_graph_complete took as much as nuvaleta_graph (x86-64).
  *
- * TIME. A call ends, but a graph's time is not bounded in practice: a text that is included again is walked again, so nine small texts, each of which
- * includes the next one many times, keep it longer than anyone waits. Texts that are not trusted are for a process that can be ended.
+ * TIME. In a graph each text of the bundle is scanned at most once, however often it is included. Beyond the scans there is a look-up for each import and
+ * include that they read, and for each name of the image: a router's library takes milliseconds. Names that were chosen so that the look-ups take long are
+ * the slowest that is known inside all limits: some seconds.
  *
  * LINKING. -lnuvaleta, or what `pkg-config --cflags --libs nuvaleta` says. Of the C library only memcpy and memset are needed.
  *
@@ -340,10 +341,12 @@ uint32_t nuvaleta_text(const uint8_t *bundle, size_t bundle_len, const uint8_t *
 #define NUVALETA_NODES_MOST 1024u
 #define NUVALETA_EDGES_MOST 8192u
 
-/* The words of the node table, of the edge table and of the levels. The tables of a scan are lent too. */
+/* The words of the node table, of the edge table and of the levels. The tables of a scan are lent too. The levels are the walk's memory: whether the text of
+ * each node was read, a word for each of 1,024, and how many includes lie below it, as many words; then nine levels of 256 words, one for each include of
+ * a text that is being walked. */
 #define NUVALETA_NODE_WORDS 2048u
 #define NUVALETA_EDGE_WORDS 16384u
-#define NUVALETA_LEVEL_WORDS 2304u
+#define NUVALETA_LEVEL_WORDS 4352u
 
 /* The bytes of store that are enough for every bundle. As many as its longest text has are asked for, so as many as the bundle has are enough too. (A text
  * of more than NUVALETA_TEXT_MOST bytes may stand in a bundle, but if it is walked its scan refuses it.) */

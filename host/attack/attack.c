@@ -139,6 +139,14 @@ static uint32_t graph(const struct bytes *image, const struct bytes *bundle, siz
     return call_made(&g);
 }
 
+/* The same with so many words of levels. */
+static uint32_t graph_over(const struct bytes *image, const struct bytes *bundle, size_t store, size_t levels) {
+    const struct given g = {.call = GRAPH,
+                            .read = {{image->at, image->length}, {bundle->at, bundle->length}},
+                            .written = {NUVALETA_NODE_WORDS, NUVALETA_EDGE_WORDS, store, NUVALETA_IMPORT_WORDS, NUVALETA_INCLUDE_WORDS, levels}};
+    return call_made(&g);
+}
+
 /* Document 01's first example of a graph; the longest text has 29 bytes. */
 static void example(struct bytes *image, struct bytes *bundle) {
     image->length = bundle->length = 0;
@@ -258,25 +266,38 @@ static void forms(void) {
     free(bundle.at);
 }
 
-/* A graph that nobody can wait for, nine texts of which each includes the next one 256 times: it is left, and what comes behind it is answered as
- * ever. */
-static void endless(void) {
+/* Texts that include each other many times, over everything that the levels could hold before. A walk that reads an included text again whenever it is
+ * included takes longer than anyone waits; here a tenth of a second is too long. */
+static void included(void) {
+    static const struct {
+        size_t submodules, wide, times;
+        const char *last;
+        uint32_t number;
+        const char *what;
+    } all[] = {
+        {8, 1, 256, "", 0, "nine texts that include the next one 256 times"},
+        {9, 1, 256, "", NUVALETA_TOO_DEEP, "ten texts that include the next one 256 times"},
+        {8, 1, 256, "a", NUVALETA_TOO_DEEP, "nine texts, and the last one includes the second"},
+        {8, 1, 256, "h", NUVALETA_TOO_DEEP, "nine texts, and the last one includes itself"},
+        {8, 1, 256, "i", NUVALETA_UNKNOWN_SUBMODULE, "nine texts, and the last one includes what is no submodule"},
+        {8, 8, 32, "", 0, "nine texts that include all later ones 32 times"},
+        {9, 2, 128, "", NUVALETA_TOO_DEEP, "ten texts that include the next two 128 times"},
+        {24, 24, 10, "", NUVALETA_TOO_DEEP, "25 texts that include all later ones 10 times"},
+    };
     struct bytes image = {0}, bundle = {0};
-    const unsigned seconds = call_seconds;
-    put(&image, "\1\1\1m\10\0011\0012\0013\0014\0015\0016\0017\0018\0\0\0", 24);
-    put_number(&bundle, 9);
-    for (char name[2] = "m"; name[0] != '9'; name[0] = name[0] == 'm' ? '1' : name[0] + 1) {
-        put_name(&bundle, name);
-        put_number(&bundle, name[0] == '8' ? 0 : 256 * 10);
-        for (size_t left = name[0] == '8' ? 0 : 256; left > 0; left--) {
-            put_words(&bundle, "include ");
-            put(&bundle, &(char){name[0] == 'm' ? '1' : name[0] + 1}, 1);
-            put_words(&bundle, ";");
+    const unsigned milliseconds = call_milliseconds;
+    call_milliseconds /= 10;
+    for (call_filling = LENT_FILLINGS; call_filling > 0; call_filling--) {
+        for (size_t i = 0; i < COUNT(all); i++) {
+            make_rows(all[i].submodules, all[i].wide, all[i].times, all[i].last, &image, &bundle);
+            due(graph(&image, &bundle, 2560, i % 2), all[i].number, all[i].what);
         }
+        example(&image, &bundle);
+        due(graph_over(&image, &bundle, 29, NUVALETA_LEVEL_WORDS), 0, "just enough levels");
+        due(graph_over(&image, &bundle, 29, NUVALETA_LEVEL_WORDS - 1), NUVALETA_GRAPH_LENT_TOO_SHORT, "the levels one word short");
+        due(graph_over(&image, &bundle, 29, 9 * 256), NUVALETA_GRAPH_LENT_TOO_SHORT, "the levels without the memory");
     }
-    call_seconds = 1;
-    graph(&image, &bundle, 2560, 0);
-    call_seconds = seconds;
+    call_milliseconds = milliseconds;
     free(image.at);
     free(bundle.at);
 }
@@ -418,6 +439,8 @@ static void random_calls(size_t count) {
         library(&image, &bundle);
         damage(&random_, choose(&random_, 2) == 0 ? &image : &bundle);
         library(&image, &bundle);
+        make_nested(&random_, &image, &bundle);
+        graph(&image, &bundle, form_find(TEXT, (struct read){bundle.at, bundle.length}, (struct read){"", 0}).longest, choose(&random_, 2));
         random_order();
     }
     free(text.at);
@@ -481,20 +504,18 @@ int main(int count, char **words) {
     }
     const size_t times = strtoul(words[at + 1], NULL, 10);
     random_.state = strtoull(words[at], NULL, 10);
+    call_milliseconds *= by_malloc ? 60 : 1; /* valgrind takes its time */
     lent_start(by_malloc);
     scans();
     rows();
     forms();
-    if (level == LEVEL_ALL)
-        endless();
+    included();
     orders();
     no_pointers();
     random_calls(times);
     for (at += 2; at < count; at++)
         attack_file(words[at], times < 100 ? times : 100);
     const size_t wrong = call_report("attack");
-    if (call_slow() != (level == LEVEL_ALL ? 2 * LENT_WAYS : 0)) /* both graphs */
-        unexpected = "a call that did not end, or one that should not have";
     if (unexpected != NULL)
         fprintf(stderr, "attack: %s\n", unexpected);
     return wrong == 0 && unexpected == NULL ? 0 : 1;

@@ -34,7 +34,8 @@ static const struct shape shapes[CALLS] = {
 enum { NUMBERS = 64, SHOWN = 20 };
 enum wrong { FAULT, NOT_ZERO, OTHERWISE, SLOW, WRONGS };
 
-unsigned call_seconds = 20;
+unsigned call_milliseconds = 1000;
+size_t call_filling;
 int call_aborts, call_planted;
 static size_t made[CALLS], refused[CALLS][NUMBERS], wrongs[WRONGS], pointless, found;
 
@@ -55,7 +56,7 @@ static void tell(enum wrong kind, const struct given *g, const char *what) {
             fprintf(stderr, " %zu", g->written[i]);
         fprintf(stderr, ", counts %zu %zu, mask %x, inside %zu\n", g->counts[0], g->counts[1], g->mask, g->inside);
     }
-    if (call_aborts && kind != SLOW)
+    if (call_aborts)
         abort();
 }
 
@@ -121,7 +122,7 @@ static void signalled(const struct given *g, enum lent_way way, int number) {
     ptrdiff_t place;
     const size_t slot = lent_where(way, &place);
     if (number == LENT_SLOW) {
-        snprintf(what, sizeof what, "over %u seconds", call_seconds);
+        snprintf(what, sizeof what, "over %u milliseconds", call_milliseconds);
         tell(SLOW, g, what);
         return;
     }
@@ -133,7 +134,7 @@ static void signalled(const struct given *g, enum lent_way way, int number) {
 /* One call. Answers whether it came to its end. */
 static int make(const struct given *g, enum lent_way way, struct asked *a) {
     *a = lend(g, way);
-    const int number = lent_run(ask, a, call_draws(g->call) ? call_seconds : 0);
+    const int number = lent_run(ask, a, call_draws(g->call) ? call_milliseconds : 0);
     made[g->call]++;
     pointless += g->mask != 0;
     if (number != 0) {
@@ -211,9 +212,19 @@ static int same(const struct asked *a, const struct asked *b) {
     return all;
 }
 
+static size_t filling_of(const struct given *g) {
+    size_t sum = g->call + g->counts[0] + g->counts[1] + g->mask;
+    for (size_t i = 0; i < READ_MOST; i++)
+        sum += g->read[i].length;
+    for (size_t i = 0; i < WRITTEN_MOST; i++)
+        sum += g->written[i];
+    return sum;
+}
+
 uint32_t call_made(const struct given *given) {
     struct asked a, b;
     uint32_t number = CALL_FAILED, counts[2] = {0, 0};
+    lent_filled(call_filling == 0 ? filling_of(given) : call_filling - 1);
     const int first = make(given, LENT_AT_END, &a);
     const int second = make(given, LENT_AT_START, &b);
     if (first && second) {
@@ -235,8 +246,6 @@ uint32_t call_made(const struct given *given) {
     return number;
 }
 
-size_t call_slow(void) { return wrongs[SLOW]; }
-
 size_t call_report(const char *who) {
     size_t calls = 0;
     for (size_t i = 0; i < CALLS; i++) {
@@ -253,8 +262,7 @@ size_t call_report(const char *who) {
         printf("%s: %zu look-ups found something\n", who, found);
     if (pointless != 0)
         printf("%s: %zu calls with null pointers, or pointers to nowhere, for slices of length 0\n", who, pointless);
-    if (wrongs[SLOW] != 0)
-        printf("%s: %zu calls left because of their time\n", who, wrongs[SLOW]);
-    printf("%s: %zu calls, %zu faults, %zu not zero, %zu otherwise wrong\n", who, calls, wrongs[FAULT], wrongs[NOT_ZERO], wrongs[OTHERWISE]);
-    return wrongs[FAULT] + wrongs[NOT_ZERO] + wrongs[OTHERWISE];
+    printf("%s: %zu calls, %zu faults, %zu not zero, %zu otherwise wrong, %zu too slow\n", who, calls, wrongs[FAULT], wrongs[NOT_ZERO],
+           wrongs[OTHERWISE], wrongs[SLOW]);
+    return wrongs[FAULT] + wrongs[NOT_ZERO] + wrongs[OTHERWISE] + wrongs[SLOW];
 }

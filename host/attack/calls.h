@@ -43,15 +43,15 @@ int call_draws(enum call call);
 #define CALL_FAILED UINT32_MAX
 uint32_t call_made(const struct given *given);
 
-/* The seconds of processor time that a graph may take; it is counted as slow and left then. */
-extern unsigned call_seconds;
+/* The milliseconds of processor time that a graph may take; then it is left, and that is wrong. */
+extern unsigned call_milliseconds;
+/* With which filling of lent.h buffers are lent, from 1 on; 0: by the lengths of the call, so that the same call always has the same one. */
+extern size_t call_filling;
 /* Whether the program ends itself where something is wrong, as a fuzzer wants it. */
 extern int call_aborts;
 /* Which of the faults of planted.h is to be made; 0 for none. */
 extern int call_planted;
 
-/* How many calls were left because of their time. */
-size_t call_slow(void);
 /* Prints what was counted, and answers how much was wrong. */
 size_t call_report(const char *who);
 

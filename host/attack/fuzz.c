@@ -71,6 +71,14 @@ static void made(const uint8_t *data, size_t size) {
     graph((struct read){image.at, image.length}, (struct read){bundle.at, bundle.length}, by);
 }
 
+/* The same with texts that do nothing but include each other. */
+static void nested(const uint8_t *data, size_t size) {
+    const uint8_t by = next(&data, &size);
+    struct choices from = chosen(data, size);
+    make_nested(&from, &image, &bundle);
+    graph((struct read){image.at, image.length}, (struct read){bundle.at, bundle.length}, by);
+}
+
 /* A library around the limits of nodes, complete nodes and edges, by a byte; the rest, if any, is what is damaged in it. */
 static void wide(const uint8_t *data, size_t size) {
     const uint8_t by = next(&data, &size);
@@ -182,8 +190,8 @@ static const struct target {
     const char *name;
     void (*run)(const uint8_t *, size_t);
     void (*seed)(struct choices *);
-} targets[] = {{"scans", scans, seed_scans}, {"finds", finds, seed_finds},       {"made", made, seed_any},
-               {"wide", wide, seed_wide},    {"library", library, seed_library}, {"order", order, seed_order}};
+} targets[] = {{"scans", scans, seed_scans}, {"finds", finds, seed_finds}, {"made", made, seed_any},         {"nested", nested, seed_any},
+               {"wide", wide, seed_wide},    {"order", order, seed_order}, {"library", library, seed_library}};
 
 static const struct target *target;
 
@@ -219,7 +227,7 @@ int LLVMFuzzerInitialize(int *count, char ***words_) {
         if (strcmp(name, targets[k].name) == 0)
             target = &targets[k];
     if (target == NULL) {
-        fprintf(stderr, "fuzz: --target= scans, finds, made, wide, library or order\n");
+        fprintf(stderr, "fuzz: --target= scans, finds, made, nested, wide, library or order\n");
         exit(2);
     }
     if (folder != NULL) {
@@ -231,7 +239,6 @@ int LLVMFuzzerInitialize(int *count, char ***words_) {
     call_planted = fault == NULL ? 0 : atoi(fault);
     lent_start(0);
     call_aborts = 1;
-    call_seconds = 10;
     atexit(report);
     return 0;
 }

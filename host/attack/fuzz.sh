@@ -6,7 +6,7 @@ set -eu
 here=$(cd "$(dirname "$0")" && pwd)
 seconds=${1:?usage: fuzz.sh SECONDS [TARGET..], or fuzz.sh planted}
 shift
-[ $# -gt 0 ] || set -- scans finds made wide library order
+[ $# -gt 0 ] || set -- scans finds made nested wide library order
 "$here/../need" clang-14 libclang-rt-14-dev libc6-dev binutils python3
 archive=$(cd "$here" && "$here/../archive/archive.sh" --kept --covered nuvaleta)
 objdump -h "$archive" | grep -q __sancov_cntrs || { echo "fuzz: the archive counts nothing" >&2; exit 1; }
@@ -76,9 +76,8 @@ row() { # TARGET
     all=$(sed -n 's/.*Loaded 1 modules *(\([0-9]*\) .*/\1/p' "$own/log")
     crashes=$(find "$own" -maxdepth 1 \( -name 'crash-*' -o -name 'oom-*' -o -name 'timeout-*' -o -name 'leak-*' \) | wc -l)
     faults=$(grep -c '^attack: .*signal' "$own/log" || :)
-    slow=$(grep -c '^attack: .*over .* seconds' "$own/log" || :)
     echo "| $1 | $(stat "$1" number_of_executed_units) | $(stat "$1" average_exec_per_sec) | $(last "$1" cov) of $all | $(last "$1" corp)" \
-        "| $crashes | $faults | $slow | $(stat "$1" slowest_unit_time_sec) s |"
+        "| $crashes | $faults | $(stat "$1" slowest_unit_time_sec) s |"
     [ "$(cat "$own/status")" = 0 ] && [ "$crashes" = 0 ]
 }
 
@@ -88,8 +87,8 @@ for target in "$@"; do
     if [ -n "${other:-}" ]; then wait; other=; else other=$target; fi
 done
 wait
-echo "| target | executions | a second | counters | corpus | crashes | faults | slow calls | slowest unit |"
-echo "|---|---|---|---|---|---|---|---|---|"
+echo "| target | executions | a second | counters | corpus | crashes | faults | slowest unit |"
+echo "|---|---|---|---|---|---|---|---|"
 failed=
 for target in "$@"; do row "$target" || failed="$failed $target"; done
 for target in "$@"; do cat "$build/$target/said"; done

@@ -35,7 +35,18 @@ struct loan {
     const void *copy_of; /* what is read */
 };
 
-static const uint8_t fill[LENT_WAYS] = {0xa5, 0x5a};
+/* The words at a buffer's start, as many as a graph has nodes, and those behind them. */
+enum { FIRST_WORDS = 1024 };
+static const struct filling {
+    uint32_t first, rest;
+} fillings[LENT_FILLINGS][LENT_WAYS] = {
+    {{0xa5a5a5a5, 0xa5a5a5a5}, {0x5a5a5a5a, 0x5a5a5a5a}},
+    {{1, 1}, {2, 2}},
+    {{2, 0}, {2, 9}},
+    {{UINT32_MAX, UINT32_MAX}, {0, 0}},
+};
+static const struct filling (*filling)[LENT_WAYS] = &fillings[0];
+static const uint8_t beside[LENT_WAYS] = {0xa5, 0x5a};
 static struct region regions[LENT_WAYS][LENT_SLOTS];
 static struct loan loans[LENT_WAYS][LENT_SLOTS];
 static int malloced;
@@ -129,19 +140,34 @@ static uint8_t *margin(enum lent_way way, const struct loan *loan) {
     return way == LENT_AT_END ? loan->at - MARGIN : loan->at + loan->length;
 }
 
+void lent_filled(size_t number) { filling = &fillings[number % LENT_FILLINGS]; }
+
+/* One word over and over; each copy is as long as all that is there. */
+static void spread(uint8_t *at, size_t length, uint32_t word) {
+    size_t done = length < sizeof word ? length : sizeof word;
+    memcpy(at, &word, done);
+    for (size_t more; done < length; done += more) {
+        more = length - done < done ? length - done : done;
+        memcpy(at + done, at, more);
+    }
+}
+
 void *lent_to_write(enum lent_way way, size_t slot, size_t length) {
+    const struct filling words = (*filling)[way];
+    const size_t first = length < FIRST_WORDS * sizeof words.first ? length : FIRST_WORDS * sizeof words.first;
     uint8_t *at = lend(way, slot, regions[way][slot].write, (struct loan){.length = length});
-    memset(at, fill[way], length);
+    spread(at, first, words.first);
+    spread(at + first, length - first, words.rest);
     if (malloced)
         UNDEFINED(at, length);
     else
-        memset(margin(way, &loans[way][slot]), fill[way], MARGIN);
+        memset(margin(way, &loans[way][slot]), beside[way], MARGIN);
     return at;
 }
 
 static const char *written(enum lent_way way, const struct loan *loan) {
     uint8_t filled[MARGIN];
-    memset(filled, fill[way], MARGIN);
+    memset(filled, beside[way], MARGIN);
     if (!malloced && memcmp(margin(way, loan), filled, MARGIN) != 0)
         return "something written beside a buffer";
     return malloced && !IS_DEFINED(loan->at, loan->length) ? "something left undefined" : NULL;
@@ -168,21 +194,21 @@ void lent_back(enum lent_way way) {
 }
 
 /* The time is that of this process alone, so a busy machine makes nothing slow. */
-static void allow(unsigned seconds) {
-    const struct itimerval after = {.it_value = {.tv_sec = seconds}};
+static void allow(unsigned milliseconds) {
+    const struct itimerval after = {.it_value = {.tv_sec = milliseconds / 1000, .tv_usec = milliseconds % 1000 * 1000}};
     setitimer(ITIMER_VIRTUAL, &after, NULL);
 }
 
-int lent_run(void (*call)(void *), void *with, unsigned seconds) {
+int lent_run(void (*call)(void *), void *with, unsigned milliseconds) {
     caught = 0;
     if (sigsetjmp(back, 0) == 0) {
         running = 1;
-        if (seconds != 0)
-            allow(seconds);
+        if (milliseconds != 0)
+            allow(milliseconds);
         call(with);
     }
     running = 0;
-    if (seconds != 0)
+    if (milliseconds != 0)
         allow(0);
     return caught;
 }

@@ -173,6 +173,70 @@ void make_library(struct choices *from, struct bytes *image, struct bytes *bundl
     }
 }
 
+/* Two sets, so that a submodule may be no node, or be a module too. */
+void make_nested(struct choices *from, struct bytes *image, struct bytes *bundle) {
+    static const char *const names[] = {"m", "n", "o", "s", "t", "u", "v", "w", "x", "y", "z", "q", "r"};
+    enum { ENTRIES = 3, ALL = COUNT(names) };
+    const size_t wide = 1 + choose(from, 4), backwards = choose(from, 3) == 0 ? 12 : 0;
+    image->length = bundle->length = 0;
+    put_number(image, 2);
+    for (size_t set = 0; set < 2; set++) {
+        const size_t first = choose(from, 4) == 0 ? ENTRIES - 1 : ENTRIES, listed = set == 0 && choose(from, 8) != 0 ? ALL - first : choose(from, ALL - first);
+        put_number(image, ENTRIES);
+        for (size_t i = 0; i < ENTRIES; i++) {
+            put_name(image, names[i]);
+            put_number(image, i == 0 ? listed : 0);
+            for (size_t k = 0; i == 0 && k < listed; k++)
+                put_name(image, names[first + k]);
+            put(image, "\0\0", 2);
+        }
+        put_number(image, 0);
+    }
+    put_number(bundle, ALL);
+    for (size_t i = 0; i < ALL; i++) {
+        struct bytes text = {0};
+        for (size_t left = choose(from, 4); left > 0; left--) {
+            const size_t start = i < ENTRIES ? ENTRIES : i + 1, back = backwards != 0 && choose(from, backwards) == 0;
+            const size_t next = back ? ENTRIES - 1 + choose(from, ALL - ENTRIES + 1) : start + choose(from, i < ENTRIES ? 2 * wide : wide);
+            if (next < ALL)
+                put_include(from, &text, names[next]);
+        }
+        put_name(bundle, names[i]);
+        put_number(bundle, text.length);
+        put(bundle, text.at, text.length);
+        free(text.at);
+    }
+}
+
+void make_rows(size_t submodules, size_t wide, size_t times, const char *last, struct bytes *image, struct bytes *bundle) {
+    struct bytes text = {0};
+    image->length = bundle->length = 0;
+    put(image, "\1\1\1m", 4);
+    put_number(image, submodules);
+    for (size_t i = 0; i < submodules; i++)
+        put_name(image, (const char[]){'a' + i + (i >= 'm' - 'a'), 0});
+    put(image, "\0\0\0", 3);
+    put_number(bundle, submodules + 1);
+    for (size_t i = 0; i <= submodules; i++) {
+        text.length = 0;
+        for (size_t k = 0; k < wide * times && i < submodules; k++)
+            if (i + k / times < submodules) {
+                put_words(&text, "include ");
+                put(&text, &(char){'a' + i + k / times + (i + k / times >= 'm' - 'a')}, 1);
+                put_words(&text, ";");
+            }
+        for (size_t k = 0; i == submodules && last[k] != 0; k++) {
+            put_words(&text, "include ");
+            put(&text, last + k, 1);
+            put_words(&text, ";");
+        }
+        put_name(bundle, (const char[]){i == 0 ? 'm' : 'a' + i - 1 + (i - 1 >= 'm' - 'a'), 0});
+        put_number(bundle, text.length);
+        put(bundle, text.at, text.length);
+    }
+    free(text.at);
+}
+
 /* ---- at the limits */
 
 static void put_modules(struct bytes *image, size_t from, size_t count) {

@@ -29,6 +29,8 @@ size_t choose(struct choices *from, size_t most);
 /* They write anew what is given to them. */
 void make_text(struct choices *from, struct bytes *text);
 void make_library(struct choices *from, struct bytes *image, struct bytes *bundle);
+/* One whose texts do nothing but include each other: many are included by several, some come back to themselves, some go around the deepest. */
+void make_nested(struct choices *from, struct bytes *image, struct bytes *bundle);
 void damage(struct choices *from, struct bytes *bytes);
 /* A name that such a library may have. */
 const char *make_name(struct choices *from);
@@ -41,6 +43,9 @@ void make_again(size_t names, struct bytes *image, struct bytes *bundle);
  * modules; and a bundle with so many empty texts. 600 are one for each name. */
 enum dense { DENSE_LISTS, DENSE_MODULES, DENSE_REVISIONS };
 void make_dense(enum dense how, size_t texts, struct bytes *image, struct bytes *bundle);
+/* A module m, and submodules that are named by letters from a on, so many, up to 25: each text, that of m first, includes those of the next `wide` that there
+ * are, each so many times; and the last one includes those of this row of letters. */
+void make_rows(size_t submodules, size_t wide, size_t times, const char *last, struct bytes *image, struct bytes *bundle);
 /* An image and a bundle of just this length: 4,000 bytes or more, 10,000,000 bytes or more. */
 void make_long_image(size_t length, struct bytes *image);
 void make_long_bundle(size_t length, struct bytes *bundle);

@@ -67,6 +67,9 @@ noticed 14 "dependencies: signal .* read 0"
 noticed 15 "graph: signal .* buffer 5"
 noticed 16 "graph_complete: a number that this call does not give"
 noticed 17 "graph_complete: other nodes"
+noticed 18 "graph: a buffer behind what is used"
+noticed 19 "graph: two outcomes"
+noticed 20 "graph: over .* milliseconds"
 
 # valgrind's own status is 3, the harness's 1.
 watch() { valgrind -q --error-exitcode=3 --track-origins=yes "$build/watched" --malloc --short "$@" >"$said" 2>&1; }
@@ -76,4 +79,4 @@ for fault in "1 Invalid write of size 1" "9 left undefined"; do
     ! watch --once --planted="${fault%% *}" 1 0 && grep -q "${fault#* }" "$said" ||
         { echo "attack: valgrind does not notice planted fault $fault" >&2; exit 1; }
 done
-echo "$told; 17 planted faults noticed; under valgrind ${watched#attack: }"
+echo "$told; 20 planted faults noticed; under valgrind ${watched#attack: }"

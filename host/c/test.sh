@@ -7,7 +7,7 @@ here=$(cd "$(dirname "$0")" && pwd)
 mkdir -p "$here/build"
 include=$here/../../include
 strict="-Wall -Wextra -Werror -pedantic"
-for program in test names stack; do
+for program in test names stack scans; do
     # shellcheck disable=SC2086
     gcc -std=c99 $strict -O2 -I "$include" -o "$here/build/$program" "$here/$program.c" "$1" -pthread
 done
@@ -18,4 +18,5 @@ done
 "$here/build/test"
 "$here/build/names"
 "$here/build/stack" >"$here/build/stack.said"
+"$here/build/scans"
 echo "c: every number that the header names holds; alone it is C99, C11, C++98 and C++17; no call takes more stack than it says"

@@ -10,7 +10,7 @@ from typing import NamedTuple
 
 from form import Unusable
 
-SECONDS = 300  # texts that include each other many times can keep a walk from ever ending
+SECONDS = 300  # so long the command is waited for: it needs milliseconds, and for names that were chosen to be slow some seconds
 TO_DO = {  # what to do about what only packing knows; about a refusal the command tells it
     "missing": "get the text from the router by get-schema, or name its folder by --texts",
     "empty": "get the text anew",
@@ -85,7 +85,7 @@ def command():
 
 
 def ask(words, data):
-    """The command's answer; None if it takes longer than anybody waits."""
+    """The command's answer; None if it is not there in time."""
     path = command()
     try:
         ran = subprocess.run([path, *words], input=data, capture_output=True, timeout=SECONDS, check=False)
@@ -234,7 +234,7 @@ def library_problems(image, bundle, texts, files, told, complete):
     """All that an order would refuse, but for what has been told of a text already: that it is missing, or no YANG at all."""
     faults = walk(image, bundle, complete)
     if faults is None:
-        return [Problem("error", "slow", f"given up after {SECONDS} s: texts that include each other many times keep an order from ending too")]
+        return [Problem("error", "slow", f"given up after {SECONDS} s: the command does not say whether there is an order")]
     known = {(one.text, one.kind) for one in told}
     found, texts = [], dict(texts)
     for fault in faults:

@@ -347,12 +347,23 @@ class Order(Told):
         self.put("m.yang", GOOD["m"].replace("include s;", "import n { }"))
         self.assertNotIn(words, self.lines(self.library(XML), "warning"))
 
-    def test_a_walk_that_does_not_end(self):
+    def test_texts_that_include_each_other_many_times(self):
         self.put("m.yang", "module m { " + "include s1; " * 256 + "}")
         for i in range(1, 9):
             self.put(f"s{i}.yang", f"submodule s{i} {{ belongs-to m {{ prefix m; }} " + f"include s{i + 1}; " * (256 if i < 8 else 0) + "}")
-        with unittest.mock.patch.object(pack.judge, "SECONDS", 2):
-            self.refused(self.folder(), "given up after 2 s: texts that include each other many times")
+        with unittest.mock.patch.object(pack.judge, "SECONDS", 20):
+            self.assertEqual(self.folder()[0], 0)
+        self.assertEqual(self.ordered(self.image, self.bundle).split(), [*(f"s{i}" for i in range(8, 0, -1)), "m"])
+
+    def test_a_check_that_does_not_end(self):
+        """By a command in the place of the built one whose check waits."""
+        self.put("m.yang", "module m { }")
+        slow = self.put("slow", f"#!/bin/sh\n[ \"$1\" != check ] || exec sleep 60\nexec '{pack.judge.command()}' \"$@\"\n", self.top)
+        os.chmod(slow, 0o755)
+        with unittest.mock.patch.object(pack.judge, "SECONDS", 2), unittest.mock.patch.dict(os.environ, NUVALETA=slow):
+            said = self.folder()
+        os.remove(slow)
+        self.refused(said, "given up after 2 s: the command does not say whether there is an order")
 
 
 class Drawn(Told):

@@ -1,10 +1,12 @@
 #!/usr/bin/env python3
 """Tests of `nuvaleta order --all`, over the command that build.sh has built: what it prints where, its files, its exit status, on a terminal too."""
+import fcntl
 import io
 import json
 import os
 import pty
 import re
+import signal
 import subprocess
 import sys
 import tempfile
@@ -34,11 +36,11 @@ def pair(m, b):
     return form.write_image([Set([Module("m"), Module("b")])]), form.write_bundle([("m", m), ("b", b)])
 
 
-def endless():
-    """Nine small texts that include the next one 256 times: nobody sees the end of their walk."""
+def nine():
+    """Nine small texts, of which each includes the next one 256 times; and their order."""
     names = [f"s{i}" for i in range(1, 9)]
     texts = [(own, b"include %s;" % after.encode() * 256) for own, after in zip(["m", *names], names)] + [(names[-1], b"")]
-    return form.write_image([Set([Module("m", names)])]), form.write_bundle(texts)
+    return form.write_image([Set([Module("m", names)])]), form.write_bundle(texts), [*names[::-1], "m"]
 
 
 RING = pair(b"import b{prefix b;}", b"import m{prefix m;}")
@@ -80,6 +82,16 @@ class Case(unittest.TestCase):
     def router(self, name, image, bundle):
         self.put(name + ".image", image)
         self.put(name + ".bundle", bundle)
+
+    def held(self, name):
+        """A router whose bundle nobody can open from now on: the lease that the test has on it makes whoever opens it wait, for 45 seconds at the most
+        (fcntl, F_SETLEASE), longer than any time that is given here. So its process does not end by itself, however fast the machine is."""
+        self.router(name, *line(1)[:2])
+        signal.signal(signal.SIGIO, signal.SIG_IGN)  # by which the holder is told that somebody waits
+        file = open(os.path.join(self.folder, name + ".bundle"), "rb", buffering=0)
+        self.addCleanup(file.close)
+        fcntl.fcntl(file, fcntl.F_SETLEASE, fcntl.F_WRLCK)
+        return file
 
     def lines(self, counts):
         """Routers of so many modules; what is to be printed of all of them."""
@@ -268,7 +280,7 @@ class Seconds(Case):
 
     def test_given_up(self):
         self.router("a", *line(3)[:2])
-        self.router("b c", *endless())
+        held = self.held("b c")
         self.router("d", *RING)
         self.router("-e", *line(1)[:2])
         begun = time.monotonic()
@@ -276,11 +288,22 @@ class Seconds(Case):
         self.assertIn(round(time.monotonic() - begun), range(3, 30))
         self.assertEqual((status, out), (2, "-e\tm000\na\tm002\na\tm001\na\tm000\n"))
         self.assertEqual(self.summary(err), ([4, 2, 1, 0, 0, 1, 4, 2], f"b c: given up after 3 s\nd: {RING_SAID}"))
+        held.close()
+        self.held("b c")
         status, out, err = self.run_it("--seconds", "3", "--json", "--into", self.into)
         said = [json.loads(one) for one in out.splitlines()]
         self.assertEqual((status, err, said[2]), (2, "", {"router": "b c", "given_up": "after 3 s"}))
         self.assertEqual((said[3]["refused"]["number"], said[-1]["summary"]["given_up"]), (40, 1))
         self.assertEqual(sorted(os.listdir(self.into)), ["-e.order", "a.order"])
+
+    def test_nine(self):
+        """Texts that include each other many times are no reason to give up."""
+        image, bundle, order = nine()
+        self.router("a", image, bundle)
+        due = "".join(f"a\t{name}\n" for name in order)
+        for words in (), ("--seconds", "20"), ("--seconds", "20", "--complete"):
+            status, out, err = self.run_it(*words)
+            self.assertEqual((status, out, self.summary(err)), (0, due, ([1, 1, 0, 0, 0, 0, 9, 8], "")))
 
     def test_as_without(self):
         """With time enough all is told as without --seconds, word for word."""
@@ -353,7 +376,7 @@ class Terminal(Case):
         self.lines([1] * 30)
         os.remove(os.path.join(self.folder, "r001.image"))
         os.remove(os.path.join(self.folder, "r001.bundle"))
-        self.router(long, *endless())
+        self.held(long)
         said = self.on_terminal(subprocess.DEVNULL, 2, ["--seconds", "4"])
         self.assertIn(f"\r1 of 30 routers, at {long[:32]}.. for 1 s", said)
         self.assertRegex(self.left(said), re.escape(f"{long}: given up after 4 s\n") + SUMMARY + r"\Z")

@@ -94,6 +94,67 @@ pub fn adverse() -> [Input; 4] {
     ]
 }
 
+// ---- texts that are included again
+
+/// The tree of request 2026-10.
+pub fn shared() -> Input {
+    Input::of("60 modules that include the same 15 submodules".to_string(), &routers::sharing(60, 15, 6, 60))
+}
+
+/// Each text is included 256 times by the one before it: the Rust, which walks it each time, never ends.
+pub fn nine() -> Input {
+    let names: Vec<String> = (0..9).map(|i| format!("s{i}")).collect();
+    let module = Module { name: names[0].clone(), submodules: names[1..].to_vec(), ..Module::default() };
+    let mut library = Library { sets: vec![Set { modules: vec![module], ..Set::default() }], ..Library::default() };
+    library.texts.extend(names.windows(2).map(|pair| (pair[0].clone(), format!("include {};", pair[1]).repeat(256))));
+    library.texts.insert(names[8].clone(), String::new());
+    Input::of("nine texts that include the next one 256 times".to_string(), &library)
+}
+
+/// Whether the archive scans each text once. One from before does not ask for the words in which that is remembered, and is not to be given nine texts.
+pub fn remembers() -> bool {
+    let mut words = port::GRAPH_WORDS;
+    words[4] -= 1;
+    port::lent_graph(0, words).redraw(Mode::Present, b"\0", b"\0") == 22
+}
+
+// ---- the costliest
+
+/// One set of modules with these names and texts.
+fn modules(what: &str, all: Vec<(String, String)>) -> Input {
+    let named = |names: &[(String, String)]| names.iter().map(|(name, _)| Module { name: name.clone(), ..Module::default() }).collect();
+    let sets = all.chunks(512).map(|names| Set { modules: named(names), ..Set::default() }).collect();
+    Input::of(what.to_string(), &Library { sets, texts: all.into_iter().collect() })
+}
+
+/// As much as a bundle holds of what takes longest to scan.
+pub fn letters() -> Input {
+    modules("16 texts of one-letter words, as long as a bundle may be", (0..16).map(|i| (format!("m{i:02}"), "a ".repeat(524_280))).collect())
+}
+
+/// The bucket in which the port looks for a name (crates/library_index).
+fn bucket(name: &str) -> usize {
+    name.bytes().fold(0, |sum, byte| (sum * 131 + usize::from(byte)) % 2_048)
+}
+
+/// So many names of 54 bytes, alike but for the last five, all in one bucket.
+fn alike(count: usize) -> Vec<String> {
+    let letters: Vec<char> = ('0'..='9').chain('a'..='z').chain('A'..='Z').collect();
+    let longer = |name: String| letters.iter().map(move |letter| format!("{name}{letter}"));
+    let begun = longer("p".repeat(49)).flat_map(&longer);
+    begun.filter_map(|name| longer(name).flat_map(&longer).flat_map(&longer).find(|name| bucket(name) == 0)).take(count).collect()
+}
+
+/// 1,024 modules with names in one bucket, each of which imports the eight that are found last, as often as a bundle has room for. Names cannot be longer: an
+/// image has no room for them.
+pub fn one_bucket() -> Input {
+    let names = alike(1_024);
+    let text: String = names.iter().take(8).cycle().take(226).map(|name| format!("import {name}{{prefix p;}}")).collect();
+    modules("231,424 imports of names in one of 2,048 buckets", names.into_iter().map(|name| (name, text.clone())).collect())
+}
+
+// ---- rows
+
 /// What the Rust makes of the bytes before it draws.
 pub fn read(input: &Input) -> (YangLibrary, house::Schemas) {
     let library = house::read_library(black_box(&input.image), &mut |_, _| {}).expect("an image");
@@ -129,6 +190,14 @@ pub fn whole(input: &Input) -> Row<'_> {
     let lent = agreed(input);
     let [.., nodes, edges] = lent.answer.map(|word| word as usize);
     Row::new(counted(&input.what, nodes, edges), input.bytes(), rust, redrawn(Mode::Present, input, lent))
+}
+
+/// The port alone, where the Rust never ends or takes too long for a table.
+pub fn alone(input: &Input) -> Row<'_> {
+    let lent = port::graph(Mode::Present, &input.image, &input.bundle, form::longest_text(&input.bundle), 0);
+    let [number, .., nodes, edges] = lent.answer.map(|word| word as usize);
+    assert_eq!(number, 0, "{}: refused", input.what);
+    Row::alone(counted(&input.what, nodes, edges), input.bytes(), redrawn(Mode::Present, input, lent))
 }
 
 /// The same with complete nodes, which the Rust does not have.

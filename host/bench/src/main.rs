@@ -27,6 +27,7 @@ use vectors::form; // house.rs looks for it here
 const ROUNDS: usize = 20;
 const ROUNDS_OF_MANY: usize = 4;
 const ROUNDS_OF_PORT: usize = 2;
+const ROUNDS_OF_COSTLY: usize = 1;
 
 fn main() {
     let mut args: Vec<String> = std::env::args().skip(1).collect();
@@ -41,15 +42,19 @@ fn main() {
     let (dependencies, metadata) = (scans::for_dependencies(files), scans::for_metadata(files));
     let (graphs, adverse) = (graph::inputs(image, bundle), graph::adverse());
     let (growing, growing_routers) = (graph::growing(), graph::growing_routers());
+    // An archive from before request 2026-10, which ./beside may hand in, would never end with nine texts.
+    let (shared, letters, nine) = (graph::shared(), graph::letters(), graph::remembers().then(graph::nine));
     let drawn = graphs.iter().chain(&adverse).chain(&growing_routers);
     let orders = order::inputs();
-    let fleet;
+    let (costly, fleet);
     let mut groups = vec![
         Group { name: "dependencies of a text", rows: dependencies.iter().map(scans::dependencies).collect() },
         Group { name: "metadata of a text", rows: metadata.iter().map(scans::metadata).collect() },
         Group { name: "graph", rows: graphs.iter().map(graph::whole).collect() },
         Group { name: "graph, beside `to_graph` without reading", rows: graphs.iter().map(graph::drawing).collect() },
         Group { name: "graph, made to be slow", rows: adverse.iter().map(graph::whole).collect() },
+        Group { name: "graph, texts that are included again", rows: [graph::whole(&shared)].into_iter().chain(nine.iter().map(graph::alone)).collect() },
+        Group { name: "graph, as much text as there can be", rows: vec![graph::alone(&letters)] },
         Group { name: "graph, growing", rows: growing.iter().map(graph::whole).collect() },
         Group { name: "graph of a router, growing", rows: growing_routers.iter().map(graph::whole).collect() },
         Group { name: "graph with complete nodes (none in the Rust)", rows: drawn.map(graph::complete).collect() },
@@ -61,16 +66,22 @@ fn main() {
         return table::print_port(&groups);
     }
     // What the port does here is what it does in the group before.
-    groups.insert(9, Group { name: "order of registration, beside `toposort`", rows: orders.iter().map(order::sorting).collect() });
+    groups.insert(11, Group { name: "order of registration, beside `toposort`", rows: orders.iter().map(order::sorting).collect() });
     measure(groups.iter_mut().flat_map(|group| &mut group.rows), ROUNDS);
+    // Behind the others, since it takes seconds; and so it is not timed beside another build.
+    costly = graph::one_bucket();
+    let mut slow = Group { name: "graph, names that are slow to find", rows: vec![graph::whole(&costly)] };
+    measure(slow.rows.iter_mut(), ROUNDS_OF_COSTLY);
+    groups.insert(7, slow);
     // Only now, since an allocator may be slower with so much that comes and goes, and with threads; and of the two only the Rust needs one.
     fleet = routers::fleet();
     let mut many = Group { name: "graph and order of many routers", rows: [1, 2].map(|threads| routers::row(&fleet, threads)).into() };
     measure(many.rows.iter_mut(), ROUNDS_OF_MANY);
     groups.push(many);
-    println!("Each row ran in {ROUNDS} rounds (many routers: {ROUNDS_OF_MANY}), each with\n{}.\n{TIMES}\n", timing::told());
+    println!("Each row ran in {ROUNDS} rounds (many routers: {ROUNDS_OF_MANY}, names that are slow to find: {ROUNDS_OF_COSTLY}), each with");
+    println!("{}.\n{TIMES}\n", timing::told());
     table::print(&groups);
-    let [_, _, _, _, _, growing, growing_routers, .., many] = &groups[..] else { panic!("twelve groups") };
+    let [_, _, _, _, _, _, _, _, growing, growing_routers, .., many] = &groups[..] else { panic!("fifteen groups") };
     println!("\n{}", grown("modules", graph::SIZES, &growing.rows));
     println!("{}\n", grown("modules of a router", graph::ROUTERS, &growing_routers.rows));
     println!("{}\n\n{INCLUDED}", many_told(&many.rows));

@@ -107,12 +107,14 @@ fn one(run: &mut Run, tally: &mut Tally, image: &[u8], bundle: &[u8], more: usiz
     tally.count(again, &due);
 }
 
-/// Mostly few names, which come again; of four one in which fewer do; of 200 one with hundreds of names, and one with a chain of includes.
+/// Mostly few names, which come again; of four one in which fewer do, and one with texts that include each other; of 200 one with hundreds of names, and one
+/// with a chain of includes.
 fn any(r: &mut Rng) -> libraries::Library {
     match r.below(200) {
         0 => libraries::crowded(r),
         1 => libraries::deep(r),
         2..=50 => libraries::library(r),
+        51..=100 => libraries::nested(r, 12),
         _ => libraries::repeated(r),
     }
 }
@@ -120,7 +122,7 @@ fn any(r: &mut Rng) -> libraries::Library {
 /// The telling inputs, and generated libraries, of ten one damaged.
 pub fn graphs(run: &mut Run, seed: u64, count: u64) {
     let mut tally = Tally::default();
-    for library in libraries::telling() {
+    for library in libraries::telling().into_iter().chain(libraries::included()) {
         one(run, &mut tally, &library.image(), &library.bundle(), 0);
     }
     let mut r = Rng::new(seed);

@@ -57,10 +57,14 @@ pub fn shown(image: &[u8], bundle: &[u8]) -> String {
     format!("image {image:02X?}\n  bundle {:?}", String::from_utf8_lossy(bundle))
 }
 
+/// As many nested submodules as there can be at all without going deeper than eight includes: deeper ones the original builds.
+const NESTED_MOST: usize = 8;
+
+/// Every other library has texts that include each other.
 pub fn graphs(run: &mut Run, seed: u64, count: u64) {
     let mut r = Rng::new(seed);
     for i in 0..count {
-        let library = libraries::library(&mut r);
+        let library = if i % 2 == 0 { libraries::library(&mut r) } else { libraries::nested(&mut r, NESTED_MOST) };
         one(run, &library.image(), &library.bundle(), i as usize % 3);
     }
 }

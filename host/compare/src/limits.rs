@@ -11,7 +11,7 @@ use vectors::libraries::{ImportOnly, Library, Module, Set, module, of, only, sma
 // ---- what is expected
 
 pub struct Expected {
-    answer: [u32; 8],
+    pub answer: [u32; 8],
     /// The nodes' names.
     nodes: Vec<String>,
     edges: Vec<[u32; 2]>,
@@ -27,7 +27,7 @@ fn broken(number: u32, place: u32) -> Expected {
 }
 
 /// Refusal 25 with the scan's number, keyword and position.
-fn scan(entry: u32, told: [u32; 3]) -> Expected {
+pub fn scan(entry: u32, told: [u32; 3]) -> Expected {
     Expected { answer: [25, entry, told[0], told[1], told[2], 0, 0, 0], ..refused(25, entry) }
 }
 
@@ -64,7 +64,7 @@ pub fn ask(run: &mut Run, what: &str, image: &[u8], bundle: &[u8], lengths: Leng
 }
 
 /// What a bundle needs, and some words more.
-fn enough(bundle: &[u8], more: usize) -> Lengths {
+pub fn enough(bundle: &[u8], more: usize) -> Lengths {
     (form::longest_text(bundle) + more, GRAPH_WORDS.map(|n| n + more))
 }
 
@@ -85,11 +85,11 @@ pub fn library(run: &mut Run, what: &str, library: &Library, expected: &Expected
 
 // ---- libraries
 
-fn import(name: &str) -> String {
+pub fn import(name: &str) -> String {
     format!("import {name}{{prefix p;}}")
 }
 
-fn include(name: &str) -> String {
+pub fn include(name: &str) -> String {
     format!("include {name};")
 }
 
@@ -232,12 +232,18 @@ fn edges(run: &mut Run) {
 }
 
 /// 1,000 modules with so many edges before the last one, which has the submodules s and t and this text.
-fn almost(edges: usize, text: &str, s: Option<&str>) -> Library {
+pub fn almost(edges: usize, text: &str, s: Option<&str>) -> Library {
     let more = edges - 8 * 999;
     let mut out = flat(1_000, |i| if i == 999 { text.to_string() } else { next(i, 8 + usize::from(i < more), 1_000) });
     out.sets[1].modules[499].submodules = words("s t");
     out.texts.extend(s.map(|s| ("s".to_string(), s.to_string())));
     out
+}
+
+/// The edges of the same before the last one's.
+pub fn almost_edges(edges: usize) -> Vec<[u32; 2]> {
+    let more = edges - 8 * 999;
+    (0..999).flat_map(|i| next_edges(i, 8 + usize::from(i < more), 1_000)).collect()
 }
 
 /// Which refusal comes first where the edges are used up: 26, 31 for an import; 27, 28, 31, 29, 24, 25 for an include.

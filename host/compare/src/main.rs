@@ -4,7 +4,7 @@
 //! compare files SEED COUNT FILE..: real modules, and COUNT damaged copies of each.
 //! compare changes SEED COUNT: COUNT small images and COUNT small bundles, with every beginning and every change of one byte.
 //! compare finds SEED COUNT: COUNT generated libraries: the Rust's finds, and damaged copies.
-//! compare graphs SEED COUNT: COUNT generated libraries: nodes, edges in order, which refusal.
+//! compare graphs SEED COUNT: COUNT generated libraries, every other one with texts that include each other: nodes, edges in order, which refusal.
 //! compare complete SEED COUNT: COUNT generated libraries, in most of which names come again: the graphs of both modes, beside a plain reading of request 2026-02.
 //! compare graph-of IMAGE BUNDLE: the same for the image and the bundle in these files.
 //! compare orders SEED COUNT: COUNT generated graphs: the order or the ring, and lists, beside a plain reading of request 2026-08.
@@ -26,6 +26,7 @@ mod graph;
 mod library;
 mod limits;
 mod metadata;
+mod once;
 mod order_limits;
 mod orders;
 mod port;
@@ -64,6 +65,7 @@ fn main() {
             library::edges(&mut run);
             limits::run(&mut run);
             complete_limits::run(&mut run);
+            once::run(&mut run);
             order_limits::run(&mut run);
         }
         _ => {

@@ -75,8 +75,8 @@ impl Buffers {
 
 /// The graph of an image and a bundle, or why it is refused, with buffers of its own.
 ///
-/// A call ends, but how long it takes is not bounded in practice: a text that is included again is walked again, so nine small texts, each of which
-/// includes the next one many times, keep it longer than anyone waits. Texts that are not trusted are for a process that can be ended.
+/// Each text of the bundle is scanned at most once, however often it is included. Beyond that there is a look-up for each import and include, and for each
+/// name of the image. A router's library takes milliseconds; names that were chosen so that the look-ups take long make it some seconds.
 pub fn graph<'a>(image: &'a [u8], bundle: &[u8]) -> Result<Graph<'a>, Refusal> {
     Buffers::new().graph(image, bundle)
 }

@@ -63,8 +63,8 @@ pub const EDGES_MOST: usize = 8_192;
 pub const NODE_WORDS: usize = 2_048;
 /// Words of the edge table.
 pub const EDGE_WORDS: usize = 16_384;
-/// Words of scratch for the walk.
-pub const LEVEL_WORDS: usize = 2_304;
+/// Words of scratch for the walk: two for each node, and nine levels of 256.
+pub const LEVEL_WORDS: usize = 4_352;
 /// Bytes of store that are enough for every bundle.
 pub const GRAPH_STORE: usize = NUMBER_MOST;
 /// Words of a row of the node table.

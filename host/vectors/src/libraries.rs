@@ -83,6 +83,36 @@ pub fn telling() -> Vec<Library> {
     ]
 }
 
+/// The telling inputs of the readings of request 2026-10, but for those that go deeper than eight includes, which the original builds.
+pub fn included() -> Vec<Library> {
+    let rows = |texts: &[(&str, &str)]| {
+        let subs: Vec<&str> = texts.iter().map(|(name, _)| *name).filter(|name| !["a", "b"].contains(name)).collect();
+        of(&[(&[module("a", &subs.join(" ")), module("b", "")], &[])], texts)
+    };
+    let listed = |b: &str, texts: &[(&str, &str)]| of(&[(&[module("a", "s"), module("b", b)], &[])], texts);
+    vec![
+        // nine includes in one text
+        rows(&[
+            ("a", "include s1;include s2;include s3;include s4;include s5;include s6;include s7;include s8;include s9;"), ("b", "include s5;"), ("s1", ""),
+            ("s2", ""), ("s3", ""), ("s4", ""), ("s5", ""), ("s6", ""), ("s7", ""), ("s8", ""), ("s9", ""),
+        ]),
+        // two includes below one that is met at depth 6 again: as deep as may be
+        rows(&[
+            ("a", "include t;"), ("b", "include c1;"), ("c1", "include c2;"), ("c2", "include c3;"), ("c3", "include c4;"), ("c4", "include c5;"),
+            ("c5", "include t;"), ("t", "include t1;"), ("t1", "include t2;"), ("t2", ""),
+        ]),
+        listed("b", &[("a", ""), ("b", "include b;")]), // a module that includes itself
+        rows(&[("a", "include s;"), ("b", ""), ("s", "include t;"), ("t", "include s;")]), // a circle of two
+        rows(&[("a", ""), ("b", "include s;"), ("s", "include t;include t;"), ("t", "")]), // a text that is included twice is none
+        of(&[(&[module("a", "")], &[]), (&[module("a", "")], &[])], &[("a", "import")]), // refused at its first entry
+        of(&[(&[module("a", "")], &[]), (&[module("a", "")], &[])], &[("b", "")]), // or without a text there
+        rows(&[("a", "include s;include t;"), ("b", "include t;"), ("s", ""), ("t", "import b{prefix b;}include s;")]), // both texts that include t
+        of(&[(&[module("a", "b s"), module("b", "")], &[])], &[("a", "include b;"), ("b", "import a{prefix a;}include s;"), ("s", "")]), // b is both
+        of(&[(&[module("b", ""), module("a", "b s")], &[])], &[("a", "include b;"), ("b", "import a{prefix a;}include s;"), ("s", "")]),
+        listed("t", &[("a", "include s;"), ("b", "include s;"), ("s", "include t;")]), // no text below one that is included
+    ]
+}
+
 // ---- written in the house form
 
 fn number(n: usize, out: &mut Vec<u8>) {
@@ -273,6 +303,49 @@ fn shaped(r: &mut Rng, shape: &Shape) -> Library {
         texts.insert("draft".to_string(), texts::any(r));
     }
     out.texts = texts;
+    out
+}
+
+/// Texts that include each other, up to so many submodules: many are included by several, chains of them are long, some come back to themselves. Some names
+/// are a module and a submodule, some modules stand in two sets with other submodules, some texts are missing or refused.
+pub fn nested(r: &mut Rng, most: usize) -> Library {
+    let subs: Vec<String> = (0..3 + r.below(most - 2)).map(|i| format!("s{i}")).collect();
+    let all: Vec<&str> = subs.iter().map(|name| name.as_str()).collect();
+    let mut names: Vec<String> = (0..1 + r.below(4)).map(|i| format!("m{i}")).collect();
+    if r.once_in(4) {
+        names.insert(r.below(names.len() + 1), r.pick(&all).to_string());
+    }
+    let mut out = Library { sets: vec![Set::default(); 1 + r.below(2)], ..Library::default() };
+    let last = out.sets.len() - 1;
+    for name in &names {
+        let submodules = some(r, &all, 3);
+        out.sets[r.below(last + 1)].modules.push(Module { name: name.clone(), submodules, ..Module::default() });
+    }
+    // Mostly all of them are found, the last ones once in a while in a second listing alone.
+    let (found, first) = (if r.once_in(10) { r.below(subs.len()) } else { subs.len() }, if r.once_in(5) { r.below(subs.len()) } else { subs.len() });
+    let again = |from: usize, to: usize| Module { name: "m".to_string(), submodules: subs[from.min(to)..to].to_vec(), ..Module::default() };
+    out.sets[0].modules.insert(0, again(0, first.min(found)));
+    if last == 1 {
+        out.sets[1].modules.push(again(first, found));
+    }
+    if r.once_in(4) {
+        out.sets[last].import_only.push(ImportOnly { name: "i".to_string(), revisions: vec![some(r, &all, 2)] });
+    }
+    let [far, circles] = [1 + r.below(3), if r.once_in(3) { 12 } else { 400 }];
+    let known: Vec<String> = out.importable().iter().map(|name| name.to_string()).collect();
+    for (name, next) in known.iter().map(|name| (name, 0)).chain(subs.iter().zip(1..)) {
+        if r.once_in(80) || out.texts.contains_key(name) {
+            continue;
+        }
+        let next = subs.iter().position(|sub| sub == name).map_or(next, |place| place + 1);
+        let mut text = if r.once_in(4) { format!("import {} {{ prefix p; }}\n", known[r.below(known.len())]) } else { String::new() };
+        for _ in 0..r.below(4) {
+            let reach = if next == 0 { subs.len() } else { (next + far).min(subs.len()) };
+            let place = if r.once_in(circles) { r.below(subs.len()) } else if next < reach { next + r.below(reach - next) } else { continue };
+            text += &texts::include(r, &subs[place]);
+        }
+        out.texts.insert(name.clone(), if r.once_in(120) { texts::damaged(r, &text) } else { text });
+    }
     out
 }
 

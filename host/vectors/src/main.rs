@@ -181,7 +181,18 @@ fn all(oracle: &mut Oracle) -> Vec<File> {
             }
         }
     }
+    for library in nested() {
+        let (image, bundle) = (library.image(), library.bundle());
+        graph.add(records::graph(&image, &bundle, &answers::graph(oracle, &image, &bundle)));
+    }
     vec![dependencies, metadata, values, skips, finds, graph, completed(oracle), ordered()]
+}
+
+/// Texts that include each other: the telling inputs of request 2026-10, and generated ones, none of them deeper than eight includes without a circle.
+fn nested() -> Vec<libraries::Library> {
+    let mut r = Rng::new(7);
+    let generated = (0..100).map(|_| libraries::nested(&mut r, 8));
+    libraries::included().into_iter().chain(generated).collect()
 }
 
 /// Graphs with complete nodes, which the original does not have: the plain reading's, over the original's scans. In the present mode it must have the
@@ -190,7 +201,7 @@ fn completed(oracle: &mut Oracle) -> File {
     let mut file = File::new("yanglib_run/data/complete.vec");
     let mut r = Rng::new(6);
     let generated = (0..300).map(|_| libraries::repeated(&mut r));
-    for library in libraries::telling().into_iter().chain(generated) {
+    for library in libraries::telling().into_iter().chain(generated).chain(nested()) {
         let (image, bundle) = (library.image(), library.bundle());
         let sets = form::read_image(&image).expect("an image");
         let texts = scanned(oracle, &library);

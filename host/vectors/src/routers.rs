@@ -53,6 +53,24 @@ pub fn made(modules: usize, each: usize, sets: usize, seed: u64) -> Library {
     library
 }
 
+/// So many modules that all list and include the same submodules, so many; each text has so many imports, a module's of modules before it.
+pub fn sharing(modules: usize, submodules: usize, each: usize, seed: u64) -> Library {
+    let mut r = Rng::new(seed);
+    let shared: Vec<String> = (0..submodules).map(|k| format!("example-shared-part{k:02}")).collect();
+    let mut library = Library { sets: vec![Set::default()], ..Library::default() };
+    for i in 0..modules {
+        library.sets[0].modules.push(Module { name: name(i), submodules: shared.clone(), ..Module::default() });
+        let others = imports(&mut r, i, i, each.min(i));
+        library.texts.insert(name(i), written(&module_head(i), &others, &shared, &i.to_string(), ""));
+    }
+    for (k, own) in shared.iter().enumerate() {
+        let head = format!("submodule {own} {{\n  yang-version 1.1;\n  belongs-to {} {{\n    prefix m0;\n  }}\n\n", name(0));
+        let others = imports(&mut r, modules, modules, each);
+        library.texts.insert(own.clone(), written(&head, &others, &[], &format!("shared-{k}"), ""));
+    }
+    library
+}
+
 // ---- a router, whose library has an order of registration
 
 /// The most modules of a router: a library has room for them and their submodules.
