@@ -106,18 +106,18 @@ known-height levels left v l k = go (eqb (getD levels (v * 2) 0) 0) (eqb (getD l
 
 -- ---- the ways out of `raise`
 
-module _ (levels : List ℕ) (most u at : ℕ) (z : at ≡ u * 2) (h : ℕ) (y : h ≡ getD levels (at + 1) 0) where
+module _ (levels : List ℕ) (u at : ℕ) (z : at ≡ u * 2) (h : ℕ) (y : h ≡ getD levels (at + 1) 0) where
   its-own : h ≡ heightIn levels u
   its-own = y ∙ ap (λ (j : ℕ). getD levels (j + 1) 0) z
 
   pub raise-fits : heightIn levels u ≤ deepest → Fits w64 (h + 1)
   raise-fits k = record { fits = omega (arith, its-own) }
 
-  pub raised : most < h + 1 → h + 1 ≡ max most (suc (heightIn levels u))
-  raised k = omega (arith, its-own)
+  pub raised : (most : ℕ) → most < h + 1 → h + 1 ≡ max most (suc (heightIn levels u))
+  raised most k = omega (arith, its-own)
 
-  pub not-raised : h + 1 ≤ most → most ≡ max most (suc (heightIn levels u))
-  not-raised k = omega (arith, its-own)
+  pub not-raised : (most : ℕ) → h + 1 ≤ most → most ≡ max most (suc (heightIn levels u))
+  not-raised most k = omega (arith, its-own)
 
 -- ---- the way out of `remember`
 

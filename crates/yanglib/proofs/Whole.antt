@@ -2,11 +2,11 @@
 -- whatever came of it.
 -- Assumes nothing.
 use Prim.Native.Nat.{ℕ}
-use mathlib.Core.Path.{_≡_, sym, ap, ap₂, _∙_, subst}
+use mathlib.Core.Path.{_≡_, refl, sym, ap, ap₂, _∙_, subst}
 use mathlib.Core.Bool.{Bool, true, false}
 use mathlib.Core.List.{List}
 use native.Mathlib.Omega.{arith}
-use lib.ListN.{length, length-replicate}
+use lib.ListN.{length}
 use Rattle.text.specs.declared.Refusal.{Refusal}
 use Rattle.text_lent.specs.Padded.{zeros, padded}
 use Rattle.library_image.specs.Image.{imageAt}
@@ -29,7 +29,7 @@ use Rattle.graph_build.specs.Between.{LentNodes, Holds}
 use Rattle.graph_build.specs.declared.Graphed.{Graphed}
 use Rattle.graph_build.specs.declared.Graphed.the-variants.{Refused}
 use Rattle.graph_tables.proofs.Short.{Enough, long-enough}
-use Rattle.graph_draw.proofs.Drawing.{as-lent}
+use Rattle.graph_draw.proofs.Drawing.{as-lent, cleared-long}
 use Rattle.yanglib.proofs.Ways.{image-reads, image-wrong, bundle-wrong, too-little, enough}
 use Rattle.graph_build.proofs.Holds.{no-nodes}
 
@@ -94,11 +94,8 @@ module _ (mode : Mode) (s b nodes edges store imports includes levels : List ℕ
 
 -- ---- `to_graph`
 
-same-long : (w v : List ℕ) → w ≡ zeros (length v) → length w ≡ length v
-same-long w v h = ap length h ∙ length-replicate {A = ℕ} (length v) 0
-
 pub now-zero : (v : List ℕ) {w : List ℕ} → w ≡ zeros (length v) → w ≡ zeros (length w)
-now-zero v {w} h = h ∙ ap zeros (sym (same-long w v h))
+now-zero v {w} h = h ∙ ap zeros (sym (cleared-long {k = length v} refl h))
 
 module _ (mode : Mode) (s b n e d f g l n₀ e₀ : List ℕ) (p : n₀ ≡ zeros (length n)) (q : e₀ ≡ zeros (length e)) where
   abbrev lengths : ℕ → ℕ → Lengths
@@ -109,11 +106,11 @@ module _ (mode : Mode) (s b n e d f g l n₀ e₀ : List ℕ) (p : n₀ ≡ zero
       → Leaves (graphed mode s b (lengthsOf n e d f g l)) n e d f g l r n₁ e₁ d₂ f₂ g₂ l₂
   all-left h zd zf zg zl =
       let x : graphed mode s b (lengths (length n₀) (length e₀)) ≡ graphed mode s b (lengths (length n) (length e)) =
-      ap₂ (λ (i j : ℕ). graphed mode s b (lengths i j)) (same-long n₀ n p) (same-long e₀ e q) in
+      ap₂ (λ (i j : ℕ). graphed mode s b (lengths i j)) (cleared-long refl p) (cleared-long refl q) in
       record {
         answer = h .answer ∙ ap (λ (y : Result). y .answer) x;
-        nodes = h .nodes ∙ ap₂ (λ (i : ℕ) (y : Result). padded i (nodeWords (y .nodes))) (same-long n₀ n p) x;
-        edges = h .edges ∙ ap₂ (λ (i : ℕ) (y : Result). padded i (rowWords (y .rows))) (same-long e₀ e q) x;
+        nodes = h .nodes ∙ ap₂ (λ (i : ℕ) (y : Result). padded i (nodeWords (y .nodes))) (cleared-long refl p) x;
+        edges = h .edges ∙ ap₂ (λ (i : ℕ) (y : Result). padded i (rowWords (y .rows))) (cleared-long refl q) x;
         store = zd ∙ ap zeros (h .kept .store-long);
         imports = zf ∙ ap zeros (h .kept .imports-long);
         includes = zg ∙ ap zeros (h .kept .includes-long);
