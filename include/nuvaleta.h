@@ -341,9 +341,9 @@ uint32_t nuvaleta_text(const uint8_t *bundle, size_t bundle_len, const uint8_t *
 #define NUVALETA_NODES_MOST 1024u
 #define NUVALETA_EDGES_MOST 8192u
 
-/* The words of the node table, of the edge table and of the levels. The tables of a scan are lent too. The levels are the walk's memory: whether the text of
- * each node was read, a word for each of 1,024, and how many includes lie below it, as many words; then nine levels of 256 words, one for each include of
- * a text that is being walked. */
+/* The words of the node table, of the edge table and of the levels. The tables of a scan are lent too. The levels are first the walk's
+ * memory, two words for each of 1,024 nodes: whether its text was read, and how many includes lie below it; then nine levels of 256 words, one for each
+ * include of a text that is being walked. */
 #define NUVALETA_NODE_WORDS 2048u
 #define NUVALETA_EDGE_WORDS 16384u
 #define NUVALETA_LEVEL_WORDS 4352u

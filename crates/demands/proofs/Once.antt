@@ -31,7 +31,8 @@ bytes-once mode = record {
   walks = λ s b. once-demand (codesIn mode s b) mostEdges (entriesIn mode s b);
   same = same-drawing mode;
   once = λ s b. once-demand (codesIn mode s b) mostEdges (entriesIn mode s b) .once;
-  few = λ s b f. read-few (codesIn mode s b) mostEdges _ (entriesIn mode s b) (library-within mode (textOf b) (plainAt s) (revised-here s (f .reads) (f .bytes)));
+  few = λ s b f.
+      read-few (codesIn mode s b) mostEdges _ (entriesIn mode s b) (library-within mode (textOf b) (plainAt s) (revised-here s (f .reads) (f .bytes)));
 }
 
 pub read-once : ReadOnce

@@ -168,7 +168,8 @@ module _ (mode : Mode) (text : Name → Text) (l : PlainLibrary) (revised : Revi
   text-small missing is us e u m = both-bools refl (ap isCodes e)
   text-small (refusing a) is us e u m = both-bools refl (ap isCodes e)
   text-small (deps imports includes) is us e u m =
-      let q = Memᴰ·of-map (submoduleCode W ns) includes (subst (λ (cs : List ℕ). List·Memᴰ (suc (suc u)) cs) (sym (ap includesOf e)) m) in include-small (q .0) u (q .2)
+      let q = Memᴰ·of-map (submoduleCode W ns) includes (subst (λ (cs : List ℕ). List·Memᴰ (suc (suc u)) cs) (sym (ap includesOf e)) m) in
+      include-small (q .0) u (q .2)
 
   pub library-within : Within (codesAt W ns) (length ns) (map (entryCode W ns) (entries l))
   unfolding codesAt

@@ -222,7 +222,8 @@ pub once-demand : (at : ℕ → Codes) (limit : ℕ) (es : List EntryCode) → O
 once-demand at limit es =
     let r = entries-read at limit es [] nothingRead in
     record {
-      walk = λ left absent v rs m b. walk-plain at limit left absent v rs m b (walkOnce at limit left absent v rs m) (entry-right at limit absent v rs m b left);
+      walk = λ left absent v rs m b.
+          walk-plain at limit left absent v rs m b (walkOnce at limit left absent v rs m) (entry-right at limit absent v rs m b left);
       next = walk-next at limit;
       same = draw-same at limit es 1 [] nothingRead (at-first at limit);
       once = turns-differ nothingRead (entriesRead at limit [] nothingRead es) (r .0) (r .1);

@@ -1,5 +1,5 @@
-// The edges of a library, once image, bundle and nodes are read: the marks and chains that the walk wants are made here, its memory is cleared, since what is lent
-// may hold anything, and a refusal leaves no edges.
+// The edges of a library, once image, bundle and nodes are read: the marks and chains that the walk wants are made here, its memory is cleared, since what is
+// lent may hold anything, and a refusal leaves no edges.
 use graph_entries::Drawn;
 use graph_visit::Sizes;
 ghost use Rattle.graph_nodes.specs.Adding.{namesHeld};

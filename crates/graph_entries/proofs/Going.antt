@@ -89,7 +89,8 @@ plainly : (at : ℕ → Codes) (v : ℕ) (rs : List Row) (levels levels₁ edges
     → walkedSeen v w levels₁ edges₁ ≡ walkOnce at mostEdges 8 23 v rs (remembered levels)
     → (walkSeen w edges₁ ≡ walkCodes at mostEdges 8 23 v rs) × WalkBetween at w levels₁ edges₁
 plainly at v rs levels levels₁ edges₁ h (Built n) q =
-    let r : Right at mostEdges (remembered levels) rs v (walked (rowsIn n edges₁) (remembered levels₁) (heightIn levels₁ v)) (walkCodes at mostEdges 8 23 v rs) =
+    let r : Right at mostEdges (remembered levels) rs v (walked (rowsIn n edges₁) (remembered levels₁) (heightIn levels₁ v))
+    (walkCodes at mostEdges 8 23 v rs) =
     subst (λ (o : Went). Right at mostEdges (remembered levels) rs v o (walkCodes at mostEdges 8 23 v rs)) (sym q)
     (entry-right at mostEdges 23 v rs (remembered levels) h 8) in
     (sym (r .same), between-through at mostEdges h r)
@@ -338,8 +339,8 @@ module _ {s b : List ℕ} {ns : List Name} {n : ℕ} {table : List ℕ} {items :
                 go true z = omega (arith, g .entries)
                 go false z = omega (arith, g .entries)
 
-            pub going-on : {m : ℕ} → w ≡ Built m → WalkBetween (codesHere s b ns) w levels₁ edges₁ → Going s b ns n table items store₀ imports₀ includes₀ levels₀ edges₀ chains₀ store₁ imports₁ includes₁
-                levels₁ edges₁ chains₁ m k u (i + 1)
+            pub going-on : {m : ℕ} → w ≡ Built m → WalkBetween (codesHere s b ns) w levels₁ edges₁
+                → Going s b ns n table items store₀ imports₀ includes₀ levels₀ edges₀ chains₀ store₁ imports₁ includes₁ levels₁ edges₁ chains₁ m k u (i + 1)
             going-on {m} y q = record {
               rest = turn ∙ ap (λ (w : Walked). behind (itemWord s x) (walkSeen w edges₁) k u) y;
               listed = g .listed;

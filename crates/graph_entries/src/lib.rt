@@ -79,7 +79,8 @@ fn walk_item(
 ) -> Walked
     requires { ⌜ Ground (now image) (now bundle) (now btab) (now ntab) (now marks) sizes
         × Room (now bundle) (now store) (now imports) (now includes) (now levels) (now edges) (now chains) 8 count
-        × Between (codesHere (now image) (now bundle) (namesHeld (now image) (now ntab) (sizes .nodes))) mostEdges (remembered (now levels)) (rowsIn count (now edges))
+        × Between (codesHere (now image) (now bundle) (namesHeld (now image) (now ntab) (sizes .nodes))) mostEdges (remembered (now levels))
+        (rowsIn count (now edges))
         × Placed (now image) (namesHeld (now image) (now ntab) (sizes .nodes)) (sizes .nodes) x (v .0) ⌝ }
     ensures { λ r. ⌜ Drew (itemWalk (now (image .entry)) (now (bundle .entry)) (namesHeld (now (image .entry)) (now (ntab .entry)) (sizes .nodes))
         (itemWord (now (image .entry)) x) (v .0) (rowsIn count (now (edges .entry))))

@@ -116,7 +116,12 @@ module _ (word left v : ℕ) (rs : List Row) (edges chains edges₁ chains₁ : 
   pub no-room : x ≡ Full → Stepped word left v rs edges chains (Halted 31) edges₁ chains₁
   no-room e =
       let q : addRow mostEdges rs (row (word - 2) v) ≡ refused 31 noRefusal = sym (l .seen) ∙ ap (λ x. linkSeen x edges₁) e in
-      record { seen = λ at marks. sym (by-node word v rs (belowOnce at mostEdges left) marks h k ∙ rw q); ready = tt; kept-edges = l .kept-edges; kept-chains = l .kept-chains }
+      record {
+        seen = λ at marks. sym (by-node word v rs (belowOnce at mostEdges left) marks h k ∙ rw q);
+        ready = tt;
+        kept-edges = l .kept-edges;
+        kept-chains = l .kept-chains;
+      }
 
   module _ (m : ℕ) (e : x ≡ Count m) where
     added : (f : Below) (marks : Marks) → includeOnce mostEdges f v word rs marks ≡ f (word - 2) (rowsIn m edges₁) marks
@@ -126,7 +131,12 @@ module _ (word left v : ℕ) (rs : List Row) (edges chains edges₁ chains₁ : 
 
     pub too-deep : left ≡ 0 → Stepped word left v rs edges chains (Halted 29) edges₁ chains₁
     unfolding belowOnce
-    too-deep d = record { seen = λ at marks. sym (added (belowOnce at mostEdges left) marks ∙ rw d); ready = tt; kept-edges = l .kept-edges; kept-chains = l .kept-chains }
+    too-deep d = record {
+      seen = λ at marks. sym (added (belowOnce at mostEdges left) marks ∙ rw d);
+      ready = tt;
+      kept-edges = l .kept-edges;
+      kept-chains = l .kept-chains;
+    }
 
     pub down : (left ≡ 0 → ⊥) → Stepped word left v rs edges chains (Down u m) edges₁ chains₁
     down d = record {

@@ -1,5 +1,5 @@
--- What the walk remembers of each text, as words at the start of `levels`: two for each node, first 0 not read, 1 being walked, 2 walked, then how many includes
--- lie below it.
+-- What the walk remembers of each text, as words at the start of `levels`: two for each node, first 0 not read, 1 being walked, 2 walked, then how many
+-- includes lie below it.
 -- Assumes nothing.
 use Prim.Native.Nat.{ℕ, _+_, _*_}
 use mathlib.Core.Path.{_≡_}

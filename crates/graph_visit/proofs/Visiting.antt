@@ -25,7 +25,7 @@ use Rattle.graph_memory.proofs.Words.{later, same-memory, stays-same, stays-on,
 use Rattle.graph_texts.specs.Texts.{textOf, textSeen, SeenAs, ScanRoom}
 use Rattle.graph_texts.specs.declared.Seen.{Seen}
 use Rattle.graph_texts.specs.declared.Seen.the-variants.{Missing, Refused as Unscanned, Rows}
-use Rattle.graph_link.specs.Link.{levelWords, levelAt, wordsFrom, importCodes, includeCodes, ImportRows, IncludeRows, walkSeen, Drew, Saved}
+use Rattle.graph_link.specs.Link.{levelWords, levelAt, importCodes, includeCodes, ImportRows, IncludeRows, walkSeen, Drew, Saved}
 use Rattle.graph_visit.specs.Visit.{worldOf, codesHere, Room, Kept, Called, visited, metHere}
 use Rattle.graph.proofs.Tests.{both-bools}
 use Rattle.graph.proofs.Remembering.{isReading}
@@ -93,7 +93,8 @@ module _ (s b : List ℕ) (ns : List Name) (v : ℕ) (name : List ℕ) (p : name
             ∙ ap (λ w. walkSeen w edges₁) t in
             record { seen = λ below. rw (read m k z, q); ready = tt; kept-edges = o .kept-edges; kept-chains = o .kept-chains }
 
-        pub called : (total : ℕ) (levels₀ levels₁ : List ℕ) → Remembers levels v reading levels₀ → Saved n (includeCodes s ns e g k) (levelAt left) k levels₀ levels₁ → w ≡ Built total
+        pub called : (total : ℕ) (levels₀ levels₁ : List ℕ) → Remembers levels v reading levels₀
+            → Saved n (includeCodes s ns e g k) (levelAt left) k levels₀ levels₁ → w ≡ Built total
             → Called expected n left v count edges chains (Children k total) levels₁ edges₁ chains₁
         unfolding visited
         called total levels₀ levels₁ y a t =
@@ -198,7 +199,8 @@ module _ (left v : ℕ) (levels : List ℕ) (q : Recalled) (e : q ≡ recalled l
     pub met-deep : (a : Refusal) → q ≡ TooDeep → a ≡ noRefusal → Called meeting n left v count edges chains (Stopped 29 a) levels edges chains
     unfolding metHere
     met-deep a z t = record {
-      seen = λ f. ap (λ (b : Refusal). halted 29 b) t ∙ sym (too-deep z (rowsIn count edges) (remembered levels) (visited at absent v (rowsIn count edges) levels f));
+      seen = λ f. ap (λ (b : Refusal). halted 29 b) t
+          ∙ sym (too-deep z (rowsIn count edges) (remembered levels) (visited at absent v (rowsIn count edges) levels f));
       ready = tt;
       kept-edges = refl;
       kept-chains = refl;

@@ -1,6 +1,6 @@
 -- The includes of a text, taken one after another: what the words from here on come to is what all of them come to. A walk below leaves this level's words.
 -- Assumes nothing.
-use Prim.Native.Nat.{ℕ, zero, suc, max, _+_, _-_, _*_, _≤_, _<_}
+use Prim.Native.Nat.{ℕ, zero, suc, max, _+_, _-_, _≤_, _<_}
 use mathlib.Core.Path.{_≡_, refl, sym, ap, ap₂, _∙_}
 use mathlib.Core.Bool.{true≢false}
 use mathlib.Core.List.{List}
@@ -11,7 +11,6 @@ use lib.ListN.{length, getD, drop}
 use lib.Seq.{getD-drop}
 use Rattle.text.specs.declared.Refusal.{Refusal}
 use Rattle.text.specs.Refusal.{noRefusal}
-use Rattle.graph.specs.Graph.{deepest}
 use Rattle.graph.specs.Numbers.{Row, Codes}
 use Rattle.graph.specs.Once.{unread, below, Marks, Went, walked, halted, thenW, Below, includeOnce, includesOnce, ended, walkOnce, belowOnce, raised}
 use Rattle.graph.specs.declared.NodeIndex.{NodeIndex}
@@ -205,9 +204,10 @@ module _ {at : ℕ → Codes} {n left v base k : ℕ} {levels₀ edges₀ chains
       unfolding includesOnce wordsFrom
       ended-all h =
           let q : k - i ≡ 0 = omega arith in
-          let all : ahead at left v (wordsFrom levels₀ base k) (rowsIn linked edges₀) (remembered levels₀) 0 ≡ walked (rowsIn total edges) (remembered levels) most =
-          g .rest ∙ rw q in
-          let own : heightIn levels₁ v ≡ most = below-height levels₁ v most l (ap (λ (m : Marks). m v) (y .marks) ∙ mark-here (remembered levels) v (below most)) in
+          let all : ahead at left v (wordsFrom levels₀ base k) (rowsIn linked edges₀) (remembered levels₀) 0
+          ≡ walked (rowsIn total edges) (remembered levels) most = g .rest ∙ rw q in
+          let own : heightIn levels₁ v ≡ most =
+          below-height levels₁ v most l (ap (λ (m : Marks). m v) (y .marks) ∙ mark-here (remembered levels) v (below most)) in
           record {
             seen = ap₂ (λ (m : Marks) (h : ℕ). walked (rowsIn total edges) m h) (y .marks) own ∙ sym (all-words ∙ ap (λ (w : Went). thenW w (ended v)) all);
             ready = record { filed = g .filed; low = omega (arith, own, g .high) };
@@ -263,7 +263,8 @@ module _ {at : ℕ → Codes} {n left v base k : ℕ} {levels₀ edges₀ chains
     }
 
     module _ {w : Walked} {levels₂ edges₂ chains₂ : List ℕ}
-        (o : Through (walkOnce at mostEdges (left - 1) 24 (u .0) (rowsIn m edges₁) (remembered levels)) (left - 1) (u .0) edges₁ chains₁ w levels₂ edges₂ chains₂)
+        (o : Through (walkOnce at mostEdges (left - 1) 24 (u .0) (rowsIn m edges₁) (remembered levels)) (left - 1) (u .0) edges₁ chains₁
+        w levels₂ edges₂ chains₂)
       where
         child : includeOnce mostEdges (belowOnce at mostEdges left) v (getD levels (base + i) 0) (rowsIn total edges) (remembered levels)
             ≡ walkedSeen (u .0) w levels₂ edges₂
@@ -275,7 +276,8 @@ module _ {at : ℕ → Codes} {n left v base k : ℕ} {levels₀ edges₀ chains
             → (d : Called E n left v count edgesE chainsE r levels₀ edges₀ chains₀)
             → r ≡ Children k linked → w ≡ Refused number a → Through (expected at left d) left v edgesE chainsE w levels₂ edges₂ chains₂
         sent-up {number = number} {a = a} d z y =
-            let q : includeOnce mostEdges (belowOnce at mostEdges left) v (getD levels (base + i) 0) (rowsIn total edges) (remembered levels) ≡ halted number a =
+            let q : includeOnce mostEdges (belowOnce at mostEdges left) v (getD levels (base + i) 0) (rowsIn total edges) (remembered levels)
+            ≡ halted number a =
             child ∙ ap (λ w. walkedSeen (u .0) w levels₂ edges₂) y in
             record {
               seen = ap (λ w. walkedSeen v w levels₂ edges₂) y

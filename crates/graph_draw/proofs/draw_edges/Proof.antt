@@ -38,14 +38,16 @@ returns c =
     let clear-words1 = c .before .before in
     let enum-told1 = clear-words1 .before .before in
     let walk-items1 = enum-told1 .before .before .before .before .before .before .before .before .before .before .before .before .before in
-    edges-refused (cleared-long refl (walk-items1 .before .before .before .before .before .before .before .before .before .before .clear-words .ensures)) (walk-items1 .walk-items .ensures) (enum-told1 .enum-told .given .1)
+    edges-refused (cleared-long refl (walk-items1 .before .before .before .before .before .before .before .before .before
+    .before .clear-words .ensures)) (walk-items1 .walk-items .ensures) (enum-told1 .enum-told .given .1)
     (clear-words1 .clear-words2 .ensures)
 
 returns-2 : tie.Need-returns-2
 returns-2 c =
     let drawn1 = c .before in
     let walk-items1 = drawn1 .before .before .before .before .before .before .before .before .before .before .before .before .before in
-    edges-built (cleared-long refl (walk-items1 .before .before .before .before .before .before .before .before .before .before .clear-words .ensures)) (walk-items1 .walk-items .ensures) (drawn1 .drawn .given .1)
+    edges-built (cleared-long refl (walk-items1 .before .before .before .before .before .before .before .before .before
+    .before .clear-words .ensures)) (walk-items1 .walk-items .ensures) (drawn1 .drawn .given .1)
 
 pub draw-edges-spec : {M : Type 1} → statement M
 draw-edges-spec =
@@ -66,14 +68,17 @@ draw-edges-spec =
     enum-told1 .before .before .before .before .before .before .before .before .before .before .before .before .before .walk-items .ensures .kept .store-long)
     (λ c.
     let enum-told1 = c .before .before .before .before in
-    enum-told1 .before .before .before .before .before .before .before .before .before .before .before .before .before .walk-items .ensures .kept .imports-long)
+    enum-told1 .before .before .before .before .before .before .before .before .before .before .before .before
+    .before .walk-items .ensures .kept .imports-long)
     (λ c.
     let enum-told1 = c .before .before .before .before in
-    enum-told1 .before .before .before .before .before .before .before .before .before .before .before .before .before .walk-items .ensures .kept .includes-long)
+    enum-told1 .before .before .before .before .before .before .before .before .before .before .before .before
+    .before .walk-items .ensures .kept .includes-long)
     (λ c.
     let enum-told1 = c .before .before .before .before in
     let walk-items1 = enum-told1 .before .before .before .before .before .before .before .before .before .before .before .before .before in
-    walk-items1 .walk-items .ensures .kept .levels-long ∙ cleared-long refl (walk-items1 .before .before .before .before .before .before .before .before .before .before .clear-words .ensures))
+    walk-items1 .walk-items .ensures .kept .levels-long ∙ cleared-long refl (walk-items1 .before .before .before .before .before .before .before
+    .before .before .before .clear-words .ensures))
     returns
     (λ c.
     let drawn1 = c .before in
@@ -90,5 +95,6 @@ draw-edges-spec =
     (λ c.
     let drawn1 = c .before in
     let walk-items1 = drawn1 .before .before .before .before .before .before .before .before .before .before .before .before .before in
-    walk-items1 .walk-items .ensures .kept .levels-long ∙ cleared-long refl (walk-items1 .before .before .before .before .before .before .before .before .before .before .clear-words .ensures))
+    walk-items1 .walk-items .ensures .kept .levels-long ∙ cleared-long refl (walk-items1 .before .before .before .before .before .before .before
+    .before .before .before .clear-words .ensures))
     returns-2)

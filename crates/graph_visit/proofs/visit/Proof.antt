@@ -2,7 +2,8 @@
 -- Assumes nothing.
 use mathlib.Core.Path.{refl, _∙_}
 use borrow.Author.Needs.{needs}
-use Rattle.graph_visit.proofs.Visiting.{text-missing, text-refused, import-refused, called, import-rows, include-rows, level-in, kept-levels, kept-above}
+use Rattle.graph_visit.proofs.Visiting.{text-missing, text-refused, import-refused, called, import-rows, include-rows, level-in, kept-levels,
+    kept-above}
 use Rattle.graph_visit.proofs.Visiting.{saved-same, marked-read}
 use Rattle.graph_visit.proofs.visit.Statement.{statement}
 use Rattle.graph_visit.proofs.visit.Tie as tie
@@ -52,10 +53,12 @@ returns-2 c =
 
 returns-3 : tie.Need-returns-3
 returns-3 c =
-    let read-text1 = c .before .before .before .before .before .before .before .before .before .before .before .before .before .before .before .before .before .before .before .before .before in
+    let read-text1 = c .before .before .before .before .before .before .before .before .before .before .before .before .before .before .before
+    .before .before .before .before .before .before in
     let remember1 = read-text1 .before .before .before .before .before .before .before in (
       import-refused _ _ _ _ _ (read-text1 .before .before .before .before .name-of .ensures) _ _ _ _ _ _ _ (read-text1 .read-text .ensures) _ _ _ _ _ _ _ _ _
-          (c .before .before .before .before .before .before .before .before .before .before .before .before .before .m .given .1) _ _ _ (c .before .before .before .before .before .before .before .link-imports .ensures) _ _ _ (c .before .number .given .1),
+          (c .before .before .before .before .before .before .before .before .before .before .before .before .before .m .given .1) _ _ _ (c
+              .before .before .before .before .before .before .before .link-imports .ensures) _ _ _ (c .before .number .given .1),
       kept-levels _ _ _ _ _ _ _ _ (read-text1 .read-text .ensures) _ (remember1 .remember .ensures),
       marked-read (remember1 .remember .ensures) _ refl,
     )
@@ -95,24 +98,37 @@ visit-spec =
     (λ c. let read-text1 = c .before .before .before .before .before .before .before .before .before in read-text1 .read-text .ensures .kept-store)
     (λ c. let read-text1 = c .before .before .before .before .before .before .before .before .before in read-text1 .read-text .ensures .kept-imports)
     (λ c. let read-text1 = c .before .before .before .before .before .before .before .before .before in read-text1 .read-text .ensures .kept-includes)
-    (λ c. let read-text1 = c .before .before .before .before .before .before .before .before .before in read-text1 .before .before .before .before .before .before .before .remember .ensures .long)
+    (λ c. let read-text1 = c .before .before .before .before .before .before .before .before .before in read-text1 .before .before .before
+    .before .before .before .before .remember .ensures .long)
     returns
     (λ c. let read-text1 = c .before .before .before .before .before .before .before .before .before in read-text1 .read-text .ensures .kept-store)
     (λ c. let read-text1 = c .before .before .before .before .before .before .before .before .before in read-text1 .read-text .ensures .kept-imports)
     (λ c. let read-text1 = c .before .before .before .before .before .before .before .before .before in read-text1 .read-text .ensures .kept-includes)
-    (λ c. let read-text1 = c .before .before .before .before .before .before .before .before .before in read-text1 .before .before .before .before .before .before .before .remember .ensures .long)
+    (λ c. let read-text1 = c .before .before .before .before .before .before .before .before .before in read-text1 .before .before .before
+    .before .before .before .before .remember .ensures .long)
     returns-2
-    (λ c. let read-text1 = c .before .before .before .before .before .before .before .before .before .before .before .before .before .before .before .before .before .before .before .before .before in read-text1 .read-text .ensures .kept-store)
-    (λ c. let read-text1 = c .before .before .before .before .before .before .before .before .before .before .before .before .before .before .before .before .before .before .before .before .before in read-text1 .read-text .ensures .kept-imports)
-    (λ c. let read-text1 = c .before .before .before .before .before .before .before .before .before .before .before .before .before .before .before .before .before .before .before .before .before in read-text1 .read-text .ensures .kept-includes)
-    (λ c. let read-text1 = c .before .before .before .before .before .before .before .before .before .before .before .before .before .before .before .before .before .before .before .before .before in read-text1 .before .before .before .before .before .before .before .remember .ensures .long)
+    (λ c. let read-text1 = c .before .before .before .before .before .before .before .before .before .before .before .before .before .before
+    .before .before .before .before .before .before .before in read-text1 .read-text .ensures .kept-store)
+    (λ c. let read-text1 = c .before .before .before .before .before .before .before .before .before .before .before .before .before .before
+    .before .before .before .before .before .before .before in read-text1 .read-text .ensures .kept-imports)
+    (λ c. let read-text1 = c .before .before .before .before .before .before .before .before .before .before .before .before .before .before
+    .before .before .before .before .before .before .before in read-text1 .read-text .ensures .kept-includes)
+    (λ c. let read-text1 = c .before .before .before .before .before .before .before .before .before .before .before .before .before .before
+    .before .before .before .before .before .before .before in read-text1 .before .before .before .before .before .before .before .remember .ensures .long)
     (λ c. let link-imports1 = c .before .before .before .before .before .before .before in link-imports1 .link-imports .ensures .kept-edges)
     (λ c. let link-imports1 = c .before .before .before .before .before .before .before in link-imports1 .link-imports .ensures .kept-chains)
     returns-3
-    (λ c. let read-text1 = c .before .before .before .before .before .before .before .before .before .before .before .before .before .before .before .before .before .before .before .before .before .before .before .before .before .before .before in read-text1 .read-text .ensures .kept-store)
-    (λ c. let read-text1 = c .before .before .before .before .before .before .before .before .before .before .before .before .before .before .before .before .before .before .before .before .before .before .before .before .before .before .before in read-text1 .read-text .ensures .kept-imports)
-    (λ c. let read-text1 = c .before .before .before .before .before .before .before .before .before .before .before .before .before .before .before .before .before .before .before .before .before .before .before .before .before .before .before in read-text1 .read-text .ensures .kept-includes)
-    (λ c. let read-text1 = c .before .before .before .before .before .before .before .before .before .before .before .before .before .before .before .before .before .before .before .before .before .before .before .before .before .before .before in c .before .before .save-includes .ensures .kept ∙ read-text1 .before .before .before .before .before .before .before .remember .ensures .long)
-    (λ c. let link-imports1 = c .before .before .before .before .before .before .before .before .before .before .before .before .before in link-imports1 .link-imports .ensures .kept-edges)
-    (λ c. let link-imports1 = c .before .before .before .before .before .before .before .before .before .before .before .before .before in link-imports1 .link-imports .ensures .kept-chains)
+    (λ c. let read-text1 = c .before .before .before .before .before .before .before .before .before .before .before .before .before .before
+    .before .before .before .before .before .before .before .before .before .before .before .before .before in read-text1 .read-text .ensures .kept-store)
+    (λ c. let read-text1 = c .before .before .before .before .before .before .before .before .before .before .before .before .before .before
+    .before .before .before .before .before .before .before .before .before .before .before .before .before in read-text1 .read-text .ensures .kept-imports)
+    (λ c. let read-text1 = c .before .before .before .before .before .before .before .before .before .before .before .before .before .before
+    .before .before .before .before .before .before .before .before .before .before .before .before .before in read-text1 .read-text .ensures .kept-includes)
+    (λ c. let read-text1 = c .before .before .before .before .before .before .before .before .before .before .before .before .before .before
+    .before .before .before .before .before .before .before .before .before .before .before .before .before in c .before
+    .before .save-includes .ensures .kept ∙ read-text1 .before .before .before .before .before .before .before .remember .ensures .long)
+    (λ c. let link-imports1 = c .before .before .before .before .before .before .before .before .before .before .before .before
+    .before in link-imports1 .link-imports .ensures .kept-edges)
+    (λ c. let link-imports1 = c .before .before .before .before .before .before .before .before .before .before .before .before
+    .before in link-imports1 .link-imports .ensures .kept-chains)
     returns-4)

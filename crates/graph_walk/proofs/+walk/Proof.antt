@@ -12,8 +12,8 @@ use Rattle.graph_link.proofs.step.Reads as step-reads
 use Rattle.graph_memory.proofs.raise.Reads as raise-reads
 use Rattle.graph_memory.proofs.remember.Reads as remember-reads
 use Rattle.graph_visit.specs.Visit.{codesHere}
-use Rattle.graph_walk.proofs.Walking.{Walking, Long, as-long, longer, opened, not-visited, known, begun, in-level, memory-in, word-node, kept-out, ended-all}
-use Rattle.graph_walk.proofs.Walking.{halted-here, kept-end, some-left, child-low, child-room, sent-up, child-height, went-on, kept-sent}
+use Rattle.graph_walk.proofs.Walking.{Walking, Long, as-long, longer, opened, not-visited, known, begun, in-level, memory-in, word-node, kept-out}
+use Rattle.graph_walk.proofs.Walking.{ended-all, halted-here, kept-end, some-left, child-low, child-room, sent-up, child-height, went-on, kept-sent}
 use Rattle.graph_walk.proofs.walk.Reads as walk
 use Rattle.graph_walk.proofs.walk.Kinds as walk-kinds
 use Rattle.graph_walk.proofs.+walk.Lts-walk as walk-lts
@@ -59,7 +59,8 @@ callees t = (
   remember-reads.Learnt,
 )
 
--- places that several answers go back to: meet from the loop's head, the start from meet; the loop's head from an include that is refused; the walk of its text
+-- places that several answers go back to: meet from the loop's head, the start from meet; the loop's head from an include that is refused; the walk of its
+    text
 -- from the refusal of that
 abbrev meet-of : (t : ℕ) → walk-lts.At-loop (callees t) (walk-at t) walk.Post walk-Inv-loop walk-μ-loop
     → walk-lts.After-meet (callees t) (walk-at t) walk.Post walk-Inv-loop walk-μ-loop
@@ -67,7 +68,8 @@ meet-of t c = c .before .before .before .before .before .before .before .before 
 
 abbrev start-of : (t : ℕ) → walk-lts.After-meet (callees t) (walk-at t) walk.Post walk-Inv-loop walk-μ-loop
     → walk-lts.Start (callees t) (walk-at t) walk.Post walk-Inv-loop walk-μ-loop
-start-of t c = c .before .before .before .before .before .before .before .before .before .before .before .before .before .before .before .before .before .before .before
+start-of t c = c .before .before .before .before .before .before .before .before .before .before .before .before .before .before .before .before
+    .before .before .before
 
 abbrev halted-loop : (t : ℕ) → walk-lts.After-no-refusal (callees t) (walk-at t) walk.Post walk-Inv-loop walk-μ-loop
     → walk-lts.At-loop (callees t) (walk-at t) walk.Post walk-Inv-loop walk-μ-loop
@@ -89,7 +91,8 @@ add-base t c =
 
 meet-requires : (t : ℕ) → walk-lts.Need-meet-requires (callees t) (walk-at t) walk.Post walk-Inv-loop walk-μ-loop
 meet-requires t c κs =
-    let start = c .before .before .before .before .before .before .before .before .before .before .before .before .before .before .before .before .before .before in
+    let start = c .before .before .before .before .before .before .before .before .before .before .before .before .before .before .before
+    .before .before .before in
     start .pre .1
 
 loop-holds : (t : ℕ) → walk-lts.Need-loop-holds (callees t) (walk-at t) walk.Post walk-Inv-loop walk-μ-loop
@@ -221,13 +224,17 @@ raise-requires t c κs =
 
 add-i : (t : ℕ) → walk-lts.Need-add-i (callees t) (walk-at t) walk.Post walk-Inv-loop walk-μ-loop
 add-i t c =
-    let loop-test1 = c .before .before .before .before .before .before .before .before .before .before .before .before .before .before .before .before .before .before .before .before .before .before .before .before .before .before .before .before .before .before .before .before .before .before .before in
+    let loop-test1 = c .before .before .before .before .before .before .before .before .before .before .before .before .before .before .before
+    .before .before .before .before .before .before .before .before .before .before .before .before .before .before .before .before .before
+    .before .before .before in
     let loop1 = loop-test1 .before in
     record { fits = omega (arith, loop1 .loop .inv .0 .few, loop-test1 .loop-test .taken) }
 
 loop-less : (t : ℕ) → walk-lts.Need-loop-less (callees t) (walk-at t) walk.Post walk-Inv-loop walk-μ-loop
 loop-less t c =
-    let loop-test1 = c .before .before .before .before .before .before .before .before .before .before .before .before .before .before .before .before .before .before .before .before .before .before .before .before .before .before .before .before .before .before .before .before .before .before .before in
+    let loop-test1 = c .before .before .before .before .before .before .before .before .before .before .before .before .before .before .before
+    .before .before .before .before .before .before .before .before .before .before .before .before .before .before .before .before .before
+    .before .before .before in
     omega (arith, loop-test1 .loop-test .taken)
 
 loop-again : (t : ℕ) → walk-lts.Need-loop-again (callees t) (walk-at t) walk.Post walk-Inv-loop walk-μ-loop
@@ -272,7 +279,8 @@ returns-5 t c =
     let meet1 = met2-at .before .before .before .before .before .before .before .before .before .before .before .before .before .before in
     let start = start-of t meet1 in (
       opened _ _ _ _ _ _ _ _ _ _ _ _
-          (ended-all (loop1 .loop .inv .0) (meet1 .meet .ensures .0) (met2-at .met2 .given .1) (node-low _ _ _ _ (start .pre .1 .0 .desk) _ (start .pre .1 .2))
+          (ended-all (loop1 .loop .inv .0) (meet1 .meet .ensures .0) (met2-at .met2 .given .1) (node-low _ _ _ _ (start .pre .1 .0 .desk) _ (start .pre .1
+              .2))
           (remember1 .remember .ensures) (loop-test1 .loop-test .left)),
       kept-end (loop1 .loop .inv .0) (meet1 .meet .ensures .1) (loop1 .loop .inv .1) (remember1 .remember .ensures),
     )
@@ -343,19 +351,26 @@ pub +walk-spec : {M : Type 1} → statement M
     let walk1 = below-walk t c in
     let step1 = walk1 .before .before .before .before .before .before .before .before .before .before .before .before .before .before in
     let loop1 = step1 .before .before .before .before .before in
-    walk1 .walk .ensures .0 .kept-chains ∙ step1 .step .ensures .kept-chains ∙ loop1 .loop .inv .0 .long-chains ∙ meet-of t loop1 .meet .ensures .0 .kept-chains)
+    walk1 .walk .ensures .0 .kept-chains ∙ step1 .step .ensures .kept-chains ∙ loop1 .loop .inv .0 .long-chains ∙ meet-of t loop1 .meet .ensures .0
+    .kept-chains)
     (returns-2 t)
     (raise-requires t)
     (add-i t)
     (loop-less t)
     (loop-again t)
     (remember-requires t)
-    (λ c. c .before .before .before .before .before .before .before .before .before .before .before .before .before .before .before .meet .ensures .1 .store-long)
-    (λ c. c .before .before .before .before .before .before .before .before .before .before .before .before .before .before .before .meet .ensures .1 .imports-long)
-    (λ c. c .before .before .before .before .before .before .before .before .before .before .before .before .before .before .before .meet .ensures .1 .includes-long)
-    (λ c. c .before .before .before .before .before .before .before .before .before .before .before .before .before .before .before .meet .ensures .1 .levels-long)
-    (λ c. c .before .before .before .before .before .before .before .before .before .before .before .before .before .before .before .meet .ensures .0 .kept-edges)
-    (λ c. c .before .before .before .before .before .before .before .before .before .before .before .before .before .before .before .meet .ensures .0 .kept-chains)
+    (λ c. c .before .before .before .before .before .before .before .before .before .before .before .before .before .before
+    .before .meet .ensures .1 .store-long)
+    (λ c. c .before .before .before .before .before .before .before .before .before .before .before .before .before .before
+    .before .meet .ensures .1 .imports-long)
+    (λ c. c .before .before .before .before .before .before .before .before .before .before .before .before .before .before
+    .before .meet .ensures .1 .includes-long)
+    (λ c. c .before .before .before .before .before .before .before .before .before .before .before .before .before .before
+    .before .meet .ensures .1 .levels-long)
+    (λ c. c .before .before .before .before .before .before .before .before .before .before .before .before .before .before
+    .before .meet .ensures .0 .kept-edges)
+    (λ c. c .before .before .before .before .before .before .before .before .before .before .before .before .before .before
+    .before .meet .ensures .0 .kept-chains)
     (returns-3 t)
     (λ c. c .before .before .before .before .before .before .before .before .before .before .before .before .before .before .meet .ensures .1 .store-long)
     (λ c. c .before .before .before .before .before .before .before .before .before .before .before .before .before .before .meet .ensures .1 .imports-long)
@@ -367,7 +382,8 @@ pub +walk-spec : {M : Type 1} → statement M
     (λ c. let loop1 = c .before .before .before .before .before in loop1 .loop .inv .1 .store-long ∙ meet-of t loop1 .meet .ensures .1 .store-long)
     (λ c. let loop1 = c .before .before .before .before .before in loop1 .loop .inv .1 .imports-long ∙ meet-of t loop1 .meet .ensures .1 .imports-long)
     (λ c. let loop1 = c .before .before .before .before .before in loop1 .loop .inv .1 .includes-long ∙ meet-of t loop1 .meet .ensures .1 .includes-long)
-    (λ c. let loop1 = c .before .before .before .before .before in c .before .before .remember .ensures .long ∙ loop1 .loop .inv .0 .long ∙ meet-of t loop1 .meet .ensures .1 .levels-long)
+    (λ c. let loop1 = c .before .before .before .before .before in c .before
+    .before .remember .ensures .long ∙ loop1 .loop .inv .0 .long ∙ meet-of t loop1 .meet .ensures .1 .levels-long)
     (λ c. let loop1 = c .before .before .before .before .before in loop1 .loop .inv .0 .long-edges ∙ meet-of t loop1 .meet .ensures .0 .kept-edges)
     (λ c. let loop1 = c .before .before .before .before .before in loop1 .loop .inv .0 .long-chains ∙ meet-of t loop1 .meet .ensures .0 .kept-chains)
     (returns-5 t)
