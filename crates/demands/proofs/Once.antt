@@ -10,7 +10,7 @@ use Rattle.graph.specs.Numbers.{drawingIn, drawingOf, numbered}
 use Rattle.graph.specs.Once.{nothingRead, drawOnce}
 use Rattle.graph.proofs.Drawing.{drawing}
 use Rattle.graph.proofs.ReadOnce.{once-demand}
-use Rattle.graph.proofs.ReadFew.{library-within, read-few}
+use Rattle.graph.proofs.ReadFew.{library-nodes, read-few}
 use Rattle.graph_nodes.specs.Adding.{plainAt}
 use Rattle.graph_texts.specs.Texts.{textOf}
 use Rattle.graph_build.proofs.Outcome.{revised-here}
@@ -32,7 +32,7 @@ bytes-once mode = record {
   same = same-drawing mode;
   once = λ s b. once-demand (codesIn mode s b) mostEdges (entriesIn mode s b) .once;
   few = λ s b f.
-      read-few (codesIn mode s b) mostEdges _ (entriesIn mode s b) (library-within mode (textOf b) (plainAt s) (revised-here s (f .reads) (f .bytes)));
+      read-few (codesIn mode s b) mostEdges _ (entriesIn mode s b) (library-nodes mode (textOf b) (plainAt s) (revised-here s (f .reads) (f .bytes)));
 }
 
 pub read-once : ReadOnce

@@ -24,7 +24,7 @@ codesIn mode s b v = codesAt (world mode (textOf b) (plainAt s)) (nodesOf mode (
 abbrev pub entriesIn : Mode → (image bundle : List ℕ) → List EntryCode
 entriesIn mode s b = map (entryCode (world mode (textOf b) (plainAt s)) (nodesOf mode (plainAt s))) (entries (plainAt s))
 
--- the nodes whose texts a graph reads, in order
+-- the nodes whose texts the walk reads, in order; before the walk, where 20, 21, 22 and 30 are told, no text is read
 unfoldable pub textsRead : Mode → (image bundle : List ℕ) → List ℕ
 textsRead mode s b = entriesRead (codesIn mode s b) mostEdges [] nothingRead (entriesIn mode s b)
 
@@ -34,7 +34,7 @@ pub record BytesOnce (mode : Mode) : Type 0 where
   -- the drawing of all entries is that of the plain walk between names
   pub same : (s b : List ℕ) → WellFormed s
       → drawOnce (codesIn mode s b) mostEdges 1 [] nothingRead (entriesIn mode s b) ≡ numbered (walkOf mode mostEdges (textOf b) (plainAt s))
-  -- no text is read twice
+  -- no text is read twice (the last statement of `walks`, by its name)
   pub once : (s b : List ℕ) → List·Nodup (textsRead mode s b)
   -- and no more are read than there are nodes
   pub few : (s b : List ℕ) → WellFormed s → length (textsRead mode s b) ≤ length (nodesOf mode (plainAt s))

@@ -5,8 +5,8 @@ use mathlib.Core.Path.{_≡_, refl, sym}
 use mathlib.Core.List.{List, [], _∷_, map, List·Nodup}
 use lib.ListN.{getD}
 use Rattle.text.specs.Refusal.{noRefusal}
-use Rattle.graph.specs.Graph.{noEntryText, tooDeep, tooManyEdges, deepest, addBy}
-use Rattle.graph.specs.Numbers.{row, memR, Codes, noText, codes, eachO, Drawing, drawn, faulty, EntryCode, drawFrom}
+use Rattle.graph.specs.Graph.{noEntryText, scanRefused, tooDeep, tooManyEdges, deepest, addBy}
+use Rattle.graph.specs.Numbers.{row, memR, Codes, noText, refusedScan, codes, eachO, Drawing, drawn, faulty, EntryCode, drawFrom}
 use Rattle.graph.specs.Once.{nothingRead, Went, walked, halted, includesOnce, walkOnce, drawOnce, includesRead, walkRead, entriesRead}
 use Rattle.graph.proofs.ReadOnce.{once-demand}
 
@@ -78,6 +78,29 @@ examples =
     } ∷
     -- a text that includes itself is read once
     record { limit = 8192; texts = to 0 ∷ []; entries = entry 0 ∷ []; answer = faulty tooDeep 1 noRefusal; read = 0 ∷ [] } ∷
+    -- a module of two sets: its text is read once, and what it lists is gone through twice; where its text is refused, that is told of the first
+    record {
+      limit = 8192;
+      texts = empty ∷ empty ∷ empty ∷ [];
+      entries = record { number = 0; lists = 2 ∷ [] } ∷ record { number = 0; lists = 3 ∷ [] } ∷ [];
+      answer = drawn (row 0 1 ∷ row 0 2 ∷ []);
+      read = 0 ∷ [];
+    } ∷
+    record {
+      limit = 8192;
+      texts = refusedScan noRefusal ∷ [];
+      entries = entry 0 ∷ entry 0 ∷ [];
+      answer = faulty scanRefused 1 noRefusal;
+      read = 0 ∷ [];
+    } ∷
+    -- a module that is a submodule too: 1 was read as an include of 0, and is an entry then
+    record {
+      limit = 8192;
+      texts = to 1 ∷ text (0 ∷ []) [] ∷ [];
+      entries = entry 0 ∷ entry 1 ∷ [];
+      answer = drawn (row 1 0 ∷ row 0 1 ∷ []);
+      read = 0 ∷ 1 ∷ [];
+    } ∷
     -- the edge that closes a circle comes before the circle
     record { limit = 2; texts = to 1 ∷ to 0 ∷ []; entries = entry 0 ∷ []; answer = faulty tooDeep 1 noRefusal; read = 0 ∷ 1 ∷ [] } ∷
     record { limit = 1; texts = to 1 ∷ to 0 ∷ []; entries = entry 0 ∷ []; answer = faulty tooManyEdges 1 noRefusal; read = 0 ∷ 1 ∷ [] } ∷

@@ -18,7 +18,7 @@ use Rattle.graph.specs.Graph.{Text, missing, refusing, deps, World, worl
 use Rattle.graph.specs.Graph.{noEntryText, noIncludedText, tooDeep, deepest, Out, built, refused, onOut}
 use Rattle.graph.specs.Numbers.{numberOf, submoduleCode, codesOf, codesAt, entryCode}
 use Rattle.graph.specs.Numbers.{Row, row, addRow, Codes, noText, refusedScan, codes, eachO, importCode, givenCode, EntryCode}
-use Rattle.graph.specs.Once.{reading, Marks, nothingRead, mark, Went, walked, halted, Below, walkOnce, onWalked, isUnread, Reads, includesRead}
+use Rattle.graph.specs.Once.{reading, Marks, nothingRead, mark, Went, walked, halted, Below, walkOnce, onWalked, isUnread, ReadsBelow, includesRead}
 use Rattle.graph.specs.Once.{visitRead, walkRead, entriesRead}
 use Rattle.graph.proofs.Demand.{no-longer}
 use Rattle.graph.proofs.Tests.{both-bools, memb-mem}
@@ -45,7 +45,7 @@ module _ (P : ℕ → Type 0) where
   abbrev Included : List ℕ → Type 0
   Included cs = (u : ℕ) → List·Memᴰ (suc (suc u)) cs → P u
 
-  module _ (limit : ℕ) (f : Below) (t : Reads) (right : (u : ℕ) → P u → (rs : List Row) (m : Marks) → All (t u rs m)) (v : ℕ) where
+  module _ (limit : ℕ) (f : Below) (t : ReadsBelow) (right : (u : ℕ) → P u → (rs : List Row) (m : Marks) → All (t u rs m)) (v : ℕ) where
     includes-all : (cs : List ℕ) → Included cs → (rs : List Row) (m : Marks) → All (includesRead limit f t v cs rs m)
     unfolding includesRead
     includes-all [] i rs m = none
@@ -109,7 +109,7 @@ module _ (P : ℕ → Type 0) where
 -- ---- n nodes
 
 -- entries and what their texts include are nodes
-pub record Within (at : ℕ → Codes) (n : ℕ) (es : List EntryCode) : Type 0 where
+pub record AllNodes (at : ℕ → Codes) (n : ℕ) (es : List EntryCode) : Type 0 where
   pub entries : (e : EntryCode) → List·Memᴰ e es → e .number < n
   pub includes : (v : ℕ) → v < n → (is us : List ℕ) → at v ≡ codes is us → (u : ℕ) → List·Memᴰ (suc (suc u)) us → u < n
 
@@ -141,7 +141,7 @@ includesOf (codes is us) = us
 includesOf noText = []
 includesOf (refusedScan a) = []
 
-pub read-few : (at : ℕ → Codes) (limit n : ℕ) (es : List EntryCode) → Within at n es → length (entriesRead at limit [] nothingRead es) ≤ n
+pub read-few : (at : ℕ → Codes) (limit n : ℕ) (es : List EntryCode) → AllNodes at n es → length (entriesRead at limit [] nothingRead es) ≤ n
 read-few at limit n es w =
     let all = entries-all (λ u. u < n) at limit (w .includes) es (w .entries) [] nothingRead in
     let k = no-longer (entriesRead at limit [] nothingRead es) (down n) (once-demand at limit es .once) (λ u m. down-has n u (all u m)) in
@@ -171,9 +171,9 @@ module _ (mode : Mode) (text : Name → Text) (l : PlainLibrary) (revised : Revi
       let q = Memᴰ·of-map (submoduleCode W ns) includes (subst (λ (cs : List ℕ). List·Memᴰ (suc (suc u)) cs) (sym (ap includesOf e)) m) in
       include-small (q .0) u (q .2)
 
-  pub library-within : Within (codesAt W ns) (length ns) (map (entryCode W ns) (entries l))
+  pub library-nodes : AllNodes (codesAt W ns) (length ns) (map (entryCode W ns) (entries l))
   unfolding codesAt
-  library-within = record {
+  library-nodes = record {
     entries = λ e m. let q = Memᴰ·of-map (entryCode W ns) (entries l) m in
         subst (λ (x : EntryCode). x .number < length ns) (q .2) (number-small ns (q .0 .name) (entry-is-node mode l revised (q .0) (q .1)));
     includes = λ v h is us e. text-small (W .text (getD ns v [])) is us e;

@@ -13,7 +13,7 @@ use Rattle.graph.specs.Graph.{noEntryText, noIncludedText, tooDeep, deep
 use Rattle.graph.specs.Numbers.{Row, row, addRow, Codes, noText, refusedScan, codes, eachO, importCode, givenCode, walkCodes, walkEntryCodes, faulty}
 use Rattle.graph.specs.Numbers.{EntryCode, drawFrom}
 use Rattle.graph.specs.Once.{Mark, unread, reading, below, Marks, nothingRead, mark, Went, walked, halted, thenRows, thenW, Below, includesOnce, ended}
-use Rattle.graph.specs.Once.{visitOnce, met, walkOnce, onWalked, drawOnce, isUnread, Reads, includesRead, visitRead, walkRead, entriesRead, Grows}
+use Rattle.graph.specs.Once.{visitOnce, met, walkOnce, onWalked, drawOnce, isUnread, ReadsBelow, includesRead, visitRead, walkRead, entriesRead, Grows}
 use Rattle.graph.specs.Once.{raised, Between, plainly, OnceDemand}
 use Rattle.graph.proofs.Tests.{both-bools}
 use Rattle.graph.proofs.Rowing.{OnBuilt, each-grows, given-grows}
@@ -22,51 +22,51 @@ use Rattle.graph.proofs.Remembering.{mark-here, Right, entry-right, at-
 -- ---- what is read
 
 -- no text becomes unread
-abbrev Kept : Marks → Marks → Type 0
-Kept m m₁ = (u : ℕ) → isUnread (m₁ u) ≡ true → isUnread (m u) ≡ true
+abbrev NoneUnread : Marks → Marks → Type 0
+NoneUnread m m₁ = (u : ℕ) → isUnread (m₁ u) ≡ true → isUnread (m u) ≡ true
 
 -- xs are read one after another, each unread when its turn comes, and m₁ is left
-unfoldable Turns : Marks → List ℕ → Marks → Type 0
-Turns m [] m₁ = Kept m m₁
-Turns m (v ∷ xs) m₁ = (isUnread (m v) ≡ true) × Turns (mark m v reading) xs m₁
+unfoldable InTurn : Marks → List ℕ → Marks → Type 0
+InTurn m [] m₁ = NoneUnread m m₁
+InTurn m (v ∷ xs) m₁ = (isUnread (m v) ≡ true) × InTurn (mark m v reading) xs m₁
 
 -- a mark that is not "unread" was set
-marked : (m : Marks) (v : ℕ) (x : Mark) → isUnread x ≡ false → Kept m (mark m v x)
+marked : (m : Marks) (v : ℕ) (x : Mark) → isUnread x ≡ false → NoneUnread m (mark m v x)
 marked m v x q u = go (eqb u v)
   where
     go : (b : Bool) → isUnread (cond b x (m u)) ≡ true → isUnread (m u) ≡ true
     go true e = both-bools e q
     go false e = e
 
-both-marked : (m m₁ : Marks) (v : ℕ) → Kept m m₁ → Kept (mark m v reading) (mark m₁ v reading)
+both-marked : (m m₁ : Marks) (v : ℕ) → NoneUnread m m₁ → NoneUnread (mark m v reading) (mark m₁ v reading)
 both-marked m m₁ v k u = go (eqb u v)
   where
     go : (b : Bool) → isUnread (cond b reading (m₁ u)) ≡ true → isUnread (cond b reading (m u)) ≡ true
     go true e = e
     go false e = k u e
 
-turns-before : (m m₁ : Marks) (xs : List ℕ) (m₂ : Marks) → Kept m m₁ → Turns m₁ xs m₂ → Turns m xs m₂
-unfolding Turns
+turns-before : (m m₁ : Marks) (xs : List ℕ) (m₂ : Marks) → NoneUnread m m₁ → InTurn m₁ xs m₂ → InTurn m xs m₂
+unfolding InTurn
 turns-before m m₁ [] m₂ k t = λ u e. k u (t u e)
 turns-before m m₁ (v ∷ xs) m₂ k t = (k v (t .0), turns-before (mark m v reading) (mark m₁ v reading) xs m₂ (both-marked m m₁ v k) (t .1))
 
-turns-after : (m : Marks) (xs : List ℕ) (m₁ m₂ : Marks) → Turns m xs m₁ → Kept m₁ m₂ → Turns m xs m₂
-unfolding Turns
+turns-after : (m : Marks) (xs : List ℕ) (m₁ m₂ : Marks) → InTurn m xs m₁ → NoneUnread m₁ m₂ → InTurn m xs m₂
+unfolding InTurn
 turns-after m [] m₁ m₂ t k = λ u e. t u (k u e)
 turns-after m (v ∷ xs) m₁ m₂ t k = (t .0, turns-after (mark m v reading) xs m₁ m₂ (t .1) k)
 
-turns-append : (m : Marks) (xs : List ℕ) (m₁ : Marks) (ys : List ℕ) (m₂ : Marks) → Turns m xs m₁ → Turns m₁ ys m₂ → Turns m (xs ++ ys) m₂
-unfolding Turns
+turns-append : (m : Marks) (xs : List ℕ) (m₁ : Marks) (ys : List ℕ) (m₂ : Marks) → InTurn m xs m₁ → InTurn m₁ ys m₂ → InTurn m (xs ++ ys) m₂
+unfolding InTurn
 turns-append m [] m₁ ys m₂ t s = turns-before m m₁ ys m₂ t s
 turns-append m (v ∷ xs) m₁ ys m₂ t s = (t .0, turns-append (mark m v reading) xs m₁ ys m₂ (t .1) s)
 
-was-unread : (m : Marks) (xs : List ℕ) (m₁ : Marks) → Turns m xs m₁ → {u : ℕ} → List·Memᴰ u xs → isUnread (m u) ≡ true
-unfolding Turns
+was-unread : (m : Marks) (xs : List ℕ) (m₁ : Marks) → InTurn m xs m₁ → {u : ℕ} → List·Memᴰ u xs → isUnread (m u) ≡ true
+unfolding InTurn
 was-unread m (v ∷ xs) m₁ t (List·Memᴰ·head e) = rw e (t .0)
 was-unread m (v ∷ xs) m₁ t {u} (List·Memᴰ·tail n) = marked m v reading refl u (was-unread (mark m v reading) xs m₁ (t .1) n)
 
-turns-differ : (m : Marks) (xs : List ℕ) (m₁ : Marks) → Turns m xs m₁ → List·Nodup xs
-unfolding Turns
+turns-differ : (m : Marks) (xs : List ℕ) (m₁ : Marks) → InTurn m xs m₁ → List·Nodup xs
+unfolding InTurn
 turns-differ m [] m₁ t = nodup-nil
 turns-differ m (v ∷ xs) m₁ t =
     nodup-cons
@@ -76,18 +76,18 @@ turns-differ m (v ∷ xs) m₁ t =
 -- ---- a walk reads so; where it is refused, some marks are left
 
 abbrev ReadBy : Marks → List ℕ → Went → Type 0
-ReadBy m xs (walked rs m₁ h) = Turns m xs m₁
-ReadBy m xs (halted n a) = (m₁ : Marks) × Turns m xs m₁
+ReadBy m xs (walked rs m₁ h) = InTurn m xs m₁
+ReadBy m xs (halted n a) = (m₁ : Marks) × InTurn m xs m₁
 
-nothing : (m : Marks) → Turns m [] m
-unfolding Turns
+nothing : (m : Marks) → InTurn m [] m
+unfolding InTurn
 nothing m u e = e
 
-then-read : (m : Marks) (xs : List ℕ) (m₁ : Marks) (ys : List ℕ) → Turns m xs m₁ → (w : Went) → ReadBy m₁ ys w → ReadBy m (xs ++ ys) w
+then-read : (m : Marks) (xs : List ℕ) (m₁ : Marks) (ys : List ℕ) → InTurn m xs m₁ → (w : Went) → ReadBy m₁ ys w → ReadBy m (xs ++ ys) w
 then-read m xs m₁ ys t (walked rs m₂ h) s = turns-append m xs m₁ ys m₂ t s
 then-read m xs m₁ ys t (halted n a) s = (s .0, turns-append m xs m₁ ys (s .0) t (s .1))
 
-module _ (limit : ℕ) (f : Below) (t : Reads) (right : (u : ℕ) (rs : List Row) (m : Marks) → ReadBy m (t u rs m) (f u rs m)) (v : ℕ) where
+module _ (limit : ℕ) (f : Below) (t : ReadsBelow) (right : (u : ℕ) (rs : List Row) (m : Marks) → ReadBy m (t u rs m) (f u rs m)) (v : ℕ) where
   includes-read : (cs : List ℕ) (rs : List Row) (m : Marks) (h : ℕ) → ReadBy m (includesRead limit f t v cs rs m) (includesOnce limit f v cs rs m h)
   unfolding includesRead includesOnce
   includes-read [] rs m h = nothing m
@@ -113,7 +113,7 @@ module _ (limit : ℕ) (f : Below) (t : Reads) (right : (u : ℕ) (rs : List Row
 
   visit-read : (absent : ℕ) (c : Codes) (rs : List Row) (m : Marks) → isUnread (m v) ≡ true
       → ReadBy m (visitRead limit f t v c rs m) (visitOnce limit f absent v c rs m)
-  unfolding Turns
+  unfolding InTurn
   visit-read absent noText rs m q = (m, nothing m)
   visit-read absent (refusedScan a) rs m q = (mark m v reading, (q, nothing (mark m v reading)))
   visit-read absent (codes imports includes) rs m q = go (eachO (importCode limit v) imports rs)
@@ -153,7 +153,7 @@ module _ (at : ℕ → Codes) (limit : ℕ) where
       met-read (suc left) v rs m _ _
       (visit-read limit (walkOnce at limit left noIncludedText) (walkRead at limit left) (walk-read left noIncludedText) v absent (at v) rs m)
 
-  entries-read : (es : List EntryCode) (rs : List Row) (m : Marks) → (m₁ : Marks) × Turns m (entriesRead at limit rs m es) m₁
+  entries-read : (es : List EntryCode) (rs : List Row) (m : Marks) → (m₁ : Marks) × InTurn m (entriesRead at limit rs m es) m₁
   unfolding entriesRead
   entries-read [] rs m = (m, nothing m)
   entries-read (e ∷ es) rs m =
@@ -161,15 +161,15 @@ module _ (at : ℕ → Codes) (limit : ℕ) where
       (walk-read deepest noEntryText (e .number) rs m) (entries-read es)
     where
       Rest : Type 0
-      Rest = (rs₂ : List Row) (m₁ : Marks) → (m₂ : Marks) × Turns m₁ (entriesRead at limit rs₂ m₁ es) m₂
+      Rest = (rs₂ : List Row) (m₁ : Marks) → (m₂ : Marks) × InTurn m₁ (entriesRead at limit rs₂ m₁ es) m₂
 
-      listed : (xs : List ℕ) (m₁ : Marks) → Turns m xs m₁ → Rest → (o : Out Row)
-          → (m₂ : Marks) × Turns m (xs ++ onOut o (λ rs₂. entriesRead at limit rs₂ m₁ es) (λ n a. [])) m₂
+      listed : (xs : List ℕ) (m₁ : Marks) → InTurn m xs m₁ → Rest → (o : Out Row)
+          → (m₂ : Marks) × InTurn m (xs ++ onOut o (λ rs₂. entriesRead at limit rs₂ m₁ es) (λ n a. [])) m₂
       listed xs m₁ r ih (built rs₂) = let i = ih rs₂ m₁ in (i .0, turns-append m xs m₁ (entriesRead at limit rs₂ m₁ es) (i .0) r (i .1))
       listed xs m₁ r ih (refused n a) = (m₁, turns-append m xs m₁ [] m₁ r (nothing m₁))
 
       go : (xs : List ℕ) (w : Went) → ReadBy m xs w → Rest
-          → (m₂ : Marks) × Turns m (xs ++ onWalked w
+          → (m₂ : Marks) × InTurn m (xs ++ onWalked w
           (λ rs₁ m₁. onOut (eachO (givenCode limit (e .number)) (e .lists) rs₁) (λ rs₂. entriesRead at limit rs₂ m₁ es) (λ n a. []))
           (λ n a. [])) m₂
       go xs (walked rs₁ m₁ h) r ih = listed xs m₁ r ih (eachO (givenCode limit (e .number)) (e .lists) rs₁)

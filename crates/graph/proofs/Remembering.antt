@@ -51,10 +51,10 @@ module _ (at : ℕ → Codes) (limit : ℕ) where
 
   -- ---- what holds throughout
 
-  pub record Sound (m : Marks) (rs : List Row) : Type 0 where
+  pub record AllDone (m : Marks) (rs : List Row) : Type 0 where
     pub done : (u h : ℕ) → m u ≡ below h → Done at limit h u rs
 
-  sound-grows : (m : Marks) (rs rs₁ : List Row) → Grows rs rs₁ → Sound m rs → Sound m rs₁
+  sound-grows : (m : Marks) (rs rs₁ : List Row) → Grows rs rs₁ → AllDone m rs → AllDone m rs₁
   sound-grows m rs rs₁ g s = record { done = λ u h e. done-grows at limit rs₁ g (s .done u h e) }
 
   -- each text that is being walked is at one that is being walked too, or at v
@@ -66,22 +66,22 @@ module _ (at : ℕ → Codes) (limit : ℕ) where
     pub back : (u : ℕ) → m₁ u ≡ reading → m u ≡ reading
 
   -- v was walked: rows, marks and includes below, beside what the plain walk gives
-  pub record Through (m : Marks) (rs : List Row) (v : ℕ) (rs₁ : List Row) (m₁ : Marks) (h : ℕ) (plain : Out Row) : Type 0 where
+  pub record WalkedThrough (m : Marks) (rs : List Row) (v : ℕ) (rs₁ : List Row) (m₁ : Marks) (h : ℕ) (plain : Out Row) : Type 0 where
     pub same : plain ≡ built rs₁
     pub grows : Grows rs rs₁
-    pub sound : Sound m₁ rs₁
+    pub sound : AllDone m₁ rs₁
     pub opens : SameOpen m m₁
     pub its : m₁ v ≡ below h
 
   abbrev pub Right : (m : Marks) (rs : List Row) (v : ℕ) → Went → Out Row → Type 0
-  Right m rs v (walked rs₁ m₁ h) plain = Through m rs v rs₁ m₁ h plain
+  Right m rs v (walked rs₁ m₁ h) plain = WalkedThrough m rs v rs₁ m₁ h plain
   Right m rs v (halted n a) plain = plain ≡ refused n a
 
   -- some includes of v were walked
   record Along (imports : List ℕ) (m : Marks) (rs : List Row) (v : ℕ) (cs : List ℕ) (rs₁ : List Row) (m₁ : Marks) (h : ℕ) (plain : Out Row) : Type 0 where
     same : plain ≡ built rs₁
     grows : Grows rs rs₁
-    sound : Sound m₁ rs₁
+    sound : AllDone m₁ rs₁
     opens : SameOpen m m₁
     gone : Gone at limit v rs₁ cs h
     imported : Imported imports v rs₁
@@ -95,7 +95,7 @@ module _ (at : ℕ → Codes) (limit : ℕ) where
     text : at v ≡ codes imports (before ++ cs)
     imported : Imported imports v rs
     gone : Gone at limit v rs before h
-    sound : Sound m rs
+    sound : AllDone m rs
     its : m v ≡ reading
     others : (u : ℕ) → m u ≡ reading → (u ≡ v → ⊥) → (x : ℕ) × Frame at limit u x rs × (m x ≡ reading)
 
@@ -122,7 +122,7 @@ module _ (at : ℕ → Codes) (limit : ℕ) where
 
   -- the next include
   next : (imports before cs : List ℕ) (h v u : ℕ) (rs : List Row) (m : Marks) → At imports before (suc (suc u) ∷ cs) h v rs m → (rs₁ : List Row)
-      → Added (row u v) rs rs₁ → (rs₂ : List Row) (m₂ : Marks) (k : ℕ) {plain : Out Row} → Through m rs₁ u rs₂ m₂ k plain
+      → Added (row u v) rs rs₁ → (rs₂ : List Row) (m₂ : Marks) (k : ℕ) {plain : Out Row} → WalkedThrough m rs₁ u rs₂ m₂ k plain
       → At imports (before ++ (suc (suc u) ∷ [])) cs (raised h k) v rs₂ m₂
   next imports before cs h v u rs m a rs₁ d rs₂ m₂ k t = record {
     text = a .text ∙ ap (codes imports) (sym (append-assoc before (suc (suc u) ∷ []) cs));
@@ -138,7 +138,7 @@ module _ (at : ℕ → Codes) (limit : ℕ) where
 
   -- the walk of an included text is right
   abbrev RightBelow : (left : ℕ) → Type 0
-  RightBelow left = (u : ℕ) (rs : List Row) (m : Marks) → Sound m rs → Open m rs u → Right m rs u (belowOnce at limit left u rs m) (under at limit left u rs)
+  RightBelow left = (u : ℕ) (rs : List Row) (m : Marks) → AllDone m rs → Open m rs u → Right m rs u (belowOnce at limit left u rs m) (under at limit left u rs)
 
   -- all includes of v, from those that are done on
   along : (left : ℕ) → RightBelow left → (imports before cs : List ℕ) (h v : ℕ) (rs : List Row) (m : Marks) → At imports before cs h v rs m
@@ -202,7 +202,7 @@ module _ (at : ℕ → Codes) (limit : ℕ) where
   not-reading p q = both-bools (ap isReading q) (ap isReading p)
 
   -- where v begins: its imports are done
-  begun : (imports includes : List ℕ) (v : ℕ) (rs : List Row) (m : Marks) → at v ≡ codes imports includes → m v ≡ unread → Sound m rs → Open m rs v
+  begun : (imports includes : List ℕ) (v : ℕ) (rs : List Row) (m : Marks) → at v ≡ codes imports includes → m v ≡ unread → AllDone m rs → Open m rs v
       → (rs₁ : List Row) → Imports imports v rs rs₁ → At imports [] includes 0 v rs₁ (mark m v reading)
   begun imports includes v rs m e f s o rs₁ i = record {
     text = e;
@@ -247,7 +247,7 @@ module _ (at : ℕ → Codes) (limit : ℕ) where
           (mark-cases m₂ v (below h) u q)
   finished imports includes v rs m e f rs₁ g (halted n x) p a = a
 
-  visited : (left : ℕ) → RightBelow left → (absent v : ℕ) (rs : List Row) (m : Marks) → m v ≡ unread → Sound m rs → Open m rs v → (c : Codes) → at v ≡ c
+  visited : (left : ℕ) → RightBelow left → (absent v : ℕ) (rs : List Row) (m : Marks) → m v ≡ unread → AllDone m rs → Open m rs v → (c : Codes) → at v ≡ c
       → Right m rs v (visitOnce limit (belowOnce at limit left) absent v c rs m) (visitCodes limit (under at limit left) absent v c rs)
   visited left right absent v rs m f s o noText e = refl
   visited left right absent v rs m f s o (refusedScan a) e = refl
@@ -267,7 +267,7 @@ module _ (at : ℕ → Codes) (limit : ℕ) where
 
   -- ---- any text, by its mark
 
-  by-mark : (left absent v : ℕ) (rs : List Row) (m : Marks) → Sound m rs → Open m rs v → (x : Mark) → m v ≡ x → (w : Went)
+  by-mark : (left absent v : ℕ) (rs : List Row) (m : Marks) → AllDone m rs → Open m rs v → (x : Mark) → m v ≡ x → (w : Went)
       → (m v ≡ unread → Right m rs v w (walkCodes at limit left absent v rs)) → Right m rs v (met x left rs m w) (walkCodes at limit left absent v rs)
   by-mark left absent v rs m s o unread e w r = r e
   by-mark left absent v rs m s o reading e w r = stuck at limit (λ u. m u ≡ reading) rs on left absent v e rs (same-rows rs)
@@ -285,13 +285,13 @@ module _ (at : ℕ → Codes) (limit : ℕ) where
       go true q = record { same = q; grows = same-rows rs; sound = s; opens = record { there = λ u p. p; back = λ u p. p }; its = e }
       go false q = q
 
-  from-below : (left : ℕ) → RightBelow left → (absent v : ℕ) (rs : List Row) (m : Marks) → Sound m rs → Open m rs v
+  from-below : (left : ℕ) → RightBelow left → (absent v : ℕ) (rs : List Row) (m : Marks) → AllDone m rs → Open m rs v
       → Right m rs v (walkOnce at limit left absent v rs m) (walkCodes at limit left absent v rs)
   from-below left right absent v rs m s o =
       rw (once-is left absent v rs m) (by-mark left absent v rs m s o (m v) refl (visitOnce limit (belowOnce at limit left) absent v (at v) rs m)
       (λ f. rw (plain-is at limit left absent v rs) (visited left right absent v rs m f s o (at v) refl)))
 
-  pub once-right : (left absent v : ℕ) (rs : List Row) (m : Marks) → Sound m rs → Open m rs v
+  pub once-right : (left absent v : ℕ) (rs : List Row) (m : Marks) → AllDone m rs → Open m rs v
       → Right m rs v (walkOnce at limit left absent v rs m) (walkCodes at limit left absent v rs)
   unfolding belowOnce
   once-right zero = from-below zero (λ u rs m s o. refl)
@@ -309,46 +309,9 @@ module _ (at : ℕ → Codes) (limit : ℕ) where
   entry-right absent v rs m b left =
       once-right left absent v rs m (record { done = b .done }) (record { frame = λ u e. absurd (b .closed u e) })
 
-  pub between-through : {v : ℕ} {rs rs₁ : List Row} {m m₁ : Marks} {h : ℕ} {plain : Out Row} → Between at limit m rs → Through m rs v rs₁ m₁ h plain
+  pub between-through : {v : ℕ} {rs rs₁ : List Row} {m m₁ : Marks} {h : ℕ} {plain : Out Row} → Between at limit m rs → WalkedThrough m rs v rs₁ m₁ h plain
       → Between at limit m₁ rs₁
   between-through b t = record { done = t .sound .done; closed = λ u e. b .closed u (t .opens .back u e) }
 
   pub between-grows : (m : Marks) (rs rs₁ : List Row) → Grows rs rs₁ → Between at limit m rs → Between at limit m rs₁
   between-grows m rs rs₁ g b = record { done = sound-grows m rs rs₁ g (record { done = b .done }) .done; closed = b .closed }
-
-  -- ---- a walk leaves its height in the mark, whatever the marks were
-
-  abbrev Told : (v : ℕ) → Went → Type 0
-  Told v (walked rs m h) = m v ≡ below h
-  Told v (halted n a) = Unit {0}
-
-  told : (left absent v : ℕ) (rs : List Row) (m : Marks) → Told v (walkOnce at limit left absent v rs m)
-  told left absent v rs m =
-      rw (once-is left absent v rs m) (go (m v) refl (visitOnce limit (belowOnce at limit left) absent v (at v) rs m) (visit (at v)))
-    where
-      end : (w : Went) → Told v (thenW w (ended v))
-      end (walked rs₁ m₁ h) = mark-here m₁ v (below h)
-      end (halted n a) = tt
-
-      visit : (c : Codes) → Told v (visitOnce limit (belowOnce at limit left) absent v c rs m)
-      visit noText = tt
-      visit (refusedScan a) = tt
-      visit (codes imports includes) = imported (eachO (importCode limit v) imports rs)
-        where
-          imported : (o : Out Row)
-              → Told v (thenRows o (λ rs₁. thenW (includesOnce limit (belowOnce at limit left) v includes rs₁ (mark m v reading) 0) (ended v)))
-          imported (built rs₁) = end (includesOnce limit (belowOnce at limit left) v includes rs₁ (mark m v reading) 0)
-          imported (refused n a) = tt
-
-      known : (h : ℕ) → m v ≡ below h → (b : Bool) → Told v (cond b (walked rs m h) (halted tooDeep noRefusal))
-      known h e true = e
-      known h e false = tt
-
-      go : (x : Mark) → m v ≡ x → (w : Went) → Told v w → Told v (met x left rs m w)
-      go unread e w l = l
-      go reading e w l = tt
-      go (below h) e w l = known h e (leb h left)
-
-  pub once-height : (left absent v : ℕ) (rs : List Row) (m : Marks) {rs₁ : List Row} {m₁ : Marks} {h : ℕ}
-      → walkOnce at limit left absent v rs m ≡ walked rs₁ m₁ h → m₁ v ≡ below h
-  once-height left absent v rs m e = subst (λ (w : Went). Told v w) e (told left absent v rs m)

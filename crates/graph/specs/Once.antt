@@ -13,7 +13,7 @@ use Rattle.graph.specs.Graph.{onOut}
 use Rattle.graph.specs.Numbers.{Row, row, memR, addRow, Codes, noText, refusedScan, codes, eachO, importCode, givenCode, walkCodes, Drawing, drawn}
 use Rattle.graph.specs.Numbers.{faulty, EntryCode, drawFrom}
 
--- ---- the marks
+-- ---- the marks: what is remembered of each node's text; they are not the marks of graph_marks, which say what a node may be
 
 -- a text was not read yet, is being walked, or was walked with so many includes below it
 pub data Mark : Type 0 where
@@ -109,10 +109,10 @@ isUnread reading = false
 isUnread (below h) = false
 
 -- what is read below an included text
-abbrev pub Reads : Type 0
-Reads = ℕ → List Row → Marks → List ℕ
+abbrev pub ReadsBelow : Type 0
+ReadsBelow = ℕ → List Row → Marks → List ℕ
 
-unfoldable pub includesRead : (limit : ℕ) → Below → Reads → (v : ℕ) → List ℕ → List Row → Marks → List ℕ
+unfoldable pub includesRead : (limit : ℕ) → Below → ReadsBelow → (v : ℕ) → List ℕ → List Row → Marks → List ℕ
 includesRead limit f t v [] rs m = []
 includesRead limit f t v (zero ∷ cs) rs m = []
 includesRead limit f t v (suc zero ∷ cs) rs m = []
@@ -120,7 +120,7 @@ includesRead limit f t v (suc (suc u) ∷ cs) rs m =
     onOut (addRow limit rs (row u v)) (λ rs₁. t u rs₁ m ++ onWalked (f u rs₁ m) (λ rs₂ m₂. includesRead limit f t v cs rs₂ m₂) (λ n a. []))
     (λ n a. [])
 
-abbrev pub visitRead : (limit : ℕ) → Below → Reads → (v : ℕ) → Codes → List Row → Marks → List ℕ
+abbrev pub visitRead : (limit : ℕ) → Below → ReadsBelow → (v : ℕ) → Codes → List Row → Marks → List ℕ
 visitRead limit f t v noText rs m = []
 visitRead limit f t v (refusedScan a) rs m = v ∷ []
 visitRead limit f t v (codes imports includes) rs m =

@@ -26,7 +26,7 @@ use Rattle.graph_build.specs.Between.{LentNodes, Holds}
 use Rattle.graph_entries.specs.declared.Drawn.{Drawn}
 use Rattle.graph_entries.specs.declared.Drawn.the-variants.{Built as DrawnBuilt, Refused as DrawnRefused}
 use Rattle.graph_build.specs.declared.Graphed.the-variants.{Built, Refused}
-use Rattle.graph_draw.proofs.Drawing.{as-lent}
+use Rattle.graph_visit.proofs.Visiting.{same-long}
 use Rattle.graph_build.proofs.Ways.{Ready, too-many, draw-refused, draw-built, nodes-asked, nodes-laid}
 
 pub no-nodes : (n : ℕ) → zeros n ≡ padded n (nodeWords [])
@@ -63,7 +63,7 @@ module _ {mode : Mode} {s b btab : List ℕ} {texts : ℕ} (p : BothRead s b bta
             answer = ap₂ (λ (i : ℕ) (a : Refusal). Refused i 0 a 0) (m ∙ ap nodesNumber e) z ∙ sym (ap (λ (y : Result). y .answer) x);
             nodes = h .zero ∙ no-nodes (length nodes) ∙ sym (ap (λ (y : Result). padded (length nodes) (nodeWords (y .nodes))) x);
             edges = f .edges-zero ∙ no-rows (length edges) ∙ sym (ap (λ (y : Result). padded (length edges) (rowWords (y .rows))) x);
-            kept = as-lent store imports includes levels;
+            kept = same-long store imports includes levels;
           }
 
       module _ {n : ℕ} (e : r ≡ Count n) {d : Drawn} {store₁ imports₁ includes₁ levels₁ edges₁ : List ℕ}

@@ -5,7 +5,7 @@ use mathlib.Core.Path.{_≡_}
 use mathlib.Core.List.{List}
 use lib.ListN.{length}
 use Rattle.text_lent.specs.Padded.{zeros, padded}
-use Rattle.graph_draw.specs.Draw.{AsLong}
+use Rattle.graph_visit.specs.Visit.{AsLong}
 use Rattle.graph_tables.specs.Lengths.{nodeTable}
 use Rattle.graph_tables.specs.Tables.{nodeWords, rowWords}
 use Rattle.graph_build.specs.Result.{Result}

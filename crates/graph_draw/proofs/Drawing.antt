@@ -18,14 +18,15 @@ use Rattle.graph_marks.specs.Marks.{Marked, markTable}
 use Rattle.graph_memory.specs.Memory.{remembered}
 use Rattle.graph_memory.proofs.Words.{blank}
 use Rattle.graph.specs.Once.{nothingRead}
-use Rattle.graph_visit.specs.Visit.{Ground, Room, Kept}
+use Rattle.graph_visit.specs.Visit.{Ground, Room, AsLong, Kept}
+use Rattle.graph_visit.proofs.Visiting.{same-long, longer, other-levels}
 use Rattle.graph_visit.specs.declared.Sizes.{Sizes}
 use Rattle.graph_tables.specs.Tables.{rowWords}
 use Rattle.graph_tables.proofs.Tables.{rows-table}
 use Rattle.graph_entries.specs.Entries.{Walks, drawnSeen}
 use Rattle.graph_entries.specs.declared.Drawn.{Drawn}
 use Rattle.graph_entries.specs.declared.Drawn.the-variants.{Built as DrawnBuilt, Refused as DrawnRefused}
-use Rattle.graph_draw.specs.Draw.{Prepared, Lent, AsLong, Edged}
+use Rattle.graph_draw.specs.Draw.{Prepared, Lent, Edged}
 
 pub no-rows : (n : ℕ) → zeros n ≡ padded n (rowWords [])
 unfolding rowWords
@@ -66,13 +67,10 @@ module _ {b store imports includes levels edges : List ℕ} (g : Lent b store im
   pub none-read : remembered levels₀ ≡ nothingRead
   none-read = blank levels₀ (length levels) z
 
-pub as-lent : (store imports includes levels : List ℕ) → AsLong store imports includes levels store imports includes levels
-as-lent store imports includes levels = record { store-long = refl; imports-long = refl; includes-long = refl; levels-long = refl }
-
 kept-long : {above : ℕ} {store imports includes levels levels₀ store₁ imports₁ includes₁ levels₁ : List ℕ} → length levels₀ ≡ length levels
     → Kept above store imports includes levels₀ store₁ imports₁ includes₁ levels₁ → AsLong store imports includes levels store₁ imports₁ includes₁ levels₁
-kept-long e k =
-    record { store-long = k .store-long; imports-long = k .imports-long; includes-long = k .includes-long; levels-long = k .levels-long ∙ e }
+kept-long {store = store} {imports = imports} {includes = includes} {levels = levels} e k =
+    longer (other-levels (same-long store imports includes levels) e) (k .long)
 
 module _ {s b : List ℕ} {ns : List Name} {store imports includes levels levels₀ edges chains : List ℕ} {r : Drawn}
     {store₁ imports₁ includes₁ levels₁ edges₁ chains₁ : List ℕ} (l : length levels₀ ≡ length levels)

@@ -20,6 +20,7 @@ use Rattle.graph_edges.specs.Edges.{edgeTable, rowsIn}
 use Rattle.graph_nodes.specs.Adding.{plainAt, namesHeld, Holding}
 use Rattle.graph_texts.specs.Texts.{ScanRoom}
 use Rattle.graph_link.specs.Link.{allLevels}
+use Rattle.graph_visit.specs.Visit.{AsLong}
 use Rattle.graph_visit.specs.declared.Sizes.{Sizes}
 use Rattle.graph_tables.specs.Tables.{rowWords}
 use Rattle.graph_entries.specs.Entries.{drawItems, drawnSeen}
@@ -44,13 +45,6 @@ pub record Lent (b store imports includes levels edges : List ℕ) : Type 0 wher
   pub levels-room : allLevels ≤ length levels
   pub edges-room : edgeTable ≤ length edges
   pub edges-zero : edges ≡ zeros (length edges)
-
--- scratch is as long as before
-pub record AsLong (store imports includes levels store₁ imports₁ includes₁ levels₁ : List ℕ) : Type 0 where
-  pub store-long : length store₁ ≡ length store
-  pub imports-long : length imports₁ ≡ length imports
-  pub includes-long : length includes₁ ≡ length includes
-  pub levels-long : length levels₁ ≡ length levels
 
 -- the edges that there are; a refusal leaves none
 abbrev pub rowsLeft : Drawn → List ℕ → List Row

@@ -34,7 +34,7 @@ use Rattle.graph_memory.specs.Memory.{heightIn, remembered}
 use Rattle.graph_walk.specs.Walk.{walkedSeen, WalkReady, Through}
 use Rattle.graph_visit.specs.Visit.{codesHere, Room, Kept}
 use Rattle.graph_memory.proofs.Words.{stays-on}
-use Rattle.graph_visit.proofs.Visiting.{kept-same}
+use Rattle.graph_visit.proofs.Visiting.{longer, kept-same}
 use Rattle.graph_link.specs.declared.Walked.{Walked}
 use Rattle.graph_link.specs.declared.Walked.the-variants.{Built, Refused}
 use Rattle.graph_entries.specs.Entries.{isListed, itemNode, itemWalk, nextNode, nextEntry, drawItems, Next, Placed, WalkBetween, Walks}
@@ -85,16 +85,16 @@ module _ (s b : List ℕ) (ns : List Name) (x : Item) (v : ℕ) (rs : List Row) 
   asked p q = ap₂ asks (sym p) (sym q)
 
 -- what the walk with a memory leaves is what the plain walk leaves, and what the next entry asks
-plainly : (at : ℕ → Codes) (v : ℕ) (rs : List Row) (levels levels₁ edges₁ : List ℕ) → Between at mostEdges (remembered levels) rs → (w : Walked)
+as-plain : (at : ℕ → Codes) (v : ℕ) (rs : List Row) (levels levels₁ edges₁ : List ℕ) → Between at mostEdges (remembered levels) rs → (w : Walked)
     → walkedSeen v w levels₁ edges₁ ≡ walkOnce at mostEdges 8 23 v rs (remembered levels)
     → (walkSeen w edges₁ ≡ walkCodes at mostEdges 8 23 v rs) × WalkBetween at w levels₁ edges₁
-plainly at v rs levels levels₁ edges₁ h (Built n) q =
+as-plain at v rs levels levels₁ edges₁ h (Built n) q =
     let r : Right at mostEdges (remembered levels) rs v (walked (rowsIn n edges₁) (remembered levels₁) (heightIn levels₁ v))
     (walkCodes at mostEdges 8 23 v rs) =
     subst (λ (o : Went). Right at mostEdges (remembered levels) rs v o (walkCodes at mostEdges 8 23 v rs)) (sym q)
     (entry-right at mostEdges 23 v rs (remembered levels) h 8) in
     (sym (r .same), between-through at mostEdges h r)
-plainly at v rs levels levels₁ edges₁ h (Refused number a) q =
+as-plain at v rs levels levels₁ edges₁ h (Refused number a) q =
     let r : Right at mostEdges (remembered levels) rs v (halted number a) (walkCodes at mostEdges 8 23 v rs) =
     subst (λ (o : Went). Right at mostEdges (remembered levels) rs v o (walkCodes at mostEdges 8 23 v rs)) (sym q)
     (entry-right at mostEdges 23 v rs (remembered levels) h 8) in
@@ -117,7 +117,7 @@ module _ (s b : List ℕ) {ns : List Name} {n : ℕ} {x : Item} {v : ℕ} (g : P
       {levels₁ edges₁ chains₁ : List ℕ}
       (d : Through (walkOnce (codesHere s b ns) mostEdges 8 23 v (rowsIn count edges) (remembered levels)) 8 v edges chains w levels₁ edges₁ chains₁) where
     plain : (walkSeen w edges₁ ≡ walkCodes (codesHere s b ns) mostEdges 8 23 v (rowsIn count edges)) × WalkBetween (codesHere s b ns) w levels₁ edges₁
-    plain = plainly (codesHere s b ns) v (rowsIn count edges) levels levels₁ edges₁ h w (d .seen)
+    plain = as-plain (codesHere s b ns) v (rowsIn count edges) levels levels₁ edges₁ h w (d .seen)
 
     pub item-walked : Drew (itemWalk s b ns (itemWord s x) v (rowsIn count edges)) edges chains w edges₁ chains₁
     item-walked = record {
@@ -314,10 +314,7 @@ module _ {s b : List ℕ} {ns : List Name} {n : ℕ} {table : List ℕ} {items :
           module _ {store₁ imports₁ includes₁ levels₁ : List ℕ} (c : Kept allLevels store imports includes levels store₁ imports₁ includes₁ levels₁) where
             kept-on : Kept allLevels store₀ imports₀ includes₀ levels₀ store₁ imports₁ includes₁ levels₁
             kept-on = record {
-              store-long = c .store-long ∙ g .kept .store-long;
-              imports-long = c .imports-long ∙ g .kept .imports-long;
-              includes-long = c .includes-long ∙ g .kept .includes-long;
-              levels-long = c .levels-long ∙ g .kept .levels-long;
+              long = longer (g .kept .long) (c .long);
               stays-read = stays-on (g .kept .stays-read) (c .stays-read);
               above-kept = c .above-kept ∙ g .kept .above-kept;
             }
@@ -349,12 +346,12 @@ module _ {s b : List ℕ} {ns : List Name} {n : ℕ} {table : List ℕ} {items :
               low = λ z. o;
               tables = record {
                 scan = record {
-                  store-room = omega (arith, g .tables .scan .store-room, c .store-long);
-                  import-room = omega (arith, g .tables .scan .import-room, c .imports-long);
-                  include-room = omega (arith, g .tables .scan .include-room, c .includes-long);
+                  store-room = omega (arith, g .tables .scan .store-room, c .long .store-long);
+                  import-room = omega (arith, g .tables .scan .import-room, c .long .imports-long);
+                  include-room = omega (arith, g .tables .scan .include-room, c .long .includes-long);
                 };
                 deep = g .tables .deep;
-                level-room = omega (arith, g .tables .level-room, c .levels-long);
+                level-room = omega (arith, g .tables .level-room, c .long .levels-long);
                 edges-so-far = rw y at (d .filed);
               };
               between = rw y at q;

@@ -1,6 +1,6 @@
 -- The words of the memory as marks: what is put down is the mark of one node and no other, and what lies above stays.
 -- Assumes nothing.
-use Prim.Native.Nat.{ℕ, suc, max, _+_, _-_, _*_, _≤_, _<_}
+use Prim.Native.Nat.{ℕ, _+_, _-_, _*_, _≤_, _<_}
 use mathlib.Core.Path.{_≡_, refl, sym, ap, ap₂, _∙_, fun-ext}
 use mathlib.Core.Bool.{Bool, true, false, cond, true≢false}
 use mathlib.Core.List.{List}
@@ -15,7 +15,7 @@ use Rattle.text_lent.specs.Padded.{zeros}
 use Rattle.text_lent.proofs.Zeros.{zeros-zero}
 use Rattle.graph.specs.Limits.{mostNodes}
 use Rattle.graph.specs.Graph.{deepest}
-use Rattle.graph.specs.Once.{Mark, unread, reading, below, Marks, nothingRead, mark}
+use Rattle.graph.specs.Once.{Mark, unread, reading, below, Marks, nothingRead, mark, raised}
 use Rattle.graph.proofs.Remembering.{isBelow}
 use Rattle.graph_memory.specs.Memory.{memoryWords, markOf, heightIn, remembered, recalled, StaysRead, Remembers}
 use Rattle.graph_memory.specs.declared.Recalled.{Recalled}
@@ -113,11 +113,11 @@ module _ (levels : List ℕ) (u at : ℕ) (z : at ≡ u * 2) (h : ℕ) (y : h �
   pub raise-fits : heightIn levels u ≤ deepest → Fits w64 (h + 1)
   raise-fits k = record { fits = omega (arith, its-own) }
 
-  pub raised : (most : ℕ) → most < h + 1 → h + 1 ≡ max most (suc (heightIn levels u))
-  raised most k = omega (arith, its-own)
+  pub by-this : (most : ℕ) → most < h + 1 → h + 1 ≡ raised most (heightIn levels u)
+  by-this most k = omega (arith, its-own)
 
-  pub not-raised : (most : ℕ) → h + 1 ≤ most → most ≡ max most (suc (heightIn levels u))
-  not-raised most k = omega (arith, its-own)
+  pub by-another : (most : ℕ) → h + 1 ≤ most → most ≡ raised most (heightIn levels u)
+  by-another most k = omega (arith, its-own)
 
 -- ---- the way out of `remember`
 

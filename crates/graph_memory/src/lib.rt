@@ -2,10 +2,11 @@
 // includes lie below it.
 use graph::NodeIndex;
 ghost use mathlib.Core.Path.{_≡_};
-ghost use Prim.Native.Nat.{suc, max, _≤_, _<_};
+ghost use Prim.Native.Nat.{_≤_, _<_};
 ghost use lib.ListN.{length};
 ghost use Rattle.graph.specs.Limits.{mostNodes};
 ghost use Rattle.graph.specs.Graph.{deepest};
+ghost use Rattle.graph.specs.Once.{raised};
 ghost use Rattle.graph_memory.specs.Memory.{memoryWords, markOf, heightIn, remembered, recalled, Remembers};
 
 // How many words the memory has.
@@ -57,7 +58,7 @@ pub fn remember(levels: &mut [u32], v: NodeIndex, state: u32, below: usize)
 // The longest chain of includes below a text, where `most` is the longest by its includes before u, and u's text was walked.
 pub fn raise(levels: &[u32], u: NodeIndex, most: usize) -> usize
     requires { ⌜ (memoryWords ≤ length (now levels)) × (u .0 < mostNodes) × (heightIn (now levels) (u .0) ≤ deepest) ⌝ }
-    ensures { λ r. ⌜ r ≡ max most (suc (heightIn (now (levels .entry)) (u .0))) ⌝ }
+    ensures { λ r. ⌜ r ≡ raised most (heightIn (now (levels .entry)) (u .0)) ⌝ }
 {
     let at = graph::pair_row(u);
     let by = text_lent::of_word(levels[at + 1]) + 1;

@@ -26,7 +26,7 @@ use Rattle.graph_texts.specs.Texts.{textOf, textSeen, SeenAs, ScanRoom}
 use Rattle.graph_texts.specs.declared.Seen.{Seen}
 use Rattle.graph_texts.specs.declared.Seen.the-variants.{Missing, Refused as Unscanned, Rows}
 use Rattle.graph_link.specs.Link.{levelWords, levelAt, importCodes, includeCodes, ImportRows, IncludeRows, walkSeen, Drew, Saved}
-use Rattle.graph_visit.specs.Visit.{worldOf, codesHere, Room, Kept, Called, visited, metHere}
+use Rattle.graph_visit.specs.Visit.{worldOf, codesHere, Room, AsLong, Kept, Called, visited, metHere}
 use Rattle.graph.proofs.Tests.{both-bools}
 use Rattle.graph.proofs.Remembering.{isReading}
 use Rattle.graph_link.specs.declared.Walked.{Walked}
@@ -122,13 +122,13 @@ module _ (t : Text) (d f₀ g₀ : List ℕ) (r : Seen) (e f g : List ℕ) (l : 
       let few : (m ≤ mostRows) × (k ≤ mostRows) = rw z at (l .few) in
       record { few = few .1; room = omega (arith, o .include-room, l .kept-includes); level-room = h }
 
+  seen-long : {levels levels₁ : List ℕ} → length levels₁ ≡ length levels → AsLong d f₀ g₀ levels e f g levels₁
+  seen-long k = record { store-long = l .kept-store; imports-long = l .kept-imports; includes-long = l .kept-includes; levels-long = k }
+
   module _ (left : ℕ) {v : ℕ} {levels levels₀ : List ℕ} (y : Remembers levels v reading levels₀) where
     pub kept-levels : Kept (levelAt (left + 1)) d f₀ g₀ levels e f g levels₀
     kept-levels = record {
-      store-long = l .kept-store;
-      imports-long = l .kept-imports;
-      includes-long = l .kept-includes;
-      levels-long = y .long;
+      long = seen-long (y .long);
       stays-read = stays-marked y reading-read;
       above-kept = later memoryWords (levelAt (left + 1)) levels₀ levels (omega arith) (y .above);
     }
@@ -138,10 +138,7 @@ module _ (t : Text) (d f₀ g₀ : List ℕ) (r : Seen) (e f g : List ℕ) (l : 
     kept-above n cs k levels₁ a =
         let q : levelAt left + levelWords ≡ levelAt (left + 1) = omega arith in
         record {
-          store-long = l .kept-store;
-          imports-long = l .kept-imports;
-          includes-long = l .kept-includes;
-          levels-long = a .kept ∙ y .long;
+          long = seen-long (a .kept ∙ y .long);
           stays-read = stays-on (stays-marked y reading-read) (stays-equal levels₀ levels₁ (saved-same left a));
           above-kept = rw q at (a .above) ∙ later memoryWords (levelAt (left + 1)) levels₀ levels (omega arith) (y .above);
         }
@@ -157,15 +154,28 @@ isDeep TooDeep = true
 isDeep Unread = false
 isDeep Recall = false
 
-pub kept-same : (above : ℕ) (store imports includes levels : List ℕ) → Kept above store imports includes levels store imports includes levels
-kept-same above store imports includes levels = record {
-  store-long = refl;
-  imports-long = refl;
-  includes-long = refl;
-  levels-long = refl;
-  stays-read = stays-same levels;
-  above-kept = refl;
+pub same-long : (store imports includes levels : List ℕ) → AsLong store imports includes levels store imports includes levels
+same-long store imports includes levels = record { store-long = refl; imports-long = refl; includes-long = refl; levels-long = refl }
+
+pub longer : {store₀ imports₀ includes₀ levels₀ store imports includes levels store₁ imports₁ includes₁ levels₁ : List ℕ}
+    → AsLong store₀ imports₀ includes₀ levels₀ store imports includes levels → AsLong store imports includes levels store₁ imports₁ includes₁ levels₁
+    → AsLong store₀ imports₀ includes₀ levels₀ store₁ imports₁ includes₁ levels₁
+longer l p = record {
+  store-long = p .store-long ∙ l .store-long;
+  imports-long = p .imports-long ∙ l .imports-long;
+  includes-long = p .includes-long ∙ l .includes-long;
+  levels-long = p .levels-long ∙ l .levels-long;
 }
+
+pub other-levels : {store imports includes levels store₁ imports₁ includes₁ levels₁ levels₂ : List ℕ}
+    → AsLong store imports includes levels store₁ imports₁ includes₁ levels₁ → length levels₂ ≡ length levels₁
+    → AsLong store imports includes levels store₁ imports₁ includes₁ levels₂
+other-levels l e =
+    record { store-long = l .store-long; imports-long = l .imports-long; includes-long = l .includes-long; levels-long = e ∙ l .levels-long }
+
+pub kept-same : (above : ℕ) (store imports includes levels : List ℕ) → Kept above store imports includes levels store imports includes levels
+kept-same above store imports includes levels =
+    record { long = same-long store imports includes levels; stays-read = stays-same levels; above-kept = refl }
 
 module _ (left v : ℕ) (levels : List ℕ) (q : Recalled) (e : q ≡ recalled left (remembered levels v)) where
   pub visit-asked : q ≡ Unread → remembered levels v ≡ unread

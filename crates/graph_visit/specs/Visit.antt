@@ -43,12 +43,16 @@ pub record Room (bundle store imports includes levels edges chains : List ℕ) (
 
 -- ---- what the code does
 
--- scratch is as long as before; a text that was read stays so; of the levels, those above are as they were
-pub record Kept (above : ℕ) (store imports includes levels store₁ imports₁ includes₁ levels₁ : List ℕ) : Type 0 where
+-- scratch is as long as before
+pub record AsLong (store imports includes levels store₁ imports₁ includes₁ levels₁ : List ℕ) : Type 0 where
   pub store-long : length store₁ ≡ length store
   pub imports-long : length imports₁ ≡ length imports
   pub includes-long : length includes₁ ≡ length includes
   pub levels-long : length levels₁ ≡ length levels
+
+-- the same; a text that was read stays so; of the levels, those above are as they were
+pub record Kept (above : ℕ) (store imports includes levels store₁ imports₁ includes₁ levels₁ : List ℕ) : Type 0 where
+  pub long : AsLong store imports includes levels store₁ imports₁ includes₁ levels₁
   pub stays-read : StaysRead levels levels₁
   pub above-kept : drop above levels₁ ≡ drop above levels
 

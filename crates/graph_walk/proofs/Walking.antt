@@ -1,6 +1,6 @@
 -- The includes of a text, taken one after another: what the words from here on come to is what all of them come to. A walk below leaves this level's words.
 -- Assumes nothing.
-use Prim.Native.Nat.{ℕ, zero, suc, max, _+_, _-_, _≤_, _<_}
+use Prim.Native.Nat.{ℕ, zero, suc, _+_, _-_, _≤_, _<_}
 use mathlib.Core.Path.{_≡_, refl, sym, ap, ap₂, _∙_}
 use mathlib.Core.Bool.{true≢false}
 use mathlib.Core.List.{List}
@@ -21,7 +21,8 @@ use Rattle.graph_marks.specs.Marks.{Desk}
 use Rattle.graph_memory.specs.Memory.{memoryWords, heightIn, remembered, StaysRead, Remembers}
 use Rattle.graph_memory.proofs.Words.{later, below-height, stays-same, stays-on, stays-marked}
 use Rattle.graph_link.specs.Link.{levelWords, levelAt, wordsFrom, Words, stepSeen, Descends, Stepped}
-use Rattle.graph_visit.specs.Visit.{Room, Kept, visitSeen, Recalls, Ready, Called, metHere, visited}
+use Rattle.graph_visit.specs.Visit.{Room, AsLong, Kept, visitSeen, Recalls, Ready, Called, metHere, visited}
+use Rattle.graph_visit.proofs.Visiting.{longer, other-levels}
 use Rattle.graph_walk.specs.Walk.{walkedSeen, Through}
 use Rattle.graph_link.specs.declared.Walked.{Walked}
 use Rattle.graph_link.specs.declared.Walked.the-variants.{Built, Refused}
@@ -70,23 +71,6 @@ pub record Walking (at : ℕ → Codes) (n left v base k : ℕ) (levels₀ edges
   pub rest : ahead at left v (wordsFrom levels₀ base k) (rowsIn linked edges₀) (remembered levels₀) 0
       ≡ ahead at left v (wordsFrom levels₀ (base + i) (k - i)) (rowsIn total edges) (remembered levels) most
 
-pub record Long (store₀ imports₀ includes₀ store imports includes : List ℕ) : Type 0 where
-  pub store-long : length store ≡ length store₀
-  pub imports-long : length imports ≡ length imports₀
-  pub includes-long : length includes ≡ length includes₀
-
-pub as-long : (store imports includes : List ℕ) → Long store imports includes store imports includes
-as-long store imports includes = record { store-long = refl; imports-long = refl; includes-long = refl }
-
-pub longer : {store₀ imports₀ includes₀ store imports includes store₁ imports₁ includes₁ levels levels₁ : List ℕ} {above : ℕ}
-    → Long store₀ imports₀ includes₀ store imports includes
-    → Kept above store imports includes levels store₁ imports₁ includes₁ levels₁ → Long store₀ imports₀ includes₀ store₁ imports₁ includes₁
-longer l p = record {
-  store-long = p .store-long ∙ l .store-long;
-  imports-long = p .imports-long ∙ l .imports-long;
-  includes-long = p .includes-long ∙ l .includes-long;
-}
-
 below-read : {h : ℕ} → below h ≡ unread → ⊥
 below-read q = true≢false (ap isBelow q)
 
@@ -131,7 +115,7 @@ module _ (at : ℕ → Codes) (left : ℕ) {n v count : ℕ} {edges chains : Lis
         room = omega arith;
         few = y .few;
         based = refl;
-        inside = omega (arith, t .level-room, p .levels-long);
+        inside = omega (arith, t .level-room, p .long .levels-long);
         long = refl;
         kept = refl;
         stays-read = stays-same levels₁;
@@ -174,23 +158,21 @@ module _ {at : ℕ → Codes} {n left v base k : ℕ} {levels₀ edges₀ chains
       g .rest ∙ rw (q, o, here)
 
   -- the levels above
-  kept-loop : {store imports includes levelsE store₀ imports₀ includes₀ store₁ imports₁ includes₁ : List ℕ}
+  kept-loop : {store imports includes levelsE store₀ imports₀ includes₀ store₁ imports₁ includes₁ levels₁ : List ℕ}
       → Kept (levelAt (left + 1)) store imports includes levelsE store₀ imports₀ includes₀ levels₀
-      → Long store₀ imports₀ includes₀ store₁ imports₁ includes₁ → (levels₁ : List ℕ) → length levels₁ ≡ length levels → StaysRead levels levels₁
-      → drop base levels₁ ≡ drop base levels → Kept (levelAt (left + 1)) store imports includes levelsE store₁ imports₁ includes₁ levels₁
-  kept-loop {levelsE = levelsE} p l levels₁ e y q = record {
-    store-long = l .store-long ∙ p .store-long;
-    imports-long = l .imports-long ∙ p .imports-long;
-    includes-long = l .includes-long ∙ p .includes-long;
-    levels-long = e ∙ g .long ∙ p .levels-long;
+      → AsLong store₀ imports₀ includes₀ levels₀ store₁ imports₁ includes₁ levels₁ → StaysRead levels levels₁ → drop base levels₁ ≡ drop base levels
+      → Kept (levelAt (left + 1)) store imports includes levelsE store₁ imports₁ includes₁ levels₁
+  kept-loop {levels₁ = levels₁} p l y q = record {
+    long = longer (p .long) l;
     stays-read = stays-on (p .stays-read) (stays-on (g .stays-read) y);
     above-kept = later base (levelAt (left + 1)) levels₁ levels₀ (omega (arith, g .based)) (q ∙ g .kept) ∙ p .above-kept;
   }
 
   pub kept-out : {store imports includes levelsE store₀ imports₀ includes₀ store₁ imports₁ includes₁ : List ℕ}
       → Kept (levelAt (left + 1)) store imports includes levelsE store₀ imports₀ includes₀ levels₀
-      → Long store₀ imports₀ includes₀ store₁ imports₁ includes₁ → Kept (levelAt (left + 1)) store imports includes levelsE store₁ imports₁ includes₁ levels
-  kept-out p l = kept-loop p l levels refl (stays-same levels) refl
+      → AsLong store₀ imports₀ includes₀ levels₀ store₁ imports₁ includes₁ levels
+      → Kept (levelAt (left + 1)) store imports includes levelsE store₁ imports₁ includes₁ levels
+  kept-out p l = kept-loop p l (stays-same levels) refl
 
   module _ {count : ℕ} {edgesE chainsE : List ℕ} {r : Visited} {E : Below → Went} (d : Called E n left v count edgesE chainsE r levels₀ edges₀ chains₀)
       (z : r ≡ Children k linked) where
@@ -231,10 +213,10 @@ module _ {at : ℕ → Codes} {n left v base k : ℕ} {levels₀ edges₀ chains
 
   pub kept-end : {store imports includes levelsE store₀ imports₀ includes₀ store₁ imports₁ includes₁ : List ℕ}
       → Kept (levelAt (left + 1)) store imports includes levelsE store₀ imports₀ includes₀ levels₀
-      → Long store₀ imports₀ includes₀ store₁ imports₁ includes₁ → {levels₁ : List ℕ} → Remembers levels v (below most) levels₁
+      → AsLong store₀ imports₀ includes₀ levels₀ store₁ imports₁ includes₁ levels → {levels₁ : List ℕ} → Remembers levels v (below most) levels₁
       → Kept (levelAt (left + 1)) store imports includes levelsE store₁ imports₁ includes₁ levels₁
   kept-end p l {levels₁} y =
-      kept-loop p l levels₁ (y .long) (stays-marked y below-read) (later memoryWords base levels₁ levels (omega (arith, g .based)) (y .above))
+      kept-loop p (other-levels l (y .long)) (stays-marked y below-read) (later memoryWords base levels₁ levels (omega (arith, g .based)) (y .above))
 
   module _ {x : Stepping} {edges₁ chains₁ : List ℕ} (s : Stepped (getD levels (base + i) 0) left v (rowsIn total edges) edges chains x edges₁ chains₁)
       (h : i < k) {u : NodeIndex} {m : ℕ} (e : x ≡ Down u m) where
@@ -249,13 +231,14 @@ module _ {at : ℕ → Codes} {n left v base k : ℕ} {levels₀ edges₀ chains
 
     pub child-room : {bundle store imports includes levelsE edgesE chainsE store₀ imports₀ includes₀ store₁ imports₁ includes₁ : List ℕ} {count : ℕ}
         → Room bundle store imports includes levelsE edgesE chainsE left count
-        → Kept (levelAt (left + 1)) store imports includes levelsE store₀ imports₀ includes₀ levels₀ → Long store₀ imports₀ includes₀ store₁ imports₁ includes₁
+        → Kept (levelAt (left + 1)) store imports includes levelsE store₀ imports₀ includes₀ levels₀
+        → AsLong store₀ imports₀ includes₀ levels₀ store₁ imports₁ includes₁ levels
         → Room bundle store₁ imports₁ includes₁ levels edges₁ chains₁ (left - 1) m
     child-room t p l = record {
       scan = record {
-        store-room = omega (arith, t .scan .store-room, l .store-long, p .store-long);
-        import-room = omega (arith, t .scan .import-room, l .imports-long, p .imports-long);
-        include-room = omega (arith, t .scan .include-room, l .includes-long, p .includes-long);
+        store-room = omega (arith, t .scan .store-room, l .store-long, p .long .store-long);
+        import-room = omega (arith, t .scan .import-room, l .imports-long, p .long .imports-long);
+        include-room = omega (arith, t .scan .include-room, l .includes-long, p .long .includes-long);
       };
       deep = omega (arith, t .deep);
       level-room = omega (arith, some-left, g .inside, g .based, g .long);
@@ -295,7 +278,7 @@ module _ {at : ℕ → Codes} {n left v base k : ℕ} {levels₀ edges₀ chains
           pub child-height : {t : ℕ} → w ≡ Built t → heightIn levels₂ (u .0) + 1 ≤ left
           child-height {t} y = let q : Recalls (left - 1) (u .0) t levels₂ edges₂ chains₂ = rw y at (o .ready) in omega (arith, q .low, some-left)
 
-          pub went-on : {t most₁ : ℕ} → w ≡ Built t → most₁ ≡ max most (suc (heightIn levels₂ (u .0)))
+          pub went-on : {t most₁ : ℕ} → w ≡ Built t → most₁ ≡ raised most (heightIn levels₂ (u .0))
               → Walking at n left v base k levels₀ edges₀ chains₀ linked levels₂ edges₂ chains₂ t most₁ (i + 1)
           went-on {t} {most₁} y f =
               let q : includeOnce mostEdges (belowOnce at mostEdges left) v (getD levels (base + i) 0) (rowsIn total edges) (remembered levels)
@@ -306,7 +289,7 @@ module _ {at : ℕ → Codes} {n left v base k : ℕ} {levels₀ edges₀ chains
                 few = g .few;
                 based = g .based;
                 inside = g .inside;
-                long = p .levels-long ∙ g .long;
+                long = p .long .levels-long ∙ g .long;
                 kept = same-words ∙ g .kept;
                 stays-read = stays-on (g .stays-read) (p .stays-read);
                 low = g .low;
@@ -320,6 +303,6 @@ module _ {at : ℕ → Codes} {n left v base k : ℕ} {levels₀ edges₀ chains
 
           pub kept-sent : {storeE importsE includesE levelsE store₀ imports₀ includes₀ : List ℕ}
               → Kept (levelAt (left + 1)) storeE importsE includesE levelsE store₀ imports₀ includes₀ levels₀
-              → Long store₀ imports₀ includes₀ store imports includes
+              → AsLong store₀ imports₀ includes₀ levels₀ store imports includes levels
               → Kept (levelAt (left + 1)) storeE importsE includesE levelsE store₁ imports₁ includes₁ levels₂
-          kept-sent f l = kept-loop f (longer l p) levels₂ (p .levels-long) (p .stays-read) same-words
+          kept-sent f l = kept-loop f (longer l (p .long)) (p .stays-read) same-words

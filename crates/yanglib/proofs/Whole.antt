@@ -29,7 +29,8 @@ use Rattle.graph_build.specs.Between.{LentNodes, Holds}
 use Rattle.graph_build.specs.declared.Graphed.{Graphed}
 use Rattle.graph_build.specs.declared.Graphed.the-variants.{Refused}
 use Rattle.graph_tables.proofs.Short.{Enough, long-enough}
-use Rattle.graph_draw.proofs.Drawing.{as-lent, cleared-long}
+use Rattle.graph_draw.proofs.Drawing.{cleared-long}
+use Rattle.graph_visit.proofs.Visiting.{same-long}
 use Rattle.yanglib.proofs.Ways.{image-reads, image-wrong, bundle-wrong, too-little, enough}
 use Rattle.graph_build.proofs.Holds.{no-nodes}
 
@@ -66,7 +67,7 @@ module _ (mode : Mode) (s b nodes edges store imports includes levels : List ℕ
     answer = ap (λ (a : Refusal). Refused number 0 a place) z ∙ sym (ap (λ (y : Result). y .answer) x);
     nodes = zn ∙ no-nodes (length nodes) ∙ sym (ap (λ (y : Result). padded (length nodes) (nodeWords (y .nodes))) x);
     edges = ze ∙ no-rows (length edges) ∙ sym (ap (λ (y : Result). padded (length edges) (rowWords (y .rows))) x);
-    kept = as-lent store imports includes levels;
+    kept = same-long store imports includes levels;
   }
 
   pub no-image : {r : Read} {p number : ℕ} {a : Refusal} → r ≡ Wrong p → readSeen r ≡ done (imageAt s) → number ≡ readNumber (Wrong p) → a ≡ noRefusal

@@ -65,19 +65,19 @@ draw-edges-spec =
     same-length
     (λ c.
     let enum-told1 = c .before .before .before .before in
-    enum-told1 .before .before .before .before .before .before .before .before .before .before .before .before .before .walk-items .ensures .kept .store-long)
+    enum-told1 .before .before .before .before .before .before .before .before .before .before .before .before .before .walk-items .ensures .kept .long .store-long)
     (λ c.
     let enum-told1 = c .before .before .before .before in
     enum-told1 .before .before .before .before .before .before .before .before .before .before .before .before
-    .before .walk-items .ensures .kept .imports-long)
+    .before .walk-items .ensures .kept .long .imports-long)
     (λ c.
     let enum-told1 = c .before .before .before .before in
     enum-told1 .before .before .before .before .before .before .before .before .before .before .before .before
-    .before .walk-items .ensures .kept .includes-long)
+    .before .walk-items .ensures .kept .long .includes-long)
     (λ c.
     let enum-told1 = c .before .before .before .before in
     let walk-items1 = enum-told1 .before .before .before .before .before .before .before .before .before .before .before .before .before in
-    walk-items1 .walk-items .ensures .kept .levels-long ∙ cleared-long refl (walk-items1 .before .before .before .before .before .before .before
+    walk-items1 .walk-items .ensures .kept .long .levels-long ∙ cleared-long refl (walk-items1 .before .before .before .before .before .before .before
     .before .before .before .clear-words .ensures))
     returns
     (λ c.
@@ -85,16 +85,16 @@ draw-edges-spec =
     drawn1 .before .before .before .before .before .before .before .before .before .before .before .before .before .walk-items .ensures .kept-edges)
     (λ c.
     let drawn1 = c .before in
-    drawn1 .before .before .before .before .before .before .before .before .before .before .before .before .before .walk-items .ensures .kept .store-long)
+    drawn1 .before .before .before .before .before .before .before .before .before .before .before .before .before .walk-items .ensures .kept .long .store-long)
     (λ c.
     let drawn1 = c .before in
-    drawn1 .before .before .before .before .before .before .before .before .before .before .before .before .before .walk-items .ensures .kept .imports-long)
+    drawn1 .before .before .before .before .before .before .before .before .before .before .before .before .before .walk-items .ensures .kept .long .imports-long)
     (λ c.
     let drawn1 = c .before in
-    drawn1 .before .before .before .before .before .before .before .before .before .before .before .before .before .walk-items .ensures .kept .includes-long)
+    drawn1 .before .before .before .before .before .before .before .before .before .before .before .before .before .walk-items .ensures .kept .long .includes-long)
     (λ c.
     let drawn1 = c .before in
     let walk-items1 = drawn1 .before .before .before .before .before .before .before .before .before .before .before .before .before in
-    walk-items1 .walk-items .ensures .kept .levels-long ∙ cleared-long refl (walk-items1 .before .before .before .before .before .before .before
+    walk-items1 .walk-items .ensures .kept .long .levels-long ∙ cleared-long refl (walk-items1 .before .before .before .before .before .before .before
     .before .before .before .clear-words .ensures))
     returns-2)

@@ -63,25 +63,25 @@ same-length : tie.Need-same-length Inv-loop μ-loop
 same-length c =
     let walk-item1 = c .before .before .before .before .before .before .before .before .before .before .before .before .before .before .before in
     let loop1 = walk-item1 .before .before .before .before .before .before .before .before .before .before .before in
-    omega (arith, walk-item1 .walk-item .ensures .1 .store-long, loop1 .loop .inv .kept .store-long)
+    omega (arith, walk-item1 .walk-item .ensures .1 .long .store-long, loop1 .loop .inv .kept .long .store-long)
 
 same-length-2 : tie.Need-same-length-2 Inv-loop μ-loop
 same-length-2 c =
     let walk-item1 = c .before .before .before .before .before .before .before .before .before .before .before .before .before .before .before in
     let loop1 = walk-item1 .before .before .before .before .before .before .before .before .before .before .before in
-    omega (arith, walk-item1 .walk-item .ensures .1 .imports-long, loop1 .loop .inv .kept .imports-long)
+    omega (arith, walk-item1 .walk-item .ensures .1 .long .imports-long, loop1 .loop .inv .kept .long .imports-long)
 
 same-length-3 : tie.Need-same-length-3 Inv-loop μ-loop
 same-length-3 c =
     let walk-item1 = c .before .before .before .before .before .before .before .before .before .before .before .before .before .before .before in
     let loop1 = walk-item1 .before .before .before .before .before .before .before .before .before .before .before in
-    omega (arith, walk-item1 .walk-item .ensures .1 .includes-long, loop1 .loop .inv .kept .includes-long)
+    omega (arith, walk-item1 .walk-item .ensures .1 .long .includes-long, loop1 .loop .inv .kept .long .includes-long)
 
 same-length-4 : tie.Need-same-length-4 Inv-loop μ-loop
 same-length-4 c =
     let walk-item1 = c .before .before .before .before .before .before .before .before .before .before .before .before .before .before .before in
     let loop1 = walk-item1 .before .before .before .before .before .before .before .before .before .before .before in
-    omega (arith, walk-item1 .walk-item .ensures .1 .levels-long, loop1 .loop .inv .kept .levels-long)
+    omega (arith, walk-item1 .walk-item .ensures .1 .long .levels-long, loop1 .loop .inv .kept .long .levels-long)
 
 same-length-5 : tie.Need-same-length-5 Inv-loop μ-loop
 same-length-5 c =

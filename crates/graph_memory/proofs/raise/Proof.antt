@@ -1,7 +1,7 @@
 -- `graph_memory::raise`. Each way out is one law of Words.
 -- Assumes nothing.
 use borrow.Author.Needs.{needs}
-use Rattle.graph_memory.proofs.Words.{raise-fits, raised, not-raised}
+use Rattle.graph_memory.proofs.Words.{raise-fits, by-this, by-another}
 use Rattle.graph_memory.proofs.raise.Statement.{statement}
 use Rattle.graph_memory.proofs.raise.Tie as tie
 
@@ -9,10 +9,10 @@ add-by : tie.Need-add-by
 add-by c = search raise-fits
 
 returns : tie.Need-returns
-returns c = search raised
+returns c = search by-this
 
 returns-2 : tie.Need-returns-2
-returns-2 c = search not-raised
+returns-2 c = search by-another
 
 pub raise-spec : {M : Type 1} → statement M
 raise-spec =

@@ -2,8 +2,17 @@
 -- Assumes nothing.
 use mathlib.Core.Path.{refl, _∙_}
 use borrow.Author.Needs.{needs}
-use Rattle.graph_visit.proofs.Visiting.{text-missing, text-refused, import-refused, called, import-rows, include-rows, level-in, kept-levels,
-    kept-above}
+use Rattle.graph_visit.proofs.Visiting.{
+  text-missing,
+  text-refused,
+  import-refused,
+  called,
+  import-rows,
+  include-rows,
+  level-in,
+  kept-levels,
+  kept-above,
+}
 use Rattle.graph_visit.proofs.Visiting.{saved-same, marked-read}
 use Rattle.graph_visit.proofs.visit.Statement.{statement}
 use Rattle.graph_visit.proofs.visit.Tie as tie
@@ -58,7 +67,7 @@ returns-3 c =
     let remember1 = read-text1 .before .before .before .before .before .before .before in (
       import-refused _ _ _ _ _ (read-text1 .before .before .before .before .name-of .ensures) _ _ _ _ _ _ _ (read-text1 .read-text .ensures) _ _ _ _ _ _ _ _ _
           (c .before .before .before .before .before .before .before .before .before .before .before .before .before .m .given .1) _ _ _ (c
-              .before .before .before .before .before .before .before .link-imports .ensures) _ _ _ (c .before .number .given .1),
+          .before .before .before .before .before .before .before .link-imports .ensures) _ _ _ (c .before .number .given .1),
       kept-levels _ _ _ _ _ _ _ _ (read-text1 .read-text .ensures) _ (remember1 .remember .ensures),
       marked-read (remember1 .remember .ensures) _ refl,
     )

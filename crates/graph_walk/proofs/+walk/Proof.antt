@@ -11,8 +11,9 @@ use Rattle.text.proofs.no_refusal.Reads as no-refusal-reads
 use Rattle.graph_link.proofs.step.Reads as step-reads
 use Rattle.graph_memory.proofs.raise.Reads as raise-reads
 use Rattle.graph_memory.proofs.remember.Reads as remember-reads
-use Rattle.graph_visit.specs.Visit.{codesHere}
-use Rattle.graph_walk.proofs.Walking.{Walking, Long, as-long, longer, opened, not-visited, known, begun, in-level, memory-in, word-node, kept-out}
+use Rattle.graph_visit.specs.Visit.{codesHere, AsLong}
+use Rattle.graph_visit.proofs.Visiting.{same-long, longer}
+use Rattle.graph_walk.proofs.Walking.{Walking, opened, not-visited, known, begun, in-level, memory-in, word-node, kept-out}
 use Rattle.graph_walk.proofs.Walking.{ended-all, halted-here, kept-end, some-left, child-low, child-room, sent-up, child-height, went-on, kept-sent}
 use Rattle.graph_walk.proofs.walk.Reads as walk
 use Rattle.graph_walk.proofs.walk.Kinds as walk-kinds
@@ -36,7 +37,7 @@ walk-Inv-loop image bundle btab ntab marks sizes store₀ imports₀ includes₀
     levels edges chains total most i =
     Walking (codesHere image bundle (namesHeld image ntab (sizes .nodes))) (sizes .nodes) left
     (v .0) base k levels₀ edges₀ chains₀ linked levels edges chains total most i
-    × Long store₀ imports₀ includes₀ store imports includes
+    × AsLong store₀ imports₀ includes₀ levels₀ store imports includes levels
 
 abbrev walk-μ-loop : walk-lts.MeasureT-loop
 walk-μ-loop image bundle btab ntab marks sizes store₀ imports₀ includes₀ levels₀ edges₀ chains₀ left v base k linked total₀ most₀ i₀ store imports includes
@@ -60,8 +61,7 @@ callees t = (
 )
 
 -- places that several answers go back to: meet from the loop's head, the start from meet; the loop's head from an include that is refused; the walk of its
-    text
--- from the refusal of that
+-- text from the refusal of that
 abbrev meet-of : (t : ℕ) → walk-lts.At-loop (callees t) (walk-at t) walk.Post walk-Inv-loop walk-μ-loop
     → walk-lts.After-meet (callees t) (walk-at t) walk.Post walk-Inv-loop walk-μ-loop
 meet-of t c = c .before .before .before .before .before .before .before .before .before .before .before .before .before .before .before .before
@@ -100,7 +100,7 @@ loop-holds t c =
     let met2-at = c .before in
     let meet1 = met2-at .before .before .before .before .before .before .before .before .before .before .before .before .before .before in
     let start = start-of t meet1 in
-    (begun _ _ (meet1 .meet .ensures .0) (met2-at .met2 .given .1) (start .pre .1 .1) (meet1 .meet .ensures .1), as-long _ _ _)
+    (begun _ _ (meet1 .meet .ensures .0) (met2-at .met2 .given .1) (start .pre .1 .1) (meet1 .meet .ensures .1), same-long _ _ _ _)
 
 add-step : (t : ℕ) → walk-lts.Need-add-step (callees t) (walk-at t) walk.Post walk-Inv-loop walk-μ-loop
 add-step t c =
@@ -112,7 +112,7 @@ add-step t c =
         arith,
         in-level (loop1 .loop .inv .0) (c .loop-test .taken),
         loop1 .loop .inv .0 .long,
-        meet1 .meet .ensures .1 .levels-long,
+        meet1 .meet .ensures .1 .long .levels-long,
         start .good .1 .1 .1 .1 .1 .1 .1 .1 .1 .0 .0,
       );
     }
@@ -127,7 +127,7 @@ mul-step t c =
         arith,
         in-level (loop1 .loop .inv .0) (c .loop-test .taken),
         loop1 .loop .inv .0 .long,
-        meet1 .meet .ensures .1 .levels-long,
+        meet1 .meet .ensures .1 .long .levels-long,
         start .good .1 .1 .1 .1 .1 .1 .1 .1 .1 .0 .1,
       );
     }
@@ -211,7 +211,7 @@ raise-requires t c κs =
     let loop-test1 = step1 .before .before .before .before in
     let loop1 = loop-test1 .before in
     let start = start-of t (meet-of t loop1) in (
-      omega (arith, memory-in (loop1 .loop .inv .0), walk1 .walk .ensures .1 .levels-long),
+      omega (arith, memory-in (loop1 .loop .inv .0), walk1 .walk .ensures .1 .long .levels-long),
       node-low _ _ _ _ (start .pre .1 .0 .desk) _
           (child-low (loop1 .loop .inv .0) (step1 .step .ensures) (loop-test1 .loop-test .taken) (u1 .u .given .1)),
       omega (
@@ -247,7 +247,7 @@ loop-again t c =
     let loop1 = loop-test1 .before in (
       went-on (loop1 .loop .inv .0) (step1 .step .ensures) (loop-test1 .loop-test .taken) (u1 .u .given .1) (walk1 .walk .ensures .0)
           (walk1 .walk .ensures .1) (below1 .below .given .1) (c .raise .ensures),
-      longer (loop1 .loop .inv .1) (walk1 .walk .ensures .1),
+      longer (loop1 .loop .inv .1) (walk1 .walk .ensures .1 .long),
     )
 
 remember-requires : (t : ℕ) → walk-lts.Need-remember-requires (callees t) (walk-at t) walk.Post walk-Inv-loop walk-μ-loop
@@ -280,7 +280,7 @@ returns-5 t c =
     let start = start-of t meet1 in (
       opened _ _ _ _ _ _ _ _ _ _ _ _
           (ended-all (loop1 .loop .inv .0) (meet1 .meet .ensures .0) (met2-at .met2 .given .1) (node-low _ _ _ _ (start .pre .1 .0 .desk) _ (start .pre .1
-              .2))
+          .2))
           (remember1 .remember .ensures) (loop-test1 .loop-test .left)),
       kept-end (loop1 .loop .inv .0) (meet1 .meet .ensures .1) (loop1 .loop .inv .1) (remember1 .remember .ensures),
     )
@@ -304,10 +304,10 @@ pub +walk-spec : {M : Type 1} → statement M
     (step-requires t)
     (λ c. c .match2 .keys1)
     (λ c κs. tt)
-    (λ c. let loop1 = halted-loop t c in loop1 .loop .inv .1 .store-long ∙ meet-of t loop1 .meet .ensures .1 .store-long)
-    (λ c. let loop1 = halted-loop t c in loop1 .loop .inv .1 .imports-long ∙ meet-of t loop1 .meet .ensures .1 .imports-long)
-    (λ c. let loop1 = halted-loop t c in loop1 .loop .inv .1 .includes-long ∙ meet-of t loop1 .meet .ensures .1 .includes-long)
-    (λ c. let loop1 = halted-loop t c in loop1 .loop .inv .0 .long ∙ meet-of t loop1 .meet .ensures .1 .levels-long)
+    (λ c. let loop1 = halted-loop t c in loop1 .loop .inv .1 .store-long ∙ meet-of t loop1 .meet .ensures .1 .long .store-long)
+    (λ c. let loop1 = halted-loop t c in loop1 .loop .inv .1 .imports-long ∙ meet-of t loop1 .meet .ensures .1 .long .imports-long)
+    (λ c. let loop1 = halted-loop t c in loop1 .loop .inv .1 .includes-long ∙ meet-of t loop1 .meet .ensures .1 .long .includes-long)
+    (λ c. let loop1 = halted-loop t c in loop1 .loop .inv .0 .long ∙ meet-of t loop1 .meet .ensures .1 .long .levels-long)
     (λ c.
     let step1 = c .before .before .before .before .before .before .before .before in
     let loop1 = halted-loop t c in
@@ -326,22 +326,22 @@ pub +walk-spec : {M : Type 1} → statement M
     let walk1 = below-walk t c in
     let step1 = walk1 .before .before .before .before .before .before .before .before .before .before .before .before .before .before in
     let loop1 = step1 .before .before .before .before .before in
-    walk1 .walk .ensures .1 .store-long ∙ loop1 .loop .inv .1 .store-long ∙ meet-of t loop1 .meet .ensures .1 .store-long)
+    walk1 .walk .ensures .1 .long .store-long ∙ loop1 .loop .inv .1 .store-long ∙ meet-of t loop1 .meet .ensures .1 .long .store-long)
     (λ c.
     let walk1 = below-walk t c in
     let step1 = walk1 .before .before .before .before .before .before .before .before .before .before .before .before .before .before in
     let loop1 = step1 .before .before .before .before .before in
-    walk1 .walk .ensures .1 .imports-long ∙ loop1 .loop .inv .1 .imports-long ∙ meet-of t loop1 .meet .ensures .1 .imports-long)
+    walk1 .walk .ensures .1 .long .imports-long ∙ loop1 .loop .inv .1 .imports-long ∙ meet-of t loop1 .meet .ensures .1 .long .imports-long)
     (λ c.
     let walk1 = below-walk t c in
     let step1 = walk1 .before .before .before .before .before .before .before .before .before .before .before .before .before .before in
     let loop1 = step1 .before .before .before .before .before in
-    walk1 .walk .ensures .1 .includes-long ∙ loop1 .loop .inv .1 .includes-long ∙ meet-of t loop1 .meet .ensures .1 .includes-long)
+    walk1 .walk .ensures .1 .long .includes-long ∙ loop1 .loop .inv .1 .includes-long ∙ meet-of t loop1 .meet .ensures .1 .long .includes-long)
     (λ c.
     let walk1 = below-walk t c in
     let step1 = walk1 .before .before .before .before .before .before .before .before .before .before .before .before .before .before in
     let loop1 = step1 .before .before .before .before .before in
-    walk1 .walk .ensures .1 .levels-long ∙ loop1 .loop .inv .0 .long ∙ meet-of t loop1 .meet .ensures .1 .levels-long)
+    walk1 .walk .ensures .1 .long .levels-long ∙ loop1 .loop .inv .0 .long ∙ meet-of t loop1 .meet .ensures .1 .long .levels-long)
     (λ c.
     let walk1 = below-walk t c in
     let step1 = walk1 .before .before .before .before .before .before .before .before .before .before .before .before .before .before in
@@ -360,30 +360,30 @@ pub +walk-spec : {M : Type 1} → statement M
     (loop-again t)
     (remember-requires t)
     (λ c. c .before .before .before .before .before .before .before .before .before .before .before .before .before .before
-    .before .meet .ensures .1 .store-long)
+    .before .meet .ensures .1 .long .store-long)
     (λ c. c .before .before .before .before .before .before .before .before .before .before .before .before .before .before
-    .before .meet .ensures .1 .imports-long)
+    .before .meet .ensures .1 .long .imports-long)
     (λ c. c .before .before .before .before .before .before .before .before .before .before .before .before .before .before
-    .before .meet .ensures .1 .includes-long)
+    .before .meet .ensures .1 .long .includes-long)
     (λ c. c .before .before .before .before .before .before .before .before .before .before .before .before .before .before
-    .before .meet .ensures .1 .levels-long)
+    .before .meet .ensures .1 .long .levels-long)
     (λ c. c .before .before .before .before .before .before .before .before .before .before .before .before .before .before
     .before .meet .ensures .0 .kept-edges)
     (λ c. c .before .before .before .before .before .before .before .before .before .before .before .before .before .before
     .before .meet .ensures .0 .kept-chains)
     (returns-3 t)
-    (λ c. c .before .before .before .before .before .before .before .before .before .before .before .before .before .before .meet .ensures .1 .store-long)
-    (λ c. c .before .before .before .before .before .before .before .before .before .before .before .before .before .before .meet .ensures .1 .imports-long)
-    (λ c. c .before .before .before .before .before .before .before .before .before .before .before .before .before .before .meet .ensures .1 .includes-long)
-    (λ c. c .before .before .before .before .before .before .before .before .before .before .before .before .before .before .meet .ensures .1 .levels-long)
+    (λ c. c .before .before .before .before .before .before .before .before .before .before .before .before .before .before .meet .ensures .1 .long .store-long)
+    (λ c. c .before .before .before .before .before .before .before .before .before .before .before .before .before .before .meet .ensures .1 .long .imports-long)
+    (λ c. c .before .before .before .before .before .before .before .before .before .before .before .before .before .before .meet .ensures .1 .long .includes-long)
+    (λ c. c .before .before .before .before .before .before .before .before .before .before .before .before .before .before .meet .ensures .1 .long .levels-long)
     (λ c. c .before .before .before .before .before .before .before .before .before .before .before .before .before .before .meet .ensures .0 .kept-edges)
     (λ c. c .before .before .before .before .before .before .before .before .before .before .before .before .before .before .meet .ensures .0 .kept-chains)
     (returns-4 t)
-    (λ c. let loop1 = c .before .before .before .before .before in loop1 .loop .inv .1 .store-long ∙ meet-of t loop1 .meet .ensures .1 .store-long)
-    (λ c. let loop1 = c .before .before .before .before .before in loop1 .loop .inv .1 .imports-long ∙ meet-of t loop1 .meet .ensures .1 .imports-long)
-    (λ c. let loop1 = c .before .before .before .before .before in loop1 .loop .inv .1 .includes-long ∙ meet-of t loop1 .meet .ensures .1 .includes-long)
+    (λ c. let loop1 = c .before .before .before .before .before in loop1 .loop .inv .1 .store-long ∙ meet-of t loop1 .meet .ensures .1 .long .store-long)
+    (λ c. let loop1 = c .before .before .before .before .before in loop1 .loop .inv .1 .imports-long ∙ meet-of t loop1 .meet .ensures .1 .long .imports-long)
+    (λ c. let loop1 = c .before .before .before .before .before in loop1 .loop .inv .1 .includes-long ∙ meet-of t loop1 .meet .ensures .1 .long .includes-long)
     (λ c. let loop1 = c .before .before .before .before .before in c .before
-    .before .remember .ensures .long ∙ loop1 .loop .inv .0 .long ∙ meet-of t loop1 .meet .ensures .1 .levels-long)
+    .before .remember .ensures .long ∙ loop1 .loop .inv .0 .long ∙ meet-of t loop1 .meet .ensures .1 .long .levels-long)
     (λ c. let loop1 = c .before .before .before .before .before in loop1 .loop .inv .0 .long-edges ∙ meet-of t loop1 .meet .ensures .0 .kept-edges)
     (λ c. let loop1 = c .before .before .before .before .before in loop1 .loop .inv .0 .long-chains ∙ meet-of t loop1 .meet .ensures .0 .kept-chains)
     (returns-5 t)
