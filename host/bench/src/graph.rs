@@ -101,7 +101,7 @@ pub fn shared() -> Input {
     Input::of("60 modules that include the same 15 submodules".to_string(), &routers::sharing(60, 15, 6, 60))
 }
 
-/// Each text is included 256 times by the one before it: the Rust, which walks it each time, never ends.
+/// Each text is included 256 times by the one before it: the Rust, which walks it each time, has 256^8 walks before it, longer than anyone waits.
 pub fn nine() -> Input {
     let names: Vec<String> = (0..9).map(|i| format!("s{i}")).collect();
     let module = Module { name: names[0].clone(), submodules: names[1..].to_vec(), ..Module::default() };
@@ -192,7 +192,7 @@ pub fn whole(input: &Input) -> Row<'_> {
     Row::new(counted(&input.what, nodes, edges), input.bytes(), rust, redrawn(Mode::Present, input, lent))
 }
 
-/// The port alone, where the Rust never ends or takes too long for a table.
+/// The port alone, where the Rust takes too long for a table, or longer than anyone waits.
 pub fn alone(input: &Input) -> Row<'_> {
     let lent = port::graph(Mode::Present, &input.image, &input.bundle, form::longest_text(&input.bundle), 0);
     let [number, .., nodes, edges] = lent.answer.map(|word| word as usize);

@@ -42,7 +42,7 @@ fn main() {
     let (dependencies, metadata) = (scans::for_dependencies(files), scans::for_metadata(files));
     let (graphs, adverse) = (graph::inputs(image, bundle), graph::adverse());
     let (growing, growing_routers) = (graph::growing(), graph::growing_routers());
-    // An archive from before request 2026-10, which ./beside may hand in, would never end with nine texts.
+    // An archive from before request 2026-10, which ./beside may hand in, would take longer with nine texts than anyone waits.
     let (shared, letters, nine) = (graph::shared(), graph::letters(), graph::remembers().then(graph::nine));
     let drawn = graphs.iter().chain(&adverse).chain(&growing_routers);
     let orders = order::inputs();
