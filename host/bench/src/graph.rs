@@ -7,7 +7,9 @@ use crate::timing::Row;
 use crate::yanglib::YangLibrary;
 use crate::{form, house};
 use petgraph::graph::DiGraph;
+use std::collections::BTreeMap;
 use std::hint::black_box;
+use std::ops::Range;
 use vectors::graphs::Mode;
 use vectors::libraries::{ImportOnly, Library, Module, Set};
 use vectors::routers;
@@ -151,6 +153,41 @@ pub fn one_bucket() -> Input {
     let names = alike(1_024);
     let text: String = names.iter().take(8).cycle().take(226).map(|name| format!("import {name}{{prefix p;}}")).collect();
     modules("231,424 imports of names in one of 2,048 buckets", names.into_iter().map(|name| (name, text.clone())).collect())
+}
+
+/// 1,024 names, each alone in its bucket.
+fn apart() -> Vec<String> {
+    let mut taken = [false; 2_048];
+    let alone = |name: &String| !std::mem::replace(&mut taken[bucket(name)], true);
+    (0..10_000).map(|i| format!("{i:04}")).filter(alone).take(1_024).collect()
+}
+
+/// Edges deep in the chains in which the port looks for an edge (crates/graph_edges), looked for as often as texts can. The edge from x to u stands in chain
+/// 131 x + u of 8,192, those that were laid first at its end. 127 modules x, those with 131 x in the first eighth of the chains, lay edges in the same 64
+/// chains by lists, up to 127 in each; 134 are the most that a chain can have. Then come the texts of the others, each with 256 imports and 256 includes of
+/// the first one that laid an edge to it: so these are submodules too. Their own texts are empty, since the Rust reads them with each include.
+pub fn deep_edges() -> Input {
+    let names = apart();
+    let named = |numbers: Range<usize>| numbers.map(|i| names[i].clone()).collect::<Vec<String>>();
+    // nodes have the numbers of their names: 16 modules with the others as submodules come first
+    let first = (0..16).map(|k| Module { name: names[64 * k].clone(), submodules: named(64 * k + 1..64 * k + 64), ..Module::default() });
+    let (mut laying, others): (Vec<usize>, Vec<usize>) = (0..1_024).filter(|i| i % 64 != 0).partition(|x| 131 * x % 8_192 < 1_024);
+    // each eighth of them along the chains comes first, so that one of these lays an edge to each node
+    laying.sort_by_key(|x| 131 * x % 8_192);
+    let laying: Vec<usize> = (0..8).flat_map(|k| laying.iter().copied().skip(k).step_by(8)).collect();
+    let to = |x: usize| (992..1_056).filter_map(move |chain| usize::checked_sub(chain, 131 * x % 8_192)).filter(|u| *u < 1_024);
+    let list = |x: &usize| Module { name: names[*x].clone(), deviations: to(*x).map(|u| names[u].clone()).collect(), ..Module::default() };
+    let plain = |u: &usize| Module { name: names[*u].clone(), ..Module::default() };
+    let mut modules = vec![first.collect(), laying.iter().map(list).collect()];
+    modules.extend(others.chunks(512).map(|some| some.iter().map(plain).collect()));
+    let mut texts: BTreeMap<String, String> = names.iter().map(|name| (name.clone(), String::new())).collect();
+    for u in &others {
+        let x = laying.iter().find(|x| to(**x).any(|other| other == *u)).map(|x| &names[*x]).expect("an edge");
+        texts.insert(names[*u].clone(), format!("import {x}{{prefix p;}}").repeat(256) + &format!("include {x};").repeat(256));
+    }
+    let sets = modules.into_iter().map(|modules| Set { modules, ..Set::default() }).collect();
+    let what = format!("{} imports and includes whose edges stand deep in 64 of 8,192 chains", grouped(512 * others.len()));
+    Input::of(what, &Library { sets, texts })
 }
 
 // ---- rows
