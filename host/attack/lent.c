@@ -35,15 +35,16 @@ struct loan {
     const void *copy_of; /* what is read */
 };
 
-/* The words at a buffer's start, as many as a graph has nodes, and those behind them. */
-enum { FIRST_WORDS = 1024 };
+/* Two words that come in turn over a whole buffer: a graph remembers of each text whether it was read, and how many includes lie below it. A walk that takes
+ * them for its own goes differently in the two ways. */
 static const struct filling {
-    uint32_t first, rest;
+    uint32_t read, below;
 } fillings[LENT_FILLINGS][LENT_WAYS] = {
     {{0xa5a5a5a5, 0xa5a5a5a5}, {0x5a5a5a5a, 0x5a5a5a5a}},
     {{1, 1}, {2, 2}},
-    {{2, 0}, {2, 9}},
-    {{UINT32_MAX, UINT32_MAX}, {0, 0}},
+    {{2, 0}, {0, 9}},
+    {{2, 9}, {0, 0}},
+    {{UINT32_MAX, UINT32_MAX}, {1, 0}},
 };
 static const struct filling (*filling)[LENT_WAYS] = &fillings[0];
 static const uint8_t beside[LENT_WAYS] = {0xa5, 0x5a};
@@ -142,10 +143,10 @@ static uint8_t *margin(enum lent_way way, const struct loan *loan) {
 
 void lent_filled(size_t number) { filling = &fillings[number % LENT_FILLINGS]; }
 
-/* One word over and over; each copy is as long as all that is there. */
-static void spread(uint8_t *at, size_t length, uint32_t word) {
-    size_t done = length < sizeof word ? length : sizeof word;
-    memcpy(at, &word, done);
+/* Both words over and over; each copy is as long as all that is there. */
+static void spread(uint8_t *at, size_t length, const struct filling *words) {
+    size_t done = length < sizeof *words ? length : sizeof *words;
+    memcpy(at, words, done);
     for (size_t more; done < length; done += more) {
         more = length - done < done ? length - done : done;
         memcpy(at + done, at, more);
@@ -153,11 +154,8 @@ static void spread(uint8_t *at, size_t length, uint32_t word) {
 }
 
 void *lent_to_write(enum lent_way way, size_t slot, size_t length) {
-    const struct filling words = (*filling)[way];
-    const size_t first = length < FIRST_WORDS * sizeof words.first ? length : FIRST_WORDS * sizeof words.first;
     uint8_t *at = lend(way, slot, regions[way][slot].write, (struct loan){.length = length});
-    spread(at, first, words.first);
-    spread(at + first, length - first, words.rest);
+    spread(at, length, &(*filling)[way]);
     if (malloced)
         UNDEFINED(at, length);
     else

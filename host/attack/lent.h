@@ -15,9 +15,9 @@ enum lent_way { LENT_AT_END, LENT_AT_START, LENT_WAYS };
 /* With by_malloc each buffer is its own block of just its length instead, for valgrind to watch. */
 void lent_start(int by_malloc);
 
-/* What the buffers that are written hold before, from now on: one of these fillings, in each way other words. Among them are all that a walk could take for
- * its own memory: that a text was not read, is being read, or was read, with none or some includes below it. */
-#define LENT_FILLINGS 4u
+/* What the buffers that are written hold before, from now on: one of these fillings, in each way two other words in turn. A walk could take them for its own
+ * memory of each text: that it was not read (0), is being read (1) or was read (2), each with none and with some includes below it. */
+#define LENT_FILLINGS 5u
 void lent_filled(size_t filling);
 
 /* A copy that can be read but not written. */

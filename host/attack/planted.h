@@ -20,7 +20,7 @@ enum planted {
     DEEP_REFUSAL,       /* a byte written behind the store of a graph at 28 alone */
     PASSED_OVER,        /* the graph without complete nodes in the place of the one with them */
     NODES_TURNED,       /* the first two nodes of a graph exchanged */
-    MEMORY_LEFT,        /* what is remembered of a text not zero */
+    MEMORY_LEFT,        /* what is remembered of a text not zero: that one include lies below the second node's */
     MEMORY_TRUSTED,     /* a graph that takes the words it is lent for what it remembers: the text of its second node was read, so its edges are missing */
     NEVER_ENDS          /* one graph that never ends */
 };
@@ -54,14 +54,15 @@ typedef uint32_t graph_call(const uint8_t *, size_t, const uint8_t *, size_t, ui
 static uint32_t planted_graph(graph_call *call, const uint8_t *image, size_t image_len, const uint8_t *bundle, size_t bundle_len, uint32_t *nodes,
                               size_t nodes_len, uint32_t *edges, size_t edges_len, uint8_t *store, size_t store_len, uint32_t *imports,
                               size_t imports_len, uint32_t *includes, size_t includes_len, uint32_t *levels, size_t levels_len, uint32_t *answer) {
-    const int read_before = levels_len >= NUVALETA_LEVEL_WORDS && levels[1] == 2;
+    /* the memory has two words for each node: whether its text was read (2), and how many includes lie below it */
+    const int read_before = levels_len >= NUVALETA_LEVEL_WORDS && levels[2] == 2;
     static volatile int once;
     const uint32_t number = call(image, image_len, bundle, bundle_len, nodes, nodes_len, edges, edges_len, store, store_len, imports, imports_len,
                                  includes, includes_len, levels, levels_len, answer);
     if (call_planted == LEVELS_DIRTY && levels_len != 0)
         levels[levels_len - 1] = 1;
     if (call_planted == MEMORY_LEFT && number == 0)
-        levels[NUVALETA_NODES_MOST + 1] = 1;
+        levels[3] = 1;
     if (call_planted == MEMORY_TRUSTED && read_before && number == 0 && answer[7] != 0) {
         answer[7]--;
         memset(edges + 2 * answer[7], 0, 2 * sizeof *edges);

@@ -84,13 +84,20 @@ class Case(unittest.TestCase):
         self.put(name + ".bundle", bundle)
 
     def held(self, name):
-        """A router whose bundle nobody can open from now on: the lease that the test has on it makes whoever opens it wait, for 45 seconds at the most
-        (fcntl, F_SETLEASE), longer than any time that is given here. So its process does not end by itself, however fast the machine is."""
+        """A router whose bundle nobody can open from now on: the lease that the test has on it makes whoever opens it wait, for as long as
+        /proc/sys/fs/lease-break-time says, mostly 45 seconds (fcntl, F_SETLEASE), longer than any time that is given here. So its process does
+        not end by itself, however fast the machine is."""
         self.router(name, *line(1)[:2])
         signal.signal(signal.SIGIO, signal.SIG_IGN)  # by which the holder is told that somebody waits
         file = open(os.path.join(self.folder, name + ".bundle"), "rb", buffering=0)
         self.addCleanup(file.close)
-        fcntl.fcntl(file, fcntl.F_SETLEASE, fcntl.F_WRLCK)
+        with open("/proc/sys/fs/lease-break-time", encoding="ascii") as told:
+            seconds = int(told.read())
+        self.assertGreaterEqual(seconds, 10, "/proc/sys/fs/lease-break-time is below 10 seconds: a lease does not hold as long as this test needs")
+        try:
+            fcntl.fcntl(file, fcntl.F_SETLEASE, fcntl.F_WRLCK)
+        except OSError as error:
+            self.fail(f"no lease on {file.name}: {error}. This test needs a filesystem with leases: set TMPDIR to a folder on another one")
         return file
 
     def lines(self, counts):

@@ -7,7 +7,9 @@ use crate::timing::Row;
 use crate::yanglib::YangLibrary;
 use crate::{form, house};
 use petgraph::graph::DiGraph;
+use std::collections::BTreeMap;
 use std::hint::black_box;
+use std::ops::Range;
 use vectors::graphs::Mode;
 use vectors::libraries::{ImportOnly, Library, Module, Set};
 use vectors::routers;
@@ -101,7 +103,7 @@ pub fn shared() -> Input {
     Input::of("60 modules that include the same 15 submodules".to_string(), &routers::sharing(60, 15, 6, 60))
 }
 
-/// Each text is included 256 times by the one before it: the Rust, which walks it each time, never ends.
+/// Each text is included 256 times by the one before it: the Rust, which walks it each time, has 256^8 walks before it, longer than anyone waits.
 pub fn nine() -> Input {
     let names: Vec<String> = (0..9).map(|i| format!("s{i}")).collect();
     let module = Module { name: names[0].clone(), submodules: names[1..].to_vec(), ..Module::default() };
@@ -153,6 +155,41 @@ pub fn one_bucket() -> Input {
     modules("231,424 imports of names in one of 2,048 buckets", names.into_iter().map(|name| (name, text.clone())).collect())
 }
 
+/// 1,024 names, each alone in its bucket.
+fn apart() -> Vec<String> {
+    let mut taken = [false; 2_048];
+    let alone = |name: &String| !std::mem::replace(&mut taken[bucket(name)], true);
+    (0..10_000).map(|i| format!("{i:04}")).filter(alone).take(1_024).collect()
+}
+
+/// Edges deep in the chains in which the port looks for an edge (crates/graph_edges), looked for as often as texts can. The edge from x to u stands in chain
+/// 131 x + u of 8,192, those that were laid first at its end. 127 modules x, those with 131 x in the first eighth of the chains, lay edges in the same 64
+/// chains by lists, up to 127 in each; 134 are the most that a chain can have. Then come the texts of the others, each with 256 imports and 256 includes of
+/// the first one that laid an edge to it: so these are submodules too. Their own texts are empty, since the Rust reads them with each include.
+pub fn deep_edges() -> Input {
+    let names = apart();
+    let named = |numbers: Range<usize>| numbers.map(|i| names[i].clone()).collect::<Vec<String>>();
+    // nodes have the numbers of their names: 16 modules with the others as submodules come first
+    let first = (0..16).map(|k| Module { name: names[64 * k].clone(), submodules: named(64 * k + 1..64 * k + 64), ..Module::default() });
+    let (mut laying, others): (Vec<usize>, Vec<usize>) = (0..1_024).filter(|i| i % 64 != 0).partition(|x| 131 * x % 8_192 < 1_024);
+    // each eighth of them along the chains comes first, so that one of these lays an edge to each node
+    laying.sort_by_key(|x| 131 * x % 8_192);
+    let laying: Vec<usize> = (0..8).flat_map(|k| laying.iter().copied().skip(k).step_by(8)).collect();
+    let to = |x: usize| (992..1_056).filter_map(move |chain| usize::checked_sub(chain, 131 * x % 8_192)).filter(|u| *u < 1_024);
+    let list = |x: &usize| Module { name: names[*x].clone(), deviations: to(*x).map(|u| names[u].clone()).collect(), ..Module::default() };
+    let plain = |u: &usize| Module { name: names[*u].clone(), ..Module::default() };
+    let mut modules = vec![first.collect(), laying.iter().map(list).collect()];
+    modules.extend(others.chunks(512).map(|some| some.iter().map(plain).collect()));
+    let mut texts: BTreeMap<String, String> = names.iter().map(|name| (name.clone(), String::new())).collect();
+    for u in &others {
+        let x = laying.iter().find(|x| to(**x).any(|other| other == *u)).map(|x| &names[*x]).expect("an edge");
+        texts.insert(names[*u].clone(), format!("import {x}{{prefix p;}}").repeat(256) + &format!("include {x};").repeat(256));
+    }
+    let sets = modules.into_iter().map(|modules| Set { modules, ..Set::default() }).collect();
+    let what = format!("{} imports and includes whose edges stand deep in 64 of 8,192 chains", grouped(512 * others.len()));
+    Input::of(what, &Library { sets, texts })
+}
+
 // ---- rows
 
 /// What the Rust makes of the bytes before it draws.
@@ -192,7 +229,7 @@ pub fn whole(input: &Input) -> Row<'_> {
     Row::new(counted(&input.what, nodes, edges), input.bytes(), rust, redrawn(Mode::Present, input, lent))
 }
 
-/// The port alone, where the Rust never ends or takes too long for a table.
+/// The port alone, where the Rust takes too long for a table, or longer than anyone waits.
 pub fn alone(input: &Input) -> Row<'_> {
     let lent = port::graph(Mode::Present, &input.image, &input.bundle, form::longest_text(&input.bundle), 0);
     let [number, .., nodes, edges] = lent.answer.map(|word| word as usize);

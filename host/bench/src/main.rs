@@ -42,11 +42,11 @@ fn main() {
     let (dependencies, metadata) = (scans::for_dependencies(files), scans::for_metadata(files));
     let (graphs, adverse) = (graph::inputs(image, bundle), graph::adverse());
     let (growing, growing_routers) = (graph::growing(), graph::growing_routers());
-    // An archive from before request 2026-10, which ./beside may hand in, would never end with nine texts.
+    // An archive from before request 2026-10, which ./beside may hand in, would take longer with nine texts than anyone waits.
     let (shared, letters, nine) = (graph::shared(), graph::letters(), graph::remembers().then(graph::nine));
     let drawn = graphs.iter().chain(&adverse).chain(&growing_routers);
     let orders = order::inputs();
-    let (costly, fleet);
+    let (costly, deep, fleet);
     let mut groups = vec![
         Group { name: "dependencies of a text", rows: dependencies.iter().map(scans::dependencies).collect() },
         Group { name: "metadata of a text", rows: metadata.iter().map(scans::metadata).collect() },
@@ -68,20 +68,22 @@ fn main() {
     // What the port does here is what it does in the group before.
     groups.insert(11, Group { name: "order of registration, beside `toposort`", rows: orders.iter().map(order::sorting).collect() });
     measure(groups.iter_mut().flat_map(|group| &mut group.rows), ROUNDS);
-    // Behind the others, since it takes seconds; and so it is not timed beside another build.
-    costly = graph::one_bucket();
-    let mut slow = Group { name: "graph, names that are slow to find", rows: vec![graph::whole(&costly)] };
-    measure(slow.rows.iter_mut(), ROUNDS_OF_COSTLY);
-    groups.insert(7, slow);
+    // Behind the others, since they take up to seconds; and so they are not timed beside another build.
+    (costly, deep) = (graph::one_bucket(), graph::deep_edges());
+    for (name, input) in [("graph, names that are slow to find", &costly), ("graph, edges that are slow to find", &deep)] {
+        let mut slow = Group { name, rows: vec![graph::whole(input)] };
+        measure(slow.rows.iter_mut(), ROUNDS_OF_COSTLY);
+        groups.insert(7, slow);
+    }
     // Only now, since an allocator may be slower with so much that comes and goes, and with threads; and of the two only the Rust needs one.
     fleet = routers::fleet();
     let mut many = Group { name: "graph and order of many routers", rows: [1, 2].map(|threads| routers::row(&fleet, threads)).into() };
     measure(many.rows.iter_mut(), ROUNDS_OF_MANY);
     groups.push(many);
-    println!("Each row ran in {ROUNDS} rounds (many routers: {ROUNDS_OF_MANY}, names that are slow to find: {ROUNDS_OF_COSTLY}), each with");
+    println!("Each row ran in {ROUNDS} rounds (many routers: {ROUNDS_OF_MANY}, edges and names that are slow to find: {ROUNDS_OF_COSTLY}), each with");
     println!("{}.\n{TIMES}\n", timing::told());
     table::print(&groups);
-    let [_, _, _, _, _, _, _, _, growing, growing_routers, .., many] = &groups[..] else { panic!("fifteen groups") };
+    let [_, _, _, _, _, _, _, _, _, growing, growing_routers, .., many] = &groups[..] else { panic!("sixteen groups") };
     println!("\n{}", grown("modules", graph::SIZES, &growing.rows));
     println!("{}\n", grown("modules of a router", graph::ROUTERS, &growing_routers.rows));
     println!("{}\n\n{INCLUDED}", many_told(&many.rows));

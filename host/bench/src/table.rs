@@ -31,11 +31,16 @@ fn rounded(x: f64) -> String {
     if x < 999.95 { format!("{x:.1}") } else { grouped(x.round() as usize) }
 }
 
+/// With two digits below 0.1.
+fn ratio(x: f64) -> String {
+    if x < 0.1 { format!("{x:.2}") } else { rounded(x) }
+}
+
 fn line(row: &Row) -> String {
     let or_none = |is: bool, cell: String| if is { cell } else { "-".to_string() };
     let [bytes, speed] = [grouped(row.bytes), rounded(row.bytes as f64 * 1e3 / row.times.port)].map(|cell| or_none(row.bytes > 0, cell));
     let [rust, ratio, least] =
-        [rounded(row.times.rust / 1e3), rounded(row.times.ratio()), rounded(row.least)].map(|cell| or_none(row.has_rust(), cell));
+        [rounded(row.times.rust / 1e3), ratio(row.times.ratio()), ratio(row.least)].map(|cell| or_none(row.has_rust(), cell));
     format!("| {} | {bytes} | {rust} | {} | {ratio} | {least} | {speed} |", row.what, rounded(row.times.port / 1e3))
 }
 

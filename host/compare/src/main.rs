@@ -5,7 +5,8 @@
 //! compare changes SEED COUNT: COUNT small images and COUNT small bundles, with every beginning and every change of one byte.
 //! compare finds SEED COUNT: COUNT generated libraries: the Rust's finds, and damaged copies.
 //! compare graphs SEED COUNT: COUNT generated libraries, every other one with texts that include each other: nodes, edges in order, which refusal.
-//! compare complete SEED COUNT: COUNT generated libraries, in most of which names come again: the graphs of both modes, beside a plain reading of request 2026-02.
+//! compare complete SEED COUNT: COUNT generated libraries, in most of which names come again: the graphs of both modes, beside a plain reading of
+//! request 2026-02.
 //! compare graph-of IMAGE BUNDLE: the same for the image and the bundle in these files.
 //! compare orders SEED COUNT: COUNT generated graphs: the order or the ring, and lists, beside a plain reading of request 2026-08.
 //! compare sorts SEED COUNT: COUNT generated graphs: the Rust's own order is accepted, or both say that there is none.

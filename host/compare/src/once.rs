@@ -30,11 +30,14 @@ fn lengths(run: &mut Run) {
         ask(run, &format!("{levels} words of levels"), &image, &bundle, (store, [nodes, edges, imports, includes, levels]), expected);
     }
     let plain = Mode::BOTH.map(|mode| crate::port::graph(mode, &image, &bundle, store, 0));
+    // the memory has two words for each node: whether its text was read, and how many includes lie below it
     for [read, below] in [[0, 0], [1, 1], [2, 2], [2, 0], [2, 9], [0, 9], [u32::MAX, u32::MAX]] {
         for (mode, plain) in Mode::BOTH.into_iter().zip(&plain) {
             let mut g = lent_graph(store, GRAPH_WORDS);
             g.levels.fill(below);
-            g.levels[..1_024].fill(read);
+            for pair in g.levels[..2_048].chunks_exact_mut(2) {
+                pair.copy_from_slice(&[read, below]);
+            }
             g.redraw(mode, &image, &bundle);
             run.count(g == *plain, || format!("levels that held {read} and {below}, {mode:?}: {:?}, expected {:?}", g.answer, plain.answer));
         }
