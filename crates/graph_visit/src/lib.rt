@@ -1,4 +1,5 @@
-// One text of a walk: it is read, its imports are linked and its includes saved.
+// One text of a walk: it is read, its imports are linked and its includes saved; or it was read before, and what is remembered of it is the answer. That lies
+// in `levels` (graph_memory); `marks` is the table of what each node may be (graph_marks).
 use graph::NodeIndex;
 use graph_link::Walked;
 use graph_memory::Recalled;

@@ -40,7 +40,8 @@ pub fn walk(
         × Room (now bundle) (now store) (now imports) (now includes) (now levels) (now edges) (now chains) (spot .left) (spot .count)
         × (spot .node .0 < sizes .nodes) ⌝ }
     ensures { λ r. ⌜ Through (walkOnce
-        (codesHere (now (image .entry)) (now (bundle .entry)) (namesHeld (now (image .entry)) (now (ntab .entry)) (sizes .nodes))) mostEdges (spot .left) (spot .absent) (spot .node .0) (rowsIn (spot .count) (now (edges .entry))) (remembered (now (levels .entry))))
+        (codesHere (now (image .entry)) (now (bundle .entry)) (namesHeld (now (image .entry)) (now (ntab .entry)) (sizes .nodes)))
+        mostEdges (spot .left) (spot .absent) (spot .node .0) (rowsIn (spot .count) (now (edges .entry))) (remembered (now (levels .entry))))
         (spot .left) (spot .node .0) (now (edges .entry)) (now (chains .entry)) r (now (levels .exit)) (now (edges .exit)) (now (chains .exit))
         × Kept (levelAt (spot .left + 1)) (now (store .entry)) (now (imports .entry)) (now (includes .entry)) (now (levels .entry))
         (now (store .exit)) (now (imports .exit)) (now (includes .exit)) (now (levels .exit)) ⌝ }

@@ -65,7 +65,8 @@ draw-edges-spec =
     same-length
     (λ c.
     let enum-told1 = c .before .before .before .before in
-    enum-told1 .before .before .before .before .before .before .before .before .before .before .before .before .before .walk-items .ensures .kept .long .store-long)
+    enum-told1 .before .before .before .before .before .before .before .before .before .before .before .before .before
+    .walk-items .ensures .kept .long .store-long)
     (λ c.
     let enum-told1 = c .before .before .before .before in
     enum-told1 .before .before .before .before .before .before .before .before .before .before .before .before
@@ -85,13 +86,16 @@ draw-edges-spec =
     drawn1 .before .before .before .before .before .before .before .before .before .before .before .before .before .walk-items .ensures .kept-edges)
     (λ c.
     let drawn1 = c .before in
-    drawn1 .before .before .before .before .before .before .before .before .before .before .before .before .before .walk-items .ensures .kept .long .store-long)
+    drawn1 .before .before .before .before .before .before .before .before .before .before .before .before .before
+    .walk-items .ensures .kept .long .store-long)
     (λ c.
     let drawn1 = c .before in
-    drawn1 .before .before .before .before .before .before .before .before .before .before .before .before .before .walk-items .ensures .kept .long .imports-long)
+    drawn1 .before .before .before .before .before .before .before .before .before .before .before .before .before
+    .walk-items .ensures .kept .long .imports-long)
     (λ c.
     let drawn1 = c .before in
-    drawn1 .before .before .before .before .before .before .before .before .before .before .before .before .before .walk-items .ensures .kept .long .includes-long)
+    drawn1 .before .before .before .before .before .before .before .before .before .before .before .before .before
+    .walk-items .ensures .kept .long .includes-long)
     (λ c.
     let drawn1 = c .before in
     let walk-items1 = drawn1 .before .before .before .before .before .before .before .before .before .before .before .before .before in

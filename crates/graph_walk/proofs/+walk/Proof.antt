@@ -372,16 +372,21 @@ pub +walk-spec : {M : Type 1} → statement M
     (λ c. c .before .before .before .before .before .before .before .before .before .before .before .before .before .before
     .before .meet .ensures .0 .kept-chains)
     (returns-3 t)
-    (λ c. c .before .before .before .before .before .before .before .before .before .before .before .before .before .before .meet .ensures .1 .long .store-long)
-    (λ c. c .before .before .before .before .before .before .before .before .before .before .before .before .before .before .meet .ensures .1 .long .imports-long)
-    (λ c. c .before .before .before .before .before .before .before .before .before .before .before .before .before .before .meet .ensures .1 .long .includes-long)
-    (λ c. c .before .before .before .before .before .before .before .before .before .before .before .before .before .before .meet .ensures .1 .long .levels-long)
+    (λ c. c .before .before .before .before .before .before .before .before .before .before .before .before .before .before
+    .meet .ensures .1 .long .store-long)
+    (λ c. c .before .before .before .before .before .before .before .before .before .before .before .before .before .before
+    .meet .ensures .1 .long .imports-long)
+    (λ c. c .before .before .before .before .before .before .before .before .before .before .before .before .before .before
+    .meet .ensures .1 .long .includes-long)
+    (λ c. c .before .before .before .before .before .before .before .before .before .before .before .before .before .before
+    .meet .ensures .1 .long .levels-long)
     (λ c. c .before .before .before .before .before .before .before .before .before .before .before .before .before .before .meet .ensures .0 .kept-edges)
     (λ c. c .before .before .before .before .before .before .before .before .before .before .before .before .before .before .meet .ensures .0 .kept-chains)
     (returns-4 t)
     (λ c. let loop1 = c .before .before .before .before .before in loop1 .loop .inv .1 .store-long ∙ meet-of t loop1 .meet .ensures .1 .long .store-long)
     (λ c. let loop1 = c .before .before .before .before .before in loop1 .loop .inv .1 .imports-long ∙ meet-of t loop1 .meet .ensures .1 .long .imports-long)
-    (λ c. let loop1 = c .before .before .before .before .before in loop1 .loop .inv .1 .includes-long ∙ meet-of t loop1 .meet .ensures .1 .long .includes-long)
+    (λ c. let loop1 = c .before .before .before .before .before in loop1 .loop .inv .1 .includes-long ∙ meet-of t loop1
+    .meet .ensures .1 .long .includes-long)
     (λ c. let loop1 = c .before .before .before .before .before in c .before
     .before .remember .ensures .long ∙ loop1 .loop .inv .0 .long ∙ meet-of t loop1 .meet .ensures .1 .long .levels-long)
     (λ c. let loop1 = c .before .before .before .before .before in loop1 .loop .inv .0 .long-edges ∙ meet-of t loop1 .meet .ensures .0 .kept-edges)
