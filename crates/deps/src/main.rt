@@ -25,6 +25,7 @@ fn say(s: &[u8]) {
     let mut includes = [0u32; 1280];
     let mut page = [0u8; 39712];
     let printed = scan_page::print_yang_dependencies(
+        false,
         s,
         &mut store,
         &mut imports,

@@ -27,14 +27,14 @@ importNames bytes is = map (λ (i : YangImport). valueIn bytes (i .«module_name
 unfoldable pub includeNames : List ℕ → List YangInclude → List Name
 includeNames bytes is = map (λ (i : YangInclude). valueIn bytes (i .«submodule_name»)) is
 
--- ---- a text, scanned with enough lent
+-- ---- a text, scanned with enough lent; a graph does not ask that its texts are whole (2026-07)
 
 abbrev pub scanSeen : Scan → Text
 scanSeen (good d) = deps (importNames (d .bytes) (d .imports)) (includeNames (d .bytes) (d .includes))
 scanSeen (bad r d) = refusing r
 
 unfoldable pub scanText : List ℕ → Text
-scanText t = scanSeen (dependencies t false)
+scanText t = scanSeen (dependencies false t false)
 
 -- ---- the text under a name
 

@@ -13,13 +13,13 @@ pub enum Seen {
     Rows(usize, usize),
 }
 
-// Scans a text. It writes only what it uses, and clears nothing.
+// Scans a text, whole or not. It writes only what it uses, and clears nothing.
 fn scan_text(s: &[u8], store: &mut [u8], imports: &mut [u32], includes: &mut [u32]) -> Seen
     requires { ⌜ ScanRoom (length (now s)) (now store) (now imports) (now includes) ⌝ }
     ensures { λ r. ⌜ SeenAs (scanText (now (s .entry))) (now (store .entry)) (now (imports .entry)) (now (includes .entry)) r (now (store .exit))
         (now (imports .exit)) (now (includes .exit)) ⌝ }
 {
-    let parsed = yangparser::scan_over(s, false, store, imports, includes);
+    let parsed = yangparser::scan_over(false, s, false, store, imports, includes);
     match parsed {
         Parsed::Good {
             imports: m,

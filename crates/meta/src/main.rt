@@ -41,7 +41,7 @@ fn say_revisions(store: &[u8], first: Span, newest: Span) {
 
 fn say(s: &[u8]) {
     let mut store = [0u8; 131072];
-    let read = scan_metadata::extract_yang_metadata(s, &mut store);
+    let read = scan_metadata::extract_yang_metadata(false, s, &mut store);
     let answer = read.answer;
     if answer.number != text::NO_REFUSAL {
         say_refused(answer);

@@ -2,6 +2,7 @@
 use graph_build::Graphed;
 use yangparser::Parsed;
 ghost use mathlib.Core.Path.{_≡_};
+ghost use mathlib.Core.Bool.{true, false};
 ghost use Rattle.nuvaleta.specs.Host.{DependenciesAnswered, PrintedAnswered};
 ghost use Rattle.library_image.specs.Image.{imageBroken};
 ghost use Rattle.library_bundle.specs.Bundle.{bundleBroken, lookUp};
@@ -42,6 +43,25 @@ fn graph_words(graphed: Graphed) -> [u32; 8]
     }
 }
 
+// The imports and includes of a text, and the answer in words. `whole`: the text must be whole.
+fn dependencies_answer(
+    whole: bool,
+    text: &[u8],
+    store: &mut [u8],
+    imports: &mut [u32],
+    includes: &mut [u32],
+    answer: &mut [u32; 6],
+) -> u32
+    ensures { λ r. ⌜ DependenciesAnswered whole
+        (now (text .entry)) (now (store .entry)) (now (imports .entry)) (now (includes .entry)) r
+        (now (store .exit)) (now (imports .exit)) (now (includes .exit)) (now (answer .exit)) ⌝ }
+{
+    let parsed = yangparser::extract_yang_dependencies(whole, text, store, imports, includes);
+    let words = scan_words(parsed);
+    *answer = words;
+    words[0]
+}
+
 // The imports and includes of a text.
 #[no_mangle]
 pub extern "C" fn nuvaleta_dependencies(
@@ -51,13 +71,47 @@ pub extern "C" fn nuvaleta_dependencies(
     includes: &mut [u32],
     answer: &mut [u32; 6],
 ) -> u32
-    ensures { λ r. ⌜ DependenciesAnswered
+    ensures { λ r. ⌜ DependenciesAnswered false
         (now (text .entry)) (now (store .entry)) (now (imports .entry)) (now (includes .entry)) r
         (now (store .exit)) (now (imports .exit)) (now (includes .exit)) (now (answer .exit)) ⌝ }
 {
-    let parsed = yangparser::extract_yang_dependencies(text, store, imports, includes);
+    dependencies_answer(false, text, store, imports, includes, answer)
+}
+
+// The same of a text that must be whole: what is read of it and breaks off is refused (11).
+#[no_mangle]
+pub extern "C" fn nuvaleta_dependencies_whole(
+    text: &[u8],
+    store: &mut [u8],
+    imports: &mut [u32],
+    includes: &mut [u32],
+    answer: &mut [u32; 6],
+) -> u32
+    ensures { λ r. ⌜ DependenciesAnswered true
+        (now (text .entry)) (now (store .entry)) (now (imports .entry)) (now (includes .entry)) r
+        (now (store .exit)) (now (imports .exit)) (now (includes .exit)) (now (answer .exit)) ⌝ }
+{
+    dependencies_answer(true, text, store, imports, includes, answer)
+}
+
+// The imports and includes of a text, their printed form, and the answer in words. `whole`: the text must be whole.
+fn printed_answer(
+    whole: bool,
+    text: &[u8],
+    store: &mut [u8],
+    imports: &mut [u32],
+    includes: &mut [u32],
+    page: &mut [u8],
+    answer: &mut [u32; 7],
+) -> u32
+    ensures { λ r. ⌜ PrintedAnswered whole
+        (now (text .entry)) (now (store .entry)) (now (imports .entry)) (now (includes .entry)) (now (page .entry)) r
+        (now (store .exit)) (now (imports .exit)) (now (includes .exit)) (now (page .exit)) (now (answer .exit)) ⌝ }
+{
+    let printed = scan_page::print_yang_dependencies(whole, text, store, imports, includes, page);
+    let parsed = printed.parsed;
     let words = scan_words(parsed);
-    *answer = words;
+    *answer = host_words::page_words(words, printed.length);
     words[0]
 }
 
@@ -71,15 +125,48 @@ pub extern "C" fn nuvaleta_printed(
     page: &mut [u8],
     answer: &mut [u32; 7],
 ) -> u32
-    ensures { λ r. ⌜ PrintedAnswered
+    ensures { λ r. ⌜ PrintedAnswered false
         (now (text .entry)) (now (store .entry)) (now (imports .entry)) (now (includes .entry)) (now (page .entry)) r
         (now (store .exit)) (now (imports .exit)) (now (includes .exit)) (now (page .exit)) (now (answer .exit)) ⌝ }
 {
-    let printed = scan_page::print_yang_dependencies(text, store, imports, includes, page);
-    let parsed = printed.parsed;
-    let words = scan_words(parsed);
-    *answer = host_words::page_words(words, printed.length);
-    words[0]
+    printed_answer(false, text, store, imports, includes, page, answer)
+}
+
+// The same of a text that must be whole.
+#[no_mangle]
+pub extern "C" fn nuvaleta_printed_whole(
+    text: &[u8],
+    store: &mut [u8],
+    imports: &mut [u32],
+    includes: &mut [u32],
+    page: &mut [u8],
+    answer: &mut [u32; 7],
+) -> u32
+    ensures { λ r. ⌜ PrintedAnswered true
+        (now (text .entry)) (now (store .entry)) (now (imports .entry)) (now (includes .entry)) (now (page .entry)) r
+        (now (store .exit)) (now (imports .exit)) (now (includes .exit)) (now (page .exit)) (now (answer .exit)) ⌝ }
+{
+    printed_answer(true, text, store, imports, includes, page, answer)
+}
+
+// The metadata of a text, and the answer in words. `whole`: the text must be whole.
+fn metadata_answer(
+    whole: bool,
+    text: &[u8],
+    store: &mut [u8],
+    words: &mut [u32; 18],
+    answer: &mut [u32; 4],
+) -> u32
+    ensures { λ r. ⌜ MetadataAnswered whole
+        (now (text .entry)) (now (store .entry)) r (now (store .exit)) (now (words .exit)) (now (answer .exit)) ⌝ }
+{
+    let read = scan_metadata::extract_yang_metadata(whole, text, store);
+    let values = read.values;
+    let told = read.answer;
+    let used = read.used;
+    *words = host_words::record_words(values);
+    *answer = host_words::metadata_words(told, used);
+    told.number
 }
 
 // The metadata of a text.
@@ -90,15 +177,24 @@ pub extern "C" fn nuvaleta_metadata(
     words: &mut [u32; 18],
     answer: &mut [u32; 4],
 ) -> u32
-    ensures { λ r. ⌜ MetadataAnswered (now (text .entry)) (now (store .entry)) r (now (store .exit)) (now (words .exit)) (now (answer .exit)) ⌝ }
+    ensures { λ r. ⌜ MetadataAnswered false
+        (now (text .entry)) (now (store .entry)) r (now (store .exit)) (now (words .exit)) (now (answer .exit)) ⌝ }
 {
-    let read = scan_metadata::extract_yang_metadata(text, store);
-    let values = read.values;
-    let told = read.answer;
-    let used = read.used;
-    *words = host_words::record_words(values);
-    *answer = host_words::metadata_words(told, used);
-    told.number
+    metadata_answer(false, text, store, words, answer)
+}
+
+// The same of a text that must be whole.
+#[no_mangle]
+pub extern "C" fn nuvaleta_metadata_whole(
+    text: &[u8],
+    store: &mut [u8],
+    words: &mut [u32; 18],
+    answer: &mut [u32; 4],
+) -> u32
+    ensures { λ r. ⌜ MetadataAnswered true
+        (now (text .entry)) (now (store .entry)) r (now (store .exit)) (now (words .exit)) (now (answer .exit)) ⌝ }
+{
+    metadata_answer(true, text, store, words, answer)
 }
 
 // A module of an image by its name.

@@ -1,8 +1,9 @@
 -- The block of an import or include: until `}`, `prefix` value `;` (of an import), `revision-date` value `;`, any other statement skipped.
 -- Last one read wins. 8: end inside an import or include block, where its next statement or `}` is due.
+-- 2026-07: in the whole-text mode a skipped statement that the text's end ends is 11, before 8.
 -- Assumes nothing.
 use Prim.Native.Nat.{ℕ, suc, _+_, _-_}
-use mathlib.Core.Bool.{cond}
+use mathlib.Core.Bool.{Bool, cond}
 use mathlib.Core.List.{List, [], _++_}
 use lib.Dec.{eqb}
 use lib.ListN.{length}
@@ -10,6 +11,8 @@ use Rattle.text.specs.Bytes.{closeBrace, semicolon, theEnd, look}
 use Rattle.text.specs.Keyword.{matchAt}
 use Rattle.text.specs.Scan.{gapEnd}
 use Rattle.text.specs.Turns.{Turn, stop, on, turns}
+use Rattle.text.specs.declared.Due.{Due}
+use Rattle.text.specs.declared.Due.the-variants.{After as Past, Not as NotPast}
 use Rattle.text.specs.declared.Match.{Match}
 use Rattle.text.specs.declared.Match.the-variants.{After, Not}
 use Rattle.text.specs.Refusal.{noRefusal}
@@ -19,9 +22,7 @@ use Rattle.text_value.specs.Value.{valueAt, valueBytes}
 use Rattle.text_value.specs.Argument.{lineAt}
 use Rattle.text_value.specs.declared.Argument.{Argument}
 use Rattle.text_value.specs.declared.Argument.the-variants.{Read, Refused as RefusedLine}
-use Rattle.text_statement.specs.Statement.{statementAt}
-use Rattle.text_skip.specs.declared.Skipped.{Skipped}
-use Rattle.text_skip.specs.declared.Skipped.the-variants.{Past, Refused as RefusedSkip}
+use Rattle.text_statement.specs.Statement.{pastStatement}
 use Rattle.scan_block.specs.Left.{Left, nothing}
 use Rattle.scan_rows.specs.Span.{held, missing}
 use Rattle.scan_rows.specs.declared.Span.{Span}
@@ -69,25 +70,25 @@ withValue b j (RefusedLine r) = Refused r
 abbrev pub moved : Body → ℕ → Body
 moved b at = record { at = at; used = b .used; prefix = b .prefix; revision = b .revision }
 
--- any other statement is skipped, however it ends
-unfoldable pub withSkipped : Body → Skipped → Inside
-withSkipped b (Past c h) = On (moved b (c .at))
-withSkipped b (RefusedSkip r) = Refused r
+-- any other statement is skipped
+unfoldable pub withSkipped : Body → Due → Inside
+withSkipped b (Past c) = On (moved b (c .at))
+withSkipped b (NotPast r) = Refused r
 
--- a value's bytes are stored, also where the semicolon is missing after it
-unfoldable pub afterKind : List ℕ → ℕ → Body → Line → Left Inside
-afterKind s at b (Value j c) =
-    record { answer = withValue b j (lineAt s (c .at) (b .used) j semicolon); bytes = valueBytes (valueAt s (c .at)) }
-afterKind s at b Other = nothing (withSkipped b (statementAt s at))
+-- a value's bytes are stored, also where the semicolon is missing after it; whole: the whole-text mode
+unfoldable pub afterKind : Bool → List ℕ → ℕ → Body → Line → Left Inside
+afterKind whole s at b (Value j c) =
+    record { answer = withValue b j (lineAt whole s (c .at) (b .used) j semicolon); bytes = valueBytes (valueAt s (c .at)) }
+afterKind whole s at b Other = nothing (withSkipped b (pastStatement whole s at))
 
 -- at the place after the gap
-unfoldable pub insideHere : List ℕ → ℕ → ℕ → Body → Left Inside
-insideHere s at k b =
+unfoldable pub insideHere : Bool → List ℕ → ℕ → ℕ → Body → Left Inside
+insideHere whole s at k b =
     cond (eqb (look s at) theEnd) (nothing (Refused (record { number = openEnded; keyword = k; at = at })))
-    (cond (eqb (look s at) closeBrace) (nothing (Closed (moved b (at + 1)))) (afterKind s at b (lineKind s at k)))
+    (cond (eqb (look s at) closeBrace) (nothing (Closed (moved b (at + 1)))) (afterKind whole s at b (lineKind s at k)))
 
-unfoldable pub insideAt : List ℕ → ℕ → Body → Left Inside
-insideAt s k b = insideHere s (gapEnd s (b .at)) k b
+unfoldable pub insideAt : Bool → List ℕ → ℕ → Body → Left Inside
+insideAt whole s k b = insideHere whole s (gapEnd s (b .at)) k b
 
 -- ---- the whole block
 
@@ -101,18 +102,18 @@ afterInside bytes (On b) = on (record { body = b; bytes = bytes })
 afterInside bytes (Closed b) = stop (record { answer = Whole b; bytes = bytes })
 afterInside bytes (Refused r) = stop (record { answer = Broken r; bytes = bytes })
 
-unfoldable pub blockTurn : List ℕ → ℕ → Stored → Turn Stored (Left Block)
-blockTurn s k g = afterInside (g .bytes ++ insideAt s k (g .body) .bytes) (insideAt s k (g .body) .answer)
+unfoldable pub blockTurn : Bool → List ℕ → ℕ → Stored → Turn Stored (Left Block)
+blockTurn whole s k g = afterInside (g .bytes ++ insideAt whole s k (g .body) .bytes) (insideAt whole s k (g .body) .answer)
 
-unfoldable pub blockFrom : List ℕ → ℕ → Stored → Left Block
-blockFrom s k g = turns (blockTurn s k) (nothing (Broken noRefusal)) (suc (length s)) g
+unfoldable pub blockFrom : Bool → List ℕ → ℕ → Stored → Left Block
+blockFrom whole s k g = turns (blockTurn whole s k) (nothing (Broken noRefusal)) (suc (length s)) g
 
 -- nothing read yet: behind its `{`, at the store's place u
 abbrev pub begun : ℕ → ℕ → Body
 begun at u = record { at = at; used = u; prefix = missing; revision = missing }
 
-unfoldable pub blockAt : List ℕ → ℕ → ℕ → ℕ → Left Block
-blockAt s at u k = blockFrom s k (record { body = begun at u; bytes = [] })
+unfoldable pub blockAt : Bool → List ℕ → ℕ → ℕ → ℕ → Left Block
+blockAt whole s at u k = blockFrom whole s k (record { body = begun at u; bytes = [] })
 
 -- its refusal, or none
 unfoldable pub blockRefusal : Block → Refusal

@@ -1,9 +1,9 @@
 // The block of an import or include: the values that it keeps, in the store that the caller lends, and any other statement skipped.
 use scan_rows::Span;
 use text::Cursor;
+use text::Due;
 use text::Match;
 use text::Refusal;
-use text_skip::Skipped;
 use text_value::Argument;
 ghost use mathlib.Core.Path.{_≡_};
 ghost use Prim.Native.Nat.{_+_, _-_, _≤_};
@@ -11,7 +11,7 @@ ghost use lib.ListN.{length};
 ghost use lib.Seq.{sets};
 ghost use Rattle.text.specs.Bytes.{semicolon};
 ghost use Rattle.text.specs.Class.{classTable};
-ghost use Rattle.text_statement.specs.Statement.{statementAt};
+ghost use Rattle.text_statement.specs.Statement.{pastStatement};
 ghost use Rattle.text_value.specs.Argument.{lineAt};
 ghost use Rattle.text_value.specs.Value.{valueAt, valueBytes};
 ghost use Rattle.scan_block.specs.Block.{revisionLine, lineKind, kept, withValue, withSkipped, begun, moved, insideAt, blockRefusal, blockAt};
@@ -76,18 +76,19 @@ pub enum Block {
 pub fn parse_block(
     here: Cursor,
     classes: &[u8; 128],
+    whole: bool,
     s: &[u8],
     store: &mut [u8],
     used: usize,
     keyword: u32,
 ) -> Block
     requires { ⌜ (now classes ≡ classTable) × (used + (length (now s) - here .at) ≤ length (now store)) ⌝ }
-    ensures { λ r. ⌜ (r ≡ blockAt (now (s .entry)) (here .at) used keyword .answer)
-        × (now (store .exit) ≡ sets (now (store .entry)) used (blockAt (now (s .entry)) (here .at) used keyword .bytes)) ⌝ }
+    ensures { λ r. ⌜ (r ≡ blockAt whole (now (s .entry)) (here .at) used keyword .answer)
+        × (now (store .exit) ≡ sets (now (store .entry)) used (blockAt whole (now (s .entry)) (here .at) used keyword .bytes)) ⌝ }
 {
     let mut body = begun(here, used);
     loop {
-        match parse_inside(body, classes, s, store, keyword) {
+        match parse_inside(body, classes, whole, s, store, keyword) {
             Inside::On(next) => {
                 body = next;
             }
@@ -119,10 +120,17 @@ pub enum Inside {
 }
 
 // Reads or skips the statement of a block that stands after a gap, or its closing brace.
-fn parse_inside(body: Body, classes: &[u8; 128], s: &[u8], store: &mut [u8], keyword: u32) -> Inside
+fn parse_inside(
+    body: Body,
+    classes: &[u8; 128],
+    whole: bool,
+    s: &[u8],
+    store: &mut [u8],
+    keyword: u32,
+) -> Inside
     requires { ⌜ (now classes ≡ classTable) × (body .used + (length (now s) - body .at) ≤ length (now store)) ⌝ }
-    ensures { λ r. ⌜ (r ≡ insideAt (now (s .entry)) keyword body .answer)
-        × (now (store .exit) ≡ sets (now (store .entry)) (body .used) (insideAt (now (s .entry)) keyword body .bytes)) ⌝ }
+    ensures { λ r. ⌜ (r ≡ insideAt whole (now (s .entry)) keyword body .answer)
+        × (now (store .exit) ≡ sets (now (store .entry)) (body .used) (insideAt whole (now (s .entry)) keyword body .bytes)) ⌝ }
 {
     let from = Cursor { at: body.at };
     let here = from.skip_whitespace_and_comments(classes, s);
@@ -143,19 +151,19 @@ fn parse_inside(body: Body, classes: &[u8; 128], s: &[u8], store: &mut [u8], key
         Line::Value {
             keyword: own,
             after,
-        } => read_inside(body, after, classes, s, store, own),
-        Line::Other => skip_other(body, here, classes, s),
+        } => read_inside(body, after, classes, whole, s, store, own),
+        Line::Other => skip_other(body, here, classes, whole, s),
     }
 }
 
 // Skips a statement of which nothing is read.
-fn skip_other(body: Body, here: Cursor, classes: &[u8; 128], s: &[u8]) -> Inside
+fn skip_other(body: Body, here: Cursor, classes: &[u8; 128], whole: bool, s: &[u8]) -> Inside
     requires { ⌜ now classes ≡ classTable ⌝ }
-    ensures { λ r. ⌜ r ≡ withSkipped body (statementAt (now (s .entry)) (here .at)) ⌝ }
+    ensures { λ r. ⌜ r ≡ withSkipped body (pastStatement whole (now (s .entry)) (here .at)) ⌝ }
 {
-    let skipped = text_statement::skip_statement(here, classes, s);
-    let Skipped::Past(next, _) = skipped else {
-        return Inside::Refused(text_skip::skip_refusal(skipped));
+    let skipped = text_statement::past_statement(here, classes, whole, s);
+    let Due::After(next) = skipped else {
+        return Inside::Refused(text::refusal_of(skipped));
     };
     Inside::On(moved(body, next.at))
 }
@@ -165,16 +173,26 @@ fn read_inside(
     body: Body,
     here: Cursor,
     classes: &[u8; 128],
+    whole: bool,
     s: &[u8],
     store: &mut [u8],
     keyword: u32,
 ) -> Inside
     requires { ⌜ (now classes ≡ classTable) × (body .used + (length (now s) - here .at) ≤ length (now store)) ⌝ }
-    ensures { λ r. ⌜ (r ≡ withValue body keyword (lineAt (now (s .entry)) (here .at) (body .used) keyword semicolon))
+    ensures { λ r. ⌜ (r ≡ withValue body keyword (lineAt whole (now (s .entry)) (here .at) (body .used) keyword semicolon))
         × (now (store .exit) ≡ sets (now (store .entry)) (body .used) (valueBytes (valueAt (now (s .entry)) (here .at)))) ⌝ }
 {
     let used = body.used;
-    let line = text_value::read_argument(here, classes, s, store, used, keyword, text::SEMICOLON);
+    let line = text_value::read_argument(
+        here,
+        classes,
+        whole,
+        s,
+        store,
+        used,
+        keyword,
+        text::SEMICOLON,
+    );
     let Argument::Read { next, used: n } = line else {
         return Inside::Refused(text_value::argument_refusal(line));
     };

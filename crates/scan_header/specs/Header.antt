@@ -1,5 +1,6 @@
 -- Metadata: `module` or `submodule` value `{`; `belongs-to` value, statement skipped; `namespace` value `;`; `prefix` value `;` (first wins, later
 -- statements skipped); `yang-version`, value if there is one, `;`; `revision` value, then a block skipped or `;`. Other tokens are skipped.
+-- 2026-07: in the whole-text mode what is skipped or read here and breaks off is 11.
 -- Assumes nothing.
 use Prim.Native.Nat.{ℕ, _-_}
 use mathlib.Core.Bool.{Bool, cond, _&&_, _||_}
@@ -18,10 +19,8 @@ use Rattle.text_value.specs.Argument.{argumentAt}
 use Rattle.text_value.specs.Value.{valueAt, valueBytes}
 use Rattle.text_value.specs.declared.Argument.{Argument}
 use Rattle.text_value.specs.declared.Argument.the-variants.{Read, Refused as NoArgument}
-use Rattle.text_skip.specs.Skip.{tokenAt, skippedAt}
-use Rattle.text_statement.specs.Statement.{statementAt}
-use Rattle.text_skip.specs.declared.Skipped.{Skipped}
-use Rattle.text_skip.specs.declared.Skipped.the-variants.{Past, Refused as RefusedSkip}
+use Rattle.text_skip.specs.Skip.{pastToken, pastValue}
+use Rattle.text_statement.specs.Statement.{pastStatement}
 use Rattle.scan_rows.specs.Span.{held}
 use Rattle.scan_tag.specs.Tag.{tagAt}
 use Rattle.scan_header.specs.declared.Heard.{Heard}
@@ -29,29 +28,20 @@ use Rattle.scan_header.specs.declared.Heard.the-variants.{Value, Passed,
 use Rattle.scan_tag.specs.declared.Tag.{Tag}
 use Rattle.scan_tag.specs.declared.Tag.the-variants.{Statement, Last, Other}
 
--- ---- what follows a value; k: the keyword, at: the place after the value
-
--- past what was skipped, however it ended, or the refusal
-unfoldable pub pastOf : Skipped → Due
-pastOf (Past c h) = After c
-pastOf (RefusedSkip r) = Not r
-
--- past a statement
-unfoldable pub pastStatement : List ℕ → ℕ → Due
-pastStatement s at = pastOf (statementAt s at)
+-- ---- what follows a value; whole: the whole-text mode, k: the keyword, at: the place after the value
 
 -- { after a module's name, else ;
 unfoldable pub dueFor : ℕ → ℕ
 dueFor k = cond (eqb k moduleKeyword || eqb k submoduleKeyword) openBrace semicolon
 
 -- a revision's block, or ;
-unfoldable pub afterRevision : List ℕ → ℕ → Due
-afterRevision s at = cond (eqb (look s at) openBrace) (pastStatement s at) (dueAt s at semicolon revisionKeyword)
+unfoldable pub afterRevision : Bool → List ℕ → ℕ → Due
+afterRevision whole s at = cond (eqb (look s at) openBrace) (pastStatement whole s at) (dueAt s at semicolon revisionKeyword)
 
-unfoldable pub afterValue : List ℕ → ℕ → ℕ → Due
-afterValue s at k =
-    cond (eqb k belongsToKeyword) (pastStatement s at)
-    (cond (eqb k revisionKeyword) (afterRevision s (gapEnd s at)) (dueAt s at (dueFor k) k))
+unfoldable pub afterValue : Bool → List ℕ → ℕ → ℕ → Due
+afterValue whole s at k =
+    cond (eqb k belongsToKeyword) (pastStatement whole s at)
+    (cond (eqb k revisionKeyword) (afterRevision whole s (gapEnd s at)) (dueAt s at (dueFor k) k))
 
 -- ---- one statement read, or one token skipped: the answer and the bytes stored; u: the store's next place
 
@@ -72,40 +62,40 @@ unfoldable pub kept : ℕ → ℕ → ℕ → Due → Heard
 kept k u n (After c) = Value k (held u (n - u)) c n
 kept k u n (Not r) = Refused r
 
-unfoldable pub withRest : List ℕ → ℕ → ℕ → Argument → Heard
-withRest s k u (Read c n) = kept k u n (afterValue s (c .at) k)
-withRest s k u (NoArgument r) = Refused r
+unfoldable pub withRest : Bool → List ℕ → ℕ → ℕ → Argument → Heard
+withRest whole s k u (Read c n) = kept k u n (afterValue whole s (c .at) k)
+withRest whole s k u (NoArgument r) = Refused r
 
 -- a keyword with its value
-unfoldable pub fieldAt : List ℕ → ℕ → ℕ → ℕ → Said
-fieldAt s at k u = record { answer = withRest s k u (argumentAt s at u k); bytes = valueBytes (valueAt s at) }
+unfoldable pub fieldAt : Bool → List ℕ → ℕ → ℕ → ℕ → Said
+fieldAt whole s at k u = record { answer = withRest whole s k u (argumentAt whole s at u k); bytes = valueBytes (valueAt s at) }
 
 -- a keyword with a value that is skipped
-unfoldable pub afterSkipped : List ℕ → ℕ → Skipped → Heard
-afterSkipped s k (Past c h) = passed (afterValue s (c .at) k)
-afterSkipped s k (RefusedSkip r) = Refused r
+unfoldable pub afterSkipped : Bool → List ℕ → ℕ → Due → Heard
+afterSkipped whole s k (After c) = passed (afterValue whole s (c .at) k)
+afterSkipped whole s k (Not r) = Refused r
 
 -- hasPrefix: whether a prefix was read before
 unfoldable pub laterPrefix : ℕ → Bool → Bool
 laterPrefix k hasPrefix = eqb k prefixKeyword && hasPrefix
 
 -- behind the keyword k
-unfoldable pub statementSaid : List ℕ → ℕ → ℕ → ℕ → Bool → Said
-statementSaid s at k u hasPrefix =
-    cond (eqb k yangVersionKeyword) (said (afterSkipped s k (skippedAt s at)))
-    (cond (laterPrefix k hasPrefix) (said (passed (pastStatement s at))) (fieldAt s at k u))
+unfoldable pub statementSaid : Bool → List ℕ → ℕ → ℕ → ℕ → Bool → Said
+statementSaid whole s at k u hasPrefix =
+    cond (eqb k yangVersionKeyword) (said (afterSkipped whole s k (pastValue whole s at)))
+    (cond (laterPrefix k hasPrefix) (said (passed (pastStatement whole s at))) (fieldAt whole s at k u))
 
-unfoldable pub tagSaid : List ℕ → ℕ → ℕ → Bool → Tag → Said
-tagSaid s at u hasPrefix (Statement k c) = statementSaid s (c .at) k u hasPrefix
-tagSaid s at u hasPrefix (Last c) = said (Done c)
-tagSaid s at u hasPrefix Other = said (passed (pastOf (tokenAt s at)))
+unfoldable pub tagSaid : Bool → List ℕ → ℕ → ℕ → Bool → Tag → Said
+tagSaid whole s at u hasPrefix (Statement k c) = statementSaid whole s (c .at) k u hasPrefix
+tagSaid whole s at u hasPrefix (Last c) = said (Done c)
+tagSaid whole s at u hasPrefix Other = said (passed (pastToken whole s at))
 
 -- at the place after the gap
-unfoldable pub saidHere : List ℕ → ℕ → ℕ → Bool → Said
-saidHere s at u hasPrefix = cond (leb (length s) at) (said (Done (record { at = at }))) (tagSaid s at u hasPrefix (tagAt s at))
+unfoldable pub saidHere : Bool → List ℕ → ℕ → ℕ → Bool → Said
+saidHere whole s at u hasPrefix = cond (leb (length s) at) (said (Done (record { at = at }))) (tagSaid whole s at u hasPrefix (tagAt s at))
 
-unfoldable pub saidAt : List ℕ → ℕ → ℕ → Bool → Said
-saidAt s at u hasPrefix = saidHere s (gapEnd s at) u hasPrefix
+unfoldable pub saidAt : Bool → List ℕ → ℕ → ℕ → Bool → Said
+saidAt whole s at u hasPrefix = saidHere whole s (gapEnd s at) u hasPrefix
 
 -- its refusal, or none
 unfoldable pub heardRefusal : Heard → Refusal

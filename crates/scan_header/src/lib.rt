@@ -4,15 +4,14 @@ use scan_tag::Tag;
 use text::Cursor;
 use text::Due;
 use text::Refusal;
-use text_skip::Skipped;
 use text_value::Argument;
 ghost use mathlib.Core.Path.{_≡_};
 ghost use Prim.Native.Nat.{_+_, _-_, _≤_};
 ghost use lib.ListN.{length};
 ghost use lib.Seq.{sets};
 ghost use Rattle.text.specs.Class.{classTable};
-ghost use Rattle.text_skip.specs.Skip.{skippedAt};
-ghost use Rattle.scan_header.specs.Header.{pastOf, pastStatement, dueFor, afterRevision, afterValue, passed, afterSkipped, fieldAt, laterPrefix};
+ghost use Rattle.text_skip.specs.Skip.{pastValue};
+ghost use Rattle.scan_header.specs.Header.{dueFor, afterRevision, afterValue, passed, afterSkipped, fieldAt, laterPrefix};
 ghost use Rattle.scan_header.specs.Header.{statementSaid, saidAt, heardRefusal};
 
 // A value was read for a keyword; or something was passed that is not kept; or the scan is over; or a refusal.
@@ -45,18 +44,19 @@ pub fn heard_refusal(x: Heard) -> Refusal
     }
 }
 
-// Reads the statement, or skips the token, that stands after a gap. `prefixed`: a prefix was read before.
+// Reads the statement, or skips the token, that stands after a gap. `whole`: the text must be whole; `prefixed`: a prefix was read before.
 pub fn hear(
     from: Cursor,
     classes: &[u8; 128],
+    whole: bool,
     s: &[u8],
     store: &mut [u8],
     used: usize,
     prefixed: bool,
 ) -> Heard
     requires { ⌜ (now classes ≡ classTable) × (used + (length (now s) - from .at) ≤ length (now store)) ⌝ }
-    ensures { λ r. ⌜ (r ≡ saidAt (now (s .entry)) (from .at) used prefixed .answer)
-        × (now (store .exit) ≡ sets (now (store .entry)) used (saidAt (now (s .entry)) (from .at) used prefixed .bytes)) ⌝ }
+    ensures { λ r. ⌜ (r ≡ saidAt whole (now (s .entry)) (from .at) used prefixed .answer)
+        × (now (store .exit) ≡ sets (now (store .entry)) used (saidAt whole (now (s .entry)) (from .at) used prefixed .bytes)) ⌝ }
 {
     let here = from.skip_whitespace_and_comments(classes, s);
     let at = here.at;
@@ -68,6 +68,7 @@ pub fn hear(
         Tag::Statement { keyword, after } => read_statement(
             after,
             classes,
+            whole,
             s,
             store,
             used,
@@ -76,8 +77,8 @@ pub fn hear(
         ),
         Tag::Last(c) => Heard::Done(c),
         Tag::Other => {
-            let token = text_skip::skip_one_token(here, classes, s);
-            passed(past(token))
+            let token = text_skip::past_token(here, classes, whole, s);
+            passed(token)
         }
     }
 }
@@ -86,6 +87,7 @@ pub fn hear(
 fn read_statement(
     here: Cursor,
     classes: &[u8; 128],
+    whole: bool,
     s: &[u8],
     store: &mut [u8],
     used: usize,
@@ -93,28 +95,29 @@ fn read_statement(
     prefixed: bool,
 ) -> Heard
     requires { ⌜ (now classes ≡ classTable) × (used + (length (now s) - here .at) ≤ length (now store)) ⌝ }
-    ensures { λ r. ⌜ (r ≡ statementSaid (now (s .entry)) (here .at) keyword used prefixed .answer)
-        × (now (store .exit) ≡ sets (now (store .entry)) used (statementSaid (now (s .entry)) (here .at) keyword used prefixed .bytes)) ⌝ }
+    ensures { λ r. ⌜ (r ≡ statementSaid whole (now (s .entry)) (here .at) keyword used prefixed .answer)
+        × (now (store .exit) ≡ sets (now (store .entry)) used (statementSaid whole (now (s .entry)) (here .at) keyword used prefixed .bytes)) ⌝ }
 {
     if keyword == text::YANG_VERSION {
-        return skip_field(here, classes, s, keyword);
+        return skip_field(here, classes, whole, s, keyword);
     }
     if later_prefix(keyword, prefixed) {
-        return passed(past_statement(here, classes, s));
+        let statement = text_statement::past_statement(here, classes, whole, s);
+        return passed(statement);
     }
-    read_field(here, classes, s, store, used, keyword)
+    read_field(here, classes, whole, s, store, used, keyword)
 }
 
 // Skips a keyword's value, if there is one, and reads what is due after it.
-fn skip_field(here: Cursor, classes: &[u8; 128], s: &[u8], keyword: u32) -> Heard
+fn skip_field(here: Cursor, classes: &[u8; 128], whole: bool, s: &[u8], keyword: u32) -> Heard
     requires { ⌜ now classes ≡ classTable ⌝ }
-    ensures { λ r. ⌜ r ≡ afterSkipped (now (s .entry)) keyword (skippedAt (now (s .entry)) (here .at)) ⌝ }
+    ensures { λ r. ⌜ r ≡ afterSkipped whole (now (s .entry)) keyword (pastValue whole (now (s .entry)) (here .at)) ⌝ }
 {
-    let value = text_skip::skip_value(here, classes, s);
-    let Skipped::Past(next, _) = value else {
-        return Heard::Refused(text_skip::skip_refusal(value));
+    let value = text_skip::past_value(here, classes, whole, s);
+    let Due::After(next) = value else {
+        return Heard::Refused(text::refusal_of(value));
     };
-    passed(after_value(next, classes, s, keyword))
+    passed(after_value(next, classes, whole, s, keyword))
 }
 
 // Whether a prefix was read before this one.
@@ -131,20 +134,21 @@ fn later_prefix(keyword: u32, prefixed: bool) -> bool
 fn read_field(
     here: Cursor,
     classes: &[u8; 128],
+    whole: bool,
     s: &[u8],
     store: &mut [u8],
     used: usize,
     keyword: u32,
 ) -> Heard
     requires { ⌜ (now classes ≡ classTable) × (used + (length (now s) - here .at) ≤ length (now store)) ⌝ }
-    ensures { λ r. ⌜ (r ≡ fieldAt (now (s .entry)) (here .at) keyword used .answer)
-        × (now (store .exit) ≡ sets (now (store .entry)) used (fieldAt (now (s .entry)) (here .at) keyword used .bytes)) ⌝ }
+    ensures { λ r. ⌜ (r ≡ fieldAt whole (now (s .entry)) (here .at) keyword used .answer)
+        × (now (store .exit) ≡ sets (now (store .entry)) used (fieldAt whole (now (s .entry)) (here .at) keyword used .bytes)) ⌝ }
 {
-    let got = text_value::read_value(here, classes, s, store, used, keyword);
+    let got = text_value::read_value(here, classes, whole, s, store, used, keyword);
     let Argument::Read { next, used: n } = got else {
         return Heard::Refused(text_value::argument_refusal(got));
     };
-    let due = after_value(next, classes, s, keyword);
+    let due = after_value(next, classes, whole, s, keyword);
     let Due::After(end) = due else {
         return Heard::Refused(text::refusal_of(due));
     };
@@ -168,47 +172,28 @@ fn passed(d: Due) -> Heard
 }
 
 // What is due after a keyword's value.
-fn after_value(here: Cursor, classes: &[u8; 128], s: &[u8], keyword: u32) -> Due
+fn after_value(here: Cursor, classes: &[u8; 128], whole: bool, s: &[u8], keyword: u32) -> Due
     requires { ⌜ now classes ≡ classTable ⌝ }
-    ensures { λ r. ⌜ r ≡ afterValue (now (s .entry)) (here .at) keyword ⌝ }
+    ensures { λ r. ⌜ r ≡ afterValue whole (now (s .entry)) (here .at) keyword ⌝ }
 {
     if keyword == text::BELONGS_TO {
-        return past_statement(here, classes, s);
+        return text_statement::past_statement(here, classes, whole, s);
     }
     if keyword == text::REVISION {
         let end = here.skip_whitespace_and_comments(classes, s);
-        return after_revision(end, classes, s);
+        return after_revision(end, classes, whole, s);
     }
     here.expect_char(classes, s, due_for(keyword), keyword)
 }
 
-// Past a statement, however it ended.
-fn past_statement(here: Cursor, classes: &[u8; 128], s: &[u8]) -> Due
-    requires { ⌜ now classes ≡ classTable ⌝ }
-    ensures { λ r. ⌜ r ≡ pastStatement (now (s .entry)) (here .at) ⌝ }
-{
-    let statement = text_statement::skip_statement(here, classes, s);
-    past(statement)
-}
-
-// Past what was skipped, however it ended, or the refusal.
-fn past(k: Skipped) -> Due
-    ensures { λ r. ⌜ r ≡ pastOf k ⌝ }
-{
-    let Skipped::Past(next, _) = k else {
-        return Due::Not(text_skip::skip_refusal(k));
-    };
-    Due::After(next)
-}
-
 // A revision's block, or a semicolon.
-fn after_revision(here: Cursor, classes: &[u8; 128], s: &[u8]) -> Due
+fn after_revision(here: Cursor, classes: &[u8; 128], whole: bool, s: &[u8]) -> Due
     requires { ⌜ now classes ≡ classTable ⌝ }
-    ensures { λ r. ⌜ r ≡ afterRevision (now (s .entry)) (here .at) ⌝ }
+    ensures { λ r. ⌜ r ≡ afterRevision whole (now (s .entry)) (here .at) ⌝ }
 {
     let at = here.at;
     if text::peek_char(s, at) == text::OPEN_BRACE {
-        return past_statement(here, classes, s);
+        return text_statement::past_statement(here, classes, whole, s);
     }
     here.expect_char(classes, s, text::SEMICOLON, text::REVISION)
 }

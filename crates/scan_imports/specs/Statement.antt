@@ -2,7 +2,7 @@
 -- 7: import closed without prefix.
 -- Assumes nothing.
 use Prim.Native.Nat.{ℕ, _+_, _-_}
-use mathlib.Core.Bool.{cond}
+use mathlib.Core.Bool.{Bool, cond}
 use mathlib.Core.List.{List, _++_}
 use lib.Dec.{eqb}
 use Rattle.text.specs.Bytes.{openBrace, semicolon, look}
@@ -32,7 +32,7 @@ use Rattle.scan_rows.specs.declared.Span.{Span}
 abbrev pub noPrefix : ℕ
 noPrefix = 7
 
--- ---- an import, behind its keyword, at the store's place u
+-- ---- an import, behind its keyword, at the store's place u; whole: the whole-text mode
 
 -- prefix is required
 unfoldable pub ofBody : Span → Body → ParsedImport
@@ -48,12 +48,12 @@ importOf name (Broken r) = NoImport r
 unfoldable pub withName : Span → List ℕ → Left Block → Left ParsedImport
 withName name bytes b = record { answer = importOf name (b .answer); bytes = bytes ++ b .bytes }
 
-unfoldable pub afterName : List ℕ → ℕ → List ℕ → Argument → Left ParsedImport
-afterName s u bytes (ReadValue c n) = withName (held u (n - u)) bytes (blockAt s (c .at) n importKeyword)
-afterName s u bytes (RefusedValue r) = record { answer = NoImport r; bytes = bytes }
+unfoldable pub afterName : Bool → List ℕ → ℕ → List ℕ → Argument → Left ParsedImport
+afterName whole s u bytes (ReadValue c n) = withName (held u (n - u)) bytes (blockAt whole s (c .at) n importKeyword)
+afterName whole s u bytes (RefusedValue r) = record { answer = NoImport r; bytes = bytes }
 
-unfoldable pub importAt : List ℕ → ℕ → ℕ → Left ParsedImport
-importAt s at u = afterName s u (valueBytes (valueAt s at)) (lineAt s at u importKeyword openBrace)
+unfoldable pub importAt : Bool → List ℕ → ℕ → ℕ → Left ParsedImport
+importAt whole s at u = afterName whole s u (valueBytes (valueAt s at)) (lineAt whole s at u importKeyword openBrace)
 
 -- its refusal, or none
 unfoldable pub importRefusal : ParsedImport → Refusal
@@ -75,17 +75,17 @@ unfoldable pub blockOf : Span → List ℕ → Left Block → Left ParsedInclude
 blockOf name bytes b = record { answer = includeOf name (b .answer); bytes = bytes ++ b .bytes }
 
 -- at the place after the value and its gap
-unfoldable pub openOrPlain : List ℕ → ℕ → ℕ → Span → List ℕ → Left ParsedInclude
-openOrPlain s at n name bytes =
-    cond (eqb (look s at) openBrace) (blockOf name bytes (blockAt s (at + 1) n includeKeyword))
+unfoldable pub openOrPlain : Bool → List ℕ → ℕ → ℕ → Span → List ℕ → Left ParsedInclude
+openOrPlain whole s at n name bytes =
+    cond (eqb (look s at) openBrace) (blockOf name bytes (blockAt whole s (at + 1) n includeKeyword))
     (record { answer = plainOf name n (dueHere s at semicolon includeKeyword); bytes = bytes })
 
-unfoldable pub afterValue : List ℕ → ℕ → List ℕ → Argument → Left ParsedInclude
-afterValue s u bytes (ReadValue c n) = openOrPlain s (gapEnd s (c .at)) n (held u (n - u)) bytes
-afterValue s u bytes (RefusedValue r) = record { answer = NoInclude r; bytes = bytes }
+unfoldable pub afterValue : Bool → List ℕ → ℕ → List ℕ → Argument → Left ParsedInclude
+afterValue whole s u bytes (ReadValue c n) = openOrPlain whole s (gapEnd s (c .at)) n (held u (n - u)) bytes
+afterValue whole s u bytes (RefusedValue r) = record { answer = NoInclude r; bytes = bytes }
 
-unfoldable pub includeAt : List ℕ → ℕ → ℕ → Left ParsedInclude
-includeAt s at u = afterValue s u (valueBytes (valueAt s at)) (argumentAt s at u includeKeyword)
+unfoldable pub includeAt : Bool → List ℕ → ℕ → ℕ → Left ParsedInclude
+includeAt whole s at u = afterValue whole s u (valueBytes (valueAt s at)) (argumentAt whole s at u includeKeyword)
 
 -- its refusal, or none
 unfoldable pub includeRefusal : ParsedInclude → Refusal

@@ -34,17 +34,19 @@ pub enum ParsedImport {
 pub fn parse_import(
     here: Cursor,
     classes: &[u8; 128],
+    whole: bool,
     s: &[u8],
     store: &mut [u8],
     used: usize,
 ) -> ParsedImport
     requires { ⌜ (now classes ≡ classTable) × (used + (length (now s) - here .at) ≤ length (now store)) ⌝ }
-    ensures { λ r. ⌜ (r ≡ importAt (now (s .entry)) (here .at) used .answer)
-        × (now (store .exit) ≡ sets (now (store .entry)) used (importAt (now (s .entry)) (here .at) used .bytes)) ⌝ }
+    ensures { λ r. ⌜ (r ≡ importAt whole (now (s .entry)) (here .at) used .answer)
+        × (now (store .exit) ≡ sets (now (store .entry)) used (importAt whole (now (s .entry)) (here .at) used .bytes)) ⌝ }
 {
     let name = text_value::read_argument(
         here,
         classes,
+        whole,
         s,
         store,
         used,
@@ -56,7 +58,7 @@ pub fn parse_import(
     };
     let size = n - used;
     let module_name = scan_rows::held(used, size);
-    let block = scan_block::parse_block(next, classes, s, store, n, text::IMPORT);
+    let block = scan_block::parse_block(next, classes, whole, s, store, n, text::IMPORT);
     let Block::Whole(body) = block else {
         return ParsedImport::NoImport(scan_block::block_refusal(block));
     };
@@ -115,15 +117,16 @@ pub enum ParsedInclude {
 pub fn parse_include(
     here: Cursor,
     classes: &[u8; 128],
+    whole: bool,
     s: &[u8],
     store: &mut [u8],
     used: usize,
 ) -> ParsedInclude
     requires { ⌜ (now classes ≡ classTable) × (used + (length (now s) - here .at) ≤ length (now store)) ⌝ }
-    ensures { λ r. ⌜ (r ≡ includeAt (now (s .entry)) (here .at) used .answer)
-        × (now (store .exit) ≡ sets (now (store .entry)) used (includeAt (now (s .entry)) (here .at) used .bytes)) ⌝ }
+    ensures { λ r. ⌜ (r ≡ includeAt whole (now (s .entry)) (here .at) used .answer)
+        × (now (store .exit) ≡ sets (now (store .entry)) used (includeAt whole (now (s .entry)) (here .at) used .bytes)) ⌝ }
 {
-    let name = text_value::read_value(here, classes, s, store, used, text::INCLUDE);
+    let name = text_value::read_value(here, classes, whole, s, store, used, text::INCLUDE);
     let Argument::Read { next, used: n } = name else {
         return ParsedInclude::NoInclude(text_value::argument_refusal(name));
     };
@@ -133,7 +136,15 @@ pub fn parse_include(
     let at = end.at;
     if text::peek_char(s, at) == text::OPEN_BRACE {
         let inner = at + 1;
-        return include_block(submodule_name, Cursor { at: inner }, classes, s, store, n);
+        return include_block(
+            submodule_name,
+            Cursor { at: inner },
+            classes,
+            whole,
+            s,
+            store,
+            n,
+        );
     }
     let due = end.expect_char(classes, s, text::SEMICOLON, text::INCLUDE);
     let Due::After(after) = due else {
@@ -154,15 +165,16 @@ fn include_block(
     name: Span,
     here: Cursor,
     classes: &[u8; 128],
+    whole: bool,
     s: &[u8],
     store: &mut [u8],
     used: usize,
 ) -> ParsedInclude
     requires { ⌜ (now classes ≡ classTable) × (used + (length (now s) - here .at) ≤ length (now store)) ⌝ }
-    ensures { λ r. ⌜ (r ≡ includeOf name (blockAt (now (s .entry)) (here .at) used includeKeyword .answer))
-        × (now (store .exit) ≡ sets (now (store .entry)) used (blockAt (now (s .entry)) (here .at) used includeKeyword .bytes)) ⌝ }
+    ensures { λ r. ⌜ (r ≡ includeOf name (blockAt whole (now (s .entry)) (here .at) used includeKeyword .answer))
+        × (now (store .exit) ≡ sets (now (store .entry)) used (blockAt whole (now (s .entry)) (here .at) used includeKeyword .bytes)) ⌝ }
 {
-    let block = scan_block::parse_block(here, classes, s, store, used, text::INCLUDE);
+    let block = scan_block::parse_block(here, classes, whole, s, store, used, text::INCLUDE);
     let Block::Whole(body) = block else {
         return ParsedInclude::NoInclude(scan_block::block_refusal(block));
     };

@@ -1,5 +1,6 @@
 -- Metadata: name (last wins), parent (last wins), namespace (last wins), prefix (first wins), revision (first wins) and the newest revision. 9: metadata
 -- without a name (keyword 0), where the scan stopped. 1 to 3 come first; 4 to 9 in reading order.
+-- 2026-07: beside this mode there is a whole-text mode. In it the first token, statement or value that the text's end ends is refused by 11.
 -- Assumes nothing.
 use Prim.Native.Nat.{ℕ, suc}
 use mathlib.Core.Bool.{Bool, cond}
@@ -92,16 +93,17 @@ afterHeard m bs (Passed c) = on (record { at = c .at; read = m })
 afterHeard m bs (Done c) = stop (ended m (c .at))
 afterHeard m bs (Refused r) = stop (bad r (m .bytes ++ bs))
 
-unfoldable pub metadataTurn : List ℕ → Reading → Turn Reading Scan
-metadataTurn s g =
-    afterHeard (g .read) (saidAt s (g .at) (length (g .read .bytes)) (g .read .prefix .present) .bytes)
-    (saidAt s (g .at) (length (g .read .bytes)) (g .read .prefix .present) .answer)
+-- whole: the whole-text mode
+unfoldable pub metadataTurn : Bool → List ℕ → Reading → Turn Reading Scan
+metadataTurn whole s g =
+    afterHeard (g .read) (saidAt whole s (g .at) (length (g .read .bytes)) (g .read .prefix .present) .bytes)
+    (saidAt whole s (g .at) (length (g .read .bytes)) (g .read .prefix .present) .answer)
 
-unfoldable pub scanFrom : List ℕ → Reading → Scan
-scanFrom s g = turns (metadataTurn s) (good nothing) (suc (length s)) g
+unfoldable pub scanFrom : Bool → List ℕ → Reading → Scan
+scanFrom whole s g = turns (metadataTurn whole s) (good nothing) (suc (length s)) g
 
-unfoldable pub scanned : List ℕ → Scan
-scanned s = scanFrom s (record { at = 0; read = nothing })
+unfoldable pub scanned : Bool → List ℕ → Scan
+scanned whole s = scanFrom whole s (record { at = 0; read = nothing })
 
 -- ---- with the checks that come first; short: whether something lent is too short
 
@@ -109,8 +111,8 @@ unfoldable pub ifFit : Lent → Scan → Scan
 ifFit Fit x = x
 ifFit (Unfit r) x = bad r []
 
-unfoldable pub metadata : List ℕ → Bool → Scan
-metadata s short = ifFit (lentAt s short) (scanned s)
+unfoldable pub metadata : Bool → List ℕ → Bool → Scan
+metadata whole s short = ifFit (lentAt s short) (scanned whole s)
 
 -- ---- what is answered, written and kept
 

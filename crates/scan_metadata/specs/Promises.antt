@@ -1,7 +1,8 @@
--- What the functions answer and leave. d: the store at entry; e: at exit.
+-- What the functions answer and leave. whole: the whole-text mode; d: the store at entry; e: at exit.
 -- Assumes nothing.
 use Prim.Native.Nat.{ℕ, _≤_}
 use mathlib.Core.Path.{_≡_}
+use mathlib.Core.Bool.{Bool}
 use mathlib.Core.List.{List}
 use lib.Dec.{ltb}
 use lib.ListN.{length}
@@ -12,9 +13,9 @@ use Rattle.scan_metadata.specs.Metadata.{Scan, scanned, metadata, answer
 use Rattle.scan_metadata.specs.declared.YangModuleMetadata.{YangModuleMetadata}
 
 -- the inner scan, on a refusal too: it touches only what it uses
-pub record Parses (s d : List ℕ) (r : YangModuleMetadata) (e : List ℕ) : Type 0 where
-  pub answer : r ≡ answerOf (scanned s)
-  pub stored : e ≡ sets d 0 (storedOf (scanned s))
+pub record Parses (whole : Bool) (s d : List ℕ) (r : YangModuleMetadata) (e : List ℕ) : Type 0 where
+  pub answer : r ≡ answerOf (scanned whole s)
+  pub stored : e ≡ sets d 0 (storedOf (scanned whole s))
 
 -- the lent store is zero and long enough
 pub record Cleared (classes s d : List ℕ) : Type 0 where
@@ -28,5 +29,5 @@ pub record Leaves (x : Scan) (d : List ℕ) (r : YangModuleMetadata) (e : List �
   pub stored : e ≡ padded (length d) (keptOf x)
 
 -- the length lent is part of the input
-abbrev pub Extracts : List ℕ → List ℕ → YangModuleMetadata → List ℕ → Type 0
-Extracts s d r e = Leaves (metadata s (ltb (length d) (length s))) d r e
+abbrev pub Extracts : Bool → List ℕ → List ℕ → YangModuleMetadata → List ℕ → Type 0
+Extracts whole s d r e = Leaves (metadata whole s (ltb (length d) (length s))) d r e

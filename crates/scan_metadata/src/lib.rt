@@ -35,9 +35,10 @@ pub struct YangModuleMetadata {
     pub used: usize,
 }
 
-// Extract module metadata from a text. The store is zero but for what is used, and all of it on a refusal.
-pub fn extract_yang_metadata(s: &[u8], store: &mut [u8]) -> YangModuleMetadata
-    ensures { λ r. ⌜ Extracts (now (s .entry)) (now (store .entry)) r (now (store .exit)) ⌝ }
+// Extract module metadata from a text. The store is zero but for what is used, and all of it on a refusal. `whole`: the text must be whole, and what is read
+// of it and breaks off is refused (11).
+pub fn extract_yang_metadata(whole: bool, s: &[u8], store: &mut [u8]) -> YangModuleMetadata
+    ensures { λ r. ⌜ Extracts whole (now (s .entry)) (now (store .entry)) r (now (store .exit)) ⌝ }
 {
     text_lent::clear_bytes(store);
     let classes = text::classes();
@@ -46,15 +47,15 @@ pub fn extract_yang_metadata(s: &[u8], store: &mut [u8]) -> YangModuleMetadata
     let Lent::Fit = lent else {
         return refused(text_lent::lent_refusal(lent));
     };
-    parse_cleared(&classes, s, store)
+    parse_cleared(&classes, whole, s, store)
 }
 
 // The scan over zeros. A refusal clears what it wrote.
-fn parse_cleared(classes: &[u8; 128], s: &[u8], store: &mut [u8]) -> YangModuleMetadata
+fn parse_cleared(classes: &[u8; 128], whole: bool, s: &[u8], store: &mut [u8]) -> YangModuleMetadata
     requires { ⌜ Cleared (now classes) (now s) (now store) ⌝ }
-    ensures { λ r. ⌜ Leaves (scanned (now (s .entry))) (now (store .entry)) r (now (store .exit)) ⌝ }
+    ensures { λ r. ⌜ Leaves (scanned whole (now (s .entry))) (now (store .entry)) r (now (store .exit)) ⌝ }
 {
-    let parsed = parse_metadata(classes, s, store);
+    let parsed = parse_metadata(classes, whole, s, store);
     let answer = parsed.answer;
     if answer.number != text::NO_REFUSAL {
         text_lent::clear_bytes(store);
@@ -63,9 +64,14 @@ fn parse_cleared(classes: &[u8; 128], s: &[u8], store: &mut [u8]) -> YangModuleM
 }
 
 // Parse module metadata. It writes only what it uses: the store from its start on.
-fn parse_metadata(classes: &[u8; 128], s: &[u8], store: &mut [u8]) -> YangModuleMetadata
+fn parse_metadata(
+    classes: &[u8; 128],
+    whole: bool,
+    s: &[u8],
+    store: &mut [u8],
+) -> YangModuleMetadata
     requires { ⌜ (now classes ≡ classTable) × (length (now s) ≤ length (now store)) ⌝ }
-    ensures { λ r. ⌜ Parses (now (s .entry)) (now (store .entry)) r (now (store .exit)) ⌝ }
+    ensures { λ r. ⌜ Parses whole (now (s .entry)) (now (store .entry)) r (now (store .exit)) ⌝ }
 {
     let mut values = no_values();
     let mut at: usize = 0;
@@ -74,7 +80,7 @@ fn parse_metadata(classes: &[u8; 128], s: &[u8], store: &mut [u8]) -> YangModule
         let from = Cursor { at };
         let prefix = values[PREFIX_VALUE];
         let prefixed = prefix.present;
-        let heard = scan_header::hear(from, classes, s, store, used, prefixed);
+        let heard = scan_header::hear(from, classes, whole, s, store, used, prefixed);
         match heard {
             Heard::Value {
                 keyword,

@@ -3,6 +3,7 @@
 -- Assumes nothing.
 use Prim.Native.Nat.{ℕ}
 use mathlib.Core.Path.{_≡_}
+use mathlib.Core.Bool.{Bool}
 use mathlib.Core.List.{List, []}
 use lib.ListN.{length}
 use Rattle.text_lent.specs.Padded.{padded}
@@ -22,6 +23,6 @@ pub record PageLeft (x : Scan) (d t u p : List ℕ) (r : Page) (e f g q : List �
   pub length-is : r .length ≡ length (pageOf x)
   pub page : q ≡ padded (length p) (pageOf x)
 
-abbrev pub Prints : List ℕ → List ℕ → List ℕ → List ℕ → List ℕ → Page → List ℕ → List ℕ → List ℕ → List ℕ → Type 0
-Prints s d t u p r e f g q =
-    PageLeft (dependencies s (tooShort (pageShort (length s) (length p)) (length s) (length d) (length t) (length u))) d t u p r e f g q
+abbrev pub Prints : Bool → List ℕ → List ℕ → List ℕ → List ℕ → List ℕ → Page → List ℕ → List ℕ → List ℕ → List ℕ → Type 0
+Prints whole s d t u p r e f g q =
+    PageLeft (dependencies whole s (tooShort (pageShort (length s) (length p)) (length s) (length d) (length t) (length u))) d t u p r e f g q

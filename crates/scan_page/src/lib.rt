@@ -13,20 +13,22 @@ pub struct Page {
     pub length: usize,
 }
 
-// Extract import and include statements from a text, and print them. What was lent is zero but for what is used, and all of it on a refusal.
+// Extract import and include statements from a text, and print them. What was lent is zero but for what is used, and all of it on a refusal. `whole`: the
+// text must be whole.
 pub fn print_yang_dependencies(
+    whole: bool,
     s: &[u8],
     store: &mut [u8],
     imports: &mut [u32],
     includes: &mut [u32],
     page: &mut [u8],
 ) -> Page
-    ensures { λ r. ⌜ Prints (now (s .entry)) (now (store .entry)) (now (imports .entry)) (now (includes .entry)) (now (page .entry)) r
+    ensures { λ r. ⌜ Prints whole (now (s .entry)) (now (store .entry)) (now (imports .entry)) (now (includes .entry)) (now (page .entry)) r
         (now (store .exit)) (now (imports .exit)) (now (includes .exit)) (now (page .exit)) ⌝ }
 {
     text_lent::clear_bytes(page);
     let short = page_short(s.len(), page.len());
-    let parsed = yangparser::scan_lent(s, short, store, imports, includes);
+    let parsed = yangparser::scan_lent(whole, s, short, store, imports, includes);
     match parsed {
         Parsed::Good {
             imports: m,

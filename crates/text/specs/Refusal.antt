@@ -1,4 +1,5 @@
 -- The refusals of one text by their numbers, and the refusal that is none. 7 to 10 stand where they are told.
+-- 2026-07: in a whole-text mode the first such end is a refusal. 11 in the new mode only, keyword 0, position at the text's end.
 -- Assumes nothing.
 use Prim.Native.Nat.{ℕ}
 use Rattle.text.specs.declared.Refusal.{Refusal}
@@ -26,6 +27,14 @@ otherByte = 5
 -- the end instead of that byte
 abbrev pub endOfText : ℕ
 endOfText = 6
+
+-- what was read breaks off: in the whole-text mode only
+abbrev pub cutShort : ℕ
+cutShort = 11
+
+-- n: the text's length
+abbrev pub cutAt : ℕ → Refusal
+cutAt n = record { number = cutShort; keyword = 0; at = n }
 
 -- number, keyword and place are 0 where nothing is refused
 abbrev pub noRefusal : Refusal

@@ -12,7 +12,7 @@ ghost use Rattle.text.specs.High.{larger, largest};
 ghost use Rattle.text.specs.declared.Run.the-variants.{Low};
 ghost use Rattle.text.specs.Keyword.{startsIdent, endsKeyword, wordly, begins, matchAt, orMatch};
 ghost use Rattle.text.specs.Due.{dueAt, refusalOf};
-ghost use Rattle.text.specs.Refusal.{noRefusal};
+ghost use Rattle.text.specs.Refusal.{noRefusal, cutAt};
 
 // What stands at a place: a byte, or the end.
 pub const NEWLINE: u16 = b'\n' as u16;
@@ -244,6 +244,8 @@ pub const OTHER_BYTE: u32 = 5;
 
 pub const END_OF_TEXT: u32 = 6;
 
+pub const CUT_SHORT: u32 = 11;
+
 // Document 01's numbers of the keywords.
 pub const MODULE: u32 = 1;
 
@@ -279,6 +281,17 @@ pub fn no_refusal() -> Refusal
         number: NO_REFUSAL,
         keyword: 0,
         at: 0,
+    }
+}
+
+// The refusal of a text that breaks off: keyword 0, at the text's end.
+pub fn cut_short(end: usize) -> Refusal
+    ensures { λ r. ⌜ r ≡ cutAt end ⌝ }
+{
+    Refusal {
+        number: CUT_SHORT,
+        keyword: 0,
+        at: end,
     }
 }
 

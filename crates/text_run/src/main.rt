@@ -34,6 +34,7 @@ fn value_agrees(here: Cursor, keyword: u32, s: &[u8], answer: &[u8], kept: &[u8]
     let read = text_value::read_argument(
         here,
         &classes,
+        false,
         s,
         &mut store,
         0,
@@ -194,7 +195,12 @@ fn value_is(s: &[u8], kept: &[u8], at: usize) -> bool {
     let classes = text::classes();
     let start = Cursor { at: 0 };
     let read = text_value::read_string_or_identifier(start, &classes, s, &mut store, 0);
-    let Value::Read { next, used } = read else {
+    let Value::Read {
+        next,
+        used,
+        closed: _,
+    } = read
+    else {
         return false;
     };
     if next.at != at {

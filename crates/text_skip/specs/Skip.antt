@@ -1,17 +1,20 @@
 -- Skipping a token: a whole quoted string, a whole name if it starts with letter or `_`, else one byte.
 -- The string closes by the rules of a value.
 -- `yang-version`, value if there is one: that value is skipped by the rules of a value too, and nothing of it is stored.
--- Every skip answers where and how what it skipped ended, or a refusal. None of these definitions refuses anything.
+-- Every skip answers where and how what it skipped ended, or a refusal; none refuses anything by itself.
+-- 2026-07: in the whole-text mode what the text's end ended is refused by 11, keyword 0, position at the text's end.
 -- Assumes nothing.
 use Prim.Native.Nat.{ℕ, _+_}
-use mathlib.Core.Bool.{Bool, true, false, cond}
+use mathlib.Core.Bool.{Bool, true, false, cond, _&&_}
 use mathlib.Core.List.{List}
 use lib.ListN.{length, drop}
 use lib.Dec.{leb}
 use Rattle.text.specs.Bytes.{look}
 use Rattle.text.specs.Keyword.{startsIdent}
-use Rattle.text.specs.Refusal.{noRefusal}
+use Rattle.text.specs.Refusal.{noRefusal, cutAt}
 use Rattle.text.specs.Scan.{runEnd}
+use Rattle.text.specs.declared.Due.{Due}
+use Rattle.text.specs.declared.Due.the-variants.{After, Not}
 use Rattle.text.specs.declared.Refusal.{Refusal}
 use Rattle.text.specs.declared.Run.the-variants.{Name}
 use Rattle.text_value.specs.Str.{strEnd}
@@ -40,6 +43,11 @@ unfoldable pub skipRefusal : Skipped → Refusal
 skipRefusal (Past c h) = noRefusal
 skipRefusal (Refused r) = r
 
+-- past what was skipped, or a refusal; whole: the whole-text mode, n: the text's length
+unfoldable pub pastOf : Bool → ℕ → Skipped → Due
+pastOf whole n (Past c h) = cond (whole && brokeOff h) (Not (cutAt n)) (After c)
+pastOf whole n (Refused r) = Not r
+
 -- past a whole token or value; past one that the text's end ended
 abbrev pub pastWhole : ℕ → Skipped
 pastWhole end = Past (record { at = end }) Whole
@@ -64,6 +72,10 @@ tokenHere s at =
 unfoldable pub tokenAt : List ℕ → ℕ → Skipped
 tokenAt s at = cond (leb (length s) at) (pastWhole at) (tokenHere s at)
 
+-- past it
+unfoldable pub pastToken : Bool → List ℕ → ℕ → Due
+pastToken whole s at = pastOf whole (length s) (tokenAt s at)
+
 -- ---- a value
 
 -- what follows a string of it: one more that is added, or the value's end
@@ -83,3 +95,7 @@ addedAt s at = Past (record { at = joined s at .end }) (howClosed (closedFrom s 
 -- after a gap
 unfoldable pub skippedAt : List ℕ → ℕ → Skipped
 skippedAt s at = Past (record { at = placeOf (valueAt s at) }) (howClosed (closedAt s at))
+
+-- past it
+unfoldable pub pastValue : Bool → List ℕ → ℕ → Due
+pastValue whole s at = pastOf whole (length s) (skippedAt s at)

@@ -1,12 +1,13 @@
 // What every skip answers, and skipping a token and a value. A token's string closes by the rules of a value.
 use text::Cursor;
+use text::Due;
 use text::Refusal;
 use text::Run;
 use text_value::Close;
 ghost use mathlib.Core.Path.{_≡_};
 ghost use Rattle.text.specs.Class.{classTable};
 ghost use Rattle.text_value.specs.Value.{moreAt};
-ghost use Rattle.text_skip.specs.Skip.{brokeOff, skipRefusal, tokenAt, tailOf, addedAt, skippedAt};
+ghost use Rattle.text_skip.specs.Skip.{brokeOff, skipRefusal, pastOf, tokenAt, pastToken, tailOf, addedAt, skippedAt, pastValue};
 
 // How what was skipped ended. A token or a value: whole. A statement: by its semicolon, by its block, or before a closing brace that is not
 // its own. Or the text's end ended it: a string never closed, or the statement went on.
@@ -45,6 +46,30 @@ pub fn skip_refusal(k: Skipped) -> Refusal
         Skipped::Past(_, _) => text::no_refusal(),
         Skipped::Refused(r) => r,
     }
+}
+
+// Past what was skipped, or a refusal. `whole`: what the text's end ended is refused (11), at that end.
+pub fn past(k: Skipped, whole: bool, end: usize) -> Due
+    ensures { λ r. ⌜ r ≡ pastOf whole end k ⌝ }
+{
+    let Skipped::Past(next, how) = k else {
+        return Due::Not(skip_refusal(k));
+    };
+    if whole {
+        if broke_off(how) {
+            return Due::Not(text::cut_short(end));
+        }
+    }
+    Due::After(next)
+}
+
+// Past the token that stands here.
+pub fn past_token(here: Cursor, classes: &[u8; 128], whole: bool, s: &[u8]) -> Due
+    requires { ⌜ now classes ≡ classTable ⌝ }
+    ensures { λ r. ⌜ r ≡ pastToken whole (now (s .entry)) (here .at) ⌝ }
+{
+    let token = skip_one_token(here, classes, s);
+    past(token, whole, s.len())
 }
 
 // Skips a token: a whole string, a whole name that begins with a letter or _, or one byte. At the end nothing is skipped. The name is tried first: a scan has
@@ -97,6 +122,15 @@ pub fn skip_value(here: Cursor, classes: &[u8; 128], s: &[u8]) -> Skipped
         return Skipped::Past(Cursor { at: name_end }, How::Whole);
     }
     Skipped::Past(first, How::Whole)
+}
+
+// Past the value that stands after a gap, if there is one.
+pub fn past_value(here: Cursor, classes: &[u8; 128], whole: bool, s: &[u8]) -> Due
+    requires { ⌜ now classes ≡ classTable ⌝ }
+    ensures { λ r. ⌜ r ≡ pastValue whole (now (s .entry)) (here .at) ⌝ }
+{
+    let value = skip_value(here, classes, s);
+    past(value, whole, s.len())
 }
 
 // Skips all that is added to a string.

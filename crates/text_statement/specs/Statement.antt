@@ -9,7 +9,9 @@ use lib.Dec.{eqb, leb}
 use Rattle.text.specs.Bytes.{backslash, semicolon, openBrace, closeBrace, look}
 use Rattle.text.specs.Scan.{gapEnd}
 use Rattle.text.specs.Turns.{Turn, stop, on, turns}
+use Rattle.text.specs.declared.Due.{Due}
 use Rattle.text_value.specs.Value.{isQuote}
+use Rattle.text_skip.specs.Skip.{pastOf}
 use Rattle.text_skip.specs.declared.How.the-variants.{Semicolon, Block, Before, Text}
 use Rattle.text_statement.specs.declared.Part.{Part}
 use Rattle.text_statement.specs.declared.Part.the-variants.{On, Stop}
@@ -73,3 +75,7 @@ statementFrom s at d = turns (statementTurn s) (Past (record { at = 0 }) Text) (
 
 unfoldable pub statementAt : List ℕ → ℕ → Skipped
 statementAt s at = statementFrom s at 0
+
+-- past it, in the whole-text mode or not
+unfoldable pub pastStatement : Bool → List ℕ → ℕ → Due
+pastStatement whole s at = pastOf whole (length s) (statementAt s at)

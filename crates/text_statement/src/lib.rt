@@ -1,11 +1,21 @@
 // Skipping a statement. A string in it has a rule of its own: it ends at its quote unless the byte before is a backslash.
 use text::Cursor;
+use text::Due;
 use text_skip::How;
 use text_skip::Skipped;
 ghost use mathlib.Core.Path.{_≡_};
 ghost use Prim.Native.Nat.{_≤_};
 ghost use Rattle.text.specs.Class.{classTable};
-ghost use Rattle.text_statement.specs.Statement.{closes, quotedEnd, atSemicolon, atClose, partAt, statementAt};
+ghost use Rattle.text_statement.specs.Statement.{closes, quotedEnd, atSemicolon, atClose, partAt, statementAt, pastStatement};
+
+// Past the statement that stands here. `whole`: one that the text's end ends is refused (11).
+pub fn past_statement(here: Cursor, classes: &[u8; 128], whole: bool, s: &[u8]) -> Due
+    requires { ⌜ now classes ≡ classTable ⌝ }
+    ensures { λ r. ⌜ r ≡ pastStatement whole (now (s .entry)) (here .at) ⌝ }
+{
+    let statement = skip_statement(here, classes, s);
+    text_skip::past(statement, whole, s.len())
+}
 
 // Skips a statement.
 pub fn skip_statement(here: Cursor, classes: &[u8; 128], s: &[u8]) -> Skipped

@@ -132,12 +132,13 @@ moreBytes (added bs end) = bs
 moreBytes (ends end) = []
 moreBytes (broken end) = []
 
-unfoldable pub joinAnswer : ℕ → Bytes → Joined
-joinAnswer used b = record { next = record { at = b .end }; used = used + length (b .bytes) }
+-- closed: whether each string closes
+unfoldable pub joinAnswer : ℕ → Bool → Bytes → Joined
+joinAnswer used closed b = record { next = record { at = b .end }; used = used + length (b .bytes); closed = closed }
 
-unfoldable pub valueAnswer : ℕ → Val → Value
-valueAnswer used (value bs end) = Read (record { at = end }) (used + length bs)
-valueAnswer used (none at) = Missing (record { at = at })
+unfoldable pub valueAnswer : ℕ → Bool → Val → Value
+valueAnswer used closed (value bs end) = Read (record { at = end }) (used + length bs) closed
+valueAnswer used closed (none at) = Missing (record { at = at }) closed
 
 unfoldable pub valueBytes : Val → List ℕ
 valueBytes (value bs end) = bs
@@ -145,9 +146,14 @@ valueBytes (none at) = []
 
 -- where the scan stands then, by the answer and by the value
 unfoldable pub valueEnd : Value → ℕ
-valueEnd (Read c n) = c .at
-valueEnd (Missing c) = c .at
+valueEnd (Read c n b) = c .at
+valueEnd (Missing c b) = c .at
 
 unfoldable pub placeOf : Val → ℕ
 placeOf (value bs end) = end
 placeOf (none at) = at
+
+-- whether each string of it closes, by the answer
+unfoldable pub valueClosed : Value → Bool
+valueClosed (Read c n b) = b
+valueClosed (Missing c b) = b

@@ -4,7 +4,7 @@ use text::Due;
 use text::Refusal;
 use text::Run;
 ghost use mathlib.Core.Path.{_≡_};
-ghost use mathlib.Core.Bool.{false};
+ghost use mathlib.Core.Bool.{true, false};
 ghost use Prim.Native.Nat.{_+_, _-_, _≤_, _<_};
 ghost use lib.ListN.{length, drop, take};
 ghost use lib.Seq.{sets};
@@ -13,13 +13,20 @@ ghost use Rattle.text.specs.Class.{classTable};
 ghost use Rattle.text.specs.Keyword.{part};
 ghost use Rattle.text_value.specs.Str.{among, escaped, escapes, strEnd, strBytes, strAt, answerOf, bytesOf};
 ghost use Rattle.text_value.specs.Value.{isQuote, startsName, nameAt, moreAt, moreAnswer, moreBytes, joined, joinAnswer, valueAt, valueAnswer};
-ghost use Rattle.text_value.specs.Value.{valueBytes, valueEnd};
-ghost use Rattle.text_value.specs.Argument.{argumentRefusal, argumentAt, lineAt};
+ghost use Rattle.text_value.specs.Value.{valueBytes, valueEnd, valueClosed, closedFrom, closedAt};
+ghost use Rattle.text_value.specs.Argument.{argumentRefusal, breaksOff, argumentAt, lineAt};
 
-// A value: the cursor after it and the store's next place; or none stands here, and the cursor there.
+// A value: the cursor after it and the store's next place; or none stands here, and the cursor there. `closed`: each string of it closes.
 pub enum Value {
-    Read { next: Cursor, used: usize },
-    Missing(Cursor),
+    Read {
+        next: Cursor,
+        used: usize,
+        closed: bool,
+    },
+    Missing {
+        here: Cursor,
+        closed: bool,
+    },
 }
 
 // Where the scan stands then.
@@ -27,8 +34,26 @@ pub fn value_end(v: Value) -> Cursor
     ensures { λ r. ⌜ r .at ≡ valueEnd v ⌝ }
 {
     match v {
-        Value::Read { next, used: _ } => next,
-        Value::Missing(c) => c,
+        Value::Read {
+            next,
+            used: _,
+            closed: _,
+        } => next,
+        Value::Missing { here, closed: _ } => here,
+    }
+}
+
+// Whether each string of it closes.
+fn value_closed(v: Value) -> bool
+    ensures { λ r. ⌜ r ≡ valueClosed v ⌝ }
+{
+    match v {
+        Value::Read {
+            next: _,
+            used: _,
+            closed,
+        } => closed,
+        Value::Missing { here: _, closed } => closed,
     }
 }
 
@@ -48,21 +73,32 @@ pub fn argument_refusal(a: Argument) -> Refusal
     }
 }
 
-// Reads the value that is due after a keyword. Where there is none, nothing is stored and the refusal is 4.
+// Reads the value that is due after a keyword. Where there is none, nothing is stored and the refusal is 4. `whole`: a string of it that never
+// closes is refused (11).
 pub fn read_value(
     here: Cursor,
     classes: &[u8; 128],
+    whole: bool,
     s: &[u8],
     store: &mut [u8],
     used: usize,
     keyword: u32,
 ) -> Argument
     requires { ⌜ (now classes ≡ classTable) × (used + (length (now s) - here .at) ≤ length (now store)) ⌝ }
-    ensures { λ r. ⌜ (r ≡ argumentAt (now (s .entry)) (here .at) used keyword)
+    ensures { λ r. ⌜ (r ≡ argumentAt whole (now (s .entry)) (here .at) used keyword)
         × (now (store .exit) ≡ sets (now (store .entry)) used (valueBytes (valueAt (now (s .entry)) (here .at)))) ⌝ }
 {
     let got = read_string_or_identifier(here, classes, s, store, used);
-    let Value::Read { next, used: n } = got else {
+    let closed = value_closed(got);
+    if breaks_off(whole, closed) {
+        return Argument::Refused(text::cut_short(s.len()));
+    }
+    let Value::Read {
+        next,
+        used: n,
+        closed: _,
+    } = got
+    else {
         let c = value_end(got);
         return Argument::Refused(Refusal {
             number: text::NO_VALUE,
@@ -73,11 +109,22 @@ pub fn read_value(
     Argument::Read { next, used: n }
 }
 
+// Whether a text that must be whole breaks off inside a value.
+fn breaks_off(whole: bool, closed: bool) -> bool
+    ensures { λ r. ⌜ r ≡ breaksOff whole closed ⌝ }
+{
+    if closed {
+        return false;
+    }
+    whole
+}
+
 // Reads the value that is due after a keyword and the byte b that is due after it. The value's bytes stay in the store where b is
 // refused.
 pub fn read_argument(
     here: Cursor,
     classes: &[u8; 128],
+    whole: bool,
     s: &[u8],
     store: &mut [u8],
     used: usize,
@@ -85,10 +132,10 @@ pub fn read_argument(
     b: u16,
 ) -> Argument
     requires { ⌜ (now classes ≡ classTable) × (used + (length (now s) - here .at) ≤ length (now store)) × (b < theEnd) ⌝ }
-    ensures { λ r. ⌜ (r ≡ lineAt (now (s .entry)) (here .at) used keyword b)
+    ensures { λ r. ⌜ (r ≡ lineAt whole (now (s .entry)) (here .at) used keyword b)
         × (now (store .exit) ≡ sets (now (store .entry)) used (valueBytes (valueAt (now (s .entry)) (here .at)))) ⌝ }
 {
-    let got = read_value(here, classes, s, store, used, keyword);
+    let got = read_value(here, classes, whole, s, store, used, keyword);
     let Argument::Read { next, used: n } = got else {
         return got;
     };
@@ -108,7 +155,7 @@ fn read_identifier(
     used: usize,
 ) -> Value
     requires { ⌜ (now classes ≡ classTable) × (used + (length (now s) - here .at) ≤ length (now store)) ⌝ }
-    ensures { λ r. ⌜ (r ≡ valueAnswer used (nameAt (now (s .entry)) (here .at)))
+    ensures { λ r. ⌜ (r ≡ valueAnswer used true (nameAt (now (s .entry)) (here .at)))
         × (now (store .exit) ≡ sets (now (store .entry)) used (valueBytes (nameAt (now (s .entry)) (here .at)))) ⌝ }
 {
     let at = here.at;
@@ -118,9 +165,10 @@ fn read_identifier(
         return Value::Read {
             next: Cursor { at: end },
             used: n,
+            closed: true,
         };
     }
-    Value::Missing(here)
+    Value::Missing { here, closed: true }
 }
 
 // Whether a name begins so: a letter, a digit or _.
@@ -166,20 +214,24 @@ pub fn read_string_or_identifier(
     used: usize,
 ) -> Value
     requires { ⌜ (now classes ≡ classTable) × (used + (length (now s) - here .at) ≤ length (now store)) ⌝ }
-    ensures { λ r. ⌜ (r ≡ valueAnswer used (valueAt (now (s .entry)) (here .at)))
+    ensures { λ r. ⌜ (r ≡ valueAnswer used (closedAt (now (s .entry)) (here .at)) (valueAt (now (s .entry)) (here .at)))
         × (now (store .exit) ≡ sets (now (store .entry)) used (valueBytes (valueAt (now (s .entry)) (here .at)))) ⌝ }
 {
     let first = here.skip_whitespace_and_comments(classes, s);
     let at = first.at;
     if is_quote(text::peek_char(s, at)) {
         let Quoted::Closed { next, used: n } = read_quoted_string(first, s, store, used) else {
-            return Value::Missing(Cursor { at: s.len() });
+            return Value::Missing {
+                here: Cursor { at: s.len() },
+                closed: false,
+            };
         };
         let all = read_parts(next, classes, s, store, n);
         let end = all.next;
         return Value::Read {
             next: end,
             used: all.used,
+            closed: all.closed,
         };
     }
     read_identifier(first, classes, s, store, used)
@@ -195,10 +247,11 @@ pub fn is_quote(b: u16) -> bool
     }
 }
 
-// The cursor after all that is added, and the store's next place.
+// The cursor after all that is added, the store's next place, and whether each part closes.
 pub struct Joined {
     pub next: Cursor,
     pub used: usize,
+    pub closed: bool,
 }
 
 // Reads all that follows a string. A part that never closes adds nothing and is the last.
@@ -210,7 +263,7 @@ pub fn read_parts(
     used: usize,
 ) -> Joined
     requires { ⌜ (now classes ≡ classTable) × (used + (length (now s) - here .at) ≤ length (now store)) ⌝ }
-    ensures { λ r. ⌜ (r ≡ joinAnswer used (joined (now (s .entry)) (here .at)))
+    ensures { λ r. ⌜ (r ≡ joinAnswer used (closedFrom (now (s .entry)) (here .at)) (joined (now (s .entry)) (here .at)))
         × (now (store .exit) ≡ sets (now (store .entry)) used (joined (now (s .entry)) (here .at) .bytes)) ⌝ }
 {
     let mut at = here.at;
@@ -223,10 +276,18 @@ pub fn read_parts(
                 n = m;
             }
             Addition::Last(end) => {
-                return Joined { next: end, used: n };
+                return Joined {
+                    next: end,
+                    used: n,
+                    closed: true,
+                };
             }
             Addition::Cut(end) => {
-                return Joined { next: end, used: n };
+                return Joined {
+                    next: end,
+                    used: n,
+                    closed: false,
+                };
             }
         }
     }

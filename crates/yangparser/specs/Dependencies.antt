@@ -1,4 +1,5 @@
 -- Dependencies: the imports and includes of a text. 10: a 257th import or include, at the cursor after its keyword. 4 to 10 come in reading order.
+-- 2026-07: beside this mode there is a whole-text mode. In it the first token, statement or value that the text's end ends is refused by 11.
 -- Assumes nothing.
 use Prim.Native.Nat.{ℕ, suc, _+_}
 use mathlib.Core.Bool.{Bool, cond}
@@ -8,10 +9,10 @@ use lib.ListN.{length}
 use Rattle.text.specs.Scan.{gapEnd}
 use Rattle.text.specs.Turns.{Turn, stop, on, turns}
 use Rattle.text.specs.Words.{importKeyword, includeKeyword}
+use Rattle.text.specs.declared.Due.{Due}
+use Rattle.text.specs.declared.Due.the-variants.{After, Not}
 use Rattle.text.specs.declared.Refusal.{Refusal}
-use Rattle.text_skip.specs.Skip.{tokenAt}
-use Rattle.text_skip.specs.declared.Skipped.{Skipped}
-use Rattle.text_skip.specs.declared.Skipped.the-variants.{Past, Refused as RefusedSkip}
+use Rattle.text_skip.specs.Skip.{pastToken}
 use Rattle.text_lent.specs.Lent.{lentAt}
 use Rattle.text_lent.specs.declared.Lent.{Lent}
 use Rattle.text_lent.specs.declared.Lent.the-variants.{Fit, Unfit}
@@ -60,7 +61,7 @@ includeWordsOf d = includeTable (d .includes)
 unfoldable pub joined : Dependencies → Dependencies → Dependencies
 joined d e = record { imports = d .imports ++ e .imports; includes = d .includes ++ e .includes; bytes = d .bytes ++ e .bytes }
 
--- ---- one statement read or one token skipped; far: the place, the bytes and rows before it
+-- ---- one statement read or one token skipped; whole: the whole-text mode, far: the place, the bytes and rows before it
 
 -- the answer, and what it adds: at most one row, and the bytes of a refused statement too
 pub record Step : Type 0 where
@@ -90,34 +91,34 @@ full k at = Stop (record { number = tooMany; keyword = k; at = at })
 unfoldable pub unlessFull : ℕ → ℕ → ℕ → Step → Step
 unlessFull rows k at step = cond (leb mostRows rows) (adding (full k at) none) step
 
-unfoldable pub importHere : List ℕ → Sofar → ℕ → Step
-importHere s far at =
-    unlessFull (far .imports) importKeyword at (importStep far (importAt s at (far .used) .bytes) (importAt s at (far .used) .answer))
+unfoldable pub importHere : Bool → List ℕ → Sofar → ℕ → Step
+importHere whole s far at =
+    unlessFull (far .imports) importKeyword at (importStep far (importAt whole s at (far .used) .bytes) (importAt whole s at (far .used) .answer))
 
-unfoldable pub includeHere : List ℕ → Sofar → ℕ → Step
-includeHere s far at =
-    unlessFull (far .includes) includeKeyword at (includeStep far (includeAt s at (far .used) .bytes) (includeAt s at (far .used) .answer))
+unfoldable pub includeHere : Bool → List ℕ → Sofar → ℕ → Step
+includeHere whole s far at =
+    unlessFull (far .includes) includeKeyword at (includeStep far (includeAt whole s at (far .used) .bytes) (includeAt whole s at (far .used) .answer))
 
 unfoldable pub movedTo : Sofar → ℕ → Sofar
 movedTo far at = record { at = at; used = far .used; imports = far .imports; includes = far .includes }
 
--- past a token, however it ended
-unfoldable pub afterToken : Sofar → Skipped → Next
-afterToken far (Past c h) = On (movedTo far (c .at))
-afterToken far (RefusedSkip r) = Stop r
+-- past a token
+unfoldable pub afterToken : Sofar → Due → Next
+afterToken far (After c) = On (movedTo far (c .at))
+afterToken far (Not r) = Stop r
 
-unfoldable pub headStep : List ℕ → Sofar → ℕ → Head → Step
-headStep s far at (Import c) = importHere s far (c .at)
-headStep s far at (Include c) = includeHere s far (c .at)
-headStep s far at (Last c) = adding Done none
-headStep s far at Other = adding (afterToken far (tokenAt s at)) none
+unfoldable pub headStep : Bool → List ℕ → Sofar → ℕ → Head → Step
+headStep whole s far at (Import c) = importHere whole s far (c .at)
+headStep whole s far at (Include c) = includeHere whole s far (c .at)
+headStep whole s far at (Last c) = adding Done none
+headStep whole s far at Other = adding (afterToken far (pastToken whole s at)) none
 
 -- at the place after the gap
-unfoldable pub stepHere : List ℕ → Sofar → ℕ → Step
-stepHere s far at = cond (leb (length s) at) (adding Done none) (headStep s far at (headAt s at))
+unfoldable pub stepHere : Bool → List ℕ → Sofar → ℕ → Step
+stepHere whole s far at = cond (leb (length s) at) (adding Done none) (headStep whole s far at (headAt s at))
 
-unfoldable pub stepAt : List ℕ → Sofar → Step
-stepAt s far = stepHere s far (gapEnd s (far .at))
+unfoldable pub stepAt : Bool → List ℕ → Sofar → Step
+stepAt whole s far = stepHere whole s far (gapEnd s (far .at))
 
 -- ---- all of them
 
@@ -136,17 +137,17 @@ afterStep d (On far) = on (record { far = far; read = d })
 afterStep d Done = stop (good d)
 afterStep d (Stop r) = stop (bad r d)
 
-unfoldable pub scanTurn : List ℕ → Scanning → Turn Scanning Scan
-scanTurn s g = afterStep (joined (g .read) (stepAt s (g .far) .adds)) (stepAt s (g .far) .answer)
+unfoldable pub scanTurn : Bool → List ℕ → Scanning → Turn Scanning Scan
+scanTurn whole s g = afterStep (joined (g .read) (stepAt whole s (g .far) .adds)) (stepAt whole s (g .far) .answer)
 
-unfoldable pub scanFrom : List ℕ → Scanning → Scan
-scanFrom s g = turns (scanTurn s) (good none) (suc (length s)) g
+unfoldable pub scanFrom : Bool → List ℕ → Scanning → Scan
+scanFrom whole s g = turns (scanTurn whole s) (good none) (suc (length s)) g
 
 abbrev pub start : Sofar
 start = record { at = 0; used = 0; imports = 0; includes = 0 }
 
-unfoldable pub scanned : List ℕ → Scan
-scanned s = scanFrom s (record { far = start; read = none })
+unfoldable pub scanned : Bool → List ℕ → Scan
+scanned whole s = scanFrom whole s (record { far = start; read = none })
 
 -- ---- with the checks that come first
 
@@ -159,8 +160,8 @@ ifFit Fit x = x
 ifFit (Unfit r) x = bad r none
 
 -- short: whether something lent is too short
-unfoldable pub dependencies : List ℕ → Bool → Scan
-dependencies s short = ifFit (lentAt s short) (scanned s)
+unfoldable pub dependencies : Bool → List ℕ → Bool → Scan
+dependencies whole s short = ifFit (lentAt s short) (scanned whole s)
 
 -- ---- what is answered, written and kept
 

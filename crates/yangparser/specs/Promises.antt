@@ -1,4 +1,4 @@
--- What the functions answer and leave. d, t and u: the store, the import table and the include table at entry; e, f and g: at exit.
+-- What the functions answer and leave. whole: the whole-text mode; d, t and u: the store, the import table and the include table at entry; e, f and g: at exit.
 -- Assumes nothing.
 use Prim.Native.Nat.{ℕ, _*_}
 use mathlib.Core.Path.{_≡_}
@@ -21,11 +21,11 @@ pub record Adds (words : Dependencies → List ℕ) (x : Step) (u at : ℕ) (d t
   pub stored : e ≡ sets d u (x .adds .bytes)
   pub written : f ≡ sets t at (words (x .adds))
 
-abbrev pub AddsImport : List ℕ → Sofar → ℕ → List ℕ → List ℕ → Next → List ℕ → List ℕ → Type 0
-AddsImport s far at d t r e f = Adds importWordsOf (importHere s far at) (far .used) (far .imports * importSize) d t r e f
+abbrev pub AddsImport : Bool → List ℕ → Sofar → ℕ → List ℕ → List ℕ → Next → List ℕ → List ℕ → Type 0
+AddsImport whole s far at d t r e f = Adds importWordsOf (importHere whole s far at) (far .used) (far .imports * importSize) d t r e f
 
-abbrev pub AddsInclude : List ℕ → Sofar → ℕ → List ℕ → List ℕ → Next → List ℕ → List ℕ → Type 0
-AddsInclude s far at d u r e g = Adds includeWordsOf (includeHere s far at) (far .used) (far .includes * includeSize) d u r e g
+abbrev pub AddsInclude : Bool → List ℕ → Sofar → ℕ → List ℕ → List ℕ → Next → List ℕ → List ℕ → Type 0
+AddsInclude whole s far at d u r e g = Adds includeWordsOf (includeHere whole s far at) (far .used) (far .includes * includeSize) d u r e g
 
 -- one statement or token, of either kind
 pub record Steps (x : Step) (far : Sofar) (d t u : List ℕ) (r : Next) (e f g : List ℕ) : Type 0 where
@@ -53,13 +53,13 @@ pub record Leaves (x : Scan) (d t u : List ℕ) (r : Parsed) (e f g : List ℕ) 
   pub includes : g ≡ padded (length u) (includeWordsOf (keptOf x))
 
 -- the lengths lent are part of the input
-abbrev pub lentScan : List ℕ → Bool → List ℕ → List ℕ → List ℕ → Scan
-lentScan s short d t u = dependencies s (tooShort short (length s) (length d) (length t) (length u))
+abbrev pub lentScan : Bool → List ℕ → Bool → List ℕ → List ℕ → List ℕ → Scan
+lentScan whole s short d t u = dependencies whole s (tooShort short (length s) (length d) (length t) (length u))
 
 -- scan_over
-abbrev pub Scans : List ℕ → Bool → List ℕ → List ℕ → List ℕ → Parsed → List ℕ → List ℕ → List ℕ → Type 0
-Scans s short d t u r e f g = Parses (lentScan s short d t u) d t u r e f g
+abbrev pub Scans : Bool → List ℕ → Bool → List ℕ → List ℕ → List ℕ → Parsed → List ℕ → List ℕ → List ℕ → Type 0
+Scans whole s short d t u r e f g = Parses (lentScan whole s short d t u) d t u r e f g
 
 -- scan_lent, and with false extract_yang_dependencies
-abbrev pub Extracts : List ℕ → Bool → List ℕ → List ℕ → List ℕ → Parsed → List ℕ → List ℕ → List ℕ → Type 0
-Extracts s short d t u r e f g = Leaves (lentScan s short d t u) d t u r e f g
+abbrev pub Extracts : Bool → List ℕ → Bool → List ℕ → List ℕ → List ℕ → Parsed → List ℕ → List ℕ → List ℕ → Type 0
+Extracts whole s short d t u r e f g = Leaves (lentScan whole s short d t u) d t u r e f g

@@ -3,15 +3,15 @@ use scan_head::Head;
 use scan_imports::ParsedImport;
 use scan_imports::ParsedInclude;
 use text::Cursor;
+use text::Due;
 use text::Refusal;
 use text_lent::Lent;
-use text_skip::Skipped;
 ghost use mathlib.Core.Path.{_≡_};
 ghost use mathlib.Core.Bool.{false};
 ghost use Prim.Native.Nat.{_+_, _-_, _*_, _≤_, _<_};
 ghost use lib.ListN.{length};
 ghost use Rattle.text.specs.Class.{classTable};
-ghost use Rattle.text_skip.specs.Skip.{tokenAt};
+ghost use Rattle.text_skip.specs.Skip.{pastToken};
 ghost use Rattle.scan_rows.specs.Rows.{importSize, includeSize, mostRows};
 ghost use Rattle.yangparser.specs.Dependencies.{full, afterToken, stepAt, scanned};
 ghost use Rattle.yangparser.specs.Promises.{AddsImport, AddsInclude, Steps, Parses, Scans, Extracts};
@@ -29,34 +29,37 @@ pub enum Parsed {
     Refused(Refusal),
 }
 
-// Extract import and include statements from a text. What was lent is zero but for what is used, and all of it on a refusal.
+// Extract import and include statements from a text. What was lent is zero but for what is used, and all of it on a refusal. `whole`: the text must be
+// whole, and what is read of it and breaks off is refused (11).
 pub fn extract_yang_dependencies(
+    whole: bool,
     s: &[u8],
     store: &mut [u8],
     imports: &mut [u32],
     includes: &mut [u32],
 ) -> Parsed
-    ensures { λ r. ⌜ Extracts (now (s .entry)) false (now (store .entry)) (now (imports .entry)) (now (includes .entry)) r
+    ensures { λ r. ⌜ Extracts whole (now (s .entry)) false (now (store .entry)) (now (imports .entry)) (now (includes .entry)) r
         (now (store .exit)) (now (imports .exit)) (now (includes .exit)) ⌝ }
 {
-    scan_lent(s, false, store, imports, includes)
+    scan_lent(whole, s, false, store, imports, includes)
 }
 
 // The same where something else that was lent may be too short.
 pub fn scan_lent(
+    whole: bool,
     s: &[u8],
     short: bool,
     store: &mut [u8],
     imports: &mut [u32],
     includes: &mut [u32],
 ) -> Parsed
-    ensures { λ r. ⌜ Extracts (now (s .entry)) short (now (store .entry)) (now (imports .entry)) (now (includes .entry)) r
+    ensures { λ r. ⌜ Extracts whole (now (s .entry)) short (now (store .entry)) (now (imports .entry)) (now (includes .entry)) r
         (now (store .exit)) (now (imports .exit)) (now (includes .exit)) ⌝ }
 {
     text_lent::clear_bytes(store);
     text_lent::clear_words(imports);
     text_lent::clear_words(includes);
-    let parsed = scan_over(s, short, store, imports, includes);
+    let parsed = scan_over(whole, s, short, store, imports, includes);
     match parsed {
         Parsed::Good {
             imports: _,
@@ -74,13 +77,14 @@ pub fn scan_lent(
 
 // The same over whatever was lent holds: it writes only what it uses, and clears nothing.
 pub fn scan_over(
+    whole: bool,
     s: &[u8],
     short: bool,
     store: &mut [u8],
     imports: &mut [u32],
     includes: &mut [u32],
 ) -> Parsed
-    ensures { λ r. ⌜ Scans (now (s .entry)) short (now (store .entry)) (now (imports .entry)) (now (includes .entry)) r
+    ensures { λ r. ⌜ Scans whole (now (s .entry)) short (now (store .entry)) (now (imports .entry)) (now (includes .entry)) r
         (now (store .exit)) (now (imports .exit)) (now (includes .exit)) ⌝ }
 {
     let classes = text::classes();
@@ -89,7 +93,7 @@ pub fn scan_over(
     let Lent::Fit = lent else {
         return Parsed::Refused(text_lent::lent_refusal(lent));
     };
-    parse(&classes, s, store, imports, includes)
+    parse(&classes, whole, s, store, imports, includes)
 }
 
 // Where the scan stands, the store's next place, and the rows so far.
@@ -110,6 +114,7 @@ pub enum Next {
 // Reads all imports and includes. It writes only what it uses: the store from its start on, and the rows.
 fn parse(
     classes: &[u8; 128],
+    whole: bool,
     s: &[u8],
     store: &mut [u8],
     imports: &mut [u32],
@@ -117,7 +122,7 @@ fn parse(
 ) -> Parsed
     requires { ⌜ (now classes ≡ classTable) × (length (now s) ≤ length (now store)) × (length (now s) < 4294967296)
         × (mostRows * importSize ≤ length (now imports)) × (mostRows * includeSize ≤ length (now includes)) ⌝ }
-    ensures { λ r. ⌜ Parses (scanned (now (s .entry))) (now (store .entry)) (now (imports .entry)) (now (includes .entry)) r
+    ensures { λ r. ⌜ Parses (scanned whole (now (s .entry))) (now (store .entry)) (now (imports .entry)) (now (includes .entry)) r
         (now (store .exit)) (now (imports .exit)) (now (includes .exit)) ⌝ }
 {
     let mut far = Sofar {
@@ -127,7 +132,7 @@ fn parse(
         includes: 0,
     };
     loop {
-        match parse_next(far, classes, s, store, imports, includes) {
+        match parse_next(far, classes, whole, s, store, imports, includes) {
             Next::On(next) => {
                 far = next;
             }
@@ -149,6 +154,7 @@ fn parse(
 fn parse_next(
     far: Sofar,
     classes: &[u8; 128],
+    whole: bool,
     s: &[u8],
     store: &mut [u8],
     imports: &mut [u32],
@@ -157,7 +163,7 @@ fn parse_next(
     requires { ⌜ (now classes ≡ classTable) × (far .used + (length (now s) - far .at) ≤ length (now s))
         × (length (now s) ≤ length (now store)) × (length (now s) < 4294967296) × (mostRows * importSize ≤ length (now imports))
         × (mostRows * includeSize ≤ length (now includes)) ⌝ }
-    ensures { λ r. ⌜ Steps (stepAt (now (s .entry)) far) far (now (store .entry)) (now (imports .entry)) (now (includes .entry)) r
+    ensures { λ r. ⌜ Steps (stepAt whole (now (s .entry)) far) far (now (store .entry)) (now (imports .entry)) (now (includes .entry)) r
         (now (store .exit)) (now (imports .exit)) (now (includes .exit)) ⌝ }
 {
     let from = Cursor { at: far.at };
@@ -168,21 +174,21 @@ fn parse_next(
     }
     let head = scan_head::read_head(here, classes, s);
     match head {
-        Head::Import(c) => add_import(far, c, classes, s, store, imports),
-        Head::Include(c) => add_include(far, c, classes, s, store, includes),
+        Head::Import(c) => add_import(far, c, classes, whole, s, store, imports),
+        Head::Include(c) => add_include(far, c, classes, whole, s, store, includes),
         Head::Last(_) => Next::Done,
-        Head::Other => skip_token(far, here, classes, s),
+        Head::Other => skip_token(far, here, classes, whole, s),
     }
 }
 
 // Skips the token that stands here.
-fn skip_token(far: Sofar, here: Cursor, classes: &[u8; 128], s: &[u8]) -> Next
+fn skip_token(far: Sofar, here: Cursor, classes: &[u8; 128], whole: bool, s: &[u8]) -> Next
     requires { ⌜ now classes ≡ classTable ⌝ }
-    ensures { λ r. ⌜ r ≡ afterToken far (tokenAt (now (s .entry)) (here .at)) ⌝ }
+    ensures { λ r. ⌜ r ≡ afterToken far (pastToken whole (now (s .entry)) (here .at)) ⌝ }
 {
-    let token = text_skip::skip_one_token(here, classes, s);
-    let Skipped::Past(next, _) = token else {
-        return Next::Stop(text_skip::skip_refusal(token));
+    let token = text_skip::past_token(here, classes, whole, s);
+    let Due::After(next) = token else {
+        return Next::Stop(text::refusal_of(token));
     };
     Next::On(Sofar {
         at: next.at,
@@ -208,20 +214,21 @@ fn add_import(
     far: Sofar,
     here: Cursor,
     classes: &[u8; 128],
+    whole: bool,
     s: &[u8],
     store: &mut [u8],
     imports: &mut [u32],
 ) -> Next
     requires { ⌜ (now classes ≡ classTable) × (far .used + (length (now s) - here .at) ≤ length (now s))
         × (length (now s) ≤ length (now store)) × (length (now s) < 4294967296) × (mostRows * importSize ≤ length (now imports)) ⌝ }
-    ensures { λ r. ⌜ AddsImport (now (s .entry)) far (here .at) (now (store .entry)) (now (imports .entry)) r
+    ensures { λ r. ⌜ AddsImport whole (now (s .entry)) far (here .at) (now (store .entry)) (now (imports .entry)) r
         (now (store .exit)) (now (imports .exit)) ⌝ }
 {
     let rows = far.imports;
     if scan_rows::MOST_ROWS <= rows {
         return full(text::IMPORT, here);
     }
-    let read = scan_imports::parse_import(here, classes, s, store, far.used);
+    let read = scan_imports::parse_import(here, classes, whole, s, store, far.used);
     let ParsedImport::Import { next, used, import } = read else {
         return Next::Stop(scan_imports::import_refusal(read));
     };
@@ -240,20 +247,21 @@ fn add_include(
     far: Sofar,
     here: Cursor,
     classes: &[u8; 128],
+    whole: bool,
     s: &[u8],
     store: &mut [u8],
     includes: &mut [u32],
 ) -> Next
     requires { ⌜ (now classes ≡ classTable) × (far .used + (length (now s) - here .at) ≤ length (now s))
         × (length (now s) ≤ length (now store)) × (length (now s) < 4294967296) × (mostRows * includeSize ≤ length (now includes)) ⌝ }
-    ensures { λ r. ⌜ AddsInclude (now (s .entry)) far (here .at) (now (store .entry)) (now (includes .entry)) r
+    ensures { λ r. ⌜ AddsInclude whole (now (s .entry)) far (here .at) (now (store .entry)) (now (includes .entry)) r
         (now (store .exit)) (now (includes .exit)) ⌝ }
 {
     let rows = far.includes;
     if scan_rows::MOST_ROWS <= rows {
         return full(text::INCLUDE, here);
     }
-    let read = scan_imports::parse_include(here, classes, s, store, far.used);
+    let read = scan_imports::parse_include(here, classes, whole, s, store, far.used);
     let ParsedInclude::Include {
         next,
         used,

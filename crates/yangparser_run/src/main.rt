@@ -127,6 +127,7 @@ fn dependencies_agree(s: &[u8], answer: &[u8], data: &[u8], values_at: usize) ->
     let mut includes = [0u32; scan_rows::MOST_ROWS * scan_rows::INCLUDE_SIZE];
     let mut page = [0u8; 72480];
     let printed = scan_page::print_yang_dependencies(
+        false,
         s,
         &mut store,
         &mut imports,
@@ -168,7 +169,7 @@ fn values_agree(store: &[u8], values: [Span; 6], data: &[u8], at: usize) -> bool
 // The metadata of a text; where the answer's number is 0, the values stand behind it.
 fn metadata_agrees(s: &[u8], answer: &[u8], data: &[u8], values_at: usize) -> bool {
     let mut store = [0u8; 65536];
-    let read = scan_metadata::extract_yang_metadata(s, &mut store);
+    let read = scan_metadata::extract_yang_metadata(false, s, &mut store);
     let r = read.answer;
     if r.number != text::NO_REFUSAL {
         return replay::refusal_agrees(answer, 0, r);
