@@ -2,69 +2,98 @@
 -- and its byte go.
 -- Assumes nothing.
 use mathlib.Core.Path.{_≡_, refl, sym, ap, _∙_}
-use mathlib.Core.List.{List, []}
+use mathlib.Core.Bool.{Bool, true, false}
+use mathlib.Core.Logic.{_⊎_, inl, inr, ⊎-elim}
+use mathlib.Core.List.{List}
 use Prim.Native.Nat.{ℕ, _+_, _-_, _<_, _≤_}
 use native.Mathlib.Omega.{arith}
 use lib.ListN.{length}
 use Rattle.text.specs.Due.{dueAt, refusalOf}
+use Rattle.text.specs.Refusal.{cutAt}
 use Rattle.text.specs.declared.Cursor.{Cursor}
 use Rattle.text.specs.declared.Due.{Due}
 use Rattle.text.specs.declared.Due.the-variants.{After, Not}
 use Rattle.text.specs.declared.Refusal.{Refusal}
-use Rattle.text.proofs.DueLaws.{due-far, due-refused, due-refused-within}
-use Rattle.text_value.specs.Value.{Val, value, none, valueAt, valueAnswer, valueBytes, valueEnd}
-use Rattle.text_value.specs.Argument.{argumentOf, argumentAt, afterDue, afterArgument, lineAt, argumentRefusal}
+use Rattle.text.proofs.DueLaws.{due-far, due-refused-within}
+use Rattle.text.proofs.Here.{by-test}
+use Rattle.text_value.specs.Value.{Val, value, none, valueAt, closedAt, valueAnswer, valueBytes, valueEnd, valueClosed}
+use Rattle.text_value.specs.Argument.{argumentOf, breaksOff, argumentAt, afterDue, afterArgument, lineAt, argumentRefusal}
 use Rattle.text_value.specs.declared.Argument.{Argument}
 use Rattle.text_value.specs.declared.Argument.the-variants.{Read, Refused}
 use Rattle.text_value.specs.declared.Value.{Value}
 use Rattle.text_value.specs.declared.Value.the-variants.{Read as ReadValue, Missing}
-use Rattle.text_value.proofs.JoinLaws.{value-far, none-size}
+use Rattle.text_value.proofs.JoinLaws.{value-far, none-size, closed-is}
 
 -- ---- the value
 
-missing-of : (u : ℕ) (w : Val) (c : Cursor) → valueAnswer u w ≡ Missing c → w ≡ none (c .at)
+missing-of : (u : ℕ) (y : Bool) (w : Val) (c : Cursor) (z : Bool) → valueAnswer u y w ≡ Missing c z → w ≡ none (c .at)
 unfolding valueAnswer
-missing-of u (value bs e) c h = cc
-missing-of u (none at) c h = cc
+missing-of u y (value bs e) c z h = cc
+missing-of u y (none at) c z h = cc
 
-read-of : (u : ℕ) (w : Val) (c : Cursor) (n : ℕ) → valueAnswer u w ≡ ReadValue c n → (w ≡ value (valueBytes w) (c .at)) × (n ≡ u + length (valueBytes w))
+read-of : (u : ℕ) (y : Bool) (w : Val) (c : Cursor) (n : ℕ) (z : Bool) → valueAnswer u y w ≡ ReadValue c n z
+    → (w ≡ value (valueBytes w) (c .at)) × (n ≡ u + length (valueBytes w))
 unfolding valueAnswer valueBytes
-read-of u (value bs e) c n h = (cc, cc)
-read-of u (none at) c n h = (cc, cc)
+read-of u y (value bs e) c n z h = (cc, cc)
+read-of u y (none at) c n z h = (cc, cc)
 
--- v: what reading the value answered
-module _ (s : List ℕ) (at u k : ℕ) {v : Value} (ve : v ≡ valueAnswer u (valueAt s at)) where
-  pub argument-missing : (c : Cursor) → v ≡ Missing c → {e : Cursor} → e .at ≡ valueEnd v
-      → argumentAt s at u k ≡ Refused (record { number = 4; keyword = k; at = e .at })
-  unfolding argumentAt argumentOf valueEnd
-  argument-missing c m {e} q =
-      let p : c .at ≡ e .at = sym (q ∙ ap valueEnd m) in
-      ap (argumentOf u k) (missing-of u (valueAt s at) c (sym ve ∙ m)) ∙ ap (λ i. Refused (record { number = 4; keyword = k; at = i })) p
+pub off-closed : (whole closed : Bool) → closed ≡ true → breaksOff whole closed ≡ false
+unfolding breaksOff
+off-closed true closed e = rw e refl
+off-closed false closed e = refl
 
-  pub argument-read : (c : Cursor) (n : ℕ) → v ≡ ReadValue c n → argumentAt s at u k ≡ Read c n
-  unfolding argumentAt argumentOf
-  argument-read c n m =
-      let w = read-of u (valueAt s at) c n (sym ve ∙ m) in
-      ap (argumentOf u k) (w .0) ∙ ap (Read c) (sym (w .1))
+pub off-open : (whole closed : Bool) → closed ≡ false → breaksOff whole closed ≡ whole
+unfolding breaksOff
+off-open true closed e = rw e refl
+off-open false closed e = refl
+
+-- v: what reading the value answered, y: whether each string of it closes, o: whether the text breaks off there
+module _ (whole : Bool) (s : List ℕ) (at u k : ℕ) {v : Value} (ve : v ≡ valueAnswer u (closedAt s at) (valueAt s at)) {y o : Bool} (ye : y ≡ valueClosed v)
+    (oe : o ≡ breaksOff whole y) where
+  off-is : breaksOff whole (closedAt s at) ≡ o
+  off-is = ap (breaksOff whole) (sym (ye ∙ ap valueClosed ve ∙ closed-is u (closedAt s at) (valueAt s at))) ∙ sym oe
+
+  pub argument-cut : o ≡ true → {r : Refusal} → r ≡ cutAt (length s) → argumentAt whole s at u k ≡ Refused r
+  unfolding argumentAt
+  argument-cut n e = let q : breaksOff whole (closedAt s at) ≡ true = off-is ∙ n in rw q (ap Refused (sym e))
+
+  module _ (n : o ≡ false) where
+    argument-on : argumentAt whole s at u k ≡ argumentOf u k (valueAt s at)
+    unfolding argumentAt
+    argument-on = let q : breaksOff whole (closedAt s at) ≡ false = off-is ∙ n in rw q refl
+
+    pub argument-missing : (c : Cursor) (z : Bool) → v ≡ Missing c z → {e : Cursor} → e .at ≡ valueEnd v
+        → argumentAt whole s at u k ≡ Refused (record { number = 4; keyword = k; at = e .at })
+    unfolding argumentOf valueEnd
+    argument-missing c z m {e} q =
+        let p : c .at ≡ e .at = sym (q ∙ ap valueEnd m) in
+        argument-on ∙ ap (argumentOf u k) (missing-of u (closedAt s at) (valueAt s at) c z (sym ve ∙ m))
+            ∙ ap (λ i. Refused (record { number = 4; keyword = k; at = i })) p
+
+    pub argument-read : (c : Cursor) (i : ℕ) (z : Bool) → v ≡ ReadValue c i z → argumentAt whole s at u k ≡ Read c i
+    unfolding argumentOf
+    argument-read c i z m =
+        let w = read-of u (closedAt s at) (valueAt s at) c i z (sym ve ∙ m) in
+        argument-on ∙ ap (argumentOf u k) (w .0) ∙ ap (Read c) (sym (w .1))
 
 -- ---- the value and the byte
 
 -- v: what reading the value answered, d: what the byte answered
-module _ (s : List ℕ) (at u k b : ℕ) {v : Argument} (ve : v ≡ argumentAt s at u k) where
-  pub line-refused : (r : Refusal) → v ≡ Refused r → lineAt s at u k b ≡ v
+module _ (w : Bool) (s : List ℕ) (at u k b : ℕ) {v : Argument} (ve : v ≡ argumentAt w s at u k) where
+  pub line-refused : (r : Refusal) → v ≡ Refused r → lineAt w s at u k b ≡ v
   unfolding lineAt afterArgument
   line-refused r m = ap (afterArgument s k b) (sym ve ∙ m) ∙ sym m
 
   module _ (c : Cursor) (n : ℕ) (m : v ≡ Read c n) {d : Due} (de : d ≡ dueAt s (c .at) b k) where
-    line-due : lineAt s at u k b ≡ afterDue n d
+    line-due : lineAt w s at u k b ≡ afterDue n d
     unfolding lineAt afterArgument
     line-due = ap (afterArgument s k b) (sym ve ∙ m) ∙ ap (afterDue n) (sym de)
 
-    pub line-other : (r : Refusal) → d ≡ Not r → {q : Refusal} → q ≡ refusalOf d → lineAt s at u k b ≡ Refused q
+    pub line-other : (r : Refusal) → d ≡ Not r → {q : Refusal} → q ≡ refusalOf d → lineAt w s at u k b ≡ Refused q
     unfolding afterDue refusalOf
     line-other r h e = line-due ∙ ap (afterDue n) h ∙ ap Refused (sym (e ∙ ap refusalOf h))
 
-    pub line-read : (e : Cursor) → d ≡ After e → lineAt s at u k b ≡ Read e n
+    pub line-read : (e : Cursor) → d ≡ After e → lineAt w s at u k b ≡ Read e n
     unfolding afterDue
     line-read e h = line-due ∙ ap (afterDue n) h
 
@@ -82,79 +111,87 @@ far-of s at u k (value bs e) c n h l =
     omega (arith, value-far s at bs e h)
 far-of s at u k (none e) c n h l = let z : _≡_ {A = ℕ} 0 1 = cc in absurd (omega arith)
 
--- a value that was read is behind its start, within the text, and takes its bytes at least
-pub argument-far : (s : List ℕ) (at u k : ℕ) (c : Cursor) (n : ℕ) → argumentAt s at u k ≡ Read c n → Far s at u (valueBytes (valueAt s at)) c n
+-- in the whole-text mode it is 11, or as before
+argument-either : (w : Bool) (s : List ℕ) (at u k : ℕ)
+    → (argumentAt w s at u k ≡ Refused (cutAt (length s))) ⊎ (argumentAt w s at u k ≡ argumentOf u k (valueAt s at))
 unfolding argumentAt
-argument-far s at u k c n h = far-of s at u k (valueAt s at) c n refl h
+argument-either w s at u k = by-test (breaksOff w (closedAt s at)) (λ t. inl (rw t refl)) (λ t. inr (rw t refl))
+
+read-not : {a : Argument} {c : Cursor} {n : ℕ} {r : Refusal} → a ≡ Read c n → a ≡ Refused r → ⊥
+read-not e h = let z : _≡_ {A = ℕ} 0 1 = cc in omega arith
+
+-- a value that was read is read so in either mode
+pub argument-old : (w : Bool) (s : List ℕ) (at u k : ℕ) (c : Cursor) (n : ℕ) → argumentAt w s at u k ≡ Read c n → argumentOf u k (valueAt s at) ≡ Read c n
+argument-old w s at u k c n h = ⊎-elim (λ e. absurd (read-not h e)) (λ e. sym e ∙ h) (argument-either w s at u k)
+
+-- a value that was read is behind its start, within the text, and takes its bytes at least
+pub argument-far : (w : Bool) (s : List ℕ) (at u k : ℕ) (c : Cursor) (n : ℕ) → argumentAt w s at u k ≡ Read c n → Far s at u (valueBytes (valueAt s at)) c n
+argument-far w s at u k c n h = far-of s at u k (valueAt s at) c n refl (argument-old w s at u k c n h)
 
 -- room in the store for the rest of the text stays
-pub argument-room : (s : List ℕ) (at u k l : ℕ) (c : Cursor) (n : ℕ) → argumentAt s at u k ≡ Read c n → u + (length s - at) ≤ l → n + (length s - c .at) ≤ l
-argument-room s at u k l c n h r = let f = argument-far s at u k c n h in omega arith
+pub argument-room : (w : Bool) (s : List ℕ) (at u k l : ℕ) (c : Cursor) (n : ℕ) → argumentAt w s at u k ≡ Read c n → u + (length s - at) ≤ l
+    → n + (length s - c .at) ≤ l
+argument-room w s at u k l c n h r = let f = argument-far w s at u k c n h in omega arith
 
--- a refused one stores nothing; its place is within the text, where the scan stands within it
+-- the place of a refused one is within the text, where the scan stands within it
 refused-of : (s : List ℕ) (at u k : ℕ) (w : Val) (r : Refusal) → at ≤ length s → valueAt s at ≡ w → argumentOf u k w ≡ Refused r
-    → (r .number ≡ 4) × (r .keyword ≡ k) × (at ≤ r .at) × (r .at ≤ length s) × (valueBytes w ≡ [])
-unfolding argumentOf valueBytes
+    → (at ≤ r .at) × (r .at ≤ length s)
+unfolding argumentOf
 refused-of s at u k (value bs e) r l h q = let z : _≡_ {A = ℕ} 0 1 = cc in absurd (omega arith)
-refused-of s at u k (none e) r l h q =
-    let i : e ≡ r .at = cc in
-    let w = none-size s at e l h in
-    (cc, cc, omega arith, omega arith, refl)
+refused-of s at u k (none e) r l h q = let i : e ≡ r .at = cc in omega (arith, none-size s at e l h)
 
-pub argument-refused : (s : List ℕ) (at u k : ℕ) (r : Refusal) → at ≤ length s → argumentAt s at u k ≡ Refused r
-    → (r .number ≡ 4) × (r .keyword ≡ k) × (at ≤ r .at) × (r .at ≤ length s) × (valueBytes (valueAt s at) ≡ [])
-unfolding argumentAt
-argument-refused s at u k r l h = refused-of s at u k (valueAt s at) r l refl h
+cut-place : (s : List ℕ) {a : Argument} {r : Refusal} → a ≡ Refused r → a ≡ Refused (cutAt (length s)) → r .at ≡ length s
+cut-place s h e = cc
+
+pub argument-refused : (w : Bool) (s : List ℕ) (at u k : ℕ) (r : Refusal) → at ≤ length s → argumentAt w s at u k ≡ Refused r
+    → (at ≤ r .at) × (r .at ≤ length s)
+argument-refused w s at u k r l h =
+    ⊎-elim (λ e. omega (arith, cut-place s h e)) (λ e. refused-of s at u k (valueAt s at) r l refl (sym e ∙ h)) (argument-either w s at u k)
 
 due-read : (n : ℕ) (d : Due) (c : Cursor) (m : ℕ) → afterDue n d ≡ Read c m → (d ≡ After c) × (m ≡ n)
 unfolding afterDue
 due-read n (After e) c m h = (cc, cc)
 due-read n (Not r) c m h = (cc, cc)
 
-line-of : (s : List ℕ) (at u k b : ℕ) (a : Argument) (c : Cursor) (n : ℕ) → b < 256 → argumentAt s at u k ≡ a → afterArgument s k b a ≡ Read c n
+line-of : (w : Bool) (s : List ℕ) (at u k b : ℕ) (a : Argument) (c : Cursor) (n : ℕ) → b < 256 → argumentAt w s at u k ≡ a → afterArgument s k b a ≡ Read c n
     → (at + length (valueBytes (valueAt s at)) < c .at) × (c .at ≤ length s) × (n ≡ u + length (valueBytes (valueAt s at)))
 unfolding afterArgument
-line-of s at u k b (Read e m) c n small h l =
+line-of w s at u k b (Read e m) c n small h l =
     let d = due-read m (dueAt s (e .at) b k) c n l in
-    let f = argument-far s at u k e m h in
+    let f = argument-far w s at u k e m h in
     let g = due-far s (e .at) b k c small (d .0) in
     omega (arith, d .1)
-line-of s at u k b (Refused r) c n small h l = let z : _≡_ {A = ℕ} 0 1 = cc in absurd (omega arith)
+line-of w s at u k b (Refused r) c n small h l = let z : _≡_ {A = ℕ} 0 1 = cc in absurd (omega arith)
 
 -- a value and its byte stand within the text and take more than the bytes that are stored
-pub line-far : (s : List ℕ) (at u k b : ℕ) (c : Cursor) (n : ℕ) → b < 256 → lineAt s at u k b ≡ Read c n
+pub line-far : (w : Bool) (s : List ℕ) (at u k b : ℕ) (c : Cursor) (n : ℕ) → b < 256 → lineAt w s at u k b ≡ Read c n
     → (at + length (valueBytes (valueAt s at)) < c .at) × (c .at ≤ length s) × (n ≡ u + length (valueBytes (valueAt s at)))
 unfolding lineAt
-line-far s at u k b c n small h = line-of s at u k b (argumentAt s at u k) c n small refl h
+line-far w s at u k b c n small h = line-of w s at u k b (argumentAt w s at u k) c n small refl h
 
-pub line-room : (s : List ℕ) (at u k b l : ℕ) (c : Cursor) (n : ℕ) → b < 256 → lineAt s at u k b ≡ Read c n → u + (length s - at) ≤ l
+pub line-room : (w : Bool) (s : List ℕ) (at u k b l : ℕ) (c : Cursor) (n : ℕ) → b < 256 → lineAt w s at u k b ≡ Read c n → u + (length s - at) ≤ l
     → n + (length s - c .at) ≤ l
-line-room s at u k b l c n small h r = let f = line-far s at u k b c n small h in omega arith
+line-room w s at u k b l c n small h r = let f = line-far w s at u k b c n small h in omega arith
 
 due-not : (n : ℕ) (d : Due) (r : Refusal) → afterDue n d ≡ Refused r → d ≡ Not r
 unfolding afterDue
 due-not n (After e) r h = cc
 due-not n (Not q) r h = cc
 
-refusal-of : (s : List ℕ) (at u k b : ℕ) (a : Argument) (r : Refusal) → at ≤ length s → argumentAt s at u k ≡ a → afterArgument s k b a ≡ Refused r
-    → (r .keyword ≡ k) × (at ≤ r .at) × (r .at ≤ length s)
+refusal-of : (w : Bool) (s : List ℕ) (at u k b : ℕ) (a : Argument) (r : Refusal) → at ≤ length s → argumentAt w s at u k ≡ a
+    → afterArgument s k b a ≡ Refused r → (at ≤ r .at) × (r .at ≤ length s)
 unfolding afterArgument
-refusal-of s at u k b (Read e m) r l h q =
+refusal-of w s at u k b (Read e m) r l h q =
     let d = due-not m (dueAt s (e .at) b k) r q in
-    let f = argument-far s at u k e m h in
-    let g = due-refused-within s (e .at) b k r (omega arith) d in
-    (due-refused s (e .at) b k r d .1, omega arith, omega arith)
-refusal-of s at u k b (Refused p) r l h q =
-    let i : p .at ≡ r .at = cc in
-    let j : p .keyword ≡ r .keyword = cc in
-    let f = argument-refused s at u k p l h in
-    (sym j ∙ f .1, omega arith, omega arith)
+    let f = argument-far w s at u k e m h in
+    omega (arith, due-refused-within s (e .at) b k r (omega arith) d)
+refusal-of w s at u k b (Refused p) r l h q = let i : p .at ≡ r .at = cc in omega (arith, argument-refused w s at u k p l h)
 
--- a refusal has the keyword and stands within the text, where the scan stands within it
-pub line-refusal : (s : List ℕ) (at u k b : ℕ) (r : Refusal) → at ≤ length s → lineAt s at u k b ≡ Refused r
-    → (r .keyword ≡ k) × (at ≤ r .at) × (r .at ≤ length s)
+-- a refusal stands within the text, where the scan stands within it
+pub line-refusal : (w : Bool) (s : List ℕ) (at u k b : ℕ) (r : Refusal) → at ≤ length s → lineAt w s at u k b ≡ Refused r
+    → (at ≤ r .at) × (r .at ≤ length s)
 unfolding lineAt
-line-refusal s at u k b r l h = refusal-of s at u k b (argumentAt s at u k) r l refl h
+line-refusal w s at u k b r l h = refusal-of w s at u k b (argumentAt w s at u k) r l refl h
 
 -- ---- the refusal
 

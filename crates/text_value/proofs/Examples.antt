@@ -7,24 +7,24 @@ use Prim.Native.Nat.{ℕ}
 use lib.Dec.{eqb, T}
 use Rattle.text.specs.Class.{classOf}
 use Rattle.text.specs.Due.{dueNumber, dueHere, dueAt}
-use Rattle.text.specs.Refusal.{noValue, otherByte, endOfText}
+use Rattle.text.specs.Refusal.{noValue, otherByte, endOfText, cutShort}
 use Rattle.text.specs.Keyword.{same, part}
 use Rattle.text.specs.Scan.{inIdent, inRun, span, runEnd, pairAt, closing, blockEnd, commentEnd, afterWhite, gapTurn, gapEnd}
 use Rattle.text.specs.Turns.{turns}
-use Rattle.text_value.specs.Argument.{argumentOf, argumentAt, afterDue, afterArgument, lineAt}
+use Rattle.text_value.specs.Argument.{argumentOf, breaksOff, argumentAt, afterDue, afterArgument, lineAt}
 use Rattle.text_value.specs.Str.{escaped, escapes, strEnd, strBytes, closedBy, strAt}
 use Rattle.text_value.specs.Value.{isQuote, startsName, More, added, ends, broken, addedBy, afterPlus, afterGap, moreAt, addTo, joinTurn, joinedWith}
-use Rattle.text_value.specs.Value.{joined, ofString, valueHere, valueAt, Val, value, none}
+use Rattle.text_value.specs.Value.{joined, ofString, valueHere, valueAt, Val, value, none, closedMore, closedTurn, closedFrom, closedString, closedHere, closedAt}
 use Rattle.text_value.specs.declared.Argument.{Argument}
 use Rattle.text_value.specs.declared.Argument.the-variants.{Read, Refused}
 
 -- the value at the text's start; what follows a string that ends at a place; the value at the start and a byte after it, read up to a place
--- with so many bytes stored, or refused with a number at a place
+-- with so many bytes stored, or refused with a number at a place, in the whole-text mode or not
 data Example : Type 0 where
   val : List ℕ → Val → Example
   more : List ℕ → ℕ → More → Example
-  reads : List ℕ → ℕ → ℕ → ℕ → Example
-  refuses : List ℕ → ℕ → ℕ → ℕ → Example
+  reads : Bool → List ℕ → ℕ → ℕ → ℕ → Example
+  refuses : Bool → List ℕ → ℕ → ℕ → ℕ → Example
 
 sameVal : Val → Val → Bool
 sameVal (value xs e) (value ys f) = same xs ys && eqb e f
@@ -54,8 +54,8 @@ isRefused k at (Refused r) = eqb (r .number) k && eqb (r .at) at
 holds : Example → Bool
 holds (val s v) = sameVal (valueAt s 0) v
 holds (more s at m) = sameMore (moreAt s at) m
-holds (reads s b at n) = isRead at n (lineAt s 0 0 0 b)
-holds (refuses s b k at) = isRefused k at (lineAt s 0 0 0 b)
+holds (reads whole s b at n) = isRead at n (lineAt whole s 0 0 0 b)
+holds (refuses whole s b k at) = isRefused k at (lineAt whole s 0 0 0 b)
 
 all : List Example → Bool
 all [] = true
@@ -65,6 +65,7 @@ all (x ∷ xs) = holds x && all xs
 -- a line comment and no more | byte 28 before a name | byte 11 before a name | /*/ before a name
 -- after "a": +"b" | +"b with no end | + b | ;
 -- a{ and { | a b and { | a and { | // and { | "a with no end and { | "a"+"b with no end and {
+-- in the whole-text mode: a{ and { | a and { | // and { | "a with no end and { | "a"+"b with no end and {
 examples : List Example
 examples =
     val (34 ∷ 97 ∷ 34 ∷ 43 ∷ 34 ∷ 98 ∷ 34 ∷ []) (value (97 ∷ 98 ∷ []) 7)
@@ -87,16 +88,21 @@ examples =
     ∷ more (34 ∷ 97 ∷ 34 ∷ 43 ∷ 34 ∷ 98 ∷ []) 3 (broken 6)
     ∷ more (34 ∷ 97 ∷ 34 ∷ 43 ∷ 32 ∷ 98 ∷ []) 3 (ends 5)
     ∷ more (34 ∷ 97 ∷ 34 ∷ 59 ∷ []) 3 (ends 3)
-    ∷ reads (97 ∷ 123 ∷ []) 123 2 1
-    ∷ refuses (97 ∷ 32 ∷ 98 ∷ []) 123 otherByte 2
-    ∷ refuses (97 ∷ []) 123 endOfText 1
-    ∷ refuses (47 ∷ 47 ∷ []) 123 noValue 2
-    ∷ refuses (34 ∷ 97 ∷ []) 123 noValue 2
-    ∷ refuses (34 ∷ 97 ∷ 34 ∷ 43 ∷ 34 ∷ 98 ∷ []) 123 endOfText 6
+    ∷ reads false (97 ∷ 123 ∷ []) 123 2 1
+    ∷ refuses false (97 ∷ 32 ∷ 98 ∷ []) 123 otherByte 2
+    ∷ refuses false (97 ∷ []) 123 endOfText 1
+    ∷ refuses false (47 ∷ 47 ∷ []) 123 noValue 2
+    ∷ refuses false (34 ∷ 97 ∷ []) 123 noValue 2
+    ∷ refuses false (34 ∷ 97 ∷ 34 ∷ 43 ∷ 34 ∷ 98 ∷ []) 123 endOfText 6
+    ∷ reads true (97 ∷ 123 ∷ []) 123 2 1
+    ∷ refuses true (97 ∷ []) 123 endOfText 1
+    ∷ refuses true (47 ∷ 47 ∷ []) 123 noValue 2
+    ∷ refuses true (34 ∷ 97 ∷ []) 123 cutShort 2
+    ∷ refuses true (34 ∷ 97 ∷ 34 ∷ 43 ∷ 34 ∷ 98 ∷ []) 123 cutShort 6
     ∷ []
 
 right : T (all examples)
 unfolding examples all holds sameVal sameMore isRead isRefused lineAt afterArgument afterDue argumentAt argumentOf dueAt dueHere dueNumber same valueAt
-    valueHere ofString joined joinedWith joinTurn addTo moreAt afterGap afterPlus addedBy isQuote startsName strAt closedBy strBytes strEnd escaped escapes
+    valueHere ofString joined joinedWith joinTurn addTo moreAt afterGap afterPlus addedBy isQuote startsName breaksOff closedAt closedHere closedString closedFrom closedTurn closedMore strAt closedBy strBytes strEnd escaped escapes
     part gapEnd gapTurn afterWhite commentEnd blockEnd closing pairAt runEnd span inRun inIdent classOf turns
 right = tt

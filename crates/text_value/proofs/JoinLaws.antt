@@ -1,7 +1,7 @@
 -- What a proof uses of all that is added to a string, and of a whole value. Each addition takes its bytes and more, so the turns end and
 -- there is room.
 -- Assumes nothing.
-use mathlib.Core.Path.{_≡_, refl, sym, ap, _∙_}
+use mathlib.Core.Path.{_≡_, refl, sym, ap, ap₂, _∙_}
 use mathlib.Core.Bool.{Bool, true, false, cond}
 use mathlib.Core.List.{List, [], _∷_, _++_}
 use Prim.Native.Nat.{ℕ, suc, _+_, _-_, _<_, _≤_}
@@ -21,7 +21,7 @@ use Rattle.text.proofs.Laws.{in-name, gap-from, gap-within, run-more, run-from,
 use Rattle.text_value.specs.Str.{Str, whole, cut, strEnd, strBytes, strAt, closedBy, escapes, answerOf, bytesOf}
 use Rattle.text_value.specs.Value.{isQuote, More, added, ends, broken, addedBy, moreAt, Bytes, addTo, joinTurn, joinedWith, joined, moreAnswer, moreBytes}
 use Rattle.text_value.specs.Value.{joinAnswer, Val, value, none, ofString, nameAt, valueHere, valueAt, startsName, closedMore, closedTurn, closedFrom}
-use Rattle.text_value.specs.Value.{closedString, closedHere, closedAt, valueAnswer, valueEnd, placeOf}
+use Rattle.text_value.specs.Value.{closedString, closedHere, closedAt, valueAnswer, valueEnd, valueClosed, placeOf}
 use Rattle.text.specs.declared.Cursor.{Cursor}
 use Rattle.text.proofs.Writing.{sets-append}
 use Rattle.text_value.specs.declared.Joined.{Joined}
@@ -131,6 +131,37 @@ module _ (s bs : List ℕ) (at : ℕ) where
       turns-stop (joinTurn s) (record { bytes = []; end = 0 }) (λ b. length s - b .end) (join-falls s)
       (suc (length s)) (record { bytes = bs; end = at }) (record { bytes = bs; end = e }) (omega arith) (ap (addTo bs) h)
 
+-- ---- whether all that is added closes
+
+closed-added : (m : More) (e : ℕ) → closedMore m ≡ on e → (cs : List ℕ) × (m ≡ added cs e)
+unfolding closedMore
+closed-added (added cs f) e h = (cs, cc)
+closed-added (ends f) e h = ([], cc)
+closed-added (broken f) e h = ([], cc)
+
+closed-falls : (s : List ℕ) (a b : ℕ) → closedTurn s a ≡ on b → length s - b < length s - a
+unfolding closedTurn
+closed-falls s a b h = let m = closed-added (moreAt s a) b h in omega (arith, more-size s a (m .0) b (m .1))
+
+module _ (s : List ℕ) (at e : ℕ) where
+  pub closed-on : (cs : List ℕ) → moreAt s at ≡ added cs e → closedFrom s at ≡ closedFrom s e
+  unfolding closedFrom closedTurn closedMore
+  closed-on cs h =
+      turns-on (closedTurn s) true (λ i. length s - i) (closed-falls s)
+      (suc (length s)) (suc (length s)) at e (omega arith) (omega arith) (ap closedMore h)
+
+  closed-last : (b : Bool) → closedMore (moreAt s at) ≡ stop b → closedFrom s at ≡ b
+  unfolding closedFrom closedTurn
+  closed-last b h = turns-stop (closedTurn s) true (λ i. length s - i) (closed-falls s) (suc (length s)) at b (omega arith) h
+
+  pub closed-stop : moreAt s at ≡ ends e → closedFrom s at ≡ true
+  unfolding closedMore
+  closed-stop h = closed-last true (ap closedMore h)
+
+  pub closed-broken : moreAt s at ≡ broken e → closedFrom s at ≡ false
+  unfolding closedMore
+  closed-broken h = closed-last false (ap closedMore h)
+
 -- ---- what an answer says
 
 pub added-answer : (n : ℕ) (m : More) (c : Cursor) (k : ℕ) → moreAnswer n m ≡ Added c k → (m ≡ added (moreBytes m) (c .at)) × (k ≡ n + length (moreBytes m))
@@ -161,6 +192,7 @@ sets-twice d e f u n bs cs h k g = g ∙ ap (λ l. sets l n cs) h ∙ ap (λ i. 
 pub record Joining (s d : List ℕ) (u from : ℕ) (e : List ℕ) (at n : ℕ) : Type 0 where
   pub bytes : List ℕ
   pub same : joinedWith s bytes at ≡ joined s from
+  pub closes : closedFrom s at ≡ closedFrom s from
   pub kept : e ≡ sets d u bytes
   pub count : n ≡ u + length bytes
   pub room : n + (length s - at) ≤ length d
@@ -168,7 +200,7 @@ pub record Joining (s d : List ℕ) (u from : ℕ) (e : List ℕ) (at n : ℕ) :
 module _ {s d : List ℕ} {u from : ℕ} where
   pub join-begun : u + (length s - from) ≤ length d → Joining s d u from d from u
   unfolding joined
-  join-begun h = record { bytes = []; same = refl; kept = refl; count = omega arith; room = h }
+  join-begun h = record { bytes = []; same = refl; closes = refl; kept = refl; count = omega arith; room = h }
 
   pub join-long : {e : List ℕ} {at n : ℕ} → Joining s d u from e at n → length e ≡ length d
   join-long j = ap length (j .kept) ∙ length-sets d u (j .bytes)
@@ -187,28 +219,33 @@ module _ {s d : List ℕ} {u from : ℕ} where
           record {
             bytes = j .bytes ++ cs;
             same = sym (join-on s (j .bytes) at cs (next .at) (m .0)) ∙ j .same;
+            closes = sym (closed-on s at (next .at) cs (m .0)) ∙ j .closes;
             kept = sets-twice d e f u n (j .bytes) cs (j .kept) (j .count) fe;
             count = omega (arith, m .1, j .count, length-append (j .bytes) cs);
             room = omega (arith, m .1, j .room, more-size s at cs (next .at) (m .0));
           }
 
-      -- nothing is added: the loop is at its end
-      join-ended : (end : Cursor) → joinedWith s (j .bytes) at ≡ record { bytes = j .bytes; end = end .at } → moreBytes (moreAt s at) ≡ []
-          → (record { next = end; used = n } ≡ joinAnswer u (joined s from)) × (f ≡ sets d u (joined s from .bytes))
+      -- nothing is added: the loop is at its end; y: whether the last part closes
+      join-ended : (end : Cursor) (y : Bool) → joinedWith s (j .bytes) at ≡ record { bytes = j .bytes; end = end .at } → closedFrom s at ≡ y
+          → moreBytes (moreAt s at) ≡ []
+          → (record { next = end; used = n; closed = y } ≡ joinAnswer u (closedFrom s from) (joined s from)) × (f ≡ sets d u (joined s from .bytes))
       unfolding joinAnswer
-      join-ended end w z =
+      join-ended end y w o z =
           let r : joined s from ≡ record { bytes = j .bytes; end = end .at } = sym (j .same) ∙ w in
-          (rw r (ap (λ k. record { next = end; used = k }) (j .count)), fe ∙ ap (sets e n) z ∙ j .kept ∙ rw r)
+          let q : y ≡ closedFrom s from = sym o ∙ j .closes in
+          (rw r (ap₂ (λ k x. record { next = end; used = k; closed = x }) (j .count) q), fe ∙ ap (sets e n) z ∙ j .kept ∙ rw r)
 
-      pub join-done : (end : Cursor) → p ≡ Last end → (record { next = end; used = n } ≡ joinAnswer u (joined s from)) × (f ≡ sets d u (joined s from .bytes))
+      pub join-done : (end : Cursor) → p ≡ Last end
+          → (record { next = end; used = n; closed = true } ≡ joinAnswer u (closedFrom s from) (joined s from)) × (f ≡ sets d u (joined s from .bytes))
       join-done end h =
           let m = last-answer n (moreAt s at) end (sym pe ∙ h) in
-          join-ended end (join-stop s (j .bytes) at (end .at) (m .0)) (m .1)
+          join-ended end true (join-stop s (j .bytes) at (end .at) (m .0)) (closed-stop s at (end .at) (m .0)) (m .1)
 
-      pub join-cut : (end : Cursor) → p ≡ Cut end → (record { next = end; used = n } ≡ joinAnswer u (joined s from)) × (f ≡ sets d u (joined s from .bytes))
+      pub join-cut : (end : Cursor) → p ≡ Cut end
+          → (record { next = end; used = n; closed = false } ≡ joinAnswer u (closedFrom s from) (joined s from)) × (f ≡ sets d u (joined s from .bytes))
       join-cut end h =
           let m = broken-answer n (moreAt s at) end (sym pe ∙ h) in
-          join-ended end (join-broken s (j .bytes) at (end .at) (m .0)) (m .1)
+          join-ended end false (join-broken s (j .bytes) at (end .at) (m .0)) (closed-broken s at (end .at) (m .0)) (m .1)
 
 -- ---- a value
 
@@ -260,12 +297,12 @@ unfolding startsName classOf
 name-here s i be ne y = here s i (λ e. never (ne ∙ ap startsName (be ∙ e)) y)
 
 -- a string and what was added to it
-pub read-joined : (u n : ℕ) (bs : List ℕ) (j : Bytes) (r : Joined) → r ≡ joinAnswer n j → n ≡ u + length bs
-    → Read (r .next) (r .used) ≡ valueAnswer u (value (bs ++ j .bytes) (j .end))
+pub read-joined : (u n : ℕ) (y : Bool) (bs : List ℕ) (j : Bytes) (r : Joined) → r ≡ joinAnswer n y j → n ≡ u + length bs
+    → Read (r .next) (r .used) (r .closed) ≡ valueAnswer u y (value (bs ++ j .bytes) (j .end))
 unfolding joinAnswer valueAnswer
-read-joined u n bs j r h k =
+read-joined u n y bs j r h k =
     let m : n + length (j .bytes) ≡ u + length (bs ++ j .bytes) = omega (arith, length-append bs (j .bytes)) in
-    ap (λ (x : Joined). Read (x .next) (x .used)) h ∙ ap (Read (record { at = j .end })) m
+    ap (λ (x : Joined). Read (x .next) (x .used) (x .closed)) h ∙ ap (λ i. Read (record { at = j .end }) i y) m
 
 -- ---- how much a value takes
 
@@ -458,36 +495,7 @@ module _ (s : List ℕ) (at : ℕ) where
   pub joined-broken : (e : ℕ) → moreAt s at ≡ broken e → joined s at .end ≡ e
   joined-broken e h = sym (joined-any s [] at) ∙ ap (λ b. b .end) (join-broken s [] at e h)
 
--- ---- whether each string of it closes
-
-closed-added : (m : More) (e : ℕ) → closedMore m ≡ on e → (cs : List ℕ) × (m ≡ added cs e)
-unfolding closedMore
-closed-added (added cs f) e h = (cs, cc)
-closed-added (ends f) e h = ([], cc)
-closed-added (broken f) e h = ([], cc)
-
-closed-falls : (s : List ℕ) (a b : ℕ) → closedTurn s a ≡ on b → length s - b < length s - a
-unfolding closedTurn
-closed-falls s a b h = let m = closed-added (moreAt s a) b h in omega (arith, more-size s a (m .0) b (m .1))
-
-module _ (s : List ℕ) (at e : ℕ) where
-  pub closed-on : (cs : List ℕ) → moreAt s at ≡ added cs e → closedFrom s at ≡ closedFrom s e
-  unfolding closedFrom closedTurn closedMore
-  closed-on cs h =
-      turns-on (closedTurn s) true (λ i. length s - i) (closed-falls s)
-      (suc (length s)) (suc (length s)) at e (omega arith) (omega arith) (ap closedMore h)
-
-  closed-last : (b : Bool) → closedMore (moreAt s at) ≡ stop b → closedFrom s at ≡ b
-  unfolding closedFrom closedTurn
-  closed-last b h = turns-stop (closedTurn s) true (λ i. length s - i) (closed-falls s) (suc (length s)) at b (omega arith) h
-
-  pub closed-stop : moreAt s at ≡ ends e → closedFrom s at ≡ true
-  unfolding closedMore
-  closed-stop h = closed-last true (ap closedMore h)
-
-  pub closed-broken : moreAt s at ≡ broken e → closedFrom s at ≡ false
-  unfolding closedMore
-  closed-broken h = closed-last false (ap closedMore h)
+-- ---- whether each string of a value closes
 
 -- g after the gap, b what stands there, t whether that is a quote
 module _ (s : List ℕ) (at : ℕ) {g b : ℕ} {t : Bool} (ge : g ≡ gapEnd s at) (be : b ≡ getD s g 256) (te : t ≡ isQuote b) where
@@ -514,10 +522,16 @@ module _ (s : List ℕ) (at : ℕ) {g b : ℕ} {t : Bool} (ge : g ≡ gapEnd s a
 -- ---- where the scan stands
 
 -- the answer and the value say the same place
-pub place-is : (u : ℕ) (v : Val) → valueEnd (valueAnswer u v) ≡ placeOf v
+pub place-is : (u : ℕ) (y : Bool) (v : Val) → valueEnd (valueAnswer u y v) ≡ placeOf v
 unfolding valueEnd valueAnswer placeOf
-place-is u (value bs e) = refl
-place-is u (none at) = refl
+place-is u y (value bs e) = refl
+place-is u y (none at) = refl
+
+-- and whether each string closes
+pub closed-is : (u : ℕ) (y : Bool) (v : Val) → valueClosed (valueAnswer u y v) ≡ y
+unfolding valueClosed valueAnswer
+closed-is u y (value bs e) = refl
+closed-is u y (none at) = refl
 
 -- it is within the text, where the scan stands within it
 pub place-size : (s : List ℕ) (at : ℕ) → at ≤ length s → (at ≤ placeOf (valueAt s at)) × (placeOf (valueAt s at) ≤ length s)

@@ -12,7 +12,7 @@ returns c =
     let a = at-read .before .before .before .before .args in
     let v = at-read .read-value in
     let k = c .enum-told .given in
-    (sym (line-refused (a .s .now) (a .here .at) (a .used) (a .keyword) (a .b) (v .ensures .0) (k .0 .0) (k .1)), v .ensures .1)
+    (sym (line-refused (a .whole) (a .s .now) (a .here .at) (a .used) (a .keyword) (a .b) (v .ensures .0) (k .0 .0) (k .1)), v .ensures .1)
 
 returns-2 : tie.Need-returns-2
 returns-2 c =
@@ -24,7 +24,7 @@ returns-2 c =
     let v = at-read .read-value in
     let k = got .got .given in
     let d = told .enum-told2 .given in (
-      sym (line-other (a .s .now) (a .here .at) (a .used) (a .keyword) (a .b) (v .ensures .0) (k .0 .0) (k .0 .1 .0) (k .1) (at-due .expect-char .ensures)
+      sym (line-other (a .whole) (a .s .now) (a .here .at) (a .used) (a .keyword) (a .b) (v .ensures .0) (k .0 .0) (k .0 .1 .0) (k .1) (at-due .expect-char .ensures)
           (d .0 .0) (d .1) (c .refusal-of .ensures)),
       v .ensures .1,
     )
@@ -39,7 +39,7 @@ returns-3 c =
     let v = at-read .read-value in
     let k = got .got .given in
     let d = due .due .given in (
-      sym (line-read (a .s .now) (a .here .at) (a .used) (a .keyword) (a .b) (v .ensures .0) (k .0 .0) (k .0 .1 .0) (k .1) (at-due .expect-char .ensures)
+      sym (line-read (a .whole) (a .s .now) (a .here .at) (a .used) (a .keyword) (a .b) (v .ensures .0) (k .0 .0) (k .0 .1 .0) (k .1) (at-due .expect-char .ensures)
           (d .0 .0) (d .1)),
       v .ensures .1,
     )

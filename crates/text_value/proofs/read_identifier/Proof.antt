@@ -1,6 +1,7 @@
 -- `text_value::read_identifier`. A name that begins here stands within the text, so its run does, and its bytes fit the room that there is.
 -- Assumes nothing.
 use mathlib.Core.Path.{sym, ap, _∙_}
+use mathlib.Core.Bool.{true}
 use lib.Seq.{sets}
 use native.Mathlib.Omega.{arith}
 use borrow.Author.Needs.{needs}
@@ -32,7 +33,7 @@ returns c =
     let a = peek .before .before .before .args in
     let copied = copy .copy-part .ensures in
     let e = name-read (a .s .now) (a .here .at) (peek .peek-char .ensures) (starts .starts-name .ensures) (if1 .if1 .taken) (run .run-end .ensures) in (
-      ap (Read (record { at = run .run-end .result })) (copied .0) ∙ sym (ap (valueAnswer (a .used)) e),
+      ap (λ n. Read (record { at = run .run-end .result }) n true) (copied .0) ∙ sym (ap (valueAnswer (a .used) true) e),
       copied .1 ∙ sym (ap (λ v. sets (a .store .now) (a .used) (valueBytes v)) e),
     )
 
@@ -43,7 +44,7 @@ returns-2 c =
     let peek = starts .before in
     let a = peek .before .before .before .args in
     let e = name-none (a .s .now) (a .here .at) (peek .peek-char .ensures) (starts .starts-name .ensures) (c .if1 .left) in
-    (sym (ap (valueAnswer (a .used)) e), sym (ap (λ v. sets (a .store .now) (a .used) (valueBytes v)) e))
+    (sym (ap (valueAnswer (a .used) true) e), sym (ap (λ v. sets (a .store .now) (a .used) (valueBytes v)) e))
 
 pub read-identifier-spec : {M : Type 1} → statement M
 read-identifier-spec =

@@ -1,14 +1,15 @@
 -- `text_value::read_string_or_identifier`. A string's bytes fit between its quotes and what is added fits behind them, so there is room for
 -- both; without a quote here the value is the name.
 -- Assumes nothing.
-use mathlib.Core.Path.{sym, ap, _∙_}
+use mathlib.Core.Path.{sym, ap, ap₂, _∙_}
 use lib.Seq.{sets}
 use native.Mathlib.Omega.{arith}
 use borrow.Author.Needs.{needs}
 use Rattle.text.proofs.Laws.{gap-from}
 use Rattle.text_value.specs.Str.{strAt, bytesOf}
-use Rattle.text_value.specs.Value.{joined, valueAnswer, valueBytes}
+use Rattle.text_value.specs.Value.{joined, closedFrom, valueAnswer, valueBytes}
 use Rattle.text_value.proofs.JoinLaws.{whole-size, closed-answer, cut-answer, value-string, value-cut, value-other, read-joined, sets-twice}
+use Rattle.text_value.proofs.JoinLaws.{closed-string, closed-cut, closed-name}
 use Rattle.text_value.proofs.read_string_or_identifier.Statement.{statement}
 use Rattle.text_value.proofs.read_string_or_identifier.Tie as tie
 
@@ -29,8 +30,9 @@ returns c =
     let read = at-read .read-quoted-string in
     let g = gap .skip-whitespace-and-comments in
     let m = cut-answer (a .used) (strAt (a .s .now) (g .result .at)) (sym (read .ensures .0) ∙ c .enum-told .given .1) in
-    let e = value-cut (a .s .now) (a .here .at) (g .ensures) (peek .peek-char .ensures) (quote .is-quote .ensures) (if1 .if1 .taken) (m .0) in (
-      sym (ap (valueAnswer (a .used)) e),
+    let e = value-cut (a .s .now) (a .here .at) (g .ensures) (peek .peek-char .ensures) (quote .is-quote .ensures) (if1 .if1 .taken) (m .0) in
+    let y = closed-cut (a .s .now) (a .here .at) (g .ensures) (peek .peek-char .ensures) (quote .is-quote .ensures) (if1 .if1 .taken) (m .0) in (
+      sym (ap₂ (valueAnswer (a .used)) y e),
       read .ensures .1 ∙ ap (sets (a .store .now) (a .used)) (m .1) ∙ sym (ap (λ v. sets (a .store .now) (a .used) (valueBytes v)) e),
     )
 
@@ -66,8 +68,11 @@ returns-2 c =
     let m = closed-answer (a .used) str (got .0 .0) (got .0 .1 .0) (sym (read .ensures .0) ∙ got .1) in
     let j = joined (a .s .now) (got .0 .0 .at) in
     let e = value-string (a .s .now) (a .here .at) (g .ensures) (peek .peek-char .ensures) (quote .is-quote .ensures) (if1 .if1 .taken) (bytesOf str)
+    (got .0 .0 .at) (m .0) in
+    let y = closed-string (a .s .now) (a .here .at) (g .ensures) (peek .peek-char .ensures) (quote .is-quote .ensures) (if1 .if1 .taken) (bytesOf str)
     (got .0 .0 .at) (m .0) in (
-      read-joined (a .used) (got .0 .1 .0) (bytesOf str) j (all .result) (all .ensures .0) (m .1) ∙ sym (ap (valueAnswer (a .used)) e),
+      read-joined (a .used) (got .0 .1 .0) (closedFrom (a .s .now) (got .0 .0 .at)) (bytesOf str) j (all .result) (all .ensures .0) (m .1)
+          ∙ sym (ap₂ (valueAnswer (a .used)) y e),
       sets-twice (a .store .now) (read .last .1 .1 .0) (all .last .1 .1 .1 .0) (a .used) (got .0 .1 .0) (bytesOf str) (j .bytes)
           (read .ensures .1) (m .1) (all .ensures .1)
           ∙ sym (ap (λ v. sets (a .store .now) (a .used) (valueBytes v)) e),
@@ -89,8 +94,10 @@ returns-3 c =
     let a = gap .before .before .before .args in
     let name = at-name .read-identifier in
     let e = value-other (a .s .now) (a .here .at) (gap .skip-whitespace-and-comments .ensures) (peek .peek-char .ensures) (quote .is-quote .ensures)
+    (if1 .if1 .left) in
+    let y = closed-name (a .s .now) (a .here .at) (gap .skip-whitespace-and-comments .ensures) (peek .peek-char .ensures) (quote .is-quote .ensures)
     (if1 .if1 .left) in (
-      name .ensures .0 ∙ sym (ap (valueAnswer (a .used)) e),
+      name .ensures .0 ∙ sym (ap₂ (valueAnswer (a .used)) y e),
       name .ensures .1 ∙ sym (ap (λ v. sets (a .store .now) (a .used) (valueBytes v)) e),
     )
 
