@@ -1,2 +1,3 @@
 pub mod Examples
 pub mod StatementLaws
+pub mod PastLaws

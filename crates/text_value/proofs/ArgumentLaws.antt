@@ -68,7 +68,7 @@ module _ (whole : Bool) (s : List ℕ) (at u k : ℕ) {v : Value} (ve : v ≡ va
     argument-missing c z m {e} q =
         let p : c .at ≡ e .at = sym (q ∙ ap valueEnd m) in
         argument-on ∙ ap (argumentOf u k) (missing-of u (closedAt s at) (valueAt s at) c z (sym ve ∙ m))
-            ∙ ap (λ i. Refused (record { number = 4; keyword = k; at = i })) p
+        ∙ ap (λ i. Refused (record { number = 4; keyword = k; at = i })) p
 
     pub argument-read : (c : Cursor) (i : ℕ) (z : Bool) → v ≡ ReadValue c i z → argumentAt whole s at u k ≡ Read c i
     unfolding argumentOf
