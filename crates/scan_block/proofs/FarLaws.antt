@@ -1,6 +1,7 @@
 -- How far one statement of a block goes: it takes more bytes of the text than it stores, so the block ends and its values fit the store.
 -- Assumes nothing.
 use mathlib.Core.Path.{_≡_, refl, sym, ap, subst, _∙_}
+use mathlib.Core.Bool.{Bool}
 use mathlib.Core.List.{List, []}
 use Prim.Native.Nat.{ℕ, _+_, _-_, _<_, _≤_}
 use native.Mathlib.Omega.{arith}
@@ -11,6 +12,8 @@ use Rattle.text.specs.Keyword.{matchAt}
 use Rattle.text.specs.Scan.{gapEnd}
 use Rattle.text.specs.Words.{prefixWord, revisionDateWord}
 use Rattle.text.specs.declared.Cursor.{Cursor}
+use Rattle.text.specs.declared.Due.{Due}
+use Rattle.text.specs.declared.Due.the-variants.{After as Past, Not as NotPast}
 use Rattle.text.specs.declared.Match.{Match}
 use Rattle.text.specs.declared.Match.the-variants.{After, Not}
 use Rattle.text.proofs.Here.{by-test, here}
@@ -22,10 +25,8 @@ use Rattle.text_value.specs.declared.Argument.{Argument}
 use Rattle.text_value.specs.declared.Argument.the-variants.{Read, Refused as RefusedLine}
 use Rattle.text_value.proofs.ArgumentLaws.{line-far, line-refusal}
 use Rattle.text_value.proofs.JoinLaws.{value-size}
-use Rattle.text_statement.specs.Statement.{statementAt}
-use Rattle.text_skip.specs.declared.Skipped.{Skipped}
-use Rattle.text_skip.specs.declared.Skipped.the-variants.{Past, Refused as RefusedSkip}
-use Rattle.text_statement.proofs.StatementLaws.{statement-far, statement-moves, statement-refused}
+use Rattle.text_statement.specs.Statement.{pastStatement}
+use Rattle.text_statement.proofs.PastLaws.{past-statement-far, past-statement-moves, past-statement-not}
 use Rattle.scan_rows.specs.Span.{held}
 use Rattle.scan_block.specs.Left.{Left}
 use Rattle.scan_block.specs.Block.{orLine, revisionLine, lineKind, withValue, withSkipped, afterKind, insideAt}
@@ -79,47 +80,47 @@ Went s b bs (On y) = Forth s b bs y
 Went s b bs (Closed y) = Forth s b bs y
 Went s b bs (Refused r) = (length bs ≤ length s - b .at) × (b .at ≤ length s → r .at ≤ length s)
 
-module _ (s : List ℕ) (b : Body) (at : ℕ) (l : b .at ≤ at) (in-text : at ≤ length s) where
-  value-went : (j : ℕ) (a : Argument) → lineAt s at (b .used) j 59 ≡ a → Went s b (valueBytes (valueAt s at)) (withValue b j a)
+module _ (w : Bool) (s : List ℕ) (b : Body) (at : ℕ) (l : b .at ≤ at) (in-text : at ≤ length s) where
+  value-went : (j : ℕ) (a : Argument) → lineAt w s at (b .used) j 59 ≡ a → Went s b (valueBytes (valueAt s at)) (withValue b j a)
   unfolding withValue
   value-went j (Read c n) h =
-      let f = line-far s at (b .used) j 59 c n (omega arith) h in
+      let f = line-far w s at (b .used) j 59 c n (omega arith) h in
       let x = held (b .used) (n - b .used) in
       let p = kept-place b j (c .at) n x in
       (omega (arith, f, p .0), omega (arith, f .1, p .0), p .1 ∙ f .2, λ u d. sound-kept u b (c .at) n (omega (arith, f)) d j)
-  value-went j (RefusedLine r) h = (omega (arith, bytes-fit s at), λ i. line-refusal s at (b .used) j 59 r in-text h .2)
+  value-went j (RefusedLine r) h = (omega (arith, bytes-fit s at), λ i. line-refusal w s at (b .used) j 59 r in-text h .1)
 
 -- at the place g after the gap
-module _ (s : List ℕ) (b : Body) (g k : ℕ) (l : b .at ≤ g) (in-text : g < length s) (e : gapEnd s g ≡ g) (n : getD s g 256 ≡ 125 → ⊥) where
-  other-went : (x : Skipped) → statementAt s g ≡ x → Went s b [] (withSkipped b x)
+module _ (w : Bool) (s : List ℕ) (b : Body) (g k : ℕ) (l : b .at ≤ g) (in-text : g < length s) (e : gapEnd s g ≡ g) (n : getD s g 256 ≡ 125 → ⊥) where
+  other-went : (x : Due) → pastStatement w s g ≡ x → Went s b [] (withSkipped b x)
   unfolding withSkipped
-  other-went (Past c h) m =
-      let moves = statement-moves s g in-text (λ z. n (ap (λ i. getD s i 256) (sym e) ∙ z)) c h m in
-      let far = statement-far s g (omega arith) c h m in
+  other-went (Past c) m =
+      let moves = past-statement-moves w s g in-text (λ z. n (ap (λ i. getD s i 256) (sym e) ∙ z)) c m in
+      let far = past-statement-far w s g (omega arith) c m in
       (omega (arith, moves), far .1, omega arith, λ u d. sound-moved u b (c .at) d)
-  other-went (RefusedSkip r) m = absurd (statement-refused s g r m)
+  other-went (NotPast r) m = (omega arith, λ i. omega (arith, ap (λ q. q .at) (past-statement-not w s g r m)))
 
-  kind-went : (x : Line) → lineKind s g k ≡ x → Went s b (afterKind s g b x .bytes) (afterKind s g b x .answer)
+  kind-went : (x : Line) → lineKind s g k ≡ x → Went s b (afterKind w s g b x .bytes) (afterKind w s g b x .answer)
   unfolding afterKind
   kind-went (Value j c) h =
       let f = kind-value-far s g k j c h in
-      value-went s b (c .at) (omega (arith, f)) (f .1) j (lineAt s (c .at) (b .used) j 59) refl
-  kind-went Other h = other-went (statementAt s g) refl
+      value-went w s b (c .at) (omega (arith, f)) (f .1) j (lineAt w s (c .at) (b .used) j 59) refl
+  kind-went Other h = other-went (pastStatement w s g) refl
 
 went-is : (s : List ℕ) (b : Body) {x y : Left Inside} → x ≡ y → Went s b (y .bytes) (y .answer) → Went s b (x .bytes) (x .answer)
 went-is s b e w = subst (λ z. Went s b (z .bytes) (z .answer)) (sym e) w
 
 -- a statement that was read or skipped, or a brace, is behind its start, within the text, and takes more than the bytes that are stored
-pub inside-went : (s : List ℕ) (k : ℕ) (b : Body) → Went s b (insideAt s k b .bytes) (insideAt s k b .answer)
-inside-went s k b =
+pub inside-went : (w : Bool) (s : List ℕ) (k : ℕ) (b : Body) → Went s b (insideAt w s k b .bytes) (insideAt w s k b .answer)
+inside-went w s k b =
     let g = gapEnd s (b .at) in
     let from = gap-from s (b .at) in
     by-test (eqb (getD s g 256) 256)
-    (λ t. went-is s b (inside-end s k b refl refl (eqb-true (getD s g 256) 256 t)) (omega arith, λ i. gap-within s (b .at) i))
+    (λ t. went-is s b (inside-end w s k b refl refl (eqb-true (getD s g 256) 256 t)) (omega arith, λ i. gap-within s (b .at) i))
     (λ t. let p : (getD s g 256 ≡ 256 → ⊥) = eqb-false _ _ t in
     let i = here s g p in
     by-test (eqb (getD s g 256) 125)
-    (λ v. went-is s b (inside-close s k b refl refl p (eqb-true (getD s g 256) 125 v))
+    (λ v. went-is s b (inside-close w s k b refl refl p (eqb-true (getD s g 256) 125 v))
     (omega arith, omega arith, omega arith, λ u d. sound-moved u b (g + 1) d))
     (λ v. let q : (getD s g 256 ≡ 125 → ⊥) = eqb-false _ _ v in
-    went-is s b (inside-kind s k b refl refl p q refl) (kind-went s b g k from i (gap-twice s (b .at)) q (lineKind s g k) refl)))
+    went-is s b (inside-kind w s k b refl refl p q refl) (kind-went w s b g k from i (gap-twice s (b .at)) q (lineKind s g k) refl)))

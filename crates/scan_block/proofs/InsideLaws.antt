@@ -13,7 +13,10 @@ use borrow.Author.Tests.{eq-eqb, ne-eqb}
 use Rattle.text.specs.Keyword.{startsIdent, matchAt}
 use Rattle.text.specs.Scan.{gapEnd}
 use Rattle.text.specs.Words.{prefixWord, revisionDateWord}
+use Rattle.text.specs.Due.{refusalOf}
 use Rattle.text.specs.declared.Cursor.{Cursor}
+use Rattle.text.specs.declared.Due.{Due}
+use Rattle.text.specs.declared.Due.the-variants.{After as Past, Not as NotPast}
 use Rattle.text.specs.declared.Match.{Match}
 use Rattle.text.specs.declared.Match.the-variants.{After, Not}
 use Rattle.text.specs.declared.Refusal.{Refusal}
@@ -24,12 +27,7 @@ use Rattle.text_value.specs.Value.{valueAt, valueBytes}
 use Rattle.text_value.specs.declared.Argument.{Argument}
 use Rattle.text_value.specs.declared.Argument.the-variants.{Read, Refused as RefusedLine}
 use Rattle.text_value.proofs.ArgumentLaws.{refusal-is, line-far, line-room}
-use Rattle.text_skip.specs.Skip.{skipRefusal}
-use Rattle.text_statement.specs.Statement.{statementAt}
-use Rattle.text_skip.specs.declared.How.{How}
-use Rattle.text_skip.specs.declared.Skipped.{Skipped}
-use Rattle.text_skip.specs.declared.Skipped.the-variants.{Past, Refused as RefusedSkip}
-use Rattle.text_skip.proofs.SkipLaws.{skip-refusal-is}
+use Rattle.text_statement.specs.Statement.{pastStatement}
 use Rattle.scan_rows.specs.Span.{held, missing}
 use Rattle.scan_rows.specs.declared.Span.{Span}
 use Rattle.scan_block.specs.Left.{Left, nothing}
@@ -88,13 +86,13 @@ kind-none s at k be te f =
 
 -- ---- a value read
 
-pub line-grows : (s : List ℕ) (at u k b : ℕ) (c : Cursor) (n : ℕ) → b < 256 → {l : Argument} → l ≡ lineAt s at u k b → l ≡ Read c n → u ≤ n
-line-grows s at u k b c n small e h = omega (arith, line-far s at u k b c n small (sym e ∙ h))
+pub line-grows : (w : Bool) (s : List ℕ) (at u k b : ℕ) (c : Cursor) (n : ℕ) → b < 256 → {l : Argument} → l ≡ lineAt w s at u k b → l ≡ Read c n → u ≤ n
+line-grows w s at u k b c n small e h = omega (arith, line-far w s at u k b c n small (sym e ∙ h))
 
 -- room in the store for the rest of the text stays
-pub room-left : (s : List ℕ) (at u k b m : ℕ) (c : Cursor) (n : ℕ) → b < 256 → {l : Argument} → l ≡ lineAt s at u k b → l ≡ Read c n
+pub room-left : (w : Bool) (s : List ℕ) (at u k b m : ℕ) (c : Cursor) (n : ℕ) → b < 256 → {l : Argument} → l ≡ lineAt w s at u k b → l ≡ Read c n
     → u + (length s - at) ≤ m → n + (length s - c .at) ≤ m
-room-left s at u k b m c n small e h r = line-room s at u k b m c n small (sym e ∙ h) r
+room-left w s at u k b m c n small e h r = line-room w s at u k b m c n small (sym e ∙ h) r
 
 module _ (b : Body) (j at n : ℕ) (x : Span) where
   pub kept-prefix : j ≡ 5 → {y : Span} → y ≡ b .revision → record { at = at; used = n; prefix = x; revision = y } ≡ kept b j at n x
@@ -106,52 +104,52 @@ module _ (b : Body) (j at n : ℕ) (x : Span) where
   kept-revision h e = rw (ne-eqb j 5 h) (rw e refl)
 
 -- l: the line of the keyword j
-module _ (s : List ℕ) (at : ℕ) (b : Body) (j : ℕ) {l : Argument} (e : l ≡ lineAt s at (b .used) j 59) where
-  pub value-refused : (r : Refusal) → l ≡ RefusedLine r → {q : Refusal} → q ≡ argumentRefusal l → Refused q ≡ withValue b j (lineAt s at (b .used) j 59)
+module _ (w : Bool) (s : List ℕ) (at : ℕ) (b : Body) (j : ℕ) {l : Argument} (e : l ≡ lineAt w s at (b .used) j 59) where
+  pub value-refused : (r : Refusal) → l ≡ RefusedLine r → {q : Refusal} → q ≡ argumentRefusal l → Refused q ≡ withValue b j (lineAt w s at (b .used) j 59)
   unfolding withValue
   value-refused r h p = ap Refused (refusal-is h p) ∙ sym (ap (withValue b j) (sym e ∙ h))
 
   pub value-read : (c : Cursor) (n : ℕ) → l ≡ Read c n → {x : Span} → x ≡ held (b .used) (n - b .used) → {y : Body} → y ≡ kept b j (c .at) n x
-      → On y ≡ withValue b j (lineAt s at (b .used) j 59)
+      → On y ≡ withValue b j (lineAt w s at (b .used) j 59)
   unfolding withValue
   value-read c n h p q = ap On (q ∙ ap (kept b j (c .at) n) p) ∙ sym (ap (withValue b j) (sym e ∙ h))
 
 -- ---- a statement skipped
 
--- k: what the skip answered
-module _ (b : Body) {k x : Skipped} (e : k ≡ x) where
-  pub skip-refused : (r : Refusal) → k ≡ RefusedSkip r → {q : Refusal} → q ≡ skipRefusal k → Refused q ≡ withSkipped b x
-  unfolding withSkipped
-  skip-refused r h p = ap Refused (skip-refusal-is h p) ∙ sym (ap (withSkipped b) (sym e ∙ h))
+-- k: what is past it
+module _ (b : Body) {k x : Due} (e : k ≡ x) where
+  pub skip-refused : (r : Refusal) → k ≡ NotPast r → {q : Refusal} → q ≡ refusalOf k → Refused q ≡ withSkipped b x
+  unfolding withSkipped refusalOf
+  skip-refused r h p = ap Refused (p ∙ ap refusalOf h) ∙ sym (ap (withSkipped b) (sym e ∙ h))
 
-  pub skip-past : (c : Cursor) (h : How) → k ≡ Past c h → {y : Body} → y ≡ moved b (c .at) → On y ≡ withSkipped b x
+  pub skip-past : (c : Cursor) → k ≡ Past c → {y : Body} → y ≡ moved b (c .at) → On y ≡ withSkipped b x
   unfolding withSkipped
-  skip-past c h m p = ap On p ∙ sym (ap (withSkipped b) (sym e ∙ m))
+  skip-past c m p = ap On p ∙ sym (ap (withSkipped b) (sym e ∙ m))
 
 -- ---- a statement, or the end of the block
 
 -- g after the gap, p what stands there
-module _ (s : List ℕ) (k : ℕ) (b : Body) {g p : ℕ} (ge : g ≡ gapEnd s (b .at)) (pe : p ≡ getD s g 256) where
-  pub inside-end : p ≡ 256 → insideAt s k b ≡ nothing (Refused (record { number = 8; keyword = k; at = g }))
+module _ (w : Bool) (s : List ℕ) (k : ℕ) (b : Body) {g p : ℕ} (ge : g ≡ gapEnd s (b .at)) (pe : p ≡ getD s g 256) where
+  pub inside-end : p ≡ 256 → insideAt w s k b ≡ nothing (Refused (record { number = 8; keyword = k; at = g }))
   unfolding insideAt insideHere
   inside-end h = rw (← ge) (rw (eq-eqb (getD s g 256) 256 (sym pe ∙ h)) refl)
 
   module _ (n : p ≡ 256 → ⊥) where
-    pub inside-close : p ≡ 125 → insideAt s k b ≡ nothing (Closed (moved b (g + 1)))
+    pub inside-close : p ≡ 125 → insideAt w s k b ≡ nothing (Closed (moved b (g + 1)))
     unfolding insideAt insideHere
     inside-close h = rw (← ge) (rw (ne-eqb (getD s g 256) 256 (λ z. n (pe ∙ z))) (rw (eq-eqb (getD s g 256) 125 (sym pe ∙ h)) refl))
 
     module _ (m : p ≡ 125 → ⊥) {l : Line} (le : l ≡ lineKind s g k) where
-      pub inside-kind : insideAt s k b ≡ afterKind s g b l
+      pub inside-kind : insideAt w s k b ≡ afterKind w s g b l
       unfolding insideAt insideHere
       inside-kind =
           rw (← ge) (rw (ne-eqb (getD s g 256) 256 (λ z. n (pe ∙ z))) (rw (ne-eqb (getD s g 256) 125 (λ z. m (pe ∙ z))) (rw (← le) refl)))
 
       pub inside-value : (j : ℕ) (c : Cursor) → l ≡ Value j c
-          → insideAt s k b ≡ record { answer = withValue b j (lineAt s (c .at) (b .used) j 59); bytes = valueBytes (valueAt s (c .at)) }
+          → insideAt w s k b ≡ record { answer = withValue b j (lineAt w s (c .at) (b .used) j 59); bytes = valueBytes (valueAt s (c .at)) }
       unfolding afterKind
-      inside-value j c h = inside-kind ∙ ap (afterKind s g b) h
+      inside-value j c h = inside-kind ∙ ap (afterKind w s g b) h
 
-      pub inside-other : l ≡ Other → {r : Inside} → r ≡ withSkipped b (statementAt s g) → insideAt s k b ≡ nothing r
+      pub inside-other : l ≡ Other → {r : Inside} → r ≡ withSkipped b (pastStatement w s g) → insideAt w s k b ≡ nothing r
       unfolding afterKind
-      inside-other h q = inside-kind ∙ ap (afterKind s g b) h ∙ sym (ap nothing q)
+      inside-other h q = inside-kind ∙ ap (afterKind w s g b) h ∙ sym (ap nothing q)

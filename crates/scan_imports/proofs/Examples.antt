@@ -6,18 +6,19 @@ use Prim.Native.Nat.{ℕ}
 use lib.Dec.{eqb, T}
 use Rattle.text.specs.Class.{classOf}
 use Rattle.text.specs.Due.{dueNumber, dueHere, dueAt}
-use Rattle.text.specs.Refusal.{noValue, otherByte, endOfText}
+use Rattle.text.specs.Refusal.{noValue, otherByte, endOfText, cutShort}
 use Rattle.text.specs.Keyword.{startsIdent, endsKeyword, same, part, keywordAt, matchAt}
 use Rattle.text.specs.Scan.{inIdent, inRun, span, runEnd, pairAt, closing, blockEnd, commentEnd, afterWhite, gapTurn, gapEnd}
 use Rattle.text.specs.Turns.{turns}
 use Rattle.text.specs.Words.{prefixKeyword, importKeyword, includeKeyword, revisionDateKeyword}
 use Rattle.text.specs.declared.Refusal.{Refusal}
-use Rattle.text_value.specs.Argument.{argumentOf, argumentAt, afterDue, afterArgument, lineAt}
+use Rattle.text_value.specs.Argument.{argumentOf, breaksOff, argumentAt, afterDue, afterArgument, lineAt}
 use Rattle.text_value.specs.Str.{escaped, escapes, strEnd, strBytes, closedBy, strAt}
 use Rattle.text_value.specs.Value.{isQuote, startsName, addedBy, afterPlus, afterGap, moreAt, addTo, joinTurn, joinedWith, joined, ofString, valueHere, valueAt}
-use Rattle.text_value.specs.Value.{valueBytes}
+use Rattle.text_value.specs.Value.{valueBytes, closedMore, closedTurn, closedFrom, closedString, closedHere, closedAt}
+use Rattle.text_skip.specs.Skip.{brokeOff, pastOf}
 use Rattle.text_statement.specs.Statement.{closes, quotedLen, quotedEnd, atSemicolon, atClose, partOf, partAt, ofPart, statementTurn, statementFrom}
-use Rattle.text_statement.specs.Statement.{statementAt}
+use Rattle.text_statement.specs.Statement.{statementAt, pastStatement}
 use Rattle.scan_rows.specs.Rows.{importWords, includeWords}
 use Rattle.scan_block.specs.Block.{openEnded, orLine, lineKind, kept, withValue, withSkipped, afterKind, insideHere, insideAt, afterInside, blockTurn}
 use Rattle.scan_block.specs.Block.{blockFrom, blockAt}
@@ -29,12 +30,14 @@ use Rattle.scan_imports.specs.declared.ParsedInclude.{ParsedInclude}
 use Rattle.scan_imports.specs.declared.ParsedInclude.the-variants.{Include, NoInclude}
 
 -- an import or include at the text's start: the place after it, the bytes stored and the words of its row; or the number, keyword and place
--- of its refusal
+-- of its refusal, in the whole-text mode too
 data Example : Type 0 where
   imports : List ℕ → ℕ → List ℕ → List ℕ → Example
   noImport : List ℕ → ℕ → ℕ → ℕ → Example
   includes : List ℕ → ℕ → List ℕ → List ℕ → Example
   noInclude : List ℕ → ℕ → ℕ → ℕ → Example
+  noWholeImport : List ℕ → ℕ → ℕ → ℕ → Example
+  noWholeInclude : List ℕ → ℕ → ℕ → ℕ → Example
 
 isRefusal : ℕ → ℕ → ℕ → Refusal → Bool
 isRefusal n k at r = eqb (r .number) n && eqb (r .keyword) k && eqb (r .at) at
@@ -57,10 +60,12 @@ isNoInclude n k at (NoInclude r) = isRefusal n k at r
 
 -- behind the keyword, at the store's place 0
 holds : Example → Bool
-holds (imports s at bs ws) = isImport at ws (importAt s 6 0 .answer) && same (importAt s 6 0 .bytes) bs
-holds (noImport s n k at) = isNoImport n k at (importAt s 6 0 .answer)
-holds (includes s at bs ws) = isInclude at ws (includeAt s 7 0 .answer) && same (includeAt s 7 0 .bytes) bs
-holds (noInclude s n k at) = isNoInclude n k at (includeAt s 7 0 .answer)
+holds (imports s at bs ws) = isImport at ws (importAt false s 6 0 .answer) && same (importAt false s 6 0 .bytes) bs
+holds (noImport s n k at) = isNoImport n k at (importAt false s 6 0 .answer)
+holds (includes s at bs ws) = isInclude at ws (includeAt false s 7 0 .answer) && same (includeAt false s 7 0 .bytes) bs
+holds (noInclude s n k at) = isNoInclude n k at (includeAt false s 7 0 .answer)
+holds (noWholeImport s n k at) = isNoImport n k at (importAt true s 6 0 .answer)
+holds (noWholeInclude s n k at) = isNoInclude n k at (includeAt true s 7 0 .answer)
 
 all : List Example → Bool
 all [] = true
@@ -71,6 +76,8 @@ all (x ∷ xs) = holds x && all xs
 -- | import a{prefix p | import a{revision-date | import a{prefix/**/p;} | import a{x \";prefix p;} | import a{contact c;prefix p;} |
 -- include a; | include a} | include a | include a{prefix p;revision-date 1;} | include a{} | include a{revision-date "";} | include
 -- a{ | include a{revision-date 1}
+-- in the whole-text mode: import a{x | import a{x/*c | import "a | import "a"+"b | import a{prefix "p | import a{ | import a{x; | import a{/*c |
+-- import a{prefix | import a{} "x | import a b "x | include "a | include a | include a{x
 examples : List Example
 examples =
     noImport (105 ∷ 109 ∷ 112 ∷ 111 ∷ 114 ∷ 116 ∷ 32 ∷ 97 ∷ 123 ∷ 125 ∷ []) noPrefix importKeyword 10
@@ -111,13 +118,27 @@ examples =
     ∷ noInclude (105 ∷ 110 ∷ 99 ∷ 108 ∷ 117 ∷ 100 ∷ 101 ∷ 32 ∷ 97 ∷ 123 ∷ []) openEnded includeKeyword 10
     ∷ noInclude (105 ∷ 110 ∷ 99 ∷ 108 ∷ 117 ∷ 100 ∷ 101 ∷ 32 ∷ 97 ∷ 123 ∷ 114 ∷ 101 ∷ 118 ∷ 105 ∷ 115 ∷ 105 ∷ 111 ∷ 110 ∷ 45 ∷ 100 ∷ 97 ∷ 116 ∷ 101 ∷ 32 ∷ 49
     ∷ 125 ∷ []) otherByte revisionDateKeyword 25
+    ∷ noWholeImport (105 ∷ 109 ∷ 112 ∷ 111 ∷ 114 ∷ 116 ∷ 32 ∷ 97 ∷ 123 ∷ 120 ∷ []) cutShort 0 10
+    ∷ noWholeImport (105 ∷ 109 ∷ 112 ∷ 111 ∷ 114 ∷ 116 ∷ 32 ∷ 97 ∷ 123 ∷ 120 ∷ 47 ∷ 42 ∷ 99 ∷ []) cutShort 0 13
+    ∷ noWholeImport (105 ∷ 109 ∷ 112 ∷ 111 ∷ 114 ∷ 116 ∷ 32 ∷ 34 ∷ 97 ∷ []) cutShort 0 9
+    ∷ noWholeImport (105 ∷ 109 ∷ 112 ∷ 111 ∷ 114 ∷ 116 ∷ 32 ∷ 34 ∷ 97 ∷ 34 ∷ 43 ∷ 34 ∷ 98 ∷ []) cutShort 0 13
+    ∷ noWholeImport (105 ∷ 109 ∷ 112 ∷ 111 ∷ 114 ∷ 116 ∷ 32 ∷ 97 ∷ 123 ∷ 112 ∷ 114 ∷ 101 ∷ 102 ∷ 105 ∷ 120 ∷ 32 ∷ 34 ∷ 112 ∷ []) cutShort 0 18
+    ∷ noWholeImport (105 ∷ 109 ∷ 112 ∷ 111 ∷ 114 ∷ 116 ∷ 32 ∷ 97 ∷ 123 ∷ []) openEnded importKeyword 9
+    ∷ noWholeImport (105 ∷ 109 ∷ 112 ∷ 111 ∷ 114 ∷ 116 ∷ 32 ∷ 97 ∷ 123 ∷ 120 ∷ 59 ∷ []) openEnded importKeyword 11
+    ∷ noWholeImport (105 ∷ 109 ∷ 112 ∷ 111 ∷ 114 ∷ 116 ∷ 32 ∷ 97 ∷ 123 ∷ 47 ∷ 42 ∷ 99 ∷ []) openEnded importKeyword 12
+    ∷ noWholeImport (105 ∷ 109 ∷ 112 ∷ 111 ∷ 114 ∷ 116 ∷ 32 ∷ 97 ∷ 123 ∷ 112 ∷ 114 ∷ 101 ∷ 102 ∷ 105 ∷ 120 ∷ []) noValue prefixKeyword 15
+    ∷ noWholeImport (105 ∷ 109 ∷ 112 ∷ 111 ∷ 114 ∷ 116 ∷ 32 ∷ 97 ∷ 123 ∷ 125 ∷ 32 ∷ 34 ∷ 120 ∷ []) noPrefix importKeyword 10
+    ∷ noWholeImport (105 ∷ 109 ∷ 112 ∷ 111 ∷ 114 ∷ 116 ∷ 32 ∷ 97 ∷ 32 ∷ 98 ∷ 32 ∷ 34 ∷ 120 ∷ []) otherByte importKeyword 9
+    ∷ noWholeInclude (105 ∷ 110 ∷ 99 ∷ 108 ∷ 117 ∷ 100 ∷ 101 ∷ 32 ∷ 34 ∷ 97 ∷ []) cutShort 0 10
+    ∷ noWholeInclude (105 ∷ 110 ∷ 99 ∷ 108 ∷ 117 ∷ 100 ∷ 101 ∷ 32 ∷ 97 ∷ []) endOfText includeKeyword 9
+    ∷ noWholeInclude (105 ∷ 110 ∷ 99 ∷ 108 ∷ 117 ∷ 100 ∷ 101 ∷ 32 ∷ 97 ∷ 123 ∷ 120 ∷ []) cutShort 0 11
     ∷ []
 
 right : T (all examples)
 unfolding examples all holds isRefusal isImport isNoImport isInclude isNoInclude importWords includeWords importAt afterName withName importOf ofBody includeAt
-    afterValue openOrPlain blockOf includeOf plainOf blockAt blockFrom blockTurn afterInside insideAt insideHere afterKind withValue kept withSkipped lineKind
+    afterValue openOrPlain blockOf includeOf plainOf blockAt blockFrom blockTurn afterInside insideAt insideHere afterKind withValue kept withSkipped pastStatement pastOf brokeOff lineKind
     orLine statementAt statementFrom statementTurn ofPart partAt partOf atSemicolon atClose quotedEnd quotedLen closes matchAt keywordAt startsIdent
-    endsKeyword lineAt afterArgument afterDue argumentAt argumentOf dueAt dueHere dueNumber same valueAt valueBytes valueHere ofString joined joinedWith
+    endsKeyword lineAt afterArgument afterDue argumentAt breaksOff argumentOf dueAt dueHere dueNumber same valueAt valueBytes valueHere ofString closedAt closedHere closedString closedFrom closedTurn closedMore joined joinedWith
     joinTurn addTo moreAt afterGap afterPlus addedBy isQuote startsName strAt closedBy strBytes strEnd escaped escapes part gapEnd gapTurn afterWhite
     commentEnd blockEnd closing pairAt runEnd span inRun inIdent classOf turns
 right = tt

@@ -3,6 +3,7 @@
 -- Assumes nothing.
 use mathlib.Core.Path.{_≡_, refl, ap, subst, _∙_}
 use mathlib.Core.Logic.{inl}
+use mathlib.Core.Bool.{Bool}
 use mathlib.Core.List.{List, [], _++_}
 use Prim.Native.Nat.{ℕ, suc, _+_, _-_, _<_, _≤_}
 use native.Mathlib.Omega.{arith}
@@ -72,29 +73,29 @@ on-ends s g h bs cs (Whole y) f l e =
     (omega (arith, f .0, f .1, e .0), e .1, omega (arith, f .2, e .2), λ u d. e .3 u (f .3 u d))
 on-ends s g h bs cs (Broken r) f l e = (omega (arith, f .0, f .1, e .0), λ i. e .1 (f .1))
 
-block-ends : (s : List ℕ) (k : ℕ) (g : Stored) → Ends s g (blockFrom s k g .bytes) (blockFrom s k g .answer)
+block-ends : (w : Bool) (s : List ℕ) (k : ℕ) (g : Stored) → Ends s g (blockFrom w s k g .bytes) (blockFrom w s k g .answer)
 unfolding blockFrom blockTurn
-block-ends s k g =
-    turns-rule (blockTurn s k) (nothing (Broken noRefusal)) (λ b. length s - b .body .at) (block-falls s k)
-    (λ a r. Ends s a (r .bytes) (r .answer)) (turn-stops s k)
-    (λ a b r h e. let f = turn-far s k a b h in
-    let bs = insideAt s k (a .body) .bytes in
+block-ends w s k g =
+    turns-rule (blockTurn w s k) (nothing (Broken noRefusal)) (λ b. length s - b .body .at) (block-falls w s k)
+    (λ a r. Ends s a (r .bytes) (r .answer)) (turn-stops w s k)
+    (λ a b r h e. let f = turn-far w s k a b h in
+    let bs = insideAt w s k (a .body) .bytes in
     on-ends s a b bs (r .bytes) (r .answer) (f .0) (ap length (f .1) ∙ length-append (a .bytes) bs) e)
     (suc (length s)) g (omega arith)
   where
-    turn-stops : (s : List ℕ) (k : ℕ) (a : Stored) (r : Left Block) → blockTurn s k a ≡ stop r → Ends s a (r .bytes) (r .answer)
-    turn-stops s k a r h = stop-ends s a (insideAt s k (a .body) .bytes) (insideAt s k (a .body) .answer) r (inside-went s k (a .body)) h
+    turn-stops : (w : Bool) (s : List ℕ) (k : ℕ) (a : Stored) (r : Left Block) → blockTurn w s k a ≡ stop r → Ends s a (r .bytes) (r .answer)
+    turn-stops w s k a r h = stop-ends s a (insideAt w s k (a .body) .bytes) (insideAt w s k (a .body) .answer) r (inside-went w s k (a .body)) h
 
 -- a block behind its brace, at the store's place u
 abbrev BlockSaid : List ℕ → ℕ → ℕ → List ℕ → Block → Type 0
 BlockSaid s at u bs (Whole y) = (at + length bs < y .at) × (y .at ≤ length s) × (y .used ≡ u + length bs) × Sound u y
 BlockSaid s at u bs (Broken r) = (length bs ≤ length s - at) × (at ≤ length s → r .at ≤ length s)
 
-block-said : (s : List ℕ) (at u k : ℕ) → BlockSaid s at u (blockAt s at u k .bytes) (blockAt s at u k .answer)
+block-said : (w : Bool) (s : List ℕ) (at u k : ℕ) → BlockSaid s at u (blockAt w s at u k .bytes) (blockAt w s at u k .answer)
 unfolding blockAt
-block-said s at u k =
+block-said w s at u k =
     let g : Stored = record { body = begun at u; bytes = [] } in
-    said (blockFrom s k g .bytes) (blockFrom s k g .answer) (block-ends s k g)
+    said (blockFrom w s k g .bytes) (blockFrom w s k g .answer) (block-ends w s k g)
   where
     said : (cs : List ℕ) (b : Block) → Ends s (record { body = begun at u; bytes = [] }) cs b → BlockSaid s at u cs b
     said cs (Whole y) e = (omega (arith, e .0), e .1, omega (arith, e .2), e .3 u (sound-begun at u))
@@ -136,24 +137,24 @@ module _ (s : List ℕ) (at u : ℕ) (bs : List ℕ) (c : Cursor) (n : ℕ) (far
   of-said cs (Whole y) d = body-said cs y d
   of-said cs (Broken r) d = (omega (arith, d .0, length-append bs cs), λ i. d .1 in-text)
 
-name-said : (s : List ℕ) (at u : ℕ) (a : Argument) → lineAt s at u 8 123 ≡ a
-    → ImportSaid s at u (afterName s u (valueBytes (valueAt s at)) a .bytes) (afterName s u (valueBytes (valueAt s at)) a .answer)
+name-said : (w : Bool) (s : List ℕ) (at u : ℕ) (a : Argument) → lineAt w s at u 8 123 ≡ a
+    → ImportSaid s at u (afterName w s u (valueBytes (valueAt s at)) a .bytes) (afterName w s u (valueBytes (valueAt s at)) a .answer)
 unfolding afterName withName
-name-said s at u (Read c n) h =
-    let f = line-far s at u 8 123 c n (omega arith) h in
-    let b = blockAt s (c .at) n 8 in
-    of-said s at u (valueBytes (valueAt s at)) c n (f .0) (f .1) (f .2) (b .bytes) (b .answer) (block-said s (c .at) n 8)
-name-said s at u (RefusedValue r) h = (bytes-fit s at, λ i. line-refusal s at u 8 123 r i h .2)
+name-said w s at u (Read c n) h =
+    let f = line-far w s at u 8 123 c n (omega arith) h in
+    let b = blockAt w s (c .at) n 8 in
+    of-said s at u (valueBytes (valueAt s at)) c n (f .0) (f .1) (f .2) (b .bytes) (b .answer) (block-said w s (c .at) n 8)
+name-said w s at u (RefusedValue r) h = (bytes-fit s at, λ i. line-refusal w s at u 8 123 r i h .1)
 
-pub import-said : (s : List ℕ) (at u : ℕ) → ImportSaid s at u (importAt s at u .bytes) (importAt s at u .answer)
+pub import-said : (w : Bool) (s : List ℕ) (at u : ℕ) → ImportSaid s at u (importAt w s at u .bytes) (importAt w s at u .answer)
 unfolding importAt
-import-said s at u = name-said s at u (lineAt s at u 8 123) refl
+import-said w s at u = name-said w s at u (lineAt w s at u 8 123) refl
 
-module _ (s : List ℕ) (at u : ℕ) where
-  told : {r : ParsedImport} → importAt s at u .answer ≡ r → ImportSaid s at u (importAt s at u .bytes) r
-  told h = subst (ImportSaid s at u (importAt s at u .bytes)) h (import-said s at u)
+module _ (w : Bool) (s : List ℕ) (at u : ℕ) where
+  told : {r : ParsedImport} → importAt w s at u .answer ≡ r → ImportSaid s at u (importAt w s at u .bytes) r
+  told h = subst (ImportSaid s at u (importAt w s at u .bytes)) h (import-said w s at u)
 
-  module _ (c : Cursor) (n : ℕ) (i : YangImport) (h : importAt s at u .answer ≡ Import c n i) where
+  module _ (c : Cursor) (n : ℕ) (i : YangImport) (h : importAt w s at u .answer ≡ Import c n i) where
     -- room in the store for the rest of the text stays
     pub import-room : (l : ℕ) → u + (length s - at) ≤ l → n + (length s - c .at) ≤ l
     import-room l r = let d = told h in omega (arith, d .0, d .1, d .2)
@@ -195,34 +196,34 @@ module _ (s : List ℕ) (at u : ℕ) (bs : List ℕ) (c : Cursor) (n : ℕ) (far
       (omega (arith, f .0), f .1, count, lies-held u u n (omega arith) (omega arith), inl refl, omega arith)
   plain-said (Not r) h = (omega arith, λ i. due-refused-within s (c .at) 59 9 r in-text h .1)
 
-  either-said : IncludeSaid s at u (openOrPlain s (gapEnd s (c .at)) n (held u (n - u)) bs .bytes)
-      (openOrPlain s (gapEnd s (c .at)) n (held u (n - u)) bs .answer)
+  either-said : (w : Bool) → IncludeSaid s at u (openOrPlain w s (gapEnd s (c .at)) n (held u (n - u)) bs .bytes)
+      (openOrPlain w s (gapEnd s (c .at)) n (held u (n - u)) bs .answer)
   unfolding openOrPlain blockOf dueAt
-  either-said =
+  either-said w =
       let g = gapEnd s (c .at) in
       by-test (eqb (getD s g 256) 123)
       (λ t. let i = here s g (λ z. omega (arith, eqb-true (getD s g 256) 123 t)) in
-      let b = blockAt s (g + 1) n 9 in
-      rw t (open-said (g + 1) (b .bytes) (b .answer) (omega (arith, gap-from s (c .at))) (omega arith) (block-said s (g + 1) n 9)))
+      let b = blockAt w s (g + 1) n 9 in
+      rw t (open-said (g + 1) (b .bytes) (b .answer) (omega (arith, gap-from s (c .at))) (omega arith) (block-said w s (g + 1) n 9)))
       (λ t. rw t (plain-said (dueHere s g 59 9) refl))
 
-value-said : (s : List ℕ) (at u : ℕ) (a : Argument) → argumentAt s at u 9 ≡ a
-    → IncludeSaid s at u (afterValue s u (valueBytes (valueAt s at)) a .bytes) (afterValue s u (valueBytes (valueAt s at)) a .answer)
+value-said : (w : Bool) (s : List ℕ) (at u : ℕ) (a : Argument) → argumentAt w s at u 9 ≡ a
+    → IncludeSaid s at u (afterValue w s u (valueBytes (valueAt s at)) a .bytes) (afterValue w s u (valueBytes (valueAt s at)) a .answer)
 unfolding afterValue
-value-said s at u (Read c n) h =
-    let f = argument-far s at u 9 c n h in
-    either-said s at u (valueBytes (valueAt s at)) c n (f .1) (f .2) (f .3)
-value-said s at u (RefusedValue r) h = (bytes-fit s at, λ i. argument-refused s at u 9 r i h .3)
+value-said w s at u (Read c n) h =
+    let f = argument-far w s at u 9 c n h in
+    either-said s at u (valueBytes (valueAt s at)) c n (f .1) (f .2) (f .3) w
+value-said w s at u (RefusedValue r) h = (bytes-fit s at, λ i. argument-refused w s at u 9 r i h .1)
 
-pub include-said : (s : List ℕ) (at u : ℕ) → IncludeSaid s at u (includeAt s at u .bytes) (includeAt s at u .answer)
+pub include-said : (w : Bool) (s : List ℕ) (at u : ℕ) → IncludeSaid s at u (includeAt w s at u .bytes) (includeAt w s at u .answer)
 unfolding includeAt
-include-said s at u = value-said s at u (argumentAt s at u 9) refl
+include-said w s at u = value-said w s at u (argumentAt w s at u 9) refl
 
-module _ (s : List ℕ) (at u : ℕ) where
-  given : {r : ParsedInclude} → includeAt s at u .answer ≡ r → IncludeSaid s at u (includeAt s at u .bytes) r
-  given h = subst (IncludeSaid s at u (includeAt s at u .bytes)) h (include-said s at u)
+module _ (w : Bool) (s : List ℕ) (at u : ℕ) where
+  given : {r : ParsedInclude} → includeAt w s at u .answer ≡ r → IncludeSaid s at u (includeAt w s at u .bytes) r
+  given h = subst (IncludeSaid s at u (includeAt w s at u .bytes)) h (include-said w s at u)
 
-  module _ (c : Cursor) (n : ℕ) (i : YangInclude) (h : includeAt s at u .answer ≡ Include c n i) where
+  module _ (c : Cursor) (n : ℕ) (i : YangInclude) (h : includeAt w s at u .answer ≡ Include c n i) where
     pub include-room : (l : ℕ) → u + (length s - at) ≤ l → n + (length s - c .at) ≤ l
     include-room l r = let d = given h in omega (arith, d .0, d .1, d .2)
 

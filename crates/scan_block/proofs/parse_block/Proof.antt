@@ -11,10 +11,10 @@ use Rattle.scan_block.proofs.parse_block.Statement.{statement}
 use Rattle.scan_block.proofs.parse_block.Tie as tie
 
 abbrev Inv-loop : tie.InvT-loop
-Inv-loop classes s store₀ used keyword body₀ store body = Reading s keyword used store₀ body₀ store body
+Inv-loop classes whole s store₀ used keyword body₀ store body = Reading whole s keyword used store₀ body₀ store body
 
 abbrev μ-loop : tie.MeasureT-loop
-μ-loop classes s store₀ used keyword body₀ store body = length s - body .at
+μ-loop classes whole s store₀ used keyword body₀ store body = length s - body .at
 
 loop-holds : tie.Need-loop-holds Inv-loop μ-loop
 loop-holds c = reading-begun (c .before .before .before .args .here .at) (c .begun .ensures) (c .before .before .before .pre .1)
@@ -41,7 +41,7 @@ loop-again c =
 same-length : tie.Need-same-length Inv-loop μ-loop
 same-length c =
     let at-inside = c .before .before .before .before .before in
-    at-inside .parse-inside .kept .1 .1 .1 .0 ∙ reading-long (at-inside .before .before .loop .inv)
+    at-inside .parse-inside .kept .1 .1 .1 .1 .0 ∙ reading-long (at-inside .before .before .loop .inv)
 
 returns : tie.Need-returns Inv-loop μ-loop
 returns c =
@@ -55,7 +55,7 @@ returns c =
 same-length-2 : tie.Need-same-length-2 Inv-loop μ-loop
 same-length-2 c =
     let at-inside = c .before .before .before .before .before in
-    at-inside .parse-inside .kept .1 .1 .1 .0 ∙ reading-long (at-inside .before .before .loop .inv)
+    at-inside .parse-inside .kept .1 .1 .1 .1 .0 ∙ reading-long (at-inside .before .before .loop .inv)
 
 returns-2 : tie.Need-returns-2 Inv-loop μ-loop
 returns-2 c =

@@ -17,7 +17,7 @@ returns c =
     let at-gap = at-peek .before in
     let a = at-gap .before .before .before .args in
     leaves
-    (inside-end (a .s .now) (a .keyword) (a .body) (at-gap .skip-whitespace-and-comments .ensures) (at-peek .peek-char .ensures) (c .if1 .taken))
+    (inside-end (a .whole) (a .s .now) (a .keyword) (a .body) (at-gap .skip-whitespace-and-comments .ensures) (at-peek .peek-char .ensures) (c .if1 .taken))
     (a .store .now) (a .body .used) (refl, refl)
 
 add-end : tie.Need-add-end
@@ -32,7 +32,7 @@ returns-2 c =
     let at-gap = at-peek .before in
     let a = at-gap .before .before .before .args in
     leaves
-    (inside-close (a .s .now) (a .keyword) (a .body) (at-gap .skip-whitespace-and-comments .ensures) (at-peek .peek-char .ensures)
+    (inside-close (a .whole) (a .s .now) (a .keyword) (a .body) (at-gap .skip-whitespace-and-comments .ensures) (at-peek .peek-char .ensures)
     (c .before .before .if1 .left) (c .before .if2 .taken))
     (a .store .now) (a .body .used) (ap Closed (c .moved .ensures), refl)
 
@@ -59,7 +59,7 @@ returns-3 c =
     let a = at-gap .before .before .before .args in
     let k = at-line .own .given in
     leaves
-    (inside-value (a .s .now) (a .keyword) (a .body) (at-gap .skip-whitespace-and-comments .ensures) (at-peek .peek-char .ensures)
+    (inside-value (a .whole) (a .s .now) (a .keyword) (a .body) (at-gap .skip-whitespace-and-comments .ensures) (at-peek .peek-char .ensures)
     (at-kind .before .before .if1 .left) (at-kind .before .if2 .left) (at-kind .line-kind .ensures) (k .0 .0) (k .0 .1 .0) (k .1))
     (a .store .now) (a .body .used) (at-read .read-inside .ensures)
 
@@ -70,7 +70,7 @@ returns-4 c =
     let at-gap = at-peek .before in
     let a = at-gap .before .before .before .args in
     leaves
-    (inside-other (a .s .now) (a .keyword) (a .body) (at-gap .skip-whitespace-and-comments .ensures) (at-peek .peek-char .ensures)
+    (inside-other (a .whole) (a .s .now) (a .keyword) (a .body) (at-gap .skip-whitespace-and-comments .ensures) (at-peek .peek-char .ensures)
     (at-kind .before .before .if1 .left) (at-kind .before .if2 .left) (at-kind .line-kind .ensures) (c .before .enum-told .given .1)
     (c .skip-other .ensures))
     (a .store .now) (a .body .used) (refl, refl)

@@ -12,7 +12,7 @@ returns c =
     let a = at-block .before .before .before .before .args in
     let v = at-block .parse-block in
     let k = told .enum-told .given in
-    (include-broken (a .s .now) (a .here .at) (a .used) (a .name) (v .ensures .0) (k .0 .0) (k .1) (c .block-refusal .ensures), v .ensures .1)
+    (include-broken (a .whole) (a .s .now) (a .here .at) (a .used) (a .name) (v .ensures .0) (k .0 .0) (k .1) (c .block-refusal .ensures), v .ensures .1)
 
 returns-2 : tie.Need-returns-2
 returns-2 c =
@@ -21,7 +21,7 @@ returns-2 c =
     let a = at-block .before .before .before .before .args in
     let v = at-block .parse-block in
     let k = opened .block .given in
-    (include-whole (a .s .now) (a .here .at) (a .used) (a .name) (v .ensures .0) (k .0 .0) (k .1), v .ensures .1)
+    (include-whole (a .whole) (a .s .now) (a .here .at) (a .used) (a .name) (v .ensures .0) (k .0 .0) (k .1), v .ensures .1)
 
 pub include-block-spec : {M : Type 1} → statement M
 include-block-spec =

@@ -15,7 +15,7 @@ returns c =
     let a = at-read .before .before .before .before .args in
     let v = at-read .read-argument .ensures in
     let k = told .enum-told .given in
-    import-refused (a .s .now) (a .here .at) (a .used) (a .store .now) (v .0) (v .1) (k .0 .0) (k .1) (c .argument-refusal .ensures)
+    import-refused (a .whole) (a .s .now) (a .here .at) (a .used) (a .store .now) (v .0) (v .1) (k .0 .0) (k .1) (c .argument-refusal .ensures)
 
 sub-size : tie.Need-sub-size
 sub-size c =
@@ -23,7 +23,7 @@ sub-size c =
     let at-read = named .before .before .before .before in
     let a = at-read .before .before .before .before .args in
     let k = named .name .given in
-    line-grows (a .s .now) (a .here .at) (a .used) 8 123 (k .0 .0) (k .0 .1 .0) (omega arith) (at-read .read-argument .ensures .0) (k .1)
+    line-grows (a .whole) (a .s .now) (a .here .at) (a .used) 8 123 (k .0 .0) (k .0 .1 .0) (omega arith) (at-read .read-argument .ensures .0) (k .1)
 
 parse-block-requires : tie.Need-parse-block-requires
 parse-block-requires c κs =
@@ -32,9 +32,9 @@ parse-block-requires c κs =
     let a = at-read .before .before .before .before .args in
     let k = named .name .given in
     let start = at-read .before .before .before .before in
-    let room = room-left (a .s .now) (a .here .at) (a .used) 8 123 (length (a .store .now)) (k .0 .0) (k .0 .1 .0) (omega arith)
+    let room = room-left (a .whole) (a .s .now) (a .here .at) (a .used) 8 123 (length (a .store .now)) (k .0 .0) (k .0 .1 .0) (omega arith)
     (at-read .read-argument .ensures .0) (k .1) (start .pre .1) in
-    (start .pre .0, omega (arith, room, at-read .read-argument .kept .1 .1 .1 .0))
+    (start .pre .0, omega (arith, room, at-read .read-argument .kept .1 .1 .1 .1 .0))
 
 returns-2 : tie.Need-returns-2
 returns-2 c =
@@ -46,7 +46,7 @@ returns-2 c =
     let k = named .name .given in
     let v = at-read .read-argument .ensures in
     let b = opened .enum-told2 .given in
-    import-broken (a .s .now) (a .here .at) (a .used) (a .store .now) (v .0) (v .1) (k .0 .0) (k .0 .1 .0) (k .1) (at-block .parse-block .ensures) (b .0 .0)
+    import-broken (a .whole) (a .s .now) (a .here .at) (a .used) (a .store .now) (v .0) (v .1) (k .0 .0) (k .0 .1 .0) (k .1) (at-block .parse-block .ensures) (b .0 .0)
     (b .1) (c .block-refusal .ensures)
 
 returns-3 : tie.Need-returns-3
@@ -59,7 +59,7 @@ returns-3 c =
     let k = named .name .given in
     let v = at-read .read-argument .ensures in
     let b = opened .block .given in
-    import-whole (a .s .now) (a .here .at) (a .used) (a .store .now) (v .0) (v .1) (k .0 .0) (k .0 .1 .0) (k .1) (at-block .parse-block .ensures)
+    import-whole (a .whole) (a .s .now) (a .here .at) (a .used) (a .store .now) (v .0) (v .1) (k .0 .0) (k .0 .1 .0) (k .1) (at-block .parse-block .ensures)
     (at-block .before .before .held .ensures) (b .0 .0) (b .1) (c .import-of .ensures)
 
 pub parse-import-spec : {M : Type 1} → statement M

@@ -15,7 +15,7 @@ returns c =
     let a = at-read .before .before .before .before .args in
     let v = at-read .read-value .ensures in
     let k = told .enum-told .given in
-    include-refused (a .s .now) (a .here .at) (a .used) (a .store .now) (v .0) (v .1) (k .0 .0) (k .1) (c .argument-refusal .ensures)
+    include-refused (a .whole) (a .s .now) (a .here .at) (a .used) (a .store .now) (v .0) (v .1) (k .0 .0) (k .1) (c .argument-refusal .ensures)
 
 sub-size : tie.Need-sub-size
 sub-size c =
@@ -24,7 +24,7 @@ sub-size c =
     let a = at-read .before .before .before .before .args in
     let k = named .name .given in
     let v = at-read .read-value .ensures in
-    argument-grows (a .s .now) (a .here .at) (a .used) 9 (k .0 .0) (k .0 .1 .0) (v .0) (k .1)
+    argument-grows (a .whole) (a .s .now) (a .here .at) (a .used) 9 (k .0 .0) (k .0 .1 .0) (v .0) (k .1)
 
 add-inner : tie.Need-add-inner
 add-inner c =
@@ -42,9 +42,9 @@ include-block-requires c κs =
     let k = named .name .given in
     let v = at-read .read-value .ensures in
     let start = at-read .before .before .before .before in
-    let room = inner-room (a .s .now) (a .here .at) (a .used) 9 (length (a .store .now)) (k .0 .0) (k .0 .1 .0) (v .0) (k .1)
+    let room = inner-room (a .whole) (a .s .now) (a .here .at) (a .used) 9 (length (a .store .now)) (k .0 .0) (k .0 .1 .0) (v .0) (k .1)
     (at-gap .skip-whitespace-and-comments .ensures) (start .pre .1) in
-    (start .pre .0, omega (arith, room, at-read .read-value .kept .1 .1 .1 .0))
+    (start .pre .0, omega (arith, room, at-read .read-value .kept .1 .1 .1 .1 .0))
 
 returns-2 : tie.Need-returns-2
 returns-2 c =
@@ -56,7 +56,7 @@ returns-2 c =
     let k = named .name .given in
     let v = at-read .read-value .ensures in
     let b = c .before .before .include-block .ensures in
-    include-open (a .s .now) (a .here .at) (a .used) (a .store .now) (v .0) (v .1) (k .0 .0) (k .0 .1 .0) (k .1) (at-gap .before .held .ensures)
+    include-open (a .whole) (a .s .now) (a .here .at) (a .used) (a .store .now) (v .0) (v .1) (k .0 .0) (k .0 .1 .0) (k .1) (at-gap .before .held .ensures)
     (at-gap .skip-whitespace-and-comments .ensures) (at-peek .peek-char .ensures) (c .before .before .before .before .if1 .taken) (b .0) (b .1)
 
 returns-3 : tie.Need-returns-3
@@ -69,7 +69,7 @@ returns-3 c =
     let k = named .name .given in
     let v = at-read .read-value .ensures in
     let t = c .before .enum-told2 .given in
-    include-other (a .s .now) (a .here .at) (a .used) (a .store .now) (v .0) (v .1) (k .0 .0) (k .0 .1 .0) (k .1) (at-gap .before .held .ensures)
+    include-other (a .whole) (a .s .now) (a .here .at) (a .used) (a .store .now) (v .0) (v .1) (k .0 .0) (k .0 .1 .0) (k .1) (at-gap .before .held .ensures)
     (at-gap .skip-whitespace-and-comments .ensures) (at-peek .peek-char .ensures) (c .before .before .before .before .if1 .left)
     (c .before .before .before .expect-char .ensures) (t .0 .0) (t .1) (c .refusal-of .ensures)
 
@@ -83,7 +83,7 @@ returns-4 c =
     let k = named .name .given in
     let v = at-read .read-value .ensures in
     let t = c .before .before .due .given in
-    include-plain (a .s .now) (a .here .at) (a .used) (a .store .now) (v .0) (v .1) (k .0 .0) (k .0 .1 .0) (k .1) (at-gap .before .held .ensures)
+    include-plain (a .whole) (a .s .now) (a .here .at) (a .used) (a .store .now) (v .0) (v .1) (k .0 .0) (k .0 .1 .0) (k .1) (at-gap .before .held .ensures)
     (at-gap .skip-whitespace-and-comments .ensures) (at-peek .peek-char .ensures) (c .before .before .before .before .before .if1 .left)
     (c .before .before .before .before .expect-char .ensures) (t .0 .0) (t .1) (c .missing .ensures)
 
