@@ -2,7 +2,7 @@
 -- store's places lie within the text's length.
 -- Assumes nothing.
 use mathlib.Core.Path.{_≡_, refl, sym, ap, subst, _∙_}
-use mathlib.Core.Bool.{cond}
+use mathlib.Core.Bool.{Bool, cond}
 use mathlib.Core.List.{List, []}
 use Prim.Native.Nat.{ℕ, _+_, _-_, _*_, _<_, _≤_}
 use native.Mathlib.Omega.{arith}
@@ -53,62 +53,62 @@ module _ (words : Dependencies → List ℕ) (rows k at : ℕ) (x : Step) (u w :
 
 -- ---- an import
 
-module _ (s : List ℕ) (far : Sofar) (at : ℕ) (d t : List ℕ) where
+module _ (whole : Bool) (s : List ℕ) (far : Sofar) (at : ℕ) (d t : List ℕ) where
   abbrev import-read : ParsedImport → Step
-  import-read = importStep far (importAt s at (far .used) .bytes)
+  import-read = importStep far (importAt whole s at (far .used) .bytes)
 
-  pub import-full : mostRows ≤ far .imports → {r : Next} → r ≡ full 8 at → AddsImport s far at d t r d t
+  pub import-full : mostRows ≤ far .imports → {r : Next} → r ≡ full 8 at → AddsImport whole s far at d t r d t
   unfolding importHere importWordsOf importTable table
   import-full h e =
-      adds-full importWordsOf (far .imports) 8 at (import-read (importAt s at (far .used) .answer)) (far .used) (far .imports * importSize) refl h e
+      adds-full importWordsOf (far .imports) 8 at (import-read (importAt whole s at (far .used) .answer)) (far .used) (far .imports * importSize) refl h e
 
   -- x: what reading it answered, e: the store then
-  module _ (h : far .imports < mostRows) {x : ParsedImport} {e : List ℕ} (xe : x ≡ importAt s at (far .used) .answer)
-      (ee : e ≡ sets d (far .used) (importAt s at (far .used) .bytes)) where
+  module _ (h : far .imports < mostRows) {x : ParsedImport} {e : List ℕ} (xe : x ≡ importAt whole s at (far .used) .answer)
+      (ee : e ≡ sets d (far .used) (importAt whole s at (far .used) .bytes)) where
     import-room-for : {y : ParsedImport} → x ≡ y → {r : Next} {f : List ℕ}
-        → Adds importWordsOf (import-read y) (far .used) (far .imports * importSize) d t r e f → AddsImport s far at d t r e f
+        → Adds importWordsOf (import-read y) (far .used) (far .imports * importSize) d t r e f → AddsImport whole s far at d t r e f
     unfolding importHere
     import-room-for q a =
-        adds-room importWordsOf (far .imports) 8 at (import-read (importAt s at (far .used) .answer)) (far .used) (far .imports * importSize) h
+        adds-room importWordsOf (far .imports) 8 at (import-read (importAt whole s at (far .used) .answer)) (far .used) (far .imports * importSize) h
         (ap import-read (sym xe ∙ q)) a
 
     pub import-added : (c : Cursor) (n : ℕ) (i : YangImport) → x ≡ ReadImport c n i
         → {f : List ℕ} → f ≡ sets t (far .imports * importSize) (importWords i)
-        → AddsImport s far at d t (On (record { at = c .at; used = n; imports = far .imports + 1; includes = far .includes })) e f
+        → AddsImport whole s far at d t (On (record { at = c .at; used = n; imports = far .imports + 1; includes = far .includes })) e f
     unfolding importStep importWordsOf importTable table importWords
     import-added c n i q fe = import-room-for q (record { answer = refl; stored = ee; written = fe })
 
-    pub import-not : (r : Refusal) → x ≡ NoImport r → {a : Refusal} → a ≡ importRefusal x → AddsImport s far at d t (Stop a) e t
+    pub import-not : (r : Refusal) → x ≡ NoImport r → {a : Refusal} → a ≡ importRefusal x → AddsImport whole s far at d t (Stop a) e t
     unfolding importStep importWordsOf importTable table importRefusal
     import-not r q h = import-room-for q (record { answer = ap Stop (h ∙ ap importRefusal q); stored = ee; written = refl })
 
 -- ---- an include
 
-module _ (s : List ℕ) (far : Sofar) (at : ℕ) (d t : List ℕ) where
+module _ (whole : Bool) (s : List ℕ) (far : Sofar) (at : ℕ) (d t : List ℕ) where
   abbrev include-read : ParsedInclude → Step
-  include-read = includeStep far (includeAt s at (far .used) .bytes)
+  include-read = includeStep far (includeAt whole s at (far .used) .bytes)
 
-  pub include-full : mostRows ≤ far .includes → {r : Next} → r ≡ full 9 at → AddsInclude s far at d t r d t
+  pub include-full : mostRows ≤ far .includes → {r : Next} → r ≡ full 9 at → AddsInclude whole s far at d t r d t
   unfolding includeHere includeWordsOf includeTable table
   include-full h e =
-      adds-full includeWordsOf (far .includes) 9 at (include-read (includeAt s at (far .used) .answer)) (far .used) (far .includes * includeSize) refl h e
+      adds-full includeWordsOf (far .includes) 9 at (include-read (includeAt whole s at (far .used) .answer)) (far .used) (far .includes * includeSize) refl h e
 
-  module _ (h : far .includes < mostRows) {x : ParsedInclude} {e : List ℕ} (xe : x ≡ includeAt s at (far .used) .answer)
-      (ee : e ≡ sets d (far .used) (includeAt s at (far .used) .bytes)) where
+  module _ (h : far .includes < mostRows) {x : ParsedInclude} {e : List ℕ} (xe : x ≡ includeAt whole s at (far .used) .answer)
+      (ee : e ≡ sets d (far .used) (includeAt whole s at (far .used) .bytes)) where
     include-room-for : {y : ParsedInclude} → x ≡ y → {r : Next} {f : List ℕ}
-        → Adds includeWordsOf (include-read y) (far .used) (far .includes * includeSize) d t r e f → AddsInclude s far at d t r e f
+        → Adds includeWordsOf (include-read y) (far .used) (far .includes * includeSize) d t r e f → AddsInclude whole s far at d t r e f
     unfolding includeHere
     include-room-for q a =
-        adds-room includeWordsOf (far .includes) 9 at (include-read (includeAt s at (far .used) .answer)) (far .used) (far .includes * includeSize) h
+        adds-room includeWordsOf (far .includes) 9 at (include-read (includeAt whole s at (far .used) .answer)) (far .used) (far .includes * includeSize) h
         (ap include-read (sym xe ∙ q)) a
 
     pub include-added : (c : Cursor) (n : ℕ) (i : YangInclude) → x ≡ ReadInclude c n i
         → {f : List ℕ} → f ≡ sets t (far .includes * includeSize) (includeWords i)
-        → AddsInclude s far at d t (On (record { at = c .at; used = n; imports = far .imports; includes = far .includes + 1 })) e f
+        → AddsInclude whole s far at d t (On (record { at = c .at; used = n; imports = far .imports; includes = far .includes + 1 })) e f
     unfolding includeStep includeWordsOf includeTable table includeWords
     include-added c n i q fe = include-room-for q (record { answer = refl; stored = ee; written = fe })
 
-    pub include-not : (r : Refusal) → x ≡ NoInclude r → {a : Refusal} → a ≡ includeRefusal x → AddsInclude s far at d t (Stop a) e t
+    pub include-not : (r : Refusal) → x ≡ NoInclude r → {a : Refusal} → a ≡ includeRefusal x → AddsInclude whole s far at d t (Stop a) e t
     unfolding includeStep includeWordsOf includeTable table includeRefusal
     include-not r q h = include-room-for q (record { answer = ap Stop (h ∙ ap includeRefusal q); stored = ee; written = refl })
 
@@ -121,17 +121,17 @@ lies-fit : {u n : ℕ} (x : Span) → n < 4294967296 → Lies u n x → Fits x
 lies-fit x h l = (omega (arith, l .2), omega (arith, l .2))
 
 -- u: the store's place
-module _ (s : List ℕ) (at u : ℕ) (room : u + (length s - at) ≤ length s) (words : length s < 4294967296) (c : Cursor) (n : ℕ) where
-  pub import-words-fit : (i : YangImport) {x : ParsedImport} → x ≡ importAt s at u .answer → x ≡ ReadImport c n i → FitsImport i
+module _ (whole : Bool) (s : List ℕ) (at u : ℕ) (room : u + (length s - at) ≤ length s) (words : length s < 4294967296) (c : Cursor) (n : ℕ) where
+  pub import-words-fit : (i : YangImport) {x : ParsedImport} → x ≡ importAt whole s at u .answer → x ≡ ReadImport c n i → FitsImport i
   import-words-fit i xe q =
       let k = sym xe ∙ q in
-      let l = import-lies s at u c n i k in
-      let m : n < 4294967296 = omega (arith, import-room s at u c n i k (length s) room) in
+      let l = import-lies whole s at u c n i k in
+      let m : n < 4294967296 = omega (arith, import-room whole s at u c n i k (length s) room) in
       (lies-fit (i .«module_name») m (l .0), lies-fit (i .prefix) m (l .1), may-fit m (l .2))
 
-  pub include-words-fit : (i : YangInclude) {x : ParsedInclude} → x ≡ includeAt s at u .answer → x ≡ ReadInclude c n i → FitsInclude i
+  pub include-words-fit : (i : YangInclude) {x : ParsedInclude} → x ≡ includeAt whole s at u .answer → x ≡ ReadInclude c n i → FitsInclude i
   include-words-fit i xe q =
       let k = sym xe ∙ q in
-      let l = include-lies s at u c n i k in
-      let m : n < 4294967296 = omega (arith, include-room s at u c n i k (length s) room) in
+      let l = include-lies whole s at u c n i k in
+      let m : n < 4294967296 = omega (arith, include-room whole s at u c n i k (length s) room) in
       (lies-fit (i .«submodule_name») m (l .0), may-fit m (l .1))

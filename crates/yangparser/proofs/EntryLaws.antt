@@ -51,11 +51,11 @@ leaves-zero x d t u k a p q w =
 
 -- ---- the scan over what was lent, d, t and u
 
-module _ (s : List ℕ) (else : Bool) (d t u : List ℕ) {short : Bool} (se : short ≡ tooShort else (length s) (length d) (length t) (length u))
+module _ (whole : Bool) (s : List ℕ) (else : Bool) (d t u : List ℕ) {short : Bool} (se : short ≡ tooShort else (length s) (length d) (length t) (length u))
     {lent : Lent} (le : lent ≡ lentAt s short) where
-  scan-is : {x : Lent} → lent ≡ x → lentScan s else d t u ≡ ifFit x (scanned s)
+  scan-is : {x : Lent} → lent ≡ x → lentScan whole s else d t u ≡ ifFit x (scanned whole s)
   unfolding dependencies
-  scan-is h = ap (λ b. ifFit (lentAt s b) (scanned s)) (sym se) ∙ ap (λ l. ifFit l (scanned s)) (sym le ∙ h)
+  scan-is h = ap (λ b. ifFit (lentAt s b) (scanned whole s)) (sym se) ∙ ap (λ l. ifFit l (scanned whole s)) (sym le ∙ h)
 
   pub over-fits : lent ≡ Fit
       → (length s ≤ length d) × (length s < 4294967296) × (mostRows * importSize ≤ length t) × (mostRows * includeSize ≤ length u)
@@ -64,11 +64,11 @@ module _ (s : List ℕ) (else : Bool) (d t u : List ℕ) {short : Bool} (se : sh
       let l = long-enough else (length s) (length d) (length t) (length u) (sym se ∙ k .1) in
       (l .0, omega (arith, k .0), l .1, l .2)
 
-  pub over-scanned : lent ≡ Fit → {r : Parsed} {e f g : List ℕ} → Parses (scanned s) d t u r e f g → Scans s else d t u r e f g
+  pub over-scanned : lent ≡ Fit → {r : Parsed} {e f g : List ℕ} → Parses (scanned whole s) d t u r e f g → Scans whole s else d t u r e f g
   unfolding ifFit
   over-scanned h {r} {e} {f} {g} w = subst (λ x. Parses x d t u r e f g) (sym (scan-is h)) w
 
-  pub over-refused : (r : Refusal) → lent ≡ Unfit r → {q : Refusal} → q ≡ lentRefusal lent → Scans s else d t u (Refused q) d t u
+  pub over-refused : (r : Refusal) → lent ≡ Unfit r → {q : Refusal} → q ≡ lentRefusal lent → Scans whole s else d t u (Refused q) d t u
   unfolding ifFit readOf parsedOf importWordsOf includeWordsOf importTable includeTable table
   over-refused r h {q} e =
       subst (λ x. Parses x d t u (Refused q) d t u) (sym (scan-is h))
@@ -76,22 +76,22 @@ module _ (s : List ℕ) (else : Bool) (d t u : List ℕ) {short : Bool} (se : sh
 
 -- ---- the entry; d, t and u: what was lent, e, f and g: the same cleared, after the scan e′, f′ and g′
 
-module _ (s : List ℕ) (else : Bool) (d t u : List ℕ) {e f g : List ℕ} (ee : e ≡ zeros (length d)) (fe : f ≡ zeros (length t)) (ge : g ≡ zeros (length u))
+module _ (whole : Bool) (s : List ℕ) (else : Bool) (d t u : List ℕ) {e f g : List ℕ} (ee : e ≡ zeros (length d)) (fe : f ≡ zeros (length t)) (ge : g ≡ zeros (length u))
     (el : length e ≡ length d) (fl : length f ≡ length t) (gl : length g ≡ length u)
-    {p : Parsed} {e′ f′ g′ : List ℕ} (w : Scans s else e f g p e′ f′ g′) where
-  lent-is : lentScan s else e f g ≡ lentScan s else d t u
+    {p : Parsed} {e′ f′ g′ : List ℕ} (w : Scans whole s else e f g p e′ f′ g′) where
+  lent-is : lentScan whole s else e f g ≡ lentScan whole s else d t u
   lent-is = rw el (rw fl (rw gl refl))
 
-  pub entry-scanned : (i j n : ℕ) → p ≡ Good i j n → Extracts s else d t u p e′ f′ g′
+  pub entry-scanned : (i j n : ℕ) → p ≡ Good i j n → Extracts whole s else d t u p e′ f′ g′
   unfolding readOf keptOf
   entry-scanned i j n h =
-      let k = parsed-good (lentScan s else e f g) i j n (sym (w .answer) ∙ h) in
+      let k = parsed-good (lentScan whole s else e f g) i j n (sym (w .answer) ∙ h) in
       let x = k .0 in
-      let good = entry-good s (tooShort else (length s) (length e) (length f) (length g)) x (k .1) in
+      let good = entry-good whole s (tooShort else (length s) (length e) (length f) (length g)) x (k .1) in
       let l = long-enough else (length s) (length e) (length f) (length g) (good .2) in
-      let read : Sound s x = subst (λ y. Sound s (readOf y)) (good .0) (scan-sound s) in
+      let read : Sound s x = subst (λ y. Sound s (readOf y)) (good .0) (scan-sound whole s) in
       let v : Holds x e f g e′ f′ g′ = subst (λ y. Holds (readOf y) e f g e′ f′ g′) (k .1) (w .holds) in
-      let y = lentScan s else d t u in
+      let y = lentScan whole s else d t u in
       leaves-is y x d t u (ap keptOf (sym lent-is ∙ k .1)) (w .answer ∙ ap parsedOf lent-is)
       (written-zero e (x .bytes) (ee ∙ ap zeros (sym el)) (v .stored) (omega (arith, read .short, l .0)) ∙ ap (λ n. padded n (x .bytes)) el)
       (written-zero f (importWordsOf x) (fe ∙ ap zeros (sym fl)) (v .imports) (omega (arith, read .few-imports, import-words-count x, l .1))
@@ -100,8 +100,8 @@ module _ (s : List ℕ) (else : Bool) (d t u : List ℕ) {e f g : List ℕ} (ee 
       ∙ ap (λ n. padded n (includeWordsOf x)) gl)
 
   pub entry-refused : (r : Refusal) → p ≡ Refused r → length e′ ≡ length e → length f′ ≡ length f → length g′ ≡ length g
-      → {e″ f″ g″ : List ℕ} → e″ ≡ zeros (length e′) → f″ ≡ zeros (length f′) → g″ ≡ zeros (length g′) → Extracts s else d t u p e″ f″ g″
+      → {e″ f″ g″ : List ℕ} → e″ ≡ zeros (length e′) → f″ ≡ zeros (length f′) → g″ ≡ zeros (length g′) → Extracts whole s else d t u p e″ f″ g″
   entry-refused r h l m n {e″} {f″} {g″} a b q =
-      let x = lentScan s else e f g in
+      let x = lentScan whole s else e f g in
       subst (λ y. Leaves y d t u p e″ f″ g″) lent-is
       (leaves-zero x d t u (kept-bad x r (sym (w .answer) ∙ h)) (w .answer) (a ∙ ap zeros (l ∙ el)) (b ∙ ap zeros (m ∙ fl)) (q ∙ ap zeros (n ∙ gl)))

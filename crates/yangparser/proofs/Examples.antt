@@ -10,13 +10,13 @@ use Rattle.text.specs.Due.{dueNumber, dueHere, dueAt}
 use Rattle.text.specs.Keyword.{startsIdent, endsKeyword, same, part, keywordAt, matchAt, orMatch}
 use Rattle.text.specs.Scan.{inIdent, inRun, span, runEnd, pairAt, closing, blockEnd, commentEnd, afterWhite, gapTurn, gapEnd}
 use Rattle.text.specs.Turns.{turns}
-use Rattle.text_value.specs.Argument.{argumentOf, argumentAt, afterDue, afterArgument, lineAt}
+use Rattle.text_value.specs.Argument.{argumentOf, breaksOff, argumentAt, afterDue, afterArgument, lineAt}
 use Rattle.text_value.specs.Str.{escaped, escapes, strEnd, strBytes, closedBy, strAt}
 use Rattle.text_value.specs.Value.{isQuote, startsName, addedBy, afterPlus, afterGap, moreAt, addTo, joinTurn, joinedWith, joined as joinedValue, ofString}
-use Rattle.text_value.specs.Value.{valueHere, valueAt, valueBytes}
-use Rattle.text_skip.specs.Skip.{closedToken, tokenHere, tokenAt}
+use Rattle.text_value.specs.Value.{valueHere, valueAt, valueBytes, closedMore, closedTurn, closedFrom, closedString, closedHere, closedAt}
+use Rattle.text_skip.specs.Skip.{brokeOff, pastOf, closedToken, tokenHere, tokenAt, pastToken}
 use Rattle.text_statement.specs.Statement.{closes, quotedLen, quotedEnd, atSemicolon, atClose, partOf, partAt, ofPart, statementTurn, statementFrom}
-use Rattle.text_statement.specs.Statement.{statementAt}
+use Rattle.text_statement.specs.Statement.{statementAt, pastStatement}
 use Rattle.text_lent.specs.Lent.{lentAt}
 use Rattle.scan_rows.specs.Rows.{importWords, includeWords, table, importTable, includeTable}
 use Rattle.scan_block.specs.Block.{orLine, lineKind, kept, withValue, withSkipped, afterKind, insideHere, insideAt, afterInside, blockTurn, blockFrom, blockAt}
@@ -26,9 +26,9 @@ use Rattle.yangparser.specs.Dependencies.{afterToken, headStep, stepHere
 use Rattle.yangparser.specs.Dependencies.{dependencies}
 use Rattle.scan_head.specs.Head.{lastAt, orHead, headAt}
 
--- a text, whether too little was lent, and what comes of it
+-- the mode, a text, whether too little was lent, and what comes of it
 data Example : Type 0 where
-  example : List ℕ → Bool → List ℕ → Example
+  example : Bool → List ℕ → Bool → List ℕ → Example
 
 -- 0, the counts, the rows and the bytes stored; or number, keyword and position
 outcome : Scan → List ℕ
@@ -36,7 +36,7 @@ outcome (good d) = 0 ∷ length (d .imports) ∷ length (d .includes) ∷ (impor
 outcome (bad r d) = r .number ∷ r .keyword ∷ r .at ∷ []
 
 holds : Example → Bool
-holds (example s short xs) = same (outcome (dependencies s short)) xs
+holds (example whole s short xs) = same (outcome (dependencies whole s short)) xs
 
 all : List Example → Bool
 all [] = true
@@ -45,38 +45,46 @@ all (x ∷ xs) = holds x && all xs
 -- the texts: import a b | import "a | import a{x | include a} | "\\" include a; | 1include a; | a:include b; | include/**/a; | contact x; include a; |
 -- include a; reference x; import b | import a{prefix "";} | import a{prefix p;prefix q;} | import "a"+{prefix p;revision-date r;} include b{revision-date
 -- s;} | byte 200, too little lent | a blank and byte 200
+-- in the whole-text mode: x "abc | "\" | import a{x | description "cut | //cut | import a{} "x | a quote and byte 200
 examples : List Example
 examples =
-    example (105 ∷ 109 ∷ 112 ∷ 111 ∷ 114 ∷ 116 ∷ 32 ∷ 97 ∷ 32 ∷ 98 ∷ []) false (5 ∷ 8 ∷ 9 ∷ [])
-    ∷ example (105 ∷ 109 ∷ 112 ∷ 111 ∷ 114 ∷ 116 ∷ 32 ∷ 34 ∷ 97 ∷ []) false (4 ∷ 8 ∷ 9 ∷ [])
-    ∷ example (105 ∷ 109 ∷ 112 ∷ 111 ∷ 114 ∷ 116 ∷ 32 ∷ 97 ∷ 123 ∷ 120 ∷ []) false (8 ∷ 8 ∷ 10 ∷ [])
-    ∷ example (105 ∷ 110 ∷ 99 ∷ 108 ∷ 117 ∷ 100 ∷ 101 ∷ 32 ∷ 97 ∷ 125 ∷ []) false (5 ∷ 9 ∷ 9 ∷ [])
-    ∷ example (34 ∷ 92 ∷ 92 ∷ 34 ∷ 32 ∷ 105 ∷ 110 ∷ 99 ∷ 108 ∷ 117 ∷ 100 ∷ 101 ∷ 32 ∷ 97 ∷ 59 ∷ []) false (0 ∷ 0 ∷ 1 ∷ 0 ∷ 1 ∷ 0 ∷ 0 ∷ 0 ∷ 97 ∷ [])
-    ∷ example (49 ∷ 105 ∷ 110 ∷ 99 ∷ 108 ∷ 117 ∷ 100 ∷ 101 ∷ 32 ∷ 97 ∷ 59 ∷ []) false (0 ∷ 0 ∷ 1 ∷ 0 ∷ 1 ∷ 0 ∷ 0 ∷ 0 ∷ 97 ∷ [])
-    ∷ example (97 ∷ 58 ∷ 105 ∷ 110 ∷ 99 ∷ 108 ∷ 117 ∷ 100 ∷ 101 ∷ 32 ∷ 98 ∷ 59 ∷ []) false (0 ∷ 0 ∷ 0 ∷ [])
-    ∷ example (105 ∷ 110 ∷ 99 ∷ 108 ∷ 117 ∷ 100 ∷ 101 ∷ 47 ∷ 42 ∷ 42 ∷ 47 ∷ 97 ∷ 59 ∷ []) false (0 ∷ 0 ∷ 0 ∷ [])
-    ∷ example (99 ∷ 111 ∷ 110 ∷ 116 ∷ 97 ∷ 99 ∷ 116 ∷ 32 ∷ 120 ∷ 59 ∷ 32 ∷ 105 ∷ 110 ∷ 99 ∷ 108 ∷ 117 ∷ 100 ∷ 101 ∷ 32 ∷ 97 ∷ 59 ∷ []) false (0 ∷ 0 ∷ 0 ∷ [])
-    ∷ example (105 ∷ 110 ∷ 99 ∷ 108 ∷ 117 ∷ 100 ∷ 101 ∷ 32 ∷ 97 ∷ 59 ∷ 32 ∷ 114 ∷ 101 ∷ 102 ∷ 101 ∷ 114 ∷ 101 ∷ 110 ∷ 99 ∷ 101 ∷ 32 ∷ 120 ∷ 59 ∷ 32 ∷ 105 ∷ 109
+    example false (105 ∷ 109 ∷ 112 ∷ 111 ∷ 114 ∷ 116 ∷ 32 ∷ 97 ∷ 32 ∷ 98 ∷ []) false (5 ∷ 8 ∷ 9 ∷ [])
+    ∷ example false (105 ∷ 109 ∷ 112 ∷ 111 ∷ 114 ∷ 116 ∷ 32 ∷ 34 ∷ 97 ∷ []) false (4 ∷ 8 ∷ 9 ∷ [])
+    ∷ example false (105 ∷ 109 ∷ 112 ∷ 111 ∷ 114 ∷ 116 ∷ 32 ∷ 97 ∷ 123 ∷ 120 ∷ []) false (8 ∷ 8 ∷ 10 ∷ [])
+    ∷ example false (105 ∷ 110 ∷ 99 ∷ 108 ∷ 117 ∷ 100 ∷ 101 ∷ 32 ∷ 97 ∷ 125 ∷ []) false (5 ∷ 9 ∷ 9 ∷ [])
+    ∷ example false (34 ∷ 92 ∷ 92 ∷ 34 ∷ 32 ∷ 105 ∷ 110 ∷ 99 ∷ 108 ∷ 117 ∷ 100 ∷ 101 ∷ 32 ∷ 97 ∷ 59 ∷ []) false (0 ∷ 0 ∷ 1 ∷ 0 ∷ 1 ∷ 0 ∷ 0 ∷ 0 ∷ 97 ∷ [])
+    ∷ example false (49 ∷ 105 ∷ 110 ∷ 99 ∷ 108 ∷ 117 ∷ 100 ∷ 101 ∷ 32 ∷ 97 ∷ 59 ∷ []) false (0 ∷ 0 ∷ 1 ∷ 0 ∷ 1 ∷ 0 ∷ 0 ∷ 0 ∷ 97 ∷ [])
+    ∷ example false (97 ∷ 58 ∷ 105 ∷ 110 ∷ 99 ∷ 108 ∷ 117 ∷ 100 ∷ 101 ∷ 32 ∷ 98 ∷ 59 ∷ []) false (0 ∷ 0 ∷ 0 ∷ [])
+    ∷ example false (105 ∷ 110 ∷ 99 ∷ 108 ∷ 117 ∷ 100 ∷ 101 ∷ 47 ∷ 42 ∷ 42 ∷ 47 ∷ 97 ∷ 59 ∷ []) false (0 ∷ 0 ∷ 0 ∷ [])
+    ∷ example false (99 ∷ 111 ∷ 110 ∷ 116 ∷ 97 ∷ 99 ∷ 116 ∷ 32 ∷ 120 ∷ 59 ∷ 32 ∷ 105 ∷ 110 ∷ 99 ∷ 108 ∷ 117 ∷ 100 ∷ 101 ∷ 32 ∷ 97 ∷ 59 ∷ []) false (0 ∷ 0 ∷ 0 ∷ [])
+    ∷ example false (105 ∷ 110 ∷ 99 ∷ 108 ∷ 117 ∷ 100 ∷ 101 ∷ 32 ∷ 97 ∷ 59 ∷ 32 ∷ 114 ∷ 101 ∷ 102 ∷ 101 ∷ 114 ∷ 101 ∷ 110 ∷ 99 ∷ 101 ∷ 32 ∷ 120 ∷ 59 ∷ 32 ∷ 105 ∷ 109
     ∷ 112 ∷ 111 ∷ 114 ∷ 116 ∷ 32 ∷ 98 ∷ []) false (0 ∷ 0 ∷ 1 ∷ 0 ∷ 1 ∷ 0 ∷ 0 ∷ 0 ∷ 97 ∷ [])
-    ∷ example (105 ∷ 109 ∷ 112 ∷ 111 ∷ 114 ∷ 116 ∷ 32 ∷ 97 ∷ 123 ∷ 112 ∷ 114 ∷ 101 ∷ 102 ∷ 105 ∷ 120 ∷ 32 ∷ 34 ∷ 34 ∷ 59 ∷ 125 ∷ []) false
+    ∷ example false (105 ∷ 109 ∷ 112 ∷ 111 ∷ 114 ∷ 116 ∷ 32 ∷ 97 ∷ 123 ∷ 112 ∷ 114 ∷ 101 ∷ 102 ∷ 105 ∷ 120 ∷ 32 ∷ 34 ∷ 34 ∷ 59 ∷ 125 ∷ []) false
     (0 ∷ 1 ∷ 0 ∷ 0 ∷ 1 ∷ 1 ∷ 0 ∷ 0 ∷ 0 ∷ 0 ∷ 97 ∷ [])
-    ∷ example (105 ∷ 109 ∷ 112 ∷ 111 ∷ 114 ∷ 116 ∷ 32 ∷ 97 ∷ 123 ∷ 112 ∷ 114 ∷ 101 ∷ 102 ∷ 105 ∷ 120 ∷ 32 ∷ 112 ∷ 59 ∷ 112 ∷ 114 ∷ 101 ∷ 102 ∷ 105 ∷ 120 ∷ 32
+    ∷ example false (105 ∷ 109 ∷ 112 ∷ 111 ∷ 114 ∷ 116 ∷ 32 ∷ 97 ∷ 123 ∷ 112 ∷ 114 ∷ 101 ∷ 102 ∷ 105 ∷ 120 ∷ 32 ∷ 112 ∷ 59 ∷ 112 ∷ 114 ∷ 101 ∷ 102 ∷ 105 ∷ 120 ∷ 32
     ∷ 113 ∷ 59 ∷ 125 ∷ []) false (0 ∷ 1 ∷ 0 ∷ 0 ∷ 1 ∷ 2 ∷ 1 ∷ 0 ∷ 0 ∷ 0 ∷ 97 ∷ 112 ∷ 113 ∷ [])
-    ∷ example (105 ∷ 109 ∷ 112 ∷ 111 ∷ 114 ∷ 116 ∷ 32 ∷ 34 ∷ 97 ∷ 34 ∷ 43 ∷ 123 ∷ 112 ∷ 114 ∷ 101 ∷ 102 ∷ 105 ∷ 120 ∷ 32 ∷ 112 ∷ 59 ∷ 114 ∷ 101 ∷ 118 ∷ 105
+    ∷ example false (105 ∷ 109 ∷ 112 ∷ 111 ∷ 114 ∷ 116 ∷ 32 ∷ 34 ∷ 97 ∷ 34 ∷ 43 ∷ 123 ∷ 112 ∷ 114 ∷ 101 ∷ 102 ∷ 105 ∷ 120 ∷ 32 ∷ 112 ∷ 59 ∷ 114 ∷ 101 ∷ 118 ∷ 105
     ∷ 115 ∷ 105 ∷ 111 ∷ 110 ∷ 45 ∷ 100 ∷ 97 ∷ 116 ∷ 101 ∷ 32 ∷ 114 ∷ 59 ∷ 125 ∷ 32 ∷ 105 ∷ 110 ∷ 99 ∷ 108 ∷ 117 ∷ 100 ∷ 101 ∷ 32 ∷ 98 ∷ 123 ∷ 114 ∷ 101
     ∷ 118 ∷ 105 ∷ 115 ∷ 105 ∷ 111 ∷ 110 ∷ 45 ∷ 100 ∷ 97 ∷ 116 ∷ 101 ∷ 32 ∷ 115 ∷ 59 ∷ 125 ∷ []) false
     (0 ∷ 1 ∷ 1 ∷ 0 ∷ 1 ∷ 1 ∷ 1 ∷ 1 ∷ 2 ∷ 1 ∷ 3 ∷ 1 ∷ 1 ∷ 4 ∷ 1 ∷ 97 ∷ 112 ∷ 114 ∷ 98 ∷ 115 ∷ [])
-    ∷ example (200 ∷ []) true (2 ∷ 0 ∷ 0 ∷ [])
-    ∷ example (32 ∷ 200 ∷ []) false (3 ∷ 0 ∷ 1 ∷ [])
+    ∷ example false (200 ∷ []) true (2 ∷ 0 ∷ 0 ∷ [])
+    ∷ example false (32 ∷ 200 ∷ []) false (3 ∷ 0 ∷ 1 ∷ [])
+    ∷ example true (120 ∷ 32 ∷ 34 ∷ 97 ∷ 98 ∷ 99 ∷ []) false (11 ∷ 0 ∷ 6 ∷ [])
+    ∷ example true (34 ∷ 92 ∷ 34 ∷ []) false (11 ∷ 0 ∷ 3 ∷ [])
+    ∷ example true (105 ∷ 109 ∷ 112 ∷ 111 ∷ 114 ∷ 116 ∷ 32 ∷ 97 ∷ 123 ∷ 120 ∷ []) false (11 ∷ 0 ∷ 10 ∷ [])
+    ∷ example true (100 ∷ 101 ∷ 115 ∷ 99 ∷ 114 ∷ 105 ∷ 112 ∷ 116 ∷ 105 ∷ 111 ∷ 110 ∷ 32 ∷ 34 ∷ 99 ∷ 117 ∷ 116 ∷ []) false (0 ∷ 0 ∷ 0 ∷ [])
+    ∷ example true (47 ∷ 47 ∷ 99 ∷ 117 ∷ 116 ∷ []) false (0 ∷ 0 ∷ 0 ∷ [])
+    ∷ example true (105 ∷ 109 ∷ 112 ∷ 111 ∷ 114 ∷ 116 ∷ 32 ∷ 97 ∷ 123 ∷ 125 ∷ 32 ∷ 34 ∷ 120 ∷ []) false (7 ∷ 8 ∷ 10 ∷ [])
+    ∷ example true (34 ∷ 200 ∷ []) false (3 ∷ 0 ∷ 1 ∷ [])
     ∷ []
 
 right : T (all examples)
-unfolding examples all holds outcome importWordsOf includeWordsOf joined importStep includeStep unlessFull importHere includeHere movedTo afterToken headStep
+unfolding examples all holds outcome importWordsOf includeWordsOf joined importStep includeStep unlessFull importHere includeHere movedTo afterToken pastToken pastOf brokeOff headStep
     stepHere stepAt afterStep scanTurn scanFrom scanned lentAt ifFit dependencies orMatch lastAt orHead headAt importWords includeWords table importTable
     includeTable orLine lineKind withValue kept withSkipped afterKind insideHere insideAt afterInside blockTurn blockFrom blockAt ofBody importOf withName
-    afterName importAt includeOf plainOf blockOf openOrPlain afterValue includeAt argumentOf argumentAt afterDue afterArgument lineAt escaped escapes strEnd
-    strBytes closedBy strAt isQuote startsName addedBy afterPlus afterGap moreAt addTo joinTurn joinedWith joinedValue ofString valueHere valueAt valueBytes
-    closedToken tokenHere tokenAt closes quotedLen quotedEnd atSemicolon atClose partOf partAt ofPart statementTurn statementFrom statementAt dueNumber dueHere
+    afterName importAt includeOf plainOf blockOf openOrPlain afterValue includeAt argumentOf breaksOff argumentAt afterDue afterArgument lineAt escaped escapes strEnd
+    strBytes closedBy strAt isQuote startsName addedBy afterPlus afterGap moreAt addTo joinTurn joinedWith joinedValue ofString valueHere valueAt closedMore closedTurn closedFrom closedString closedHere closedAt valueBytes
+    closedToken tokenHere tokenAt closes quotedLen quotedEnd atSemicolon atClose partOf partAt ofPart statementTurn statementFrom statementAt pastStatement dueNumber dueHere
     dueAt startsIdent endsKeyword same part keywordAt matchAt gapEnd gapTurn afterWhite commentEnd blockEnd closing pairAt runEnd span inRun inIdent classOf
     turns
 right = tt

@@ -1,7 +1,8 @@
 -- How far one step of the scan goes and what it adds: it stands within the text, takes more bytes than it stores, adds a row only where there is
 -- room for one, and the row's values lie in the bytes added.
 -- Assumes nothing.
-use mathlib.Core.Path.{_≡_, refl, sym, subst}
+use mathlib.Core.Path.{_≡_, refl, sym, ap, subst}
+use mathlib.Core.Bool.{Bool}
 use mathlib.Core.List.{List, []}
 use Prim.Native.Nat.{ℕ, _+_, _-_, _<_, _≤_}
 use native.Mathlib.Omega.{arith}
@@ -9,12 +10,12 @@ use lib.Dec.{leb}
 use lib.ListN.{length}
 use borrow.Author.Tests.{leb-true, leb-false}
 use Rattle.text.specs.Scan.{gapEnd}
+use Rattle.text.specs.declared.Due.{Due}
+use Rattle.text.specs.declared.Due.the-variants.{After, Not}
 use Rattle.text.proofs.Here.{by-test}
 use Rattle.text.proofs.Laws.{gap-from}
-use Rattle.text_skip.specs.Skip.{tokenAt}
-use Rattle.text_skip.specs.declared.Skipped.{Skipped}
-use Rattle.text_skip.specs.declared.Skipped.the-variants.{Past, Refused as RefusedSkip}
-use Rattle.text_skip.proofs.SkipLaws.{token-far, token-refused}
+use Rattle.text_skip.specs.Skip.{pastToken}
+use Rattle.text_skip.proofs.PastLaws.{past-token-far, past-token-not}
 use Rattle.scan_rows.specs.Rows.{mostRows}
 use Rattle.scan_imports.specs.Statement.{importAt, includeAt}
 use Rattle.scan_imports.specs.declared.ParsedImport.{ParsedImport}
@@ -107,43 +108,44 @@ module _ (s : List ℕ) (far : Sofar) (at : ℕ) (behind : far .at < at) (in-tex
   }
   include-went bs (NoInclude r) d h = said-bytes s far (Stop r) bs (λ k. d .1 in-text) (omega (arith, d .0))
 
-  import-here : Said s far (importHere s far at)
+  import-here : (whole : Bool) → Said s far (importHere whole s far at)
   unfolding importHere
-  import-here =
-      let x = importAt s at (far .used) in
-      said-unless (far .imports) 8 (importStep far (x .bytes) (x .answer)) (import-went (x .bytes) (x .answer) (import-said s at (far .used)))
+  import-here whole =
+      let x = importAt whole s at (far .used) in
+      said-unless (far .imports) 8 (importStep far (x .bytes) (x .answer)) (import-went (x .bytes) (x .answer) (import-said whole s at (far .used)))
 
-  include-here : Said s far (includeHere s far at)
+  include-here : (whole : Bool) → Said s far (includeHere whole s far at)
   unfolding includeHere
-  include-here =
-      let x = includeAt s at (far .used) in
-      said-unless (far .includes) 9 (includeStep far (x .bytes) (x .answer)) (include-went (x .bytes) (x .answer) (include-said s at (far .used)))
+  include-here whole =
+      let x = includeAt whole s at (far .used) in
+      said-unless (far .includes) 9 (includeStep far (x .bytes) (x .answer)) (include-went (x .bytes) (x .answer) (include-said whole s at (far .used)))
 
 -- at the place g after the gap
-token-went : (s : List ℕ) (far : Sofar) (g : ℕ) → far .at ≤ g → g < length s → (x : Skipped) → tokenAt s g ≡ x → Went s far none (afterToken far x)
+token-went : (whole : Bool) (s : List ℕ) (far : Sofar) (g : ℕ) → far .at ≤ g → g < length s → (x : Due) → pastToken whole s g ≡ x
+    → Went s far none (afterToken far x)
 unfolding afterToken movedTo
-token-went s far g from in-text (Past c h) e =
-    let f = token-far s g in-text c h e in (omega (arith, f .0), f .1, omega arith, omega arith, omega arith)
-token-went s far g from in-text (RefusedSkip r) e = absurd (token-refused s g r e)
+token-went whole s far g from in-text (After c) e =
+    let f = past-token-far whole s g in-text c e in (omega (arith, f .0), f .1, omega arith, omega arith, omega arith)
+token-went whole s far g from in-text (Not r) e = λ i. omega (arith, ap (λ q. q .at) (past-token-not whole s g r e))
 
-head-said : (s : List ℕ) (far : Sofar) (g : ℕ) → far .at ≤ g → g < length s → (w : Head) → headAt s g ≡ w → Said s far (headStep s far g w)
+head-said : (whole : Bool) (s : List ℕ) (far : Sofar) (g : ℕ) → far .at ≤ g → g < length s → (w : Head) → headAt s g ≡ w → Said s far (headStep whole s far g w)
 unfolding headStep
-head-said s far g from in-text (Import c) h =
-    let f = head-import-far s g c h in import-here s far (c .at) (omega (arith, f .0)) (f .1)
-head-said s far g from in-text (Include c) h =
-    let f = head-include-far s g c h in include-here s far (c .at) (omega (arith, f .0)) (f .1)
-head-said s far g from in-text (Last c) h = said-none s far Done refl
-head-said s far g from in-text Other h =
-    said-none s far (afterToken far (tokenAt s g)) (token-went s far g from in-text (tokenAt s g) refl)
+head-said whole s far g from in-text (Import c) h =
+    let f = head-import-far s g c h in import-here s far (c .at) (omega (arith, f .0)) (f .1) whole
+head-said whole s far g from in-text (Include c) h =
+    let f = head-include-far s g c h in include-here s far (c .at) (omega (arith, f .0)) (f .1) whole
+head-said whole s far g from in-text (Last c) h = said-none s far Done refl
+head-said whole s far g from in-text Other h =
+    said-none s far (afterToken far (pastToken whole s g)) (token-went whole s far g from in-text (pastToken whole s g) refl)
 
-pub step-said : (s : List ℕ) (far : Sofar) → Said s far (stepAt s far)
-step-said s far =
+pub step-said : (whole : Bool) (s : List ℕ) (far : Sofar) → Said s far (stepAt whole s far)
+step-said whole s far =
     let g = gapEnd s (far .at) in
     by-test (leb (length s) g)
-    (λ t. subst (Said s far) (sym (step-past s far refl (leb-true (length s) g t))) (said-none s far Done refl))
+    (λ t. subst (Said s far) (sym (step-past whole s far refl (leb-true (length s) g t))) (said-none s far Done refl))
     (λ t. let h = leb-false (length s) g t in
-    subst (Said s far) (sym (step-head s far refl h refl refl)) (head-said s far g (gap-from s (far .at)) h (headAt s g) refl))
+    subst (Said s far) (sym (step-head whole s far refl h refl refl)) (head-said whole s far g (gap-from s (far .at)) h (headAt s g) refl))
 
 -- a scan that ends here read nothing more
-pub step-ends : (s : List ℕ) (far : Sofar) → stepAt s far .answer ≡ Done → stepAt s far .adds ≡ none
-step-ends s far h = subst (Went s far (stepAt s far .adds)) h (step-said s far .went)
+pub step-ends : (whole : Bool) (s : List ℕ) (far : Sofar) → stepAt whole s far .answer ≡ Done → stepAt whole s far .adds ≡ none
+step-ends whole s far h = subst (Went s far (stepAt whole s far .adds)) h (step-said whole s far .went)

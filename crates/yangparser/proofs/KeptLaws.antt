@@ -21,27 +21,27 @@ use Rattle.yangparser.proofs.ScanLaws.{Sound, scan-refusal, sound-impor
 
 -- ---- the entry
 
-module _ (s : List ℕ) where
-  fit-good : (x : Lent) (d : Dependencies) → ifFit x (scanned s) ≡ good d → (x ≡ Fit) × (scanned s ≡ good d)
+module _ (whole : Bool) (s : List ℕ) where
+  fit-good : (x : Lent) (d : Dependencies) → ifFit x (scanned whole s) ≡ good d → (x ≡ Fit) × (scanned whole s ≡ good d)
   unfolding ifFit
   fit-good Fit d h = (refl, h)
   fit-good (Unfit r) d h = let z : _≡_ {A = ℕ} 0 1 = cc in absurd (omega arith)
 
   -- a good scan is the inner one's, of a text that is not too long, with enough lent
-  pub entry-good : (short : Bool) (d : Dependencies) → dependencies s short ≡ good d → (scanned s ≡ good d) × (length s ≤ 1048576) × (short ≡ false)
+  pub entry-good : (short : Bool) (d : Dependencies) → dependencies whole s short ≡ good d → (scanned whole s ≡ good d) × (length s ≤ 1048576) × (short ≡ false)
   unfolding dependencies
   entry-good short d h =
       let k = fit-good (lentAt s short) d h in
       let l = fit-said s short (k .0) in
       (k .1, l .0, l .1)
 
-  fit-within : (x : Lent) → ((q : Refusal) → x ≡ Unfit q → q .at ≤ length s) → (r : Refusal) (d : Dependencies) → ifFit x (scanned s) ≡ bad r d
+  fit-within : (x : Lent) → ((q : Refusal) → x ≡ Unfit q → q .at ≤ length s) → (r : Refusal) (d : Dependencies) → ifFit x (scanned whole s) ≡ bad r d
       → r .at ≤ length s
   unfolding ifFit
-  fit-within Fit w r d h = scan-refusal s r d h
+  fit-within Fit w r d h = scan-refusal whole s r d h
   fit-within (Unfit q) w r d h = let k : q .at ≡ r .at = cc in omega (arith, w q refl)
 
-  pub entry-refusal : (short : Bool) (r : Refusal) (d : Dependencies) → dependencies s short ≡ bad r d → r .at ≤ length s
+  pub entry-refusal : (short : Bool) (r : Refusal) (d : Dependencies) → dependencies whole s short ≡ bad r d → r .at ≤ length s
   unfolding dependencies
   entry-refusal short r d h = fit-within (lentAt s short) (lent-within s short) r d h
 

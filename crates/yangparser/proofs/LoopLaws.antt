@@ -1,6 +1,7 @@
 -- The loop of the scan: what was read so far stands in the store and the tables, and the scan from here is the scan of the text.
 -- Assumes nothing.
 use mathlib.Core.Path.{_≡_, refl, sym, ap, subst, _∙_}
+use mathlib.Core.Bool.{Bool}
 use mathlib.Core.List.{List, [], _∷_, _++_, append-assoc}
 use Prim.Native.Nat.{ℕ, _+_, _-_, _*_, _<_, _≤_}
 use native.Mathlib.Omega.{arith}
@@ -50,18 +51,18 @@ good-is p q r = rw p (rw q (rw r refl))
 
 -- ---- the invariant: d, t and u at entry, e, f and g now
 
-pub record Reading (s d t u e f g : List ℕ) (far : Sofar) : Type 0 where
+pub record Reading (whole : Bool) (s d t u e f g : List ℕ) (far : Sofar) : Type 0 where
   pub read : Dependencies
-  pub same : scanFrom s (record { far = far; read = read }) ≡ scanned s
+  pub same : scanFrom whole s (record { far = far; read = read }) ≡ scanned whole s
   pub stands : Stands s (record { far = far; read = read })
   pub holds : Holds read d t u e f g
 
-module _ {s d t u : List ℕ} where
-  pub read-begun : Reading s d t u d t u start
+module _ {whole : Bool} {s d t u : List ℕ} where
+  pub read-begun : Reading whole s d t u d t u start
   unfolding scanned importWordsOf includeWordsOf importTable includeTable table
   read-begun = record { read = none; same = refl; stands = stands-first s; holds = record { stored = refl; imports = refl; includes = refl } }
 
-  module _ {e f g : List ℕ} {far : Sofar} (j : Reading s d t u e f g far) where
+  module _ {e f g : List ℕ} {far : Sofar} (j : Reading whole s d t u e f g far) where
     pub read-long : (length e ≡ length d) × (length f ≡ length t) × (length g ≡ length u)
     read-long =
         let h = j .holds in
@@ -76,12 +77,12 @@ module _ {s d t u : List ℕ} where
     read-room = j .stands .room
 
     -- r: what the step answered; e′, f′ and g′ then
-    module _ {r : Next} {e′ f′ g′ : List ℕ} (w : Steps (stepAt s far) far e f g r e′ f′ g′) where
-      read-holds : Holds (joined (j .read) (stepAt s far .adds)) d t u e′ f′ g′
+    module _ {r : Next} {e′ f′ g′ : List ℕ} (w : Steps (stepAt whole s far) far e f g r e′ f′ g′) where
+      read-holds : Holds (joined (j .read) (stepAt whole s far .adds)) d t u e′ f′ g′
       unfolding joined
       read-holds =
           let x = j .read in
-          let y = stepAt s far .adds in
+          let y = stepAt whole s far .adds in
           let h = j .holds in
           let c = j .stands in
           record {
@@ -98,44 +99,44 @@ module _ {s d t u : List ℕ} where
 
       pub read-nearer : (n : Sofar) → r ≡ On n → length s - n .at < length s - far .at
       read-nearer n h =
-          let z = step-on s (record { far = far; read = j .read }) (j .stands) (stepAt s far) (step-said s far) n (sym (w .answer) ∙ h) in
+          let z = step-on s (record { far = far; read = j .read }) (j .stands) (stepAt whole s far) (step-said whole s far) n (sym (w .answer) ∙ h) in
           omega (arith, z .0, z .1)
 
-      pub read-more : (n : Sofar) → r ≡ On n → Reading s d t u e′ f′ g′ n
+      pub read-more : (n : Sofar) → r ≡ On n → Reading whole s d t u e′ f′ g′ n
       read-more n h =
           let k = sym (w .answer) ∙ h in
           let a : Scanning = record { far = far; read = j .read } in
           record {
-            read = joined (j .read) (stepAt s far .adds);
-            same = sym (scan-on s a n k) ∙ j .same;
-            stands = stands-step s a (j .stands) (stepAt s far) (step-said s far) n k;
+            read = joined (j .read) (stepAt whole s far .adds);
+            same = sym (scan-on whole s a n k) ∙ j .same;
+            stands = stands-step s a (j .stands) (stepAt whole s far) (step-said whole s far) n k;
             holds = read-holds;
           }
 
       -- x: the scan from here
-      read-ends : (x : Scan) → scanFrom s (record { far = far; read = j .read }) ≡ x → {p : Parsed} → p ≡ parsedOf x → Holds (readOf x) d t u e′ f′ g′
-          → Parses (scanned s) d t u p e′ f′ g′
+      read-ends : (x : Scan) → scanFrom whole s (record { far = far; read = j .read }) ≡ x → {p : Parsed} → p ≡ parsedOf x → Holds (readOf x) d t u e′ f′ g′
+          → Parses (scanned whole s) d t u p e′ f′ g′
       read-ends x q a h =
-          let k : scanned s ≡ x = sym (j .same) ∙ q in
+          let k : scanned whole s ≡ x = sym (j .same) ∙ q in
           record { answer = a ∙ ap parsedOf (sym k); holds = subst (λ y. Holds (readOf y) d t u e′ f′ g′) (sym k) h }
 
-      pub read-done : r ≡ Done → Parses (scanned s) d t u (Good (far .imports) (far .includes) (far .used)) e′ f′ g′
+      pub read-done : r ≡ Done → Parses (scanned whole s) d t u (Good (far .imports) (far .includes) (far .used)) e′ f′ g′
       unfolding parsedOf readOf joined
       read-done h =
           let k = sym (w .answer) ∙ h in
           let x = j .read in
-          let y = stepAt s far .adds in
+          let y = stepAt whole s far .adds in
           let c = j .stands in
-          let n : y ≡ none = step-ends s far k in
+          let n : y ≡ none = step-ends whole s far k in
           let i : far .imports ≡ length (x .imports ++ y .imports) = omega
           (arith, c .imports, length-append (x .imports) (y .imports), ap (λ z. length (z .imports)) n) in
           let l : far .includes ≡ length (x .includes ++ y .includes) = omega
           (arith, c .includes, length-append (x .includes) (y .includes), ap (λ z. length (z .includes)) n) in
           let b : far .used ≡ length (x .bytes ++ y .bytes) = omega (arith, c .used, length-append (x .bytes) (y .bytes), ap (λ z. length (z .bytes)) n) in
-          read-ends (good (joined x y)) (scan-done s (record { far = far; read = x }) k) (good-is i l b) read-holds
+          read-ends (good (joined x y)) (scan-done whole s (record { far = far; read = x }) k) (good-is i l b) read-holds
 
-      pub read-refused : (q : Refusal) → r ≡ Stop q → Parses (scanned s) d t u (Refused q) e′ f′ g′
+      pub read-refused : (q : Refusal) → r ≡ Stop q → Parses (scanned whole s) d t u (Refused q) e′ f′ g′
       unfolding parsedOf readOf
       read-refused q h =
           let k = sym (w .answer) ∙ h in
-          read-ends (bad q (joined (j .read) (stepAt s far .adds))) (scan-stop s (record { far = far; read = j .read }) q k) refl read-holds
+          read-ends (bad q (joined (j .read) (stepAt whole s far .adds))) (scan-stop whole s (record { far = far; read = j .read }) q k) refl read-holds

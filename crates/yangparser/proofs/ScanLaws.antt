@@ -2,6 +2,7 @@
 -- ends, on a refusal too.
 -- Assumes nothing.
 use mathlib.Core.Path.{_≡_, refl, ap, subst}
+use mathlib.Core.Bool.{Bool}
 use mathlib.Core.List.{List, [], _++_}
 use Prim.Native.Nat.{ℕ, suc, _+_, _-_, _<_, _≤_}
 use native.Mathlib.Omega.{arith}
@@ -102,34 +103,34 @@ stop-read d (On n) x h = let z : _≡_ {A = ℕ} 0 1 = cc in absurd (omega arith
 stop-read d Done x h = let e : good d ≡ x = cc in ap readOf e
 stop-read d (Stop r) x h = let e : bad r d ≡ x = cc in ap readOf e
 
-scan-falls : (s : List ℕ) (a b : Scanning) → scanTurn s a ≡ on b → length s - b .far .at < length s - a .far .at
+scan-falls : (whole : Bool) (s : List ℕ) (a b : Scanning) → scanTurn whole s a ≡ on b → length s - b .far .at < length s - a .far .at
 unfolding scanTurn
-scan-falls s a b h =
-    let x = stepAt s (a .far) in
+scan-falls whole s a b h =
+    let x = stepAt whole s (a .far) in
     let n = on-next (joined (a .read) (x .adds)) (x .answer) b h in
-    let w : Went s (a .far) (x .adds) (On (b .far)) = subst (Went s (a .far) (x .adds)) (n .0) (step-said s (a .far) .went) in
+    let w : Went s (a .far) (x .adds) (On (b .far)) = subst (Went s (a .far) (x .adds)) (n .0) (step-said whole s (a .far) .went) in
     omega (arith, w .0, w .1)
 
 -- from g with the step x
-module _ (s : List ℕ) (g : Scanning) where
-  pub scan-on : (n : Sofar) → stepAt s (g .far) .answer ≡ On n → scanFrom s g
-      ≡ scanFrom s (record { far = n; read = joined (g .read) (stepAt s (g .far) .adds) })
+module _ (whole : Bool) (s : List ℕ) (g : Scanning) where
+  pub scan-on : (n : Sofar) → stepAt whole s (g .far) .answer ≡ On n → scanFrom whole s g
+      ≡ scanFrom whole s (record { far = n; read = joined (g .read) (stepAt whole s (g .far) .adds) })
   unfolding scanFrom scanTurn afterStep
   scan-on n h =
-      turns-on (scanTurn s) (good none) (λ b. length s - b .far .at) (scan-falls s)
-      (suc (length s)) (suc (length s)) g _ (omega arith) (omega arith) (ap (afterStep (joined (g .read) (stepAt s (g .far) .adds))) h)
+      turns-on (scanTurn whole s) (good none) (λ b. length s - b .far .at) (scan-falls whole s)
+      (suc (length s)) (suc (length s)) g _ (omega arith) (omega arith) (ap (afterStep (joined (g .read) (stepAt whole s (g .far) .adds))) h)
 
-  pub scan-done : stepAt s (g .far) .answer ≡ Done → scanFrom s g ≡ good (joined (g .read) (stepAt s (g .far) .adds))
+  pub scan-done : stepAt whole s (g .far) .answer ≡ Done → scanFrom whole s g ≡ good (joined (g .read) (stepAt whole s (g .far) .adds))
   unfolding scanFrom scanTurn afterStep
   scan-done h =
-      turns-stop (scanTurn s) (good none) (λ b. length s - b .far .at) (scan-falls s)
-      (suc (length s)) g _ (omega arith) (ap (afterStep (joined (g .read) (stepAt s (g .far) .adds))) h)
+      turns-stop (scanTurn whole s) (good none) (λ b. length s - b .far .at) (scan-falls whole s)
+      (suc (length s)) g _ (omega arith) (ap (afterStep (joined (g .read) (stepAt whole s (g .far) .adds))) h)
 
-  pub scan-stop : (r : Refusal) → stepAt s (g .far) .answer ≡ Stop r → scanFrom s g ≡ bad r (joined (g .read) (stepAt s (g .far) .adds))
+  pub scan-stop : (r : Refusal) → stepAt whole s (g .far) .answer ≡ Stop r → scanFrom whole s g ≡ bad r (joined (g .read) (stepAt whole s (g .far) .adds))
   unfolding scanFrom scanTurn afterStep
   scan-stop r h =
-      turns-stop (scanTurn s) (good none) (λ b. length s - b .far .at) (scan-falls s)
-      (suc (length s)) g _ (omega arith) (ap (afterStep (joined (g .read) (stepAt s (g .far) .adds))) h)
+      turns-stop (scanTurn whole s) (good none) (λ b. length s - b .far .at) (scan-falls whole s)
+      (suc (length s)) g _ (omega arith) (ap (afterStep (joined (g .read) (stepAt whole s (g .far) .adds))) h)
 
 -- ---- the whole text
 
@@ -144,38 +145,38 @@ stop-within s far a d (On n) x i w h = let z : _≡_ {A = ℕ} 0 1 = cc in absur
 stop-within s far a d Done x i w h = let e : good d ≡ x = cc in subst (Within s) e tt
 stop-within s far a d (Stop r) x i w h = let e : bad r d ≡ x = cc in subst (Within s) e (w i)
 
-from-said : (s : List ℕ) (g : Scanning) → Stands s g → Sound s (readOf (scanFrom s g)) × Within s (scanFrom s g)
+from-said : (whole : Bool) (s : List ℕ) (g : Scanning) → Stands s g → Sound s (readOf (scanFrom whole s g)) × Within s (scanFrom whole s g)
 unfolding scanFrom scanTurn
-from-said s g =
-    turns-rule (scanTurn s) (good none) (λ b. length s - b .far .at) (scan-falls s)
-    (λ a r. Stands s a → Sound s (readOf r) × Within s r) (ends s) (goes s) (suc (length s)) g (omega arith)
+from-said whole s g =
+    turns-rule (scanTurn whole s) (good none) (λ b. length s - b .far .at) (scan-falls whole s)
+    (λ a r. Stands s a → Sound s (readOf r) × Within s r) (ends whole s) (goes whole s) (suc (length s)) g (omega arith)
   where
-    ends : (s : List ℕ) (a : Scanning) (r : Scan) → scanTurn s a ≡ stop r → Stands s a → Sound s (readOf r) × Within s r
-    ends s a r h f =
-        let x = stepAt s (a .far) in
-        let said = step-said s (a .far) in
+    ends : (whole : Bool) (s : List ℕ) (a : Scanning) (r : Scan) → scanTurn whole s a ≡ stop r → Stands s a → Sound s (readOf r) × Within s r
+    ends whole s a r h f =
+        let x = stepAt whole s (a .far) in
+        let said = step-said whole s (a .far) in
         let d = joined (a .read) (x .adds) in (
           subst (Sound s) (stop-read d (x .answer) r h) (sound-step s a f x said),
           stop-within s (a .far) (x .adds) d (x .answer) r (f .inside) (said .went) h,
         )
 
-    goes : (s : List ℕ) (a b : Scanning) (r : Scan) → scanTurn s a ≡ on b → (Stands s b → Sound s (readOf r) × Within s r) → Stands s a
+    goes : (whole : Bool) (s : List ℕ) (a b : Scanning) (r : Scan) → scanTurn whole s a ≡ on b → (Stands s b → Sound s (readOf r) × Within s r) → Stands s a
         → Sound s (readOf r) × Within s r
-    goes s a b r h k f =
-        let x = stepAt s (a .far) in
+    goes whole s a b r h k f =
+        let x = stepAt whole s (a .far) in
         let n = on-next (joined (a .read) (x .adds)) (x .answer) b h in
-        k (subst (λ z. Stands s (record { far = b .far; read = z })) (n .1) (stands-step s a f x (step-said s (a .far)) (b .far) (n .0)))
+        k (subst (λ z. Stands s (record { far = b .far; read = z })) (n .1) (stands-step s a f x (step-said whole s (a .far)) (b .far) (n .0)))
 
 -- Laws for those who use a scan. Each holds of a refused scan too: of what it had read.
-module _ (s : List ℕ) where
-  pub scan-sound : Sound s (readOf (scanned s))
+module _ (whole : Bool) (s : List ℕ) where
+  pub scan-sound : Sound s (readOf (scanned whole s))
   unfolding scanned
-  scan-sound = from-said s (record { far = start; read = none }) (stands-first s) .0
+  scan-sound = from-said whole s (record { far = start; read = none }) (stands-first s) .0
 
   -- a refusal's place
-  pub scan-refusal : (r : Refusal) (d : Dependencies) → scanned s ≡ bad r d → r .at ≤ length s
+  pub scan-refusal : (r : Refusal) (d : Dependencies) → scanned whole s ≡ bad r d → r .at ≤ length s
   unfolding scanned
-  scan-refusal r d h = subst (Within s) h (from-said s (record { far = start; read = none }) (stands-first s) .1)
+  scan-refusal r d h = subst (Within s) h (from-said whole s (record { far = start; read = none }) (stands-first s) .1)
 
 -- rows read back from the words written are the rows
 pub sound-imports-plain : {s : List ℕ} {x : Dependencies} → Sound s x → Each PlainImport (x .imports)

@@ -10,10 +10,10 @@ use Rattle.yangparser.proofs.parse.Statement.{statement}
 use Rattle.yangparser.proofs.parse.Tie as tie
 
 abbrev Inv-loop : tie.InvT-loop
-Inv-loop classes s store₀ imports₀ includes₀ far₀ store imports includes far = Reading s store₀ imports₀ includes₀ store imports includes far
+Inv-loop classes whole s store₀ imports₀ includes₀ far₀ store imports includes far = Reading whole s store₀ imports₀ includes₀ store imports includes far
 
 abbrev μ-loop : tie.MeasureT-loop
-μ-loop classes s store₀ imports₀ includes₀ far₀ store imports includes far = length s - far .at
+μ-loop classes whole s store₀ imports₀ includes₀ far₀ store imports includes far = length s - far .at
 
 loop-holds : tie.Need-loop-holds Inv-loop μ-loop
 loop-holds c = read-begun
@@ -41,19 +41,19 @@ same-length : tie.Need-same-length Inv-loop μ-loop
 same-length c =
     let step = c .before .before .before .before .before .before .before .before in
     let at-loop = step .before .before .before .before in
-    step .parse-next .kept .1 .1 .1 .0 ∙ read-long (at-loop .loop .inv) .0
+    step .parse-next .kept .1 .1 .1 .1 .0 ∙ read-long (at-loop .loop .inv) .0
 
 same-length-2 : tie.Need-same-length-2 Inv-loop μ-loop
 same-length-2 c =
     let step = c .before .before .before .before .before .before .before .before in
     let at-loop = step .before .before .before .before in
-    step .parse-next .kept .1 .1 .1 .1 .0 ∙ read-long (at-loop .loop .inv) .1
+    step .parse-next .kept .1 .1 .1 .1 .1 .0 ∙ read-long (at-loop .loop .inv) .1
 
 same-length-3 : tie.Need-same-length-3 Inv-loop μ-loop
 same-length-3 c =
     let step = c .before .before .before .before .before .before .before .before in
     let at-loop = step .before .before .before .before in
-    step .parse-next .kept .1 .1 .1 .1 .1 .0 ∙ read-long (at-loop .loop .inv) .2
+    step .parse-next .kept .1 .1 .1 .1 .1 .1 .0 ∙ read-long (at-loop .loop .inv) .2
 
 returns : tie.Need-returns Inv-loop μ-loop
 returns c =
@@ -65,19 +65,19 @@ same-length-4 : tie.Need-same-length-4 Inv-loop μ-loop
 same-length-4 c =
     let step = c .before .before .before .before .before .before .before .before .before in
     let at-loop = step .before .before .before .before in
-    step .parse-next .kept .1 .1 .1 .0 ∙ read-long (at-loop .loop .inv) .0
+    step .parse-next .kept .1 .1 .1 .1 .0 ∙ read-long (at-loop .loop .inv) .0
 
 same-length-5 : tie.Need-same-length-5 Inv-loop μ-loop
 same-length-5 c =
     let step = c .before .before .before .before .before .before .before .before .before in
     let at-loop = step .before .before .before .before in
-    step .parse-next .kept .1 .1 .1 .1 .0 ∙ read-long (at-loop .loop .inv) .1
+    step .parse-next .kept .1 .1 .1 .1 .1 .0 ∙ read-long (at-loop .loop .inv) .1
 
 same-length-6 : tie.Need-same-length-6 Inv-loop μ-loop
 same-length-6 c =
     let step = c .before .before .before .before .before .before .before .before .before in
     let at-loop = step .before .before .before .before in
-    step .parse-next .kept .1 .1 .1 .1 .1 .0 ∙ read-long (at-loop .loop .inv) .2
+    step .parse-next .kept .1 .1 .1 .1 .1 .1 .0 ∙ read-long (at-loop .loop .inv) .2
 
 returns-2 : tie.Need-returns-2 Inv-loop μ-loop
 returns-2 c =

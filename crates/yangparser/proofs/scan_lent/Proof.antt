@@ -20,10 +20,10 @@ returns-2 c =
     let clear-store = clear-imports .before .before .before .before in
     let a = clear-store .before .before .before .before .before .before .args in
     let kept = scan .scan-over .kept in
-    entry-refused (a .s .now) (a .short) (a .store .now) (a .imports .now) (a .includes .now)
+    entry-refused (a .whole) (a .s .now) (a .short) (a .store .now) (a .imports .now) (a .includes .now)
     (clear-store .clear-bytes .ensures) (clear-imports .clear-words .ensures) (clear-includes .clear-words2 .ensures)
     (clear-store .clear-bytes .kept .0) (clear-imports .clear-words .kept .0) (clear-includes .clear-words2 .kept .0)
-    (scan .scan-over .ensures) (told .enum-told2 .given .0 .0) (told .enum-told2 .given .1) (kept .1 .1 .0) (kept .1 .1 .1 .0) (kept .1 .1 .1 .1 .0)
+    (scan .scan-over .ensures) (told .enum-told2 .given .0 .0) (told .enum-told2 .given .1) (kept .1 .1 .1 .0) (kept .1 .1 .1 .1 .0) (kept .1 .1 .1 .1 .1 .0)
     (store .clear-bytes2 .ensures) (imports .clear-words3 .ensures) (includes .clear-words4 .ensures)
 
 pub scan-lent-spec : {M : Type 1} → statement M

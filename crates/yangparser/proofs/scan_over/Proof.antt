@@ -15,7 +15,7 @@ parse-requires c κs =
     let short = check .before .before in
     let classes = short .before in
     let a = classes .before .before .before .before .before .args in
-    let k = over-fits (a .s .now) (a .short) (a .store .now) (a .imports .now) (a .includes .now)
+    let k = over-fits (a .whole) (a .s .now) (a .short) (a .store .now) (a .imports .now) (a .includes .now)
     (short .too-short .ensures) (check .check-lent .ensures) (told .enum-told .given .1) in
     (classes .classes .ensures, k .0, k .1, k .2, k .3)
 
