@@ -62,25 +62,25 @@ module _ (s : List ℕ) {d t u : List ℕ} (m : ScanRoom (length s) d t u) where
       rw (le-ltb (length d) (length s) (m .store-room))
       (rw (le-ltb (length t) (256 * 7) (m .import-room)) (rw (le-ltb (length u) (256 * 5) (m .include-room)) refl))
 
-  text-is : scanText s ≡ scanSeen (lentScan s false d t u)
+  text-is : scanText s ≡ scanSeen (lentScan false s false d t u)
   unfolding scanText
-  text-is = ap (λ b. scanSeen (dependencies s b)) (sym enough)
+  text-is = ap (λ b. scanSeen (dependencies false s b)) (sym enough)
 
-  module _ {r : Parsed} {e f g : List ℕ} (p : Scans s false d t u r e f g)
+  module _ {r : Parsed} {e f g : List ℕ} (p : Scans false s false d t u r e f g)
       (el : length e ≡ length d) (fl : length f ≡ length t) (gl : length g ≡ length u) where
     pub scan-refused : {q : Refusal} → r ≡ RefusedScan q → SeenAs (scanText s) d t u (Refused q) e f g
     scan-refused {q} h =
-        let k = parsed-refused (lentScan s false d t u) q (sym (p .answer) ∙ h) in
+        let k = parsed-refused (lentScan false s false d t u) q (sym (p .answer) ∙ h) in
         record { seen = sym (text-is ∙ ap scanSeen (k .1)); few = tt; kept-store = el; kept-imports = fl; kept-includes = gl }
 
     pub scan-read : {i j n : ℕ} → r ≡ Good i j n → SeenAs (scanText s) d t u (Rows i j) e f g
     unfolding readOf
     scan-read {i} {j} {n} h =
-        let y = lentScan s false d t u in
+        let y = lentScan false s false d t u in
         let k = parsed-good y i j n (sym (p .answer) ∙ h) in
         let x = k .0 in
-        let good = entry-good s (tooShort false (length s) (length d) (length t) (length u)) x (k .1) in
-        let w : Sound s x = subst (λ y. Sound s (readOf y)) (good .0) (scan-sound s) in
+        let good = entry-good false s (tooShort false (length s) (length d) (length t) (length u)) x (k .1) in
+        let w : Sound s x = subst (λ y. Sound s (readOf y)) (good .0) (scan-sound false s) in
         let o : Holds x d t u e f g = subst (λ y. Holds (readOf y) d t u e f g) (k .1) (p .holds) in
         record {
           seen =

@@ -84,17 +84,17 @@ module _ {s : List ℕ} (x : Dependencies) (k : Sound s x) where
   unfolding importSizes includeSizes
   page-size = omega (arith, printed-size (x .bytes) (x .imports) (x .includes) (k .few-imports) (k .few-includes), k .placed .sizes, k .short)
 
-pub good-sound : (s : List ℕ) (z : Bool) (x : Dependencies) → dependencies s z ≡ good x → Sound s x
+pub good-sound : (whole : Bool) (s : List ℕ) (z : Bool) (x : Dependencies) → dependencies whole s z ≡ good x → Sound s x
 unfolding readOf
-good-sound s z x h = subst (λ y. Sound s (readOf y)) (entry-good s z x h .0) (scan-sound s)
+good-sound whole s z x h = subst (λ y. Sound s (readOf y)) (entry-good whole s z x h .0) (scan-sound whole s)
 
 -- of any scan
-pub page-fits : (s : List ℕ) (z : Bool) → length (pageOf (dependencies s z)) ≤ 6944 + 1048576
+pub page-fits : (whole : Bool) (s : List ℕ) (z : Bool) → length (pageOf (dependencies whole s z)) ≤ 6944 + 1048576
 unfolding pageOf
-page-fits s z = by-scan (dependencies s z) refl
+page-fits whole s z = by-scan (dependencies whole s z) refl
   where
-    by-scan : (x : Scan) → dependencies s z ≡ x → length (pageOf x) ≤ 6944 + 1048576
-    by-scan (good x) h = omega (arith, page-size x (good-sound s z x h), entry-good s z x h .1)
+    by-scan : (x : Scan) → dependencies whole s z ≡ x → length (pageOf x) ≤ 6944 + 1048576
+    by-scan (good x) h = omega (arith, page-size x (good-sound whole s z x h), entry-good whole s z x h .1)
     by-scan (bad r x) h = omega arith
 
 same-rows : {a b c e f g : List ℕ} {m n i j : ℕ} → a ≡ e → b ≡ f → m ≡ i → c ≡ g → n ≡ j → printedRows a b m c n ≡ printedRows e f i g j
@@ -102,31 +102,31 @@ same-rows p q o v w = rw p (rw q (rw o (rw v (rw w refl))))
 
 -- ---- what a scan left, and the page of it; z: whether something lent was too short
 
-module _ (s : List ℕ) (z : Bool) (d t u : List ℕ) {r : Parsed} {e f g : List ℕ} (w : Leaves (dependencies s z) d t u r e f g) where
-  refused-page : (y : Refusal) → r ≡ Refused y → [] ≡ pageOf (dependencies s z)
+module _ (whole : Bool) (s : List ℕ) (z : Bool) (d t u : List ℕ) {r : Parsed} {e f g : List ℕ} (w : Leaves (dependencies whole s z) d t u r e f g) where
+  refused-page : (y : Refusal) → r ≡ Refused y → [] ≡ pageOf (dependencies whole s z)
   unfolding pageOf
-  refused-page y h = sym (ap pageOf (parsed-refused (dependencies s z) y (sym (w .answer) ∙ h) .1))
+  refused-page y h = sym (ap pageOf (parsed-refused (dependencies whole s z) y (sym (w .answer) ∙ h) .1))
 
   module _ (m n k : ℕ) (h : r ≡ Good m n k) where
-    was : (x : Dependencies) × (dependencies s z ≡ good x) × (m ≡ length (x .imports)) × (n ≡ length (x .includes)) × (k ≡ length (x .bytes))
-    was = parsed-good (dependencies s z) m n k (sym (w .answer) ∙ h)
+    was : (x : Dependencies) × (dependencies whole s z ≡ good x) × (m ≡ length (x .imports)) × (n ≡ length (x .includes)) × (k ≡ length (x .bytes))
+    was = parsed-good (dependencies whole s z) m n k (sym (w .answer) ∙ h)
 
     it : Dependencies
     it = was .0
 
     sound : Sound s it
     unfolding it
-    sound = good-sound s z it (was .1)
+    sound = good-sound whole s z it (was .1)
 
-    kept : keptOf (dependencies s z) ≡ it
+    kept : keptOf (dependencies whole s z) ≡ it
     unfolding keptOf it
     kept = ap keptOf (was .1)
 
-    good-page : pageOf (dependencies s z) ≡ printed (it .bytes) (it .imports) (it .includes)
+    good-page : pageOf (dependencies whole s z) ≡ printed (it .bytes) (it .imports) (it .includes)
     unfolding pageOf it
     good-page = ap pageOf (was .1)
 
-    rows-are : printedRows e f m g n ≡ pageOf (dependencies s z)
+    rows-are : printedRows e f m g n ≡ pageOf (dependencies whole s z)
     unfolding it
     rows-are =
         let x = it in
@@ -135,7 +135,7 @@ module _ (s : List ℕ) (z : Bool) (d t u : List ℕ) {r : Parsed} {e f g : List
         let ge : g ≡ padded (length u) (includeWordsOf x) = w .includes ∙ ap (λ y. padded (length u) (includeWordsOf y)) kept in
         same-rows ee fe (was .2) ge (was .3) ∙ page-is x sound (length d) (length t) (length u) ∙ sym good-page
 
-    fits : length (pageOf (dependencies s z)) ≤ 6944 + length s
+    fits : length (pageOf (dependencies whole s z)) ≤ 6944 + length s
     fits = rw good-page (page-size it sound)
 
     few : (m ≤ 256) × (n ≤ 256)
@@ -144,36 +144,36 @@ module _ (s : List ℕ) (z : Bool) (d t u : List ℕ) {r : Parsed} {e f g : List
 
     enough : z ≡ false
     unfolding it
-    enough = entry-good s z it (was .1) .2
+    enough = entry-good whole s z it (was .1) .2
 
 -- ---- the function; d, t, u and p: what was lent, q: the page cleared, e, f and g: what the scan left
 
-module _ (s d t u p : List ℕ) {q : List ℕ} (qe : q ≡ zeros (length p)) (ql : length q ≡ length p) {short : Bool} (se : short ≡ pageShort (length s) (length q))
-    {r : Parsed} {e f g : List ℕ} (w : Extracts s short d t u r e f g) where
-  left : Extracts s (pageShort (length s) (length p)) d t u r e f g
+module _ (whole : Bool) (s d t u p : List ℕ) {q : List ℕ} (qe : q ≡ zeros (length p)) (ql : length q ≡ length p) {short : Bool} (se : short ≡ pageShort (length s) (length q))
+    {r : Parsed} {e f g : List ℕ} (w : Extracts whole s short d t u r e f g) where
+  left : Extracts whole s (pageShort (length s) (length p)) d t u r e f g
   left =
-      subst (λ b. Extracts s b d t u r e f g) (se ∙ ap (pageShort (length s)) ql) w
+      subst (λ b. Extracts whole s b d t u r e f g) (se ∙ ap (pageShort (length s)) ql) w
 
-  pub page-refused : (y : Refusal) → r ≡ Refused y → Prints s d t u p (record { parsed = r; length = 0 }) e f g q
+  pub page-refused : (y : Refusal) → r ≡ Refused y → Prints whole s d t u p (record { parsed = r; length = 0 }) e f g q
   page-refused y h =
       let b = tooShort (pageShort (length s) (length p)) (length s) (length d) (length t) (length u) in
-      let none = refused-page s b d t u left y h in
+      let none = refused-page whole s b d t u left y h in
       record { scan = left; length-is = ap length none; page = qe ∙ padded-none (length p) ∙ ap (padded (length p)) none }
 
   module _ (m n k : ℕ) (h : r ≡ Good m n k) where
     -- all that was lent is long enough
     long : tooShort (pageShort (length s) (length p)) (length s) (length d) (length t) (length u) ≡ false
-    long = enough s (tooShort (pageShort (length s) (length p)) (length s) (length d) (length t) (length u)) d t u left m n k h
+    long = enough whole s (tooShort (pageShort (length s) (length p)) (length s) (length d) (length t) (length u)) d t u left m n k h
 
-    all : printedRows e f m g n ≡ pageOf (dependencies s (tooShort (pageShort (length s) (length p)) (length s) (length d) (length t) (length u)))
-    all = rows-are s (tooShort (pageShort (length s) (length p)) (length s) (length d) (length t) (length u)) d t u left m n k h
+    all : printedRows e f m g n ≡ pageOf (dependencies whole s (tooShort (pageShort (length s) (length p)) (length s) (length d) (length t) (length u)))
+    all = rows-are whole s (tooShort (pageShort (length s) (length p)) (length s) (length d) (length t) (length u)) d t u left m n k h
 
     page-room : length (printedRows e f m g n) ≤ length q
     page-room =
         let a = pageShort (length s) (length p) in
         let b = tooShort a (length s) (length d) (length t) (length u) in
         let v = page-long (length s) (length p) (not-else (length s) (length p) a (length d) (length t) (length u) long) in
-        omega (arith, ap length all, fits s b d t u left m n k h, v, ql)
+        omega (arith, ap length all, fits whole s b d t u left m n k h, v, ql)
 
     pub print-room : length e ≡ length d → length f ≡ length t → length g ≡ length u
         → (m ≤ 256) × (256 * 7 ≤ length f) × (n ≤ 256) × (256 * 5 ≤ length g) × (length (printedRows e f m g n) ≤ length q)
@@ -181,13 +181,13 @@ module _ (s d t u p : List ℕ) {q : List ℕ} (qe : q ≡ zeros (length p)) (ql
         let a = pageShort (length s) (length p) in
         let b = tooShort a (length s) (length d) (length t) (length u) in
         let l = long-enough a (length s) (length d) (length t) (length u) long in
-        let c = few s b d t u left m n k h in
+        let c = few whole s b d t u left m n k h in
         (c .0, omega (arith, l .1, fl), c .1, omega (arith, l .2, gl), page-room)
 
     pub page-printed : {l : ℕ} {o : List ℕ} → l ≡ length (printedRows e f m g n) → o ≡ sets q 0 (printedRows e f m g n)
-        → Prints s d t u p (record { parsed = Good m n k; length = l }) e f g o
+        → Prints whole s d t u p (record { parsed = Good m n k; length = l }) e f g o
     page-printed {l} {o} le oe = record {
-      scan = subst (λ y. Extracts s (pageShort (length s) (length p)) d t u y e f g) h left;
+      scan = subst (λ y. Extracts whole s (pageShort (length s) (length p)) d t u y e f g) h left;
       length-is = le ∙ ap length all;
       page = written-zero p (printedRows e f m g n) qe oe (omega (arith, ql, page-room)) ∙ ap (padded (length p)) all;
     }

@@ -12,10 +12,10 @@ print-requires c κs =
     let short = scan .before .before .before .before in
     let clear = short .before .before .before in
     let a = clear .before .before .before .before .before .before .before .args in
-    print-room (a .s .now) (a .store .now) (a .imports .now) (a .includes .now) (a .page .now)
+    print-room (a .whole) (a .s .now) (a .store .now) (a .imports .now) (a .includes .now) (a .page .now)
     (clear .clear-bytes .ensures) (clear .clear-bytes .kept .0) (short .page-short .ensures) (scan .scan-lent .ensures)
     (parsed .parsed .given .0 .0) (parsed .parsed .given .0 .1 .0) (parsed .parsed .given .0 .1 .1 .0) (parsed .parsed .given .1)
-    (scan .scan-lent .kept .1 .1 .0) (scan .scan-lent .kept .1 .1 .1 .0) (scan .scan-lent .kept .1 .1 .1 .1 .0)
+    (scan .scan-lent .kept .1 .1 .1 .0) (scan .scan-lent .kept .1 .1 .1 .1 .0) (scan .scan-lent .kept .1 .1 .1 .1 .1 .0)
 
 returns : tie.Need-returns
 returns c =
@@ -25,7 +25,7 @@ returns c =
     let clear = short .before .before .before in
     let a = clear .before .before .before .before .before .before .before .args in
     let print = c .before .before in
-    page-printed (a .s .now) (a .store .now) (a .imports .now) (a .includes .now) (a .page .now)
+    page-printed (a .whole) (a .s .now) (a .store .now) (a .imports .now) (a .includes .now) (a .page .now)
     (clear .clear-bytes .ensures) (clear .clear-bytes .kept .0) (short .page-short .ensures) (scan .scan-lent .ensures)
     (parsed .parsed .given .0 .0) (parsed .parsed .given .0 .1 .0) (parsed .parsed .given .0 .1 .1 .0) (parsed .parsed .given .1)
     (print .print .ensures .0) (print .print .ensures .1)
