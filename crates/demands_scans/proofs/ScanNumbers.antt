@@ -124,7 +124,7 @@ module _ (P : Refusal → Type 0) where
       unfolding dueAt
       due-is s at b = due-here-is s (gapEnd s at) b
 
-      pub line-is : (four : (at : ℕ) → P (refusal 4 k at)) → (s : List ℕ) (at u b : ℕ) → ArgumentIs (lineAt s at u k b)
+      pub line-is : (four : (at : ℕ) → P (refusal 4 k at)) → (s : List ℕ) (at u b : ℕ) → ArgumentIs (lineAt false s at u k b)
       unfolding lineAt argumentAt afterDue afterArgument argumentOf
       line-is four s at u b = go (valueAt s at)
         where
@@ -136,7 +136,7 @@ module _ (P : Refusal → Type 0) where
           go (value bs e) = behind (u + length bs) (dueAt s e b k) (due-is s e b)
           go (none e) = four e
 
-    pub value-is : (four : (at : ℕ) → P (refusal 4 k at)) → (s : List ℕ) (at u : ℕ) → ArgumentIs (argumentAt s at u k)
+    pub value-is : (four : (at : ℕ) → P (refusal 4 k at)) → (s : List ℕ) (at u : ℕ) → ArgumentIs (argumentAt false s at u k)
     unfolding argumentAt argumentOf
     value-is four s at u = go (valueAt s at)
       where
@@ -172,7 +172,7 @@ revision-refusable k n h at = argument (record { number = one-of n (4 ∷ 5 ∷ 
 prefix-refusable : (k : ℕ) → k ≡ 8 → Refusable k 5
 prefix-refusable k e n h at = prefix e (record { number = one-of n (4 ∷ 5 ∷ 6 ∷ []) h; keyword = List·Memᴰ·head refl })
 
-argument-is : (k j : ℕ) → Refusable k j → (s : List ℕ) (at u b : ℕ) → ArgumentIs (StatementRefusal k) (lineAt s at u j b)
+argument-is : (k j : ℕ) → Refusable k j → (s : List ℕ) (at u b : ℕ) → ArgumentIs (StatementRefusal k) (lineAt false s at u j b)
 unfolding isOne
 argument-is k j f = line-is (StatementRefusal k) j (f 5 refl) (f 6 refl) (f 4 refl)
 
@@ -214,12 +214,12 @@ module _ (s : List ℕ) (k : ℕ) where
       by-test (eqb k 8)
       (λ t. rw t (or-line-is 5 (prefix-refusable k (eqb-true k 8 t)) (matchAt s at prefixWord) (revisionLine s at) revision)) (λ t. rw t revision)
 
-  kind-is : (at : ℕ) (b : Body) (x : Line) → LineIs x → InsideIs k (afterKind s at b x .answer)
+  kind-is : (at : ℕ) (b : Body) (x : Line) → LineIs x → InsideIs k (afterKind false s at b x .answer)
   unfolding afterKind
-  kind-is at b (ValueLine j c) h = with-value-is b j (lineAt s (c .at) (b .used) j 59) (argument-is k j h s (c .at) (b .used) 59)
+  kind-is at b (ValueLine j c) h = with-value-is b j (lineAt false s (c .at) (b .used) j 59) (argument-is k j h s (c .at) (b .used) 59)
   kind-is at b OtherLine h = with-skipped-is b (statementAt s at) (statement-refused s at)
 
-  inside-is : (b : Body) → InsideIs k (insideAt s k b .answer)
+  inside-is : (b : Body) → InsideIs k (insideAt false s k b .answer)
   unfolding insideAt insideHere
   inside-is b =
       let g = gapEnd s (b .at) in
@@ -234,12 +234,12 @@ module _ (s : List ℕ) (k : ℕ) where
   stop-is bs (RefusedInside d) r h e =
       let q : _≡_ {A = Left Block} (record { answer = Broken d; bytes = bs }) r = cc in subst (λ (x : Left Block). BlockIs k (x .answer)) q h
 
-  block-is : (at u : ℕ) → BlockIs k (blockAt s at u k .answer)
+  block-is : (at u : ℕ) → BlockIs k (blockAt false s at u k .answer)
   unfolding blockAt blockFrom blockTurn
   block-is at u =
-      turns-rule (blockTurn s k) (nothing (Broken (refusal 0 0 0))) (λ b. length s - b .body .at) (block-falls s k)
+      turns-rule (blockTurn false s k) (nothing (Broken (refusal 0 0 0))) (λ b. length s - b .body .at) (block-falls false s k)
       (λ a r. BlockIs k (r .answer))
-      (λ a r e. stop-is (a .bytes ++ insideAt s k (a .body) .bytes) (insideAt s k (a .body) .answer) r (inside-is (a .body)) e)
+      (λ a r e. stop-is (a .bytes ++ insideAt false s k (a .body) .bytes) (insideAt false s k (a .body) .answer) r (inside-is (a .body)) e)
       (λ a b r e h. h) (suc (length s)) (record { body = begun at u; bytes = [] }) (omega arith)
 
 abbrev pub ImportedIs : ParsedImport → Type 0
@@ -267,30 +267,30 @@ plain-is name n (After c) h = tt
 plain-is name n (Not r) h = h
 
 module _ (s : List ℕ) where
-  name-is : (u : ℕ) (bytes : List ℕ) (a : Argument) → ArgumentIs (StatementRefusal 8) a → ImportedIs (afterName s u bytes a .answer)
+  name-is : (u : ℕ) (bytes : List ℕ) (a : Argument) → ArgumentIs (StatementRefusal 8) a → ImportedIs (afterName false s u bytes a .answer)
   unfolding afterName withName
-  name-is u bytes (Read c n) h = body-is _ (blockAt s (c .at) n 8 .answer) (block-is s 8 (c .at) n)
+  name-is u bytes (Read c n) h = body-is _ (blockAt false s (c .at) n 8 .answer) (block-is s 8 (c .at) n)
   name-is u bytes (NoArgument r) h = h
 
-  pub import-is : (at u : ℕ) → ImportedIs (importAt s at u .answer)
+  pub import-is : (at u : ℕ) → ImportedIs (importAt false s at u .answer)
   unfolding importAt
-  import-is at u = name-is u _ (lineAt s at u 8 123) (argument-is 8 8 (name-refusable 8) s at u 123)
+  import-is at u = name-is u _ (lineAt false s at u 8 123) (argument-is 8 8 (name-refusable 8) s at u 123)
 
-  rest-is : (at n : ℕ) (name : Span) (bytes : List ℕ) → IncludedIs (openOrPlain s at n name bytes .answer)
+  rest-is : (at n : ℕ) (name : Span) (bytes : List ℕ) → IncludedIs (openOrPlain false s at n name bytes .answer)
   unfolding openOrPlain blockOf isOne
   rest-is at n name bytes =
-      by-test (eqb (look s at) 123) (λ t. rw t (included-is name (blockAt s (at + 1) n 9 .answer) (block-is s 9 (at + 1) n)))
+      by-test (eqb (look s at) 123) (λ t. rw t (included-is name (blockAt false s (at + 1) n 9 .answer) (block-is s 9 (at + 1) n)))
       (λ t. let f = name-refusable 9 in
       rw t (plain-is name n (dueHere s at 59 9) (due-here-is (StatementRefusal 9) 9 (f 5 refl) (f 6 refl) s at 59)))
 
-  value-read-is : (u : ℕ) (bytes : List ℕ) (a : Argument) → ArgumentIs (StatementRefusal 9) a → IncludedIs (afterValue s u bytes a .answer)
+  value-read-is : (u : ℕ) (bytes : List ℕ) (a : Argument) → ArgumentIs (StatementRefusal 9) a → IncludedIs (afterValue false s u bytes a .answer)
   unfolding afterValue
   value-read-is u bytes (Read c n) h = rest-is (gapEnd s (c .at)) n _ bytes
   value-read-is u bytes (NoArgument r) h = h
 
-  pub include-is : (at u : ℕ) → IncludedIs (includeAt s at u .answer)
+  pub include-is : (at u : ℕ) → IncludedIs (includeAt false s at u .answer)
   unfolding includeAt isOne
-  include-is at u = value-read-is u _ (argumentAt s at u 9) (value-is (StatementRefusal 9) 9 (name-refusable 9 4 refl) s at u)
+  include-is at u = value-read-is u _ (argumentAt false s at u 9) (value-is (StatementRefusal 9) 9 (name-refusable 9 4 refl) s at u)
 
 -- ---- a step, and all of them
 
@@ -319,16 +319,16 @@ unfolding afterToken
 token-is far (Past c h) n = tt
 token-is far (NoSkip r) n = absurd (n r refl)
 
-head-is : (s : List ℕ) (far : Sofar) (at : ℕ) (w : Head) → NextIs (headStep s far at w .answer)
+head-is : (s : List ℕ) (far : Sofar) (at : ℕ) (w : Head) → NextIs (headStep false s far at w .answer)
 unfolding headStep importHere includeHere isOne
 head-is s far at (Import c) =
-    full-is (far .imports) 8 (c .at) _ refl (import-step-is far _ (importAt s (c .at) (far .used) .answer) (import-is s (c .at) (far .used)))
+    full-is (far .imports) 8 (c .at) _ refl (import-step-is far _ (importAt false s (c .at) (far .used) .answer) (import-is s (c .at) (far .used)))
 head-is s far at (Include c) =
-    full-is (far .includes) 9 (c .at) _ refl (include-step-is far _ (includeAt s (c .at) (far .used) .answer) (include-is s (c .at) (far .used)))
+    full-is (far .includes) 9 (c .at) _ refl (include-step-is far _ (includeAt false s (c .at) (far .used) .answer) (include-is s (c .at) (far .used)))
 head-is s far at (Last c) = tt
 head-is s far at Other = token-is far (tokenAt s at) (token-refused s at)
 
-step-is : (s : List ℕ) (far : Sofar) → NextIs (stepAt s far .answer)
+step-is : (s : List ℕ) (far : Sofar) → NextIs (stepAt false s far .answer)
 unfolding stepAt stepHere
 step-is s far =
     let g = gapEnd s (far .at) in
@@ -344,10 +344,10 @@ turn-is d (On far) r h e = let z : _≡_ {A = ℕ} 0 1 = cc in absurd (omega ari
 turn-is d Done r h e = let q : Deps.good d ≡ r = cc in subst ScanIs q tt
 turn-is d (Stop x) r h e = let q : Deps.bad x d ≡ r = cc in subst ScanIs q h
 
-scanned-is : (s : List ℕ) → ScanIs (Deps.scanned s)
+scanned-is : (s : List ℕ) → ScanIs (Deps.scanned false s)
 unfolding Deps.scanned Deps.scanFrom scanTurn
 scanned-is s =
-    turns-all (scanTurn s) (Deps.good Deps.none) ScanIs (λ a r e. turn-is _ (stepAt s (a .far) .answer) r (step-is s (a .far)) e) tt (suc (length s)) _
+    turns-all (scanTurn false s) (Deps.good Deps.none) ScanIs (λ a r e. turn-is _ (stepAt false s (a .far) .answer) r (step-is s (a .far)) e) tt (suc (length s)) _
 
 -- ---- what comes first
 
@@ -380,7 +380,7 @@ module _ (s : List ℕ) (short : Bool) where
   WholeIs (Deps.good d) = Unit {0}
   WholeIs (Deps.bad r d) = RefusedAs DependenciesRefusal s short r
 
-  pub dependencies-refused : (r : Refusal) (d : Deps.Dependencies) → Deps.dependencies s short ≡ Deps.bad r d → RefusedAs DependenciesRefusal s short r
+  pub dependencies-refused : (r : Refusal) (d : Deps.Dependencies) → Deps.dependencies false s short ≡ Deps.bad r d → RefusedAs DependenciesRefusal s short r
   unfolding Deps.dependencies Deps.ifFit WholeIs
   dependencies-refused r d e = subst WholeIs e (go (lentAt s short) lent-is)
     where
@@ -388,10 +388,10 @@ module _ (s : List ℕ) (short : Bool) where
       scan (Deps.good k) f h = tt
       scan (Deps.bad q k) f h = read f h
 
-      go : (x : Lent) → LentIs x → WholeIs (Deps.ifFit x (Deps.scanned s))
-      go Fit h = scan (Deps.scanned s) h (scanned-is s)
+      go : (x : Lent) → LentIs x → WholeIs (Deps.ifFit x (Deps.scanned false s))
+      go Fit h = scan (Deps.scanned false s) h (scanned-is s)
       go (Unfit q) h = first h
 
-  pub dependencies-first : (r : Refusal) → FirstRefusal s short r → Deps.dependencies s short ≡ Deps.bad r Deps.none
+  pub dependencies-first : (r : Refusal) → FirstRefusal s short r → Deps.dependencies false s short ≡ Deps.bad r Deps.none
   unfolding Deps.dependencies Deps.ifFit
-  dependencies-first r f = ap (λ x. Deps.ifFit x (Deps.scanned s)) (first-unfit r f)
+  dependencies-first r f = ap (λ x. Deps.ifFit x (Deps.scanned false s)) (first-unfit r f)

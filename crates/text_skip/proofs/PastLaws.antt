@@ -3,6 +3,7 @@
 -- Assumes nothing.
 use mathlib.Core.Path.{_≡_, refl, sym, ap, ap₂, _∙_}
 use mathlib.Core.Bool.{Bool, true, false, cond, _&&_}
+use mathlib.Core.Logic.{_⊎_, inl, inr}
 use mathlib.Core.List.{List}
 use Prim.Native.Nat.{ℕ, _<_, _≤_}
 use native.Mathlib.Omega.{arith}
@@ -12,11 +13,14 @@ use Rattle.text.specs.declared.Cursor.{Cursor}
 use Rattle.text.specs.declared.Due.{Due}
 use Rattle.text.specs.declared.Due.the-variants.{After, Not}
 use Rattle.text.specs.declared.Refusal.{Refusal}
-use Rattle.text_skip.specs.Skip.{brokeOff, skipRefusal, pastOf, tokenAt, pastToken, skippedAt, pastValue}
+use Rattle.text.proofs.Here.{by-test, never}
+use Rattle.text_value.specs.Value.{valueAt, placeOf, closedAt}
+use Rattle.text_value.proofs.JoinLaws.{open-place}
+use Rattle.text_skip.specs.Skip.{brokeOff, skipRefusal, pastOf, tokenAt, pastToken, howClosed, skippedAt, pastValue}
 use Rattle.text_skip.specs.declared.How.{How}
 use Rattle.text_skip.specs.declared.Skipped.{Skipped}
 use Rattle.text_skip.specs.declared.Skipped.the-variants.{Past, Refused}
-use Rattle.text_skip.proofs.SkipLaws.{skip-refusal-is, token-far, token-refused}
+use Rattle.text_skip.proofs.SkipLaws.{skip-refusal-is, token-far, token-end, token-refused}
 use Rattle.text_skip.proofs.PassLaws.{skipped-far, skipped-refused}
 
 -- ---- each way out; w: the whole-text mode, n: the text's length, k: what was skipped, o: whether the text's end ended it
@@ -93,3 +97,33 @@ module _ (w : Bool) (s : List ℕ) (at : ℕ) {k : Skipped} {d : Due} (de : d �
   pub value-is-past : k ≡ skippedAt s at → d ≡ pastValue w s at
   unfolding pastValue
   value-is-past e = de ∙ ap (pastOf w (length s)) e
+
+-- ---- the whole-text mode beside the old one
+
+-- x and y, past one skip in both modes: the same, or 11 where the text's end, n, ended it
+abbrev pub SameOrCut : ℕ → Due → Due → Type 0
+SameOrCut n x y = (x ≡ y) ⊎ ((x ≡ Not (cutAt n)) × (c : Cursor) × (y ≡ After c) × (c .at ≡ n))
+
+-- end: one that broke off is at the text's end
+pub past-modes : (n : ℕ) (k : Skipped) → ((c : Cursor) (h : How) → k ≡ Past c h → brokeOff h ≡ true → c .at ≡ n)
+    → SameOrCut n (pastOf true n k) (pastOf false n k)
+unfolding pastOf
+past-modes n (Past c h) end = by-test (brokeOff h) (λ t. inr (rw t refl, c, refl, end c h refl t)) (λ t. inl (rw t refl))
+past-modes n (Refused r) end = inl refl
+
+pub token-modes : (s : List ℕ) (at : ℕ) → at < length s → SameOrCut (length s) (pastToken true s at) (pastToken false s at)
+unfolding pastToken
+token-modes s at l = past-modes (length s) (tokenAt s at) (λ c h e b. token-end s at l c h e b)
+
+how-open : (b : Bool) {h : How} → howClosed b ≡ h → brokeOff h ≡ true → b ≡ false
+unfolding brokeOff
+how-open true e t = absurd (never (sym (ap brokeOff e)) t)
+how-open false e t = refl
+
+pub value-modes : (s : List ℕ) (at : ℕ) → SameOrCut (length s) (pastValue true s at) (pastValue false s at)
+unfolding pastValue skippedAt
+value-modes s at =
+    past-modes (length s) (skippedAt s at)
+    (λ c h e b. let k : placeOf (valueAt s at) ≡ c .at = cc in
+    let w : howClosed (closedAt s at) ≡ h = cc in
+    sym k ∙ open-place s at (how-open (closedAt s at) w b))

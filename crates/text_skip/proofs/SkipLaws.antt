@@ -117,5 +117,9 @@ token-tells s at =
 pub token-far : (s : List ℕ) (at : ℕ) → at < length s → (c : Cursor) (h : How) → tokenAt s at ≡ Past c h → (at < c .at) × (c .at ≤ length s)
 token-far s at l c h e = let f = subst (TokenTells s at) e (token-tells s at) l in (f .0, f .1)
 
+-- one that the text's end ended is there
+pub token-end : (s : List ℕ) (at : ℕ) → at < length s → (c : Cursor) (h : How) → tokenAt s at ≡ Past c h → brokeOff h ≡ true → c .at ≡ length s
+token-end s at l c h e b = subst (TokenTells s at) e (token-tells s at) l .2 b
+
 pub token-refused : (s : List ℕ) (at : ℕ) (r : Refusal) → tokenAt s at ≡ Refused r → ⊥
 token-refused s at r e = subst (TokenTells s at) e (token-tells s at)

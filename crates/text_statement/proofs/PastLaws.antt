@@ -1,7 +1,7 @@
 -- What a proof uses of what is past a statement: nothing is refused but what the text's end ended, in the whole-text mode.
 -- Assumes nothing.
-use mathlib.Core.Path.{_≡_, ap, _∙_}
-use mathlib.Core.Bool.{Bool}
+use mathlib.Core.Path.{_≡_, refl, ap, subst, _∙_}
+use mathlib.Core.Bool.{Bool, true, false}
 use mathlib.Core.List.{List}
 use Prim.Native.Nat.{ℕ, _<_, _≤_}
 use lib.ListN.{length, getD}
@@ -11,11 +11,15 @@ use Rattle.text.specs.declared.Cursor.{Cursor}
 use Rattle.text.specs.declared.Due.{Due}
 use Rattle.text.specs.declared.Due.the-variants.{After, Not}
 use Rattle.text.specs.declared.Refusal.{Refusal}
-use Rattle.text_skip.specs.Skip.{pastOf}
+use Rattle.text.proofs.Here.{never}
+use Rattle.text_skip.specs.Skip.{brokeOff, pastOf}
+use Rattle.text_skip.specs.declared.How.{How}
+use Rattle.text_skip.specs.declared.How.the-variants.{Whole, Semicolon, Block, Before, Text}
 use Rattle.text_skip.specs.declared.Skipped.{Skipped}
-use Rattle.text_skip.proofs.PastLaws.{past-after, past-not}
+use Rattle.text_skip.specs.declared.Skipped.the-variants.{Past}
+use Rattle.text_skip.proofs.PastLaws.{SameOrCut, past-after, past-not, past-modes}
 use Rattle.text_statement.specs.Statement.{statementAt, pastStatement}
-use Rattle.text_statement.proofs.StatementLaws.{statement-far, statement-moves, statement-refused}
+use Rattle.text_statement.proofs.StatementLaws.{Tells, statement-tells, statement-far, statement-moves, statement-refused}
 
 module _ (w : Bool) (s : List ℕ) (at : ℕ) where
   -- k: what was skipped, d: what is past it
@@ -34,3 +38,18 @@ module _ (w : Bool) (s : List ℕ) (at : ℕ) where
   pub past-statement-not : (r : Refusal) → pastStatement w s at ≡ Not r → r ≡ cutAt (length s)
   unfolding pastStatement
   past-statement-not r e = past-not w (length s) (statementAt s at) r (statement-refused s at) e
+
+-- ---- the whole-text mode beside the old one
+
+text-end : (s : List ℕ) (at : ℕ) → at ≤ length s → (c : Cursor) (h : How) → Tells s at (Past c h) → brokeOff h ≡ true → c .at ≡ length s
+unfolding brokeOff
+text-end s at l c Whole t b = absurd t
+text-end s at l c Semicolon t b = absurd (never refl b)
+text-end s at l c Block t b = absurd (never refl b)
+text-end s at l c Before t b = absurd (never refl b)
+text-end s at l c Text t b = t .2 l
+
+pub statement-modes : (s : List ℕ) (at : ℕ) → at ≤ length s → SameOrCut (length s) (pastStatement true s at) (pastStatement false s at)
+unfolding pastStatement
+statement-modes s at l =
+    past-modes (length s) (statementAt s at) (λ c h e b. text-end s at l c h (subst (Tells s at) e (statement-tells s at)) b)

@@ -7,22 +7,24 @@ use mathlib.Core.Logic.{_⊎_, inl, inr, ⊎-elim}
 use mathlib.Core.List.{List}
 use Prim.Native.Nat.{ℕ, _+_, _-_, _<_, _≤_}
 use native.Mathlib.Omega.{arith}
-use lib.ListN.{length}
+use lib.ListN.{length, getD}
 use Rattle.text.specs.Due.{dueAt, refusalOf}
 use Rattle.text.specs.Refusal.{cutAt}
+use Rattle.text.specs.Scan.{gapEnd}
 use Rattle.text.specs.declared.Cursor.{Cursor}
 use Rattle.text.specs.declared.Due.{Due}
 use Rattle.text.specs.declared.Due.the-variants.{After, Not}
 use Rattle.text.specs.declared.Refusal.{Refusal}
-use Rattle.text.proofs.DueLaws.{due-far, due-refused-within}
-use Rattle.text.proofs.Here.{by-test}
-use Rattle.text_value.specs.Value.{Val, value, none, valueAt, closedAt, valueAnswer, valueBytes, valueEnd, valueClosed}
+use Rattle.text.proofs.DueLaws.{due-end, due-far, due-refused-within}
+use Rattle.text.proofs.Here.{by-test, past}
+use Rattle.text.proofs.Laws.{gap-from}
+use Rattle.text_value.specs.Value.{Val, value, none, valueAt, closedAt, valueAnswer, valueBytes, valueEnd, valueClosed, placeOf}
 use Rattle.text_value.specs.Argument.{argumentOf, breaksOff, argumentAt, afterDue, afterArgument, lineAt, argumentRefusal}
 use Rattle.text_value.specs.declared.Argument.{Argument}
 use Rattle.text_value.specs.declared.Argument.the-variants.{Read, Refused}
 use Rattle.text_value.specs.declared.Value.{Value}
 use Rattle.text_value.specs.declared.Value.the-variants.{Read as ReadValue, Missing}
-use Rattle.text_value.proofs.JoinLaws.{value-far, none-size, closed-is}
+use Rattle.text_value.proofs.JoinLaws.{value-far, none-size, closed-is, open-place}
 
 -- ---- the value
 
@@ -198,3 +200,49 @@ line-refusal w s at u k b r l h = refusal-of w s at u k b (argumentAt w s at u k
 pub refusal-is : {a : Argument} {r q : Refusal} → a ≡ Refused r → q ≡ argumentRefusal a → q ≡ r
 unfolding argumentRefusal
 refusal-is h e = e ∙ ap argumentRefusal h
+
+-- ---- the whole-text mode beside the old one: the same, or 11 where a string never closes, and then the old one is at the text's end
+
+pub argument-modes : (s : List ℕ) (at u k : ℕ)
+    → (argumentAt true s at u k ≡ argumentAt false s at u k) ⊎ ((argumentAt true s at u k ≡ Refused (cutAt (length s))) × (closedAt s at ≡ false))
+unfolding argumentAt breaksOff
+argument-modes s at u k = by-test (closedAt s at) (λ t. inl (rw t refl)) (λ t. inr (rw t refl, t))
+
+pub argument-open : (s : List ℕ) (at u k : ℕ) → closedAt s at ≡ false
+    → (argumentAt false s at u k ≡ Refused (record { number = 4; keyword = k; at = length s }))
+    ⊎ ((c : Cursor) × (n : ℕ) × (argumentAt false s at u k ≡ Read c n) × (c .at ≡ length s))
+unfolding argumentAt argumentOf breaksOff placeOf
+argument-open s at u k h = by-val (valueAt s at) refl
+  where
+    by-val : (v : Val) → valueAt s at ≡ v
+        → (argumentOf u k v ≡ Refused (record { number = 4; keyword = k; at = length s }))
+        ⊎ ((c : Cursor) × (n : ℕ) × (argumentOf u k v ≡ Read c n) × (c .at ≡ length s))
+    by-val (value bs e) q = inr (record { at = e }, u + length bs, refl, sym (ap placeOf q) ∙ open-place s at h)
+    by-val (none e) q =
+        inl (ap (λ i. Refused (record { number = 4; keyword = k; at = i })) (sym (ap placeOf q) ∙ open-place s at h))
+
+-- at the text's end no byte stands
+pub due-past : (s : List ℕ) (at b k : ℕ) → b < 256 → at ≡ length s → dueAt s at b k ≡ Not (record { number = 6; keyword = k; at = gapEnd s at })
+due-past s at b k small e =
+    let p : getD s (gapEnd s at) 256 ≡ 256 = past s (gapEnd s at) (omega (arith, gap-from s at)) in
+    due-end s at b k refl refl (λ z. omega (arith, p, z)) p
+
+-- the refusal of the old mode has one of two numbers
+abbrev pub FourOrSix : Refusal → Type 0
+FourOrSix r = (r .number ≡ 4) ⊎ (r .number ≡ 6)
+
+pub line-modes : (s : List ℕ) (at u k b : ℕ) → b < 256
+    → (lineAt true s at u k b ≡ lineAt false s at u k b)
+    ⊎ ((lineAt true s at u k b ≡ Refused (cutAt (length s))) × (r : Refusal) × (lineAt false s at u k b ≡ Refused r) × FourOrSix r)
+unfolding lineAt afterArgument afterDue
+line-modes s at u k b small =
+    ⊎-elim (λ e. inl (ap (afterArgument s k b) e))
+    (λ e. let q = cut (argument-open s at u k (e .1)) in inr (ap (afterArgument s k b) (e .0), q .0, q .1, q .2)) (argument-modes s at u k)
+  where
+    cut : (argumentAt false s at u k ≡ Refused (record { number = 4; keyword = k; at = length s }))
+        ⊎ ((c : Cursor) × (n : ℕ) × (argumentAt false s at u k ≡ Read c n) × (c .at ≡ length s))
+        → (r : Refusal) × (afterArgument s k b (argumentAt false s at u k) ≡ Refused r) × FourOrSix r
+    cut (inl e) = (record { number = 4; keyword = k; at = length s }, ap (afterArgument s k b) e, inl refl)
+    cut (inr e) =
+        let r : Refusal = record { number = 6; keyword = k; at = gapEnd s (e .0 .at) } in
+        (r, ap (afterArgument s k b) (e .2) ∙ ap (afterDue (e .1)) (due-past s (e .0 .at) b k small (e .3)), inr refl)

@@ -541,3 +541,30 @@ place-size s at l = by-val (valueAt s at) refl
     by-val : (v : Val) → valueAt s at ≡ v → (at ≤ placeOf v) × (placeOf v ≤ length s)
     by-val (value bs e) h = omega (arith, value-size s at bs e h)
     by-val (none e) h = none-size s at e l h
+
+-- ---- a value with a string that never closes ends at the text's end
+
+stop-open : (m : More) → closedMore m ≡ stop false → (e : ℕ) × (m ≡ broken e)
+unfolding closedMore
+stop-open (added cs e) h = (e, cc)
+stop-open (ends e) h = (e, cc)
+stop-open (broken e) h = (e, refl)
+
+open-joined : (s : List ℕ) (at : ℕ) → closedFrom s at ≡ false → joined s at .end ≡ length s
+unfolding closedFrom closedTurn
+open-joined s at =
+    turns-rule (closedTurn s) true (λ i. length s - i) (closed-falls s) (λ a r. r ≡ false → joined s a .end ≡ length s)
+    (λ a r e f. let m = stop-open (moreAt s a) (e ∙ ap stop f) in joined-broken s a (m .0) (m .1) ∙ broken-size s a (m .0) (m .1))
+    (λ a b r e k f. let m = closed-added (moreAt s a) b e in joined-on s a (m .0) b (m .1) ∙ k f)
+    (suc (length s)) at (omega arith)
+
+pub open-place : (s : List ℕ) (at : ℕ) → closedAt s at ≡ false → placeOf (valueAt s at) ≡ length s
+unfolding placeOf
+open-place s at h =
+    by-test (isQuote (getD s (gapEnd s at) 256)) (λ q. by-str (strAt s (gapEnd s at)) refl q)
+    (λ q. absurd (never h (closed-name s at refl refl refl q)))
+  where
+    by-str : (t : Str) → strAt s (gapEnd s at) ≡ t → isQuote (getD s (gapEnd s at) 256) ≡ true → placeOf (valueAt s at) ≡ length s
+    by-str (whole bs e) k q =
+        ap placeOf (value-string s at refl refl refl q bs e k) ∙ open-joined s e (sym (closed-string s at refl refl refl q bs e k) ∙ h)
+    by-str cut k q = ap placeOf (value-cut s at refl refl refl q k)
