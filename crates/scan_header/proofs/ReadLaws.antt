@@ -1,9 +1,9 @@
--- What each function answers is a clause of its definition, by what it tested and what its calls answered.
+-- What each function answers is a clause of its definition, by what it tested and what its calls answered. w: the whole-text mode.
 -- Assumes nothing.
 use mathlib.Core.Path.{_≡_, refl, sym, ap, _∙_}
 use mathlib.Core.Bool.{Bool, true, false, cond, _||_}
 use mathlib.Core.List.{List}
-use Prim.Native.Nat.{ℕ, _-_, _<_}
+use Prim.Native.Nat.{ℕ, _<_}
 use native.Mathlib.Omega.{arith}
 use lib.Dec.{eqb}
 use lib.ListN.{getD}
@@ -14,13 +14,8 @@ use Rattle.text.specs.declared.Cursor.{Cursor}
 use Rattle.text.specs.declared.Due.{Due}
 use Rattle.text.specs.declared.Due.the-variants.{After as AfterDue, Not as NotDue}
 use Rattle.text.specs.declared.Refusal.{Refusal}
-use Rattle.text_skip.specs.Skip.{skipRefusal}
-use Rattle.text_statement.specs.Statement.{statementAt}
-use Rattle.text_skip.specs.declared.How.{How}
-use Rattle.text_skip.specs.declared.Skipped.{Skipped}
-use Rattle.text_skip.specs.declared.Skipped.the-variants.{Past, Refused as RefusedSkip}
-use Rattle.text_skip.proofs.SkipLaws.{skip-refusal-is}
-use Rattle.scan_header.specs.Header.{dueFor, pastOf, pastStatement, afterRevision, afterValue, passed}
+use Rattle.text_statement.specs.Statement.{pastStatement}
+use Rattle.scan_header.specs.Header.{dueFor, afterRevision, afterValue, passed}
 use Rattle.scan_header.specs.declared.Heard.the-variants.{Passed, Refused}
 
 -- ---- what follows a value
@@ -55,38 +50,24 @@ module _ {d : Due} where
   unfolding passed refusalOf
   passed-not r h e = ap Refused (e ∙ ap refusalOf h) ∙ sym (ap passed h)
 
-module _ (s : List ℕ) (at k : ℕ) {d : Due} where
-  pub value-parent : k ≡ 3 → d ≡ pastStatement s at → d ≡ afterValue s at k
+module _ (w : Bool) (s : List ℕ) (at k : ℕ) {d : Due} where
+  pub value-parent : k ≡ 3 → d ≡ pastStatement w s at → d ≡ afterValue w s at k
   unfolding afterValue
   value-parent h e = rw h e
 
-  pub value-revision : k ≡ 7 → {g : ℕ} → g ≡ gapEnd s at → d ≡ afterRevision s g → d ≡ afterValue s at k
+  pub value-revision : k ≡ 7 → {g : ℕ} → g ≡ gapEnd s at → d ≡ afterRevision w s g → d ≡ afterValue w s at k
   unfolding afterValue
   value-revision h ge e = rw h (rw (sym ge) e)
 
-  pub value-due : (k ≡ 3 → ⊥) → (k ≡ 7 → ⊥) → {b : ℕ} → b ≡ dueFor k → d ≡ dueAt s at b k → d ≡ afterValue s at k
+  pub value-due : (k ≡ 3 → ⊥) → (k ≡ 7 → ⊥) → {b : ℕ} → b ≡ dueFor k → d ≡ dueAt s at b k → d ≡ afterValue w s at k
   unfolding afterValue
   value-due m n be e = rw (ne-eqb k 3 m, ne-eqb k 7 n) (rw (sym be) e)
 
-module _ (s : List ℕ) (at : ℕ) {p : ℕ} (pe : p ≡ getD s at 256) {d : Due} where
-  pub revision-block : p ≡ 123 → d ≡ pastStatement s at → d ≡ afterRevision s at
+module _ (w : Bool) (s : List ℕ) (at : ℕ) {p : ℕ} (pe : p ≡ getD s at 256) {d : Due} where
+  pub revision-block : p ≡ 123 → d ≡ pastStatement w s at → d ≡ afterRevision w s at
   unfolding afterRevision
   revision-block h e = rw (eq-eqb (getD s at 256) 123 (sym pe ∙ h)) e
 
-  pub revision-line : (p ≡ 123 → ⊥) → d ≡ dueAt s at 59 7 → d ≡ afterRevision s at
+  pub revision-line : (p ≡ 123 → ⊥) → d ≡ dueAt s at 59 7 → d ≡ afterRevision w s at
   unfolding afterRevision
   revision-line h e = rw (ne-eqb (getD s at 256) 123 (λ q. h (pe ∙ q))) e
-
--- k: what a skip answered
-module _ {k : Skipped} where
-  pub past-refused : (r : Refusal) → k ≡ RefusedSkip r → {q : Refusal} → q ≡ skipRefusal k → NotDue q ≡ pastOf k
-  unfolding pastOf
-  past-refused r h e = ap NotDue (skip-refusal-is h e) ∙ sym (ap pastOf h)
-
-  pub past-after : (c : Cursor) (h : How) → k ≡ Past c h → AfterDue c ≡ pastOf k
-  unfolding pastOf
-  past-after c h e = sym (ap pastOf e)
-
-  pub past-is : (s : List ℕ) (at : ℕ) → k ≡ statementAt s at → {d : Due} → d ≡ pastOf k → d ≡ pastStatement s at
-  unfolding pastStatement
-  past-is s at e p = p ∙ ap pastOf e

@@ -1,6 +1,7 @@
--- A refusal of the scan's step has a number above 0: it is that of a value that is missing or of a byte that is due, and each of these has one.
+-- A refusal of the scan's step has a number above 0: it is that of a value that is missing, of a byte that is due or of what broke off, and each of
+-- these has one. w: the whole-text mode.
 -- Assumes nothing.
-use mathlib.Core.Path.{_≡_, refl, subst}
+use mathlib.Core.Path.{_≡_, refl, ap, subst}
 use mathlib.Core.Bool.{Bool}
 use mathlib.Core.List.{List}
 use Prim.Native.Nat.{ℕ, _<_}
@@ -8,21 +9,19 @@ use native.Mathlib.Omega.{arith}
 use lib.Dec.{eqb, leb}
 use lib.ListN.{length, getD}
 use Rattle.text.specs.Due.{dueNumber, dueHere, dueAt}
+use Rattle.text.specs.Refusal.{cutAt}
 use Rattle.text.specs.Scan.{gapEnd}
 use Rattle.text.specs.declared.Due.{Due}
 use Rattle.text.specs.declared.Due.the-variants.{After, Not}
 use Rattle.text.specs.declared.Refusal.{Refusal}
 use Rattle.text.proofs.Here.{by-test}
-use Rattle.text_value.specs.Argument.{argumentOf, argumentAt}
-use Rattle.text_value.specs.Value.{Val, value, none, valueAt}
-use Rattle.text_skip.specs.Skip.{tokenAt, skippedAt}
-use Rattle.text_statement.specs.Statement.{statementAt}
-use Rattle.text_skip.specs.declared.Skipped.{Skipped}
-use Rattle.text_skip.specs.declared.Skipped.the-variants.{Past, Refused as RefusedSkip}
-use Rattle.text_skip.proofs.PassLaws.{skipped-refused}
-use Rattle.text_skip.proofs.SkipLaws.{token-refused}
-use Rattle.text_statement.proofs.StatementLaws.{statement-refused}
-use Rattle.scan_header.specs.Header.{laterPrefix, pastOf, pastStatement, dueFor, afterRevision, afterValue, passed, kept, withRest, fieldAt, afterSkipped}
+use Rattle.text_value.specs.Argument.{argumentOf, breaksOff, argumentAt}
+use Rattle.text_value.specs.Value.{Val, value, none, valueAt, closedAt}
+use Rattle.text_skip.specs.Skip.{pastToken, pastValue}
+use Rattle.text_skip.proofs.PastLaws.{past-token-not, past-value-not}
+use Rattle.text_statement.specs.Statement.{pastStatement}
+use Rattle.text_statement.proofs.PastLaws.{past-statement-not}
+use Rattle.scan_header.specs.Header.{laterPrefix, dueFor, afterRevision, afterValue, passed, kept, withRest, fieldAt, afterSkipped}
 use Rattle.scan_header.specs.Header.{statementSaid, tagSaid, saidHere, saidAt}
 use Rattle.scan_tag.specs.Tag.{tagAt}
 use Rattle.scan_header.specs.declared.Heard.{Heard}
@@ -42,25 +41,23 @@ due-numbered s at b k =
     let c = getD s (gapEnd s at) 256 in
     by-test (eqb c b) (λ t. rw t tt) (λ t. rw t (by-test (eqb c 256) (λ u. rw u (omega arith)) (λ u. rw u (omega arith))))
 
--- x: what a skip answered; none is refused
-past-numbered : (x : Skipped) → ((r : Refusal) → x ≡ RefusedSkip r → ⊥) → DueNumbered (pastOf x)
-unfolding pastOf
-past-numbered (Past c h) n = tt
-past-numbered (RefusedSkip r) n = absurd (n r refl)
+-- d: what is past a skip; only what broke off is refused
+past-numbered : (n : ℕ) (d : Due) → ((r : Refusal) → d ≡ Not r → r ≡ cutAt n) → DueNumbered d
+past-numbered n (After c) h = tt
+past-numbered n (Not r) h = omega (arith, ap (λ q. q .number) (h r refl))
 
-ended-numbered : (s : List ℕ) (at : ℕ) → DueNumbered (pastStatement s at)
-unfolding pastStatement
-ended-numbered s at = past-numbered (statementAt s at) (statement-refused s at)
+ended-numbered : (w : Bool) (s : List ℕ) (at : ℕ) → DueNumbered (pastStatement w s at)
+ended-numbered w s at = past-numbered (length s) (pastStatement w s at) (past-statement-not w s at)
 
-revision-numbered : (s : List ℕ) (at : ℕ) → DueNumbered (afterRevision s at)
+revision-numbered : (w : Bool) (s : List ℕ) (at : ℕ) → DueNumbered (afterRevision w s at)
 unfolding afterRevision
-revision-numbered s at = by-test (eqb (getD s at 256) 123) (λ t. rw t (ended-numbered s at)) (λ t. rw t (due-numbered s at 59 7))
+revision-numbered w s at = by-test (eqb (getD s at 256) 123) (λ t. rw t (ended-numbered w s at)) (λ t. rw t (due-numbered s at 59 7))
 
-value-numbered : (s : List ℕ) (at k : ℕ) → DueNumbered (afterValue s at k)
+value-numbered : (w : Bool) (s : List ℕ) (at k : ℕ) → DueNumbered (afterValue w s at k)
 unfolding afterValue
-value-numbered s at k =
-    by-test (eqb k 3) (λ t. rw t (ended-numbered s at))
-    (λ t. rw t (by-test (eqb k 7) (λ u. rw u (revision-numbered s (gapEnd s at))) (λ u. rw u (due-numbered s at (dueFor k) k))))
+value-numbered w s at k =
+    by-test (eqb k 3) (λ t. rw t (ended-numbered w s at))
+    (λ t. rw t (by-test (eqb k 7) (λ u. rw u (revision-numbered w s (gapEnd s at))) (λ u. rw u (due-numbered s at (dueFor k) k))))
 
 -- ---- a step
 
@@ -80,35 +77,41 @@ unfolding kept
 kept-numbered k u n (After c) h = tt
 kept-numbered k u n (Not r) h = h
 
-rest-numbered : (s : List ℕ) (k u : ℕ) (w : Val) → Numbered (withRest s k u (argumentOf u k w))
+rest-numbered : (w : Bool) (s : List ℕ) (k u : ℕ) (v : Val) → Numbered (withRest w s k u (argumentOf u k v))
 unfolding withRest argumentOf
-rest-numbered s k u (value bs end) = kept-numbered k u _ (afterValue s end k) (value-numbered s end k)
-rest-numbered s k u (none at) = omega arith
+rest-numbered w s k u (value bs end) = kept-numbered k u _ (afterValue w s end k) (value-numbered w s end k)
+rest-numbered w s k u (none at) = omega arith
 
-skipped-numbered : (s : List ℕ) (k : ℕ) (x : Skipped) → ((r : Refusal) → x ≡ RefusedSkip r → ⊥) → Numbered (afterSkipped s k x)
+field-numbered : (w : Bool) (s : List ℕ) (at k u : ℕ) → Numbered (fieldAt w s at k u .answer)
+unfolding fieldAt withRest argumentAt
+field-numbered w s at k u =
+    by-test (breaksOff w (closedAt s at)) (λ t. rw t (omega arith)) (λ t. rw t (rest-numbered w s k u (valueAt s at)))
+
+skipped-numbered : (w : Bool) (s : List ℕ) (k : ℕ) (d : Due) → DueNumbered d → Numbered (afterSkipped w s k d)
 unfolding afterSkipped
-skipped-numbered s k (Past c h) n = passed-numbered (afterValue s (c .at) k) (value-numbered s (c .at) k)
-skipped-numbered s k (RefusedSkip r) n = absurd (n r refl)
+skipped-numbered w s k (After c) h = passed-numbered (afterValue w s (c .at) k) (value-numbered w s (c .at) k)
+skipped-numbered w s k (Not r) h = h
 
-statement-numbered : (s : List ℕ) (at k u : ℕ) (p : Bool) → Numbered (statementSaid s at k u p .answer)
-unfolding statementSaid fieldAt argumentAt
-statement-numbered s at k u p =
-    by-test (eqb k 6) (λ t. rw t (skipped-numbered s k (skippedAt s at) (skipped-refused s at)))
+statement-numbered : (w : Bool) (s : List ℕ) (at k u : ℕ) (p : Bool) → Numbered (statementSaid w s at k u p .answer)
+unfolding statementSaid
+statement-numbered w s at k u p =
+    by-test (eqb k 6)
+    (λ t. rw t (skipped-numbered w s k (pastValue w s at) (past-numbered (length s) (pastValue w s at) (past-value-not w s at))))
     (λ t. rw t (by-test (laterPrefix k p)
-    (λ v. rw v (passed-numbered (pastStatement s at) (ended-numbered s at)))
-    (λ v. rw v (rest-numbered s k u (valueAt s at)))))
+    (λ v. rw v (passed-numbered (pastStatement w s at) (ended-numbered w s at)))
+    (λ v. rw v (field-numbered w s at k u))))
 
-tag-numbered : (s : List ℕ) (at u : ℕ) (p : Bool) (t : Tag) → Numbered (tagSaid s at u p t .answer)
+tag-numbered : (w : Bool) (s : List ℕ) (at u : ℕ) (p : Bool) (t : Tag) → Numbered (tagSaid w s at u p t .answer)
 unfolding tagSaid
-tag-numbered s at u p (Statement k c) = statement-numbered s (c .at) k u p
-tag-numbered s at u p (Last c) = tt
-tag-numbered s at u p Other = passed-numbered (pastOf (tokenAt s at)) (past-numbered (tokenAt s at) (token-refused s at))
+tag-numbered w s at u p (Statement k c) = statement-numbered w s (c .at) k u p
+tag-numbered w s at u p (Last c) = tt
+tag-numbered w s at u p Other = passed-numbered (pastToken w s at) (past-numbered (length s) (pastToken w s at) (past-token-not w s at))
 
-said-numbered : (s : List ℕ) (at u : ℕ) (p : Bool) → Numbered (saidAt s at u p .answer)
+said-numbered : (w : Bool) (s : List ℕ) (at u : ℕ) (p : Bool) → Numbered (saidAt w s at u p .answer)
 unfolding saidAt saidHere
-said-numbered s at u p =
+said-numbered w s at u p =
     let g = gapEnd s at in
-    by-test (leb (length s) g) (λ t. rw t tt) (λ t. rw t (tag-numbered s g u p (tagAt s g)))
+    by-test (leb (length s) g) (λ t. rw t tt) (λ t. rw t (tag-numbered w s g u p (tagAt s g)))
 
-pub said-number : (s : List ℕ) (at u : ℕ) (p : Bool) (r : Refusal) → saidAt s at u p .answer ≡ Refused r → 0 < r .number
-said-number s at u p r h = subst Numbered h (said-numbered s at u p)
+pub said-number : (w : Bool) (s : List ℕ) (at u : ℕ) (p : Bool) (r : Refusal) → saidAt w s at u p .answer ≡ Refused r → 0 < r .number
+said-number w s at u p r h = subst Numbered h (said-numbered w s at u p)

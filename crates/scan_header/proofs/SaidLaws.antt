@@ -1,5 +1,6 @@
 -- How far one step of the metadata scan goes and what it stores: a keyword takes a byte at least, and a value takes its own bytes behind it, so
 -- the scan ends and the values fit the store.
+-- w: the whole-text mode.
 -- Assumes nothing.
 use mathlib.Core.Path.{_≡_, refl, ap, subst}
 use mathlib.Core.Bool.{Bool, true, false, cond, _||_}
@@ -10,6 +11,7 @@ use lib.Dec.{eqb, leb}
 use lib.ListN.{length, getD}
 use borrow.Author.Tests.{leb-false}
 use Rattle.text.specs.Due.{dueAt}
+use Rattle.text.specs.Refusal.{cutAt}
 use Rattle.text.specs.Scan.{gapEnd}
 use Rattle.text.specs.declared.Cursor.{Cursor}
 use Rattle.text.specs.declared.Due.{Due}
@@ -18,20 +20,18 @@ use Rattle.text.specs.declared.Refusal.{Refusal}
 use Rattle.text.proofs.DueLaws.{due-far, due-refused-within}
 use Rattle.text.proofs.Laws.{gap-from, gap-within}
 use Rattle.text_value.specs.Argument.{argumentAt}
-use Rattle.text_value.specs.Value.{valueAt, valueBytes}
+use Rattle.text_value.specs.Value.{Val, value, none, valueAt, valueBytes}
 use Rattle.text_value.specs.declared.Argument.{Argument}
 use Rattle.text_value.specs.declared.Argument.the-variants.{Read, Refused as NoArgument}
 use Rattle.text_value.proofs.ArgumentLaws.{argument-far, argument-refused}
-use Rattle.text_skip.specs.Skip.{tokenAt, skippedAt}
-use Rattle.text_statement.specs.Statement.{statementAt}
-use Rattle.text_skip.specs.declared.Skipped.{Skipped}
-use Rattle.text_skip.specs.declared.Skipped.the-variants.{Past, Refused as RefusedSkip}
-use Rattle.text_skip.proofs.PassLaws.{skipped-far, skipped-refused}
-use Rattle.text_skip.proofs.SkipLaws.{token-far, token-refused}
-use Rattle.text_statement.proofs.StatementLaws.{statement-far, statement-refused}
+use Rattle.text_value.proofs.JoinLaws.{value-far}
+use Rattle.text_skip.specs.Skip.{pastToken, pastValue}
+use Rattle.text_skip.proofs.PastLaws.{past-token-far, past-token-not, past-value-far, past-value-not}
+use Rattle.text_statement.specs.Statement.{pastStatement}
+use Rattle.text_statement.proofs.PastLaws.{past-statement-far, past-statement-not}
 use Rattle.scan_rows.specs.Span.{held}
 use Rattle.scan_rows.specs.declared.Span.{Span}
-use Rattle.scan_header.specs.Header.{laterPrefix, pastOf, pastStatement, dueFor, afterRevision, afterValue, Said, said, passed, kept, withRest, fieldAt}
+use Rattle.scan_header.specs.Header.{laterPrefix, dueFor, afterRevision, afterValue, Said, said, passed, kept, withRest, fieldAt}
 use Rattle.scan_header.specs.Header.{afterSkipped, statementSaid, tagSaid, saidHere, saidAt}
 use Rattle.scan_tag.specs.Tag.{tagAt}
 use Rattle.scan_header.specs.declared.Heard.{Heard}
@@ -58,13 +58,16 @@ due-ends s at b k l small = of (dueAt s at b k) refl
     of (After c) h = omega (arith, due-far s at b k c small h)
     of (Not r) h = due-refused-within s at b k r l h .1
 
-past-ends : (s : List ℕ) (at : ℕ) → at ≤ length s → Ends s at (pastStatement s at)
-unfolding pastStatement pastOf
-past-ends s at l = of (statementAt s at) refl
+-- what broke off is refused at the text's end
+cut-within : (n : ℕ) {r : Refusal} → r ≡ cutAt n → r .at ≤ n
+cut-within n e = omega (arith, ap (λ q. q .at) e)
+
+past-ends : (w : Bool) (s : List ℕ) (at : ℕ) → at ≤ length s → Ends s at (pastStatement w s at)
+past-ends w s at l = of (pastStatement w s at) refl
   where
-    of : (x : Skipped) → statementAt s at ≡ x → Ends s at (pastOf x)
-    of (Past c h) e = statement-far s at l c h e
-    of (RefusedSkip r) e = absurd (statement-refused s at r e)
+    of : (d : Due) → pastStatement w s at ≡ d → Ends s at d
+    of (After c) e = past-statement-far w s at l c e
+    of (Not r) e = cut-within (length s) (past-statement-not w s at r e)
 
 due-small : (k : ℕ) → dueFor k < 256
 unfolding dueFor
@@ -74,20 +77,20 @@ ends-from : (s : List ℕ) (at g : ℕ) (d : Due) → at ≤ g → Ends s g d �
 ends-from s at g (After c) l e = (omega (arith, e .0), e .1)
 ends-from s at g (Not r) l e = e
 
-revision-ends : (s : List ℕ) (at : ℕ) → at ≤ length s → Ends s at (afterRevision s at)
+revision-ends : (w : Bool) (s : List ℕ) (at : ℕ) → at ≤ length s → Ends s at (afterRevision w s at)
 unfolding afterRevision
-revision-ends s at l =
-    by-cond (Ends s at) (eqb (getD s at 256) 123) (pastStatement s at) (dueAt s at 59 7)
-    (λ t. past-ends s at l) (λ t. due-ends s at 59 7 l (omega arith))
+revision-ends w s at l =
+    by-cond (Ends s at) (eqb (getD s at 256) 123) (pastStatement w s at) (dueAt s at 59 7)
+    (λ t. past-ends w s at l) (λ t. due-ends s at 59 7 l (omega arith))
 
-value-ends : (s : List ℕ) (at k : ℕ) → at ≤ length s → Ends s at (afterValue s at k)
+value-ends : (w : Bool) (s : List ℕ) (at k : ℕ) → at ≤ length s → Ends s at (afterValue w s at k)
 unfolding afterValue
-value-ends s at k l =
+value-ends w s at k l =
     let g = gapEnd s at in
-    by-cond (Ends s at) (eqb k 3) (pastStatement s at) (cond (eqb k 7) (afterRevision s g) (dueAt s at (dueFor k) k))
-    (λ t. past-ends s at l)
-    (λ t. by-cond (Ends s at) (eqb k 7) (afterRevision s g) (dueAt s at (dueFor k) k)
-    (λ v. ends-from s at g (afterRevision s g) (gap-from s at) (revision-ends s g (gap-within s at l)))
+    by-cond (Ends s at) (eqb k 3) (pastStatement w s at) (cond (eqb k 7) (afterRevision w s g) (dueAt s at (dueFor k) k))
+    (λ t. past-ends w s at l)
+    (λ t. by-cond (Ends s at) (eqb k 7) (afterRevision w s g) (dueAt s at (dueFor k) k)
+    (λ v. ends-from s at g (afterRevision w s g) (gap-from s at) (revision-ends w s g (gap-within s at l)))
     (λ v. due-ends s at (dueFor k) k l (due-small k)))
 
 -- ---- a step
@@ -102,8 +105,14 @@ Went s at u bs (Refused r) = (r .at ≤ length s) × (length bs ≤ length s - a
 abbrev Goes : List ℕ → ℕ → ℕ → Said → Type 0
 Goes s at u x = Went s at u (x .bytes) (x .answer)
 
+-- what is stored of a value fits the rest of the text
+value-fits : (s : List ℕ) (at : ℕ) (v : Val) → valueAt s at ≡ v → length (valueBytes v) ≤ length s - at
+unfolding valueBytes
+value-fits s at (value bs e) h = omega (arith, value-far s at bs e h)
+value-fits s at (none e) h = omega arith
+
 -- i: behind the keyword
-module _ (s : List ℕ) (at i u : ℕ) (behind : at < i) (in-text : i ≤ length s) where
+module _ (w : Bool) (s : List ℕ) (at i u : ℕ) (behind : at < i) (in-text : i ≤ length s) where
   passed-went : (j : ℕ) (d : Due) → i ≤ j → Ends s j d → Went s at u [] (passed d)
   unfolding passed
   passed-went j (After c) l e = (omega (arith, e .0), e .1, refl)
@@ -112,61 +121,59 @@ module _ (s : List ℕ) (at i u : ℕ) (behind : at < i) (in-text : i ≤ length
   -- j: behind the value
   kept-went : (k j n : ℕ) (bs : List ℕ) (d : Due) → i + length bs ≤ j → j ≤ length s → n ≡ u + length bs → Ends s j d → Went s at u bs (kept k u n d)
   unfolding kept
-  kept-went k j n bs (After c) l w m e = (omega (arith, e .0), e .1, ap (held u) (omega arith), m)
-  kept-went k j n bs (Not r) l w m e = (e, omega arith)
+  kept-went k j n bs (After c) l t m e = (omega (arith, e .0), e .1, ap (held u) (omega arith), m)
+  kept-went k j n bs (Not r) l t m e = (e, omega arith)
 
-  rest-went : (k : ℕ) (a : Argument) → argumentAt s i u k ≡ a → Went s at u (valueBytes (valueAt s i)) (withRest s k u a)
+  rest-went : (k : ℕ) (a : Argument) → argumentAt w s i u k ≡ a → Went s at u (valueBytes (valueAt s i)) (withRest w s k u a)
   unfolding withRest
   rest-went k (Read c n) h =
-      let f = argument-far s i u k c n h in
-      kept-went k (c .at) n (valueBytes (valueAt s i)) (afterValue s (c .at) k) (f .1) (f .2) (f .3) (value-ends s (c .at) k (f .2))
-  rest-went k (NoArgument r) h =
-      let f = argument-refused s i u k r in-text h in
-      (f .3, omega (arith, ap length (f .4)))
+      let f = argument-far w s i u k c n h in
+      kept-went k (c .at) n (valueBytes (valueAt s i)) (afterValue w s (c .at) k) (f .1) (f .2) (f .3) (value-ends w s (c .at) k (f .2))
+  rest-went k (NoArgument r) h = (argument-refused w s i u k r in-text h .1, omega (arith, value-fits s i (valueAt s i) refl))
 
-  field-goes : (k : ℕ) → Goes s at u (fieldAt s i k u)
+  field-goes : (k : ℕ) → Goes s at u (fieldAt w s i k u)
   unfolding fieldAt
-  field-goes k = rest-went k (argumentAt s i u k) refl
+  field-goes k = rest-went k (argumentAt w s i u k) refl
 
-  skipped-went : (k : ℕ) (x : Skipped) → skippedAt s i ≡ x → Went s at u [] (afterSkipped s k x)
+  skipped-went : (k : ℕ) (d : Due) → pastValue w s i ≡ d → Went s at u [] (afterSkipped w s k d)
   unfolding afterSkipped
-  skipped-went k (Past c h) e =
-      let f = skipped-far s i in-text c h e in
-      passed-went (c .at) (afterValue s (c .at) k) (f .0) (value-ends s (c .at) k (f .1))
-  skipped-went k (RefusedSkip r) e = absurd (skipped-refused s i r e)
+  skipped-went k (After c) e =
+      let f = past-value-far w s i in-text c e in
+      passed-went (c .at) (afterValue w s (c .at) k) (f .0) (value-ends w s (c .at) k (f .1))
+  skipped-went k (Not r) e = (cut-within (length s) (past-value-not w s i r e), omega arith)
 
-  statement-goes : (k : ℕ) (p : Bool) → Goes s at u (statementSaid s i k u p)
+  statement-goes : (k : ℕ) (p : Bool) → Goes s at u (statementSaid w s i k u p)
   unfolding statementSaid
   statement-goes k p =
-      let version = said (afterSkipped s k (skippedAt s i)) in
-      let again = said (passed (pastStatement s i)) in
-      by-cond (Goes s at u) (eqb k 6) version (cond (laterPrefix k p) again (fieldAt s i k u))
-      (λ t. skipped-went k (skippedAt s i) refl)
-      (λ t. by-cond (Goes s at u) (laterPrefix k p) again (fieldAt s i k u)
-      (λ v. passed-went i (pastStatement s i) (omega arith) (past-ends s i in-text))
+      let version = said (afterSkipped w s k (pastValue w s i)) in
+      let again = said (passed (pastStatement w s i)) in
+      by-cond (Goes s at u) (eqb k 6) version (cond (laterPrefix k p) again (fieldAt w s i k u))
+      (λ t. skipped-went k (pastValue w s i) refl)
+      (λ t. by-cond (Goes s at u) (laterPrefix k p) again (fieldAt w s i k u)
+      (λ v. passed-went i (pastStatement w s i) (omega arith) (past-ends w s i in-text))
       (λ v. field-goes k))
 
 -- at the place g after the gap
-token-went : (s : List ℕ) (at g u : ℕ) → at ≤ g → g < length s → (x : Skipped) → tokenAt s g ≡ x → Went s at u [] (passed (pastOf x))
-unfolding passed pastOf
-token-went s at g u from in-text (Past c h) e = let f = token-far s g in-text c h e in (omega (arith, f .0), f .1, refl)
-token-went s at g u from in-text (RefusedSkip r) e = absurd (token-refused s g r e)
+token-went : (w : Bool) (s : List ℕ) (at g u : ℕ) → at ≤ g → g < length s → (d : Due) → pastToken w s g ≡ d → Went s at u [] (passed d)
+unfolding passed
+token-went w s at g u from in-text (After c) e = let f = past-token-far w s g in-text c e in (omega (arith, f .0), f .1, refl)
+token-went w s at g u from in-text (Not r) e = (cut-within (length s) (past-token-not w s g r e), omega arith)
 
-tag-goes : (s : List ℕ) (at g u : ℕ) (p : Bool) → at ≤ g → g < length s → (t : Tag) → tagAt s g ≡ t → Goes s at u (tagSaid s g u p t)
+tag-goes : (w : Bool) (s : List ℕ) (at g u : ℕ) (p : Bool) → at ≤ g → g < length s → (t : Tag) → tagAt s g ≡ t → Goes s at u (tagSaid w s g u p t)
 unfolding tagSaid
-tag-goes s at g u p from in-text (Statement k c) h =
-    let f = tag-far s g k c h in statement-goes s at (c .at) u (omega (arith, f .0)) (f .1) k p
-tag-goes s at g u p from in-text (Last c) h =
+tag-goes w s at g u p from in-text (Statement k c) h =
+    let f = tag-far s g k c h in statement-goes w s at (c .at) u (omega (arith, f .0)) (f .1) k p
+tag-goes w s at g u p from in-text (Last c) h =
     let f = tag-last-far s g c h in (omega (arith, f .0), λ l. f .1, refl)
-tag-goes s at g u p from in-text Other h = token-went s at g u from in-text (tokenAt s g) refl
+tag-goes w s at g u p from in-text Other h = token-went w s at g u from in-text (pastToken w s g) refl
 
-said-goes : (s : List ℕ) (at u : ℕ) (p : Bool) → Goes s at u (saidAt s at u p)
+said-goes : (w : Bool) (s : List ℕ) (at u : ℕ) (p : Bool) → Goes s at u (saidAt w s at u p)
 unfolding saidAt saidHere
-said-goes s at u p =
+said-goes w s at u p =
     let g = gapEnd s at in
-    by-cond (Goes s at u) (leb (length s) g) (said (Done (record { at = g }))) (tagSaid s g u p (tagAt s g))
+    by-cond (Goes s at u) (leb (length s) g) (said (Done (record { at = g }))) (tagSaid w s g u p (tagAt s g))
     (λ t. (gap-from s at, gap-within s at, refl))
-    (λ t. tag-goes s at g u p (gap-from s at) (leb-false (length s) g t) (tagAt s g) refl)
+    (λ t. tag-goes w s at g u p (gap-from s at) (leb-false (length s) g t) (tagAt s g) refl)
 
 went-room : (s : List ℕ) (at u : ℕ) (bs : List ℕ) (x : Heard) → Went s at u bs x → u + length bs ≤ u + (length s - at)
 went-room s at u bs (Value k y c n) w = omega (arith, w .0, w .1)
@@ -174,27 +181,27 @@ went-room s at u bs (Passed c) w = omega (arith, ap length (w .2))
 went-room s at u bs (Done c) w = omega (arith, ap length (w .2))
 went-room s at u bs (Refused r) w = omega (arith, w .1)
 
-module _ (s : List ℕ) (at u : ℕ) (p : Bool) where
-  went : (x : Heard) → saidAt s at u p .answer ≡ x → Went s at u (saidAt s at u p .bytes) x
-  went x h = subst (Went s at u (saidAt s at u p .bytes)) h (said-goes s at u p)
+module _ (w : Bool) (s : List ℕ) (at u : ℕ) (p : Bool) where
+  went : (x : Heard) → saidAt w s at u p .answer ≡ x → Went s at u (saidAt w s at u p .bytes) x
+  went x h = subst (Went s at u (saidAt w s at u p .bytes)) h (said-goes w s at u p)
 
   -- the bytes stored fit the rest of the text
-  pub said-room : u + length (saidAt s at u p .bytes) ≤ u + (length s - at)
-  said-room = went-room s at u (saidAt s at u p .bytes) (saidAt s at u p .answer) (said-goes s at u p)
+  pub said-room : u + length (saidAt w s at u p .bytes) ≤ u + (length s - at)
+  said-room = went-room s at u (saidAt w s at u p .bytes) (saidAt w s at u p .answer) (said-goes w s at u p)
 
   -- a value: its bytes are those stored, and room for the rest of the text stays
-  pub said-value : (k : ℕ) (y : Span) (c : Cursor) (n : ℕ) → saidAt s at u p .answer ≡ Value k y c n
-      → (at < c .at) × (c .at ≤ length s) × (y ≡ held u (length (saidAt s at u p .bytes))) × (n ≡ u + length (saidAt s at u p .bytes))
+  pub said-value : (k : ℕ) (y : Span) (c : Cursor) (n : ℕ) → saidAt w s at u p .answer ≡ Value k y c n
+      → (at < c .at) × (c .at ≤ length s) × (y ≡ held u (length (saidAt w s at u p .bytes))) × (n ≡ u + length (saidAt w s at u p .bytes))
       × (n + (length s - c .at) ≤ u + (length s - at))
   said-value k y c n h =
-      let w = went (Value k y c n) h in
-      (omega (arith, w .0), w .1, w .2, w .3, omega (arith, w .0, w .1, w .3))
+      let f = went (Value k y c n) h in
+      (omega (arith, f .0), f .1, f .2, f .3, omega (arith, f .0, f .1, f .3))
 
-  pub said-passed : (c : Cursor) → saidAt s at u p .answer ≡ Passed c → (at < c .at) × (c .at ≤ length s) × (saidAt s at u p .bytes ≡ [])
+  pub said-passed : (c : Cursor) → saidAt w s at u p .answer ≡ Passed c → (at < c .at) × (c .at ≤ length s) × (saidAt w s at u p .bytes ≡ [])
   said-passed c h = went (Passed c) h
 
-  pub said-done : at ≤ length s → (c : Cursor) → saidAt s at u p .answer ≡ Done c → (at ≤ c .at) × (c .at ≤ length s) × (saidAt s at u p .bytes ≡ [])
-  said-done l c h = let w = went (Done c) h in (w .0, w .1 l, w .2)
+  pub said-done : at ≤ length s → (c : Cursor) → saidAt w s at u p .answer ≡ Done c → (at ≤ c .at) × (c .at ≤ length s) × (saidAt w s at u p .bytes ≡ [])
+  said-done l c h = let f = went (Done c) h in (f .0, f .1 l, f .2)
 
-  pub said-refused : (r : Refusal) → saidAt s at u p .answer ≡ Refused r → (r .at ≤ length s) × (u + length (saidAt s at u p .bytes) ≤ u + (length s - at))
+  pub said-refused : (r : Refusal) → saidAt w s at u p .answer ≡ Refused r → (r .at ≤ length s) × (u + length (saidAt w s at u p .bytes) ≤ u + (length s - at))
   said-refused r h = (went (Refused r) h .0, said-room)

@@ -1,4 +1,5 @@
 -- The loop of the scan: what was read so far stands in the store and the six values, and the scan from here is the scan of the text.
+-- w: the whole-text mode.
 -- Assumes nothing.
 use mathlib.Core.Path.{_≡_, refl, sym, ap, _∙_}
 use mathlib.Core.Bool.{Bool}
@@ -40,21 +41,21 @@ module _ (bs d : List ℕ) {e : List ℕ} (h : e ≡ sets d 0 bs) (room : length
 
 -- ---- the invariant; d: the store at entry, e: now
 
-pub record Sofar (s d : List ℕ) (values : List Span) (at used : ℕ) (e : List ℕ) : Type 0 where
+pub record Sofar (w : Bool) (s d : List ℕ) (values : List Span) (at used : ℕ) (e : List ℕ) : Type 0 where
   pub read : Metadata
   pub held : values ≡ valuesOf read
   pub count : used ≡ length (read .bytes)
   pub stored : e ≡ sets d 0 (read .bytes)
   pub long : length s ≤ length d
   pub sound : Sound s (record { at = at; read = read })
-  pub same : scanFrom s (record { at = at; read = read }) ≡ scanned s
+  pub same : scanFrom w s (record { at = at; read = read }) ≡ scanned w s
 
-module _ {s d : List ℕ} where
-  pub loop-begin : {values : List Span} → values ≡ noValues → length s ≤ length d → Sofar s d values 0 0 d
+module _ {w : Bool} {s d : List ℕ} where
+  pub loop-begin : {values : List Span} → values ≡ noValues → length s ≤ length d → Sofar w s d values 0 0 d
   unfolding valuesOf firstOf newest newestFrom scanned
   loop-begin v l = record { read = nothing; held = v; count = refl; stored = refl; long = l; sound = sound-start s; same = refl }
 
-  module _ {values : List Span} {at used : ℕ} {e : List ℕ} (j : Sofar s d values at used e) where
+  module _ {values : List Span} {at used : ℕ} {e : List ℕ} (j : Sofar w s d values at used e) where
     -- what the step requires
     pub loop-room : used + (length s - at) ≤ length e
     loop-room = omega (arith, j .count, j .sound .room, j .long, ap length (j .stored), length-sets d 0 (j .read .bytes))
@@ -67,95 +68,95 @@ module _ {s d : List ℕ} where
     here = record { at = at; read = j .read }
 
     -- p: whether a prefix was read; r: what the step answered; e′: the store then
-    module _ {p : Bool} (pe : p ≡ getD values 2 missing .present) {r : Heard} (re : r ≡ saidAt s at used p .answer)
-        {e′ : List ℕ} (ee : e′ ≡ sets e used (saidAt s at used p .bytes)) where
-      step-is : saidAt s at used p ≡ heard s here
+    module _ {p : Bool} (pe : p ≡ getD values 2 missing .present) {r : Heard} (re : r ≡ saidAt w s at used p .answer)
+        {e′ : List ℕ} (ee : e′ ≡ sets e used (saidAt w s at used p .bytes)) where
+      step-is : saidAt w s at used p ≡ heard w s here
       step-is =
           let q : p ≡ j .read .prefix .present = pe ∙ ap (λ vs. getD vs 2 missing .present) (j .held) ∙ ap (λ x. x .present) (values-prefix (j .read)) in
-          ap (λ u. saidAt s at u p) (j .count) ∙ ap (saidAt s at (length (j .read .bytes))) q
+          ap (λ u. saidAt w s at u p) (j .count) ∙ ap (saidAt w s at (length (j .read .bytes))) q
 
-      step-answer : {x : Heard} → r ≡ x → heard s here .answer ≡ x
+      step-answer : {x : Heard} → r ≡ x → heard w s here .answer ≡ x
       step-answer h = sym (ap (λ y. y .answer) step-is) ∙ sym re ∙ h
 
       -- what is stored then
-      step-stored : e′ ≡ sets d 0 (j .read .bytes ++ heard s here .bytes)
+      step-stored : e′ ≡ sets d 0 (j .read .bytes ++ heard w s here .bytes)
       step-stored =
           let bs = j .read .bytes in
-          let cs = heard s here .bytes in
+          let cs = heard w s here .bytes in
           ee ∙ ap (λ y. sets e used (y .bytes)) step-is ∙ ap (λ l. sets l used cs) (j .stored)
-          ∙ ap (λ i. sets (sets d 0 bs) i cs) (j .count ∙ sym (zero-add (length bs))) ∙ sym (sets-append d 0 bs cs)
+          ∙ ap (λ n. sets (sets d 0 bs) n cs) (j .count ∙ sym (zero-add (length bs))) ∙ sym (sets-append d 0 bs cs)
 
       -- nothing is stored
-      same-stored : heard s here .bytes ≡ [] → e′ ≡ sets d 0 (j .read .bytes)
+      same-stored : heard w s here .bytes ≡ [] → e′ ≡ sets d 0 (j .read .bytes)
       same-stored h = ee ∙ ap (λ y. sets e used (y .bytes)) step-is ∙ ap (sets e used) h ∙ j .stored
 
       module _ (k : ℕ) (x : Span) (c : Cursor) (n : ℕ) (h : r ≡ Value k x c n) where
-        value-held : keptIn e′ values k x ≡ valuesOf (told (j .read) k x (heard s here .bytes))
+        value-held : keptIn e′ values k x ≡ valuesOf (told (j .read) k x (heard w s here .bytes))
         value-held =
             let m = j .read in
-            let cs = heard s here .bytes in
-            let w = said-value s at (length (m .bytes)) (m .prefix .present) k x c n (step-answer h) in
-            let u = said-room s at (length (m .bytes)) (m .prefix .present) in
+            let cs = heard w s here .bytes in
+            let i = said-value w s at (length (m .bytes)) (m .prefix .present) k x c n (step-answer h) in
+            let u = said-room w s at (length (m .bytes)) (m .prefix .present) in
             let l : length (m .bytes ++ cs) ≤ length d = omega (arith, u, length-append (m .bytes) cs, j .sound .room, j .long) in
             ap (λ vs. keptIn e′ vs k x) (j .held)
             ∙ kept-told e′ m k x cs
             (each-of (Kept (m .bytes)) Read (λ r q. q .0) (m .revisions) (j .sound .placed .revisions))
-            (value-stored (m .bytes ++ cs) d x (within-new (m .bytes) cs x (w .2)) step-stored l ∙ value-new (m .bytes) cs x (w .2))
+            (value-stored (m .bytes ++ cs) d x (within-new (m .bytes) cs x (i .2)) step-stored l ∙ value-new (m .bytes) cs x (i .2))
             (stored-newest (m .bytes ++ cs) d step-stored l (m .revisions) (each-more (m .bytes) cs (m .revisions) (j .sound .placed .revisions)))
 
-        pub loop-value : {values′ : List Span} → values′ ≡ keptIn e′ values k x → Sofar s d values′ (c .at) n e′
+        pub loop-value : {values′ : List Span} → values′ ≡ keptIn e′ values k x → Sofar w s d values′ (c .at) n e′
         loop-value v =
             let m = j .read in
-            let cs = heard s here .bytes in
-            let w = said-value s at (length (m .bytes)) (m .prefix .present) k x c n (step-answer h) in
+            let cs = heard w s here .bytes in
+            let i = said-value w s at (length (m .bytes)) (m .prefix .present) k x c n (step-answer h) in
             let b = told-bytes m k x cs in
             record {
               read = told m k x cs;
               held = v ∙ value-held;
-              count = omega (arith, w .3, ap length b, length-append (m .bytes) cs);
+              count = omega (arith, i .3, ap length b, length-append (m .bytes) cs);
               stored = step-stored ∙ ap (sets d 0) (sym b);
               long = j .long;
-              sound = sound-told s here (j .sound) k x c n (step-answer h);
-              same = sym (scan-value s here k x c n (step-answer h)) ∙ j .same;
+              sound = sound-told w s here (j .sound) k x c n (step-answer h);
+              same = sym (scan-value w s here k x c n (step-answer h)) ∙ j .same;
             }
 
         pub loop-value-nearer : length s - c .at < length s - at
-        loop-value-nearer = told-nearer s here k x c n (step-answer h)
+        loop-value-nearer = told-nearer w s here k x c n (step-answer h)
 
       module _ (c : Cursor) (h : r ≡ Passed c) where
-        pub loop-passed : Sofar s d values (c .at) used e′
+        pub loop-passed : Sofar w s d values (c .at) used e′
         loop-passed =
             let m = j .read in
-            let w = said-passed s at (length (m .bytes)) (m .prefix .present) c (step-answer h) in
+            let i = said-passed w s at (length (m .bytes)) (m .prefix .present) c (step-answer h) in
             record {
               read = m;
               held = j .held;
               count = j .count;
-              stored = same-stored (w .2);
+              stored = same-stored (i .2);
               long = j .long;
-              sound = sound-passed s here (j .sound) c (step-answer h);
-              same = sym (scan-passed s here c (step-answer h)) ∙ j .same;
+              sound = sound-passed w s here (j .sound) c (step-answer h);
+              same = sym (scan-passed w s here c (step-answer h)) ∙ j .same;
             }
 
         pub loop-passed-nearer : length s - c .at < length s - at
-        loop-passed-nearer = passed-nearer s here c (step-answer h)
+        loop-passed-nearer = passed-nearer w s here c (step-answer h)
 
       -- x: the scan from here
-      loop-ends : (x : Scan) → scanFrom s here ≡ x → {a : YangModuleMetadata} → a ≡ answerOf x → e′ ≡ sets d 0 (storedOf x) → Parses s d a e′
+      loop-ends : (x : Scan) → scanFrom w s here ≡ x → {a : YangModuleMetadata} → a ≡ answerOf x → e′ ≡ sets d 0 (storedOf x) → Parses w s d a e′
       loop-ends x q ae se =
-          let k : x ≡ scanned s = sym q ∙ j .same in
+          let k : x ≡ scanned w s = sym q ∙ j .same in
           record { answer = ae ∙ ap answerOf k; stored = se ∙ ap (λ y. sets d 0 (storedOf y)) k }
 
-      pub loop-done : (c : Cursor) → r ≡ Done c → {a : YangModuleMetadata} → a ≡ endedWith values used (c .at) → Parses s d a e′
+      pub loop-done : (c : Cursor) → r ≡ Done c → {a : YangModuleMetadata} → a ≡ endedWith values used (c .at) → Parses w s d a e′
       loop-done c h ae =
           let m = j .read in
-          let w = said-done s at (length (m .bytes)) (m .prefix .present) (j .sound .inside) c (step-answer h) in
-          loop-ends (ended m (c .at)) (scan-done s here c (step-answer h))
+          let i = said-done w s at (length (m .bytes)) (m .prefix .present) (j .sound .inside) c (step-answer h) in
+          loop-ends (ended m (c .at)) (scan-done w s here c (step-answer h))
           (ae ∙ ap (λ vs. endedWith vs used (c .at)) (j .held) ∙ ap (λ n. endedWith (valuesOf m) n (c .at)) (j .count) ∙ ended-is m (c .at))
-          (same-stored (w .2) ∙ ap (sets d 0) (sym (stored-is m (c .at))))
+          (same-stored (i .2) ∙ ap (sets d 0) (sym (stored-is m (c .at))))
 
-      pub loop-refused : (q : Refusal) → r ≡ Refused q → {p : Refusal} → p ≡ heardRefusal r → {a : YangModuleMetadata} → a ≡ refusedWith p → Parses s d a e′
+      pub loop-refused : (q : Refusal) → r ≡ Refused q → {p : Refusal} → p ≡ heardRefusal r → {a : YangModuleMetadata} → a ≡ refusedWith p → Parses w s d a e′
       unfolding answerOf storedOf heardRefusal
       loop-refused q h f ae =
-          loop-ends (bad q (j .read .bytes ++ heard s here .bytes))
-          (scan-refused s here q (step-answer h)) (ae ∙ ap refusedWith (f ∙ ap heardRefusal h)) step-stored
+          loop-ends (bad q (j .read .bytes ++ heard w s here .bytes))
+          (scan-refused w s here q (step-answer h)) (ae ∙ ap refusedWith (f ∙ ap heardRefusal h)) step-stored

@@ -1,5 +1,5 @@
 -- The scan as a whole: each step comes nearer the text's end, so the turns end; each value lies in the bytes stored where its span says, and more
--- bytes behind change nothing of that, so it holds when the scan ends.
+-- bytes behind change nothing of that, so it holds when the scan ends. w: the whole-text mode.
 -- Assumes nothing.
 use mathlib.Core.Path.{_≡_, refl, ap, subst, _∙_}
 use mathlib.Core.Bool.{Bool, true, false, cond}
@@ -118,87 +118,88 @@ sound-start s = record {
 }
 
 -- what the step from there says
-abbrev pub heard : List ℕ → Reading → Said
-heard s g = saidAt s (g .at) (length (g .read .bytes)) (g .read .prefix .present)
+abbrev pub heard : Bool → List ℕ → Reading → Said
+heard w s g = saidAt w s (g .at) (length (g .read .bytes)) (g .read .prefix .present)
 
-module _ (s : List ℕ) (g : Reading) where
+module _ (w : Bool) (s : List ℕ) (g : Reading) where
   module _ (f : Sound s g) where
-    pub sound-told : (k : ℕ) (x : Span) (c : Cursor) (n : ℕ) → heard s g .answer ≡ Value k x c n
-        → Sound s (record { at = c .at; read = told (g .read) k x (heard s g .bytes) })
+    pub sound-told : (k : ℕ) (x : Span) (c : Cursor) (n : ℕ) → heard w s g .answer ≡ Value k x c n
+        → Sound s (record { at = c .at; read = told (g .read) k x (heard w s g .bytes) })
     sound-told k x c n h =
         let m = g .read in
-        let bs = heard s g .bytes in
-        let w = said-value s (g .at) (length (m .bytes)) (m .prefix .present) k x c n h in
+        let bs = heard w s g .bytes in
+        let i = said-value w s (g .at) (length (m .bytes)) (m .prefix .present) k x c n h in
         let l : length (told m k x bs .bytes) ≡ length (m .bytes) + length bs = ap length (told-bytes m k x bs) ∙ length-append (m .bytes) bs in
-        record { inside = w .1; room = omega (arith, l, w .3, w .4, f .room); placed = placed-told m k x bs (w .2) (f .placed) }
+        record { inside = i .1; room = omega (arith, l, i .3, i .4, f .room); placed = placed-told m k x bs (i .2) (f .placed) }
 
-    pub sound-passed : (c : Cursor) → heard s g .answer ≡ Passed c → Sound s (record { at = c .at; read = g .read })
+    pub sound-passed : (c : Cursor) → heard w s g .answer ≡ Passed c → Sound s (record { at = c .at; read = g .read })
     sound-passed c h =
-        let w = said-passed s (g .at) (length (g .read .bytes)) (g .read .prefix .present) c h in
-        record { inside = w .1; room = omega (arith, w .0, w .1, f .room); placed = f .placed }
+        let i = said-passed w s (g .at) (length (g .read .bytes)) (g .read .prefix .present) c h in
+        record { inside = i .1; room = omega (arith, i .0, i .1, f .room); placed = f .placed }
 
   -- the step comes nearer the end
-  pub told-nearer : (k : ℕ) (x : Span) (c : Cursor) (n : ℕ) → heard s g .answer ≡ Value k x c n → length s - c .at < length s - g .at
+  pub told-nearer : (k : ℕ) (x : Span) (c : Cursor) (n : ℕ) → heard w s g .answer ≡ Value k x c n → length s - c .at < length s - g .at
   told-nearer k x c n h =
-      let w = said-value s (g .at) (length (g .read .bytes)) (g .read .prefix .present) k x c n h in omega (arith, w .0, w .1)
+      let i = said-value w s (g .at) (length (g .read .bytes)) (g .read .prefix .present) k x c n h in omega (arith, i .0, i .1)
 
-  pub passed-nearer : (c : Cursor) → heard s g .answer ≡ Passed c → length s - c .at < length s - g .at
+  pub passed-nearer : (c : Cursor) → heard w s g .answer ≡ Passed c → length s - c .at < length s - g .at
   passed-nearer c h =
-      let w = said-passed s (g .at) (length (g .read .bytes)) (g .read .prefix .present) c h in omega (arith, w .0, w .1)
+      let i = said-passed w s (g .at) (length (g .read .bytes)) (g .read .prefix .present) c h in omega (arith, i .0, i .1)
 
 -- ---- the turns
 
-module _ (s : List ℕ) (g : Reading) where
+module _ (w : Bool) (s : List ℕ) (g : Reading) where
   -- what holds behind a value and behind what is passed holds behind the turn
   turn-keeps : (P : Reading → Type 0)
-      → ((k : ℕ) (x : Span) (c : Cursor) (n : ℕ) → heard s g .answer ≡ Value k x c n → P (record { at = c .at; read = told (g .read) k x (heard s g .bytes) }))
-      → ((c : Cursor) → heard s g .answer ≡ Passed c → P (record { at = c .at; read = g .read }))
-      → (h : Reading) → metadataTurn s g ≡ on h → P h
+      → ((k : ℕ) (x : Span) (c : Cursor) (n : ℕ) → heard w s g .answer ≡ Value k x c n
+      → P (record { at = c .at; read = told (g .read) k x (heard w s g .bytes) }))
+      → ((c : Cursor) → heard w s g .answer ≡ Passed c → P (record { at = c .at; read = g .read }))
+      → (h : Reading) → metadataTurn w s g ≡ on h → P h
   unfolding metadataTurn afterHeard
-  turn-keeps P v p h t = of (heard s g .answer) refl t
+  turn-keeps P v p h t = of (heard w s g .answer) refl t
     where
-      of : (r : Heard) → heard s g .answer ≡ r → afterHeard (g .read) (heard s g .bytes) r ≡ on h → P h
-      of (Value k x c n) e t = let q : record { at = c .at; read = told (g .read) k x (heard s g .bytes) } ≡ h = cc in subst P q (v k x c n e)
+      of : (r : Heard) → heard w s g .answer ≡ r → afterHeard (g .read) (heard w s g .bytes) r ≡ on h → P h
+      of (Value k x c n) e t = let q : record { at = c .at; read = told (g .read) k x (heard w s g .bytes) } ≡ h = cc in subst P q (v k x c n e)
       of (Passed c) e t = let q : record { at = c .at; read = g .read } ≡ h = cc in subst P q (p c e)
       of (Done c) e t = let z : _≡_ {A = ℕ} 0 1 = cc in absurd (omega arith)
       of (Refused r) e t = let z : _≡_ {A = ℕ} 0 1 = cc in absurd (omega arith)
 
-  pub turn-sound : Sound s g → (h : Reading) → metadataTurn s g ≡ on h → Sound s h
-  turn-sound f = turn-keeps (Sound s) (sound-told s g f) (sound-passed s g f)
+  pub turn-sound : Sound s g → (h : Reading) → metadataTurn w s g ≡ on h → Sound s h
+  turn-sound f = turn-keeps (Sound s) (sound-told w s g f) (sound-passed w s g f)
 
-  pub turn-falls : (h : Reading) → metadataTurn s g ≡ on h → length s - h .at < length s - g .at
-  turn-falls = turn-keeps (λ h. length s - h .at < length s - g .at) (told-nearer s g) (passed-nearer s g)
+  pub turn-falls : (h : Reading) → metadataTurn w s g ≡ on h → length s - h .at < length s - g .at
+  turn-falls = turn-keeps (λ h. length s - h .at < length s - g .at) (told-nearer w s g) (passed-nearer w s g)
 
-module _ (s : List ℕ) (g : Reading) where
-  pub scan-on : (h : Reading) → metadataTurn s g ≡ on h → scanFrom s g ≡ scanFrom s h
+module _ (w : Bool) (s : List ℕ) (g : Reading) where
+  pub scan-on : (h : Reading) → metadataTurn w s g ≡ on h → scanFrom w s g ≡ scanFrom w s h
   unfolding scanFrom
   scan-on h t =
-      turns-on (metadataTurn s) (good nothing) (λ b. length s - b .at) (turn-falls s)
+      turns-on (metadataTurn w s) (good nothing) (λ b. length s - b .at) (turn-falls w s)
       (suc (length s)) (suc (length s)) g h (omega arith) (omega arith) t
 
-  pub scan-stop : (x : Scan) → metadataTurn s g ≡ stop x → scanFrom s g ≡ x
+  pub scan-stop : (x : Scan) → metadataTurn w s g ≡ stop x → scanFrom w s g ≡ x
   unfolding scanFrom
-  scan-stop x t = turns-stop (metadataTurn s) (good nothing) (λ b. length s - b .at) (turn-falls s) (suc (length s)) g x (omega arith) t
+  scan-stop x t = turns-stop (metadataTurn w s) (good nothing) (λ b. length s - b .at) (turn-falls w s) (suc (length s)) g x (omega arith) t
 
-  turn-is : {r : Heard} → heard s g .answer ≡ r → metadataTurn s g ≡ afterHeard (g .read) (heard s g .bytes) r
+  turn-is : {r : Heard} → heard w s g .answer ≡ r → metadataTurn w s g ≡ afterHeard (g .read) (heard w s g .bytes) r
   unfolding metadataTurn
-  turn-is h = ap (afterHeard (g .read) (heard s g .bytes)) h
+  turn-is h = ap (afterHeard (g .read) (heard w s g .bytes)) h
 
   -- the step's answers
-  pub scan-value : (k : ℕ) (x : Span) (c : Cursor) (n : ℕ) → heard s g .answer ≡ Value k x c n
-      → scanFrom s g ≡ scanFrom s (record { at = c .at; read = told (g .read) k x (heard s g .bytes) })
+  pub scan-value : (k : ℕ) (x : Span) (c : Cursor) (n : ℕ) → heard w s g .answer ≡ Value k x c n
+      → scanFrom w s g ≡ scanFrom w s (record { at = c .at; read = told (g .read) k x (heard w s g .bytes) })
   unfolding afterHeard
   scan-value k x c n h = scan-on _ (turn-is h)
 
-  pub scan-passed : (c : Cursor) → heard s g .answer ≡ Passed c → scanFrom s g ≡ scanFrom s (record { at = c .at; read = g .read })
+  pub scan-passed : (c : Cursor) → heard w s g .answer ≡ Passed c → scanFrom w s g ≡ scanFrom w s (record { at = c .at; read = g .read })
   unfolding afterHeard
   scan-passed c h = scan-on _ (turn-is h)
 
-  pub scan-done : (c : Cursor) → heard s g .answer ≡ Done c → scanFrom s g ≡ ended (g .read) (c .at)
+  pub scan-done : (c : Cursor) → heard w s g .answer ≡ Done c → scanFrom w s g ≡ ended (g .read) (c .at)
   unfolding afterHeard
   scan-done c h = scan-stop _ (turn-is h)
 
-  pub scan-refused : (r : Refusal) → heard s g .answer ≡ Refused r → scanFrom s g ≡ bad r (g .read .bytes ++ heard s g .bytes)
+  pub scan-refused : (r : Refusal) → heard w s g .answer ≡ Refused r → scanFrom w s g ≡ bad r (g .read .bytes ++ heard w s g .bytes)
   unfolding afterHeard
   scan-refused r h = scan-stop _ (turn-is h)
 
@@ -219,51 +220,51 @@ module _ (s : List ℕ) (N : Refusal → Type 0) where
       of true e = (p, l, e)
       of false e = (k, l, n)
 
-  module _ (no-name : (at : ℕ) → N (record { number = 9; keyword = 0; at = at }))
-      (said : (at u : ℕ) (p : Bool) (r : Refusal) → saidAt s at u p .answer ≡ Refused r → N r) where
-    stop-ends : (g : Reading) → Sound s g → (x : Scan) → metadataTurn s g ≡ stop x → Ends x
+  module _ (w : Bool) (no-name : (at : ℕ) → N (record { number = 9; keyword = 0; at = at }))
+      (said : (at u : ℕ) (p : Bool) (r : Refusal) → saidAt w s at u p .answer ≡ Refused r → N r) where
+    stop-ends : (g : Reading) → Sound s g → (x : Scan) → metadataTurn w s g ≡ stop x → Ends x
     unfolding metadataTurn afterHeard
-    stop-ends g f x t = of (heard s g .answer) refl t
+    stop-ends g f x t = of (heard w s g .answer) refl t
       where
-        of : (r : Heard) → heard s g .answer ≡ r → afterHeard (g .read) (heard s g .bytes) r ≡ stop x → Ends x
+        of : (r : Heard) → heard w s g .answer ≡ r → afterHeard (g .read) (heard w s g .bytes) r ≡ stop x → Ends x
         of (Value k y c n) e t = let z : _≡_ {A = ℕ} 0 1 = cc in absurd (omega arith)
         of (Passed c) e t = let z : _≡_ {A = ℕ} 0 1 = cc in absurd (omega arith)
         of (Done c) e t =
             let q : ended (g .read) (c .at) ≡ x = cc in
-            let w = said-done s (g .at) (length (g .read .bytes)) (g .read .prefix .present) (f .inside) c e in
-            subst Ends q (ended-ends (g .read) (c .at) (f .placed) (omega (arith, f .room)) (w .1) (no-name (c .at)))
+            let i = said-done w s (g .at) (length (g .read .bytes)) (g .read .prefix .present) (f .inside) c e in
+            subst Ends q (ended-ends (g .read) (c .at) (f .placed) (omega (arith, f .room)) (i .1) (no-name (c .at)))
         of (Refused r) e t =
-            let q : bad r (g .read .bytes ++ heard s g .bytes) ≡ x = cc in
-            let w = said-refused s (g .at) (length (g .read .bytes)) (g .read .prefix .present) r e in
-            let l = length-append (g .read .bytes) (heard s g .bytes) in
-            subst Ends q (w .0, omega (arith, w .1, f .room, l), said (g .at) (length (g .read .bytes)) (g .read .prefix .present) r e)
+            let q : bad r (g .read .bytes ++ heard w s g .bytes) ≡ x = cc in
+            let i = said-refused w s (g .at) (length (g .read .bytes)) (g .read .prefix .present) r e in
+            let l = length-append (g .read .bytes) (heard w s g .bytes) in
+            subst Ends q (i .0, omega (arith, i .1, f .room, l), said (g .at) (length (g .read .bytes)) (g .read .prefix .present) r e)
 
-    from-ends : (g : Reading) → Sound s g → Ends (scanFrom s g)
+    from-ends : (g : Reading) → Sound s g → Ends (scanFrom w s g)
     unfolding scanFrom
     from-ends g =
-        turns-rule (metadataTurn s) (good nothing) (λ b. length s - b .at) (turn-falls s) (λ a x. Sound s a → Ends x)
-        (λ a x t f. stop-ends a f x t) (λ a b x t k f. k (turn-sound s a f b t)) (suc (length s)) g (omega arith)
+        turns-rule (metadataTurn w s) (good nothing) (λ b. length s - b .at) (turn-falls w s) (λ a x. Sound s a → Ends x)
+        (λ a x t f. stop-ends a f x t) (λ a b x t k f. k (turn-sound w s a f b t)) (suc (length s)) g (omega arith)
 
-    scan-ends : (x : Scan) → scanned s ≡ x → Ends x
+    scan-ends : (x : Scan) → scanned w s ≡ x → Ends x
     unfolding scanned
     scan-ends x h = subst Ends h (from-ends (record { at = 0; read = nothing }) (sound-start s))
 
 -- for those who use a scan
-module _ (s : List ℕ) where
-  any-ends : (x : Scan) → scanned s ≡ x → Ends s (λ r. Unit {0}) x
-  any-ends = scan-ends s (λ r. Unit {0}) (λ at. tt) (λ at u p r h. tt)
+module _ (w : Bool) (s : List ℕ) where
+  any-ends : (x : Scan) → scanned w s ≡ x → Ends s (λ r. Unit {0}) x
+  any-ends = scan-ends s (λ r. Unit {0}) w (λ at. tt) (λ at u p r h. tt)
 
-  pub scan-placed : (m : Metadata) → scanned s ≡ good m → Placed m
+  pub scan-placed : (m : Metadata) → scanned w s ≡ good m → Placed m
   scan-placed m h = any-ends (good m) h .0
 
-  pub scan-good : (m : Metadata) → scanned s ≡ good m → Each (Within (length (m .bytes))) (valuesOf m) × (length (m .bytes) ≤ length s)
+  pub scan-good : (m : Metadata) → scanned w s ≡ good m → Each (Within (length (m .bytes))) (valuesOf m) × (length (m .bytes) ≤ length s)
       × (m .name .present ≡ true)
-  scan-good m h = let w = any-ends (good m) h in (placed-within m (w .0), w .1, w .2)
+  scan-good m h = let i = any-ends (good m) h in (placed-within m (i .0), i .1, i .2)
 
-  pub scan-bad : (r : Refusal) (bs : List ℕ) → scanned s ≡ bad r bs → (r .at ≤ length s) × (length bs ≤ length s)
-  scan-bad r bs h = let w = any-ends (bad r bs) h in (w .0, w .1)
+  pub scan-bad : (r : Refusal) (bs : List ℕ) → scanned w s ≡ bad r bs → (r .at ≤ length s) × (length bs ≤ length s)
+  scan-bad r bs h = let i = any-ends (bad r bs) h in (i .0, i .1)
 
   -- a refusal has a number, if a step's has
-  pub scan-number : ((at u : ℕ) (p : Bool) (r : Refusal) → saidAt s at u p .answer ≡ Refused r → 0 < r .number)
-      → (r : Refusal) (bs : List ℕ) → scanned s ≡ bad r bs → 0 < r .number
-  scan-number n r bs h = scan-ends s (λ q. 0 < q .number) (λ at. omega arith) n (bad r bs) h .2
+  pub scan-number : ((at u : ℕ) (p : Bool) (r : Refusal) → saidAt w s at u p .answer ≡ Refused r → 0 < r .number)
+      → (r : Refusal) (bs : List ℕ) → scanned w s ≡ bad r bs → 0 < r .number
+  scan-number n r bs h = scan-ends s (λ q. 0 < q .number) w (λ at. omega arith) n (bad r bs) h .2

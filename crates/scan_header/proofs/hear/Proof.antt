@@ -9,7 +9,7 @@ returns : tie.Need-returns
 returns c =
     let gap = c .before in
     let a = gap .before .before .before .args in
-    said-end (a .s .now) (a .from .at) (a .used) (a .prefixed) (a .store .now) (gap .skip-whitespace-and-comments .ensures) (c .if1 .taken)
+    said-end (a .whole) (a .s .now) (a .from .at) (a .used) (a .prefixed) (a .store .now) (gap .skip-whitespace-and-comments .ensures) (c .if1 .taken)
 
 read-statement-requires : tie.Need-read-statement-requires
 read-statement-requires c κs =
@@ -31,7 +31,7 @@ returns-2 c =
     let gap = read .before .before in
     let a = gap .before .before .before .args in
     let k = tag .tag .given in
-    said-statement (a .s .now) (a .from .at) (a .used) (a .prefixed) (a .store .now) (gap .skip-whitespace-and-comments .ensures)
+    said-statement (a .whole) (a .s .now) (a .from .at) (a .used) (a .prefixed) (a .store .now) (gap .skip-whitespace-and-comments .ensures)
     (read .before .if1 .left) (read .read-tag .ensures) (k .0 .0) (k .0 .1 .0) (k .1) (c .before .before .read-statement .ensures)
 
 returns-3 : tie.Need-returns-3
@@ -41,18 +41,17 @@ returns-3 c =
     let gap = read .before .before in
     let a = gap .before .before .before .args in
     let k = tag .tag2 .given in
-    said-last (a .s .now) (a .from .at) (a .used) (a .prefixed) (a .store .now) (gap .skip-whitespace-and-comments .ensures)
+    said-last (a .whole) (a .s .now) (a .from .at) (a .used) (a .prefixed) (a .store .now) (gap .skip-whitespace-and-comments .ensures)
     (read .before .if1 .left) (read .read-tag .ensures) (k .0 .0) (k .1)
 
 returns-4 : tie.Need-returns-4
 returns-4 c =
-    let told = c .before .before .before in
+    let told = c .before .before in
     let read = told .before .before in
     let gap = read .before .before in
     let a = gap .before .before .before .args in
-    said-other (a .s .now) (a .from .at) (a .used) (a .prefixed) (a .store .now) (gap .skip-whitespace-and-comments .ensures)
-    (read .before .if1 .left) (read .read-tag .ensures) (told .enum-told .given .1) (c .before .before .skip-one-token .ensures)
-    (c .before .past .ensures) (c .passed .ensures)
+    said-other (a .whole) (a .s .now) (a .from .at) (a .used) (a .prefixed) (a .store .now) (gap .skip-whitespace-and-comments .ensures)
+    (read .before .if1 .left) (read .read-tag .ensures) (told .enum-told .given .1) (c .before .past-token .ensures) (c .passed .ensures)
 
 pub hear-spec : {M : Type 1} → statement M
 hear-spec =
@@ -65,7 +64,6 @@ hear-spec =
     read-statement-requires
     (λ c. search needs)
     (λ c. search needs)
-    (λ c κs. search needs)
     (λ c κs. search needs)
     (λ c κs. search needs)
     (λ c. search needs)

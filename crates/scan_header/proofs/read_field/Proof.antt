@@ -14,8 +14,8 @@ returns c =
     let a = at-read .before .before .before .before .args in
     let v = at-read .read-value in
     let k = c .before .enum-told .given in (
-      field-refused (a .s .now) (a .here .at) (a .keyword) (a .used) (v .ensures .0) (k .0 .0) (k .1) (c .argument-refusal .ensures),
-      field-stored (a .s .now)
+      field-refused (a .whole) (a .s .now) (a .here .at) (a .keyword) (a .used) (v .ensures .0) (k .0 .0) (k .1) (c .argument-refusal .ensures),
+      field-stored (a .whole) (a .s .now)
           (a .here .at) (a .keyword) (a .used) (a .store .now) (v .ensures .1),
     )
 
@@ -29,9 +29,9 @@ returns-2 c =
     let v = at-read .read-value in
     let k = got .got .given in
     let d = told .enum-told2 .given in (
-      field-other (a .s .now) (a .here .at) (a .keyword) (a .used) (v .ensures .0) (k .0 .0) (k .0 .1 .0) (k .1) (at-due .after-value .ensures) (d .0 .0) (d .1)
-          (c .refusal-of .ensures),
-      field-stored (a .s .now) (a .here .at) (a .keyword) (a .used) (a .store .now) (v .ensures .1),
+      field-other (a .whole) (a .s .now) (a .here .at) (a .keyword) (a .used) (v .ensures .0) (k .0 .0) (k .0 .1 .0) (k .1)
+          (at-due .after-value .ensures) (d .0 .0) (d .1) (c .refusal-of .ensures),
+      field-stored (a .whole) (a .s .now) (a .here .at) (a .keyword) (a .used) (a .store .now) (v .ensures .1),
     )
 
 sub-size : tie.Need-sub-size
@@ -40,7 +40,7 @@ sub-size c =
     let at-read = got .before .before .before .before in
     let a = at-read .before .before .before .before .args in
     let k = got .got .given in
-    let f = argument-far (a .s .now) (a .here .at) (a .used) (a .keyword) (k .0 .0) (k .0 .1 .0) (sym (at-read .read-value .ensures .0) ∙ k .1) in
+    let f = argument-far (a .whole) (a .s .now) (a .here .at) (a .used) (a .keyword) (k .0 .0) (k .0 .1 .0) (sym (at-read .read-value .ensures .0) ∙ k .1) in
     omega (arith, f)
 
 returns-3 : tie.Need-returns-3
@@ -53,9 +53,9 @@ returns-3 c =
     let v = at-read .read-value in
     let k = got .got .given in
     let d = due .due .given in (
-      field-read (a .s .now) (a .here .at) (a .keyword) (a .used) (v .ensures .0) (k .0 .0) (k .0 .1 .0) (k .1) (at-due .after-value .ensures) (d .0 .0) (d .1)
-          (c .held .ensures),
-      field-stored (a .s .now) (a .here .at) (a .keyword) (a .used) (a .store .now) (v .ensures .1),
+      field-read (a .whole) (a .s .now) (a .here .at) (a .keyword) (a .used) (v .ensures .0) (k .0 .0) (k .0 .1 .0) (k .1)
+          (at-due .after-value .ensures) (d .0 .0) (d .1) (c .held .ensures),
+      field-stored (a .whole) (a .s .now) (a .here .at) (a .keyword) (a .used) (a .store .now) (v .ensures .1),
     )
 
 pub read-field-spec : {M : Type 1} → statement M

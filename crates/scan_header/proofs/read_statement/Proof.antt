@@ -9,14 +9,14 @@ returns : tie.Need-returns
 returns c =
     let test = c .before in
     let a = test .before .before .before .args in
-    version-said (a .s .now) (a .here .at) (a .keyword) (a .used) (a .prefixed) (a .store .now) (test .if1 .taken) (c .skip-field .ensures)
+    version-said (a .whole) (a .s .now) (a .here .at) (a .keyword) (a .used) (a .prefixed) (a .store .now) (test .if1 .taken) (c .skip-field .ensures)
 
 returns-2 : tie.Need-returns-2
 returns-2 c =
     let later = c .before .before .before in
     let test = later .before in
     let a = test .before .before .before .args in
-    prefix-said (a .s .now) (a .here .at) (a .keyword) (a .used) (a .prefixed) (a .store .now) (test .if1 .left)
+    prefix-said (a .whole) (a .s .now) (a .here .at) (a .keyword) (a .used) (a .prefixed) (a .store .now) (test .if1 .left)
     (later .later-prefix .ensures) (c .before .before .if2 .taken) (c .before .past-statement .ensures) (c .passed .ensures)
 
 returns-3 : tie.Need-returns-3
@@ -24,7 +24,7 @@ returns-3 c =
     let later = c .before .before .before .before .before in
     let test = later .before in
     let a = test .before .before .before .args in
-    field-said (a .s .now) (a .here .at) (a .keyword) (a .used) (a .prefixed) (a .store .now) (test .if1 .left)
+    field-said (a .whole) (a .s .now) (a .here .at) (a .keyword) (a .used) (a .prefixed) (a .store .now) (test .if1 .left)
     (later .later-prefix .ensures) (c .before .before .before .before .if2 .left) (c .before .before .read-field .ensures)
 
 pub read-statement-spec : {M : Type 1} → statement M

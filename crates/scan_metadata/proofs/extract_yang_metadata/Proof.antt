@@ -14,7 +14,7 @@ returns c =
     let clear = check .before .before .before .before .before in
     let a = clear .before .before .before .before .args in
     let k = told .enum-told2 .given in
-    entry-refused (a .s .now) (a .store .now) (clear .clear-bytes .ensures) refl (check .check-lent .ensures) (k .0 .0) (k .1)
+    entry-refused (a .whole) (a .s .now) (a .store .now) (clear .clear-bytes .ensures) refl (check .check-lent .ensures) (k .0 .0) (k .1)
     (refusal .lent-refusal .ensures) (c .refused .ensures)
 
 parse-cleared-requires : tie.Need-parse-cleared-requires
@@ -24,7 +24,7 @@ parse-cleared-requires c κs =
     let classes = check .before .before in
     let clear = classes .before .before .before in
     let a = clear .before .before .before .before .args in
-    entry-cleared (a .s .now) (a .store .now) (clear .clear-bytes .ensures) refl (check .check-lent .ensures) (told .enum-told .given .1)
+    entry-cleared (a .whole) (a .s .now) (a .store .now) (clear .clear-bytes .ensures) refl (check .check-lent .ensures) (told .enum-told .given .1)
     (classes .classes .ensures)
 
 returns-2 : tie.Need-returns-2
@@ -33,7 +33,7 @@ returns-2 c =
     let check = told .before .before in
     let clear = check .before .before .before .before .before in
     let a = clear .before .before .before .before .args in
-    entry-scanned (a .s .now) (a .store .now) (clear .clear-bytes .ensures) refl (check .check-lent .ensures) (told .enum-told .given .1)
+    entry-scanned (a .whole) (a .s .now) (a .store .now) (clear .clear-bytes .ensures) refl (check .check-lent .ensures) (told .enum-told .given .1)
     (c .before .before .parse-cleared .ensures)
 
 pub extract-yang-metadata-spec : {M : Type 1} → statement M

@@ -19,8 +19,9 @@ returns-2 : tie.Need-returns-2
 returns-2 c =
     let scan = c .before .before .before .before .before in
     let start = scan .before .before .before .before in
-    let s = start .args .s .now in
-    leaves-good (start .pre) (scan .parse-metadata .ensures) (scan-number s (said-number s)) (c .if1 .left)
+    let a = start .args in
+    leaves-good (start .pre) (scan .parse-metadata .ensures)
+    (scan-number (a .whole) (a .s .now) (said-number (a .whole) (a .s .now))) (c .if1 .left)
 
 pub parse-cleared-spec : {M : Type 1} → statement M
 parse-cleared-spec =

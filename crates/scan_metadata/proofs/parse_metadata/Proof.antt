@@ -10,10 +10,10 @@ use Rattle.scan_metadata.proofs.parse_metadata.Statement.{statement}
 use Rattle.scan_metadata.proofs.parse_metadata.Tie as tie
 
 abbrev Inv-loop : tie.InvT-loop
-Inv-loop classes s store₀ values₀ at₀ used₀ store values at used = Sofar s store₀ values at used store
+Inv-loop classes whole s store₀ values₀ at₀ used₀ store values at used = Sofar whole s store₀ values at used store
 
 abbrev μ-loop : tie.MeasureT-loop
-μ-loop classes s store₀ values₀ at₀ used₀ store values at used = length s - at
+μ-loop classes whole s store₀ values₀ at₀ used₀ store values at used = length s - at
 
 no-values-requires : tie.Need-no-values-requires Inv-loop μ-loop
 no-values-requires c κs = tt
@@ -73,7 +73,7 @@ same-length : tie.Need-same-length Inv-loop μ-loop
 same-length c =
     let hear1 = c .before .before .before .before .before .before in
     let loop1 = hear1 .before .before .before in
-    hear1 .hear .kept .1 .1 .1 .0 ∙ loop-long (loop1 .loop .inv)
+    hear1 .hear .kept .1 .1 .1 .1 .0 ∙ loop-long (loop1 .loop .inv)
 
 returns : tie.Need-returns Inv-loop μ-loop
 returns c =
@@ -91,7 +91,7 @@ same-length-2 : tie.Need-same-length-2 Inv-loop μ-loop
 same-length-2 c =
     let hear1 = c .before .before .before .before .before .before in
     let loop1 = hear1 .before .before .before in
-    hear1 .hear .kept .1 .1 .1 .0 ∙ loop-long (loop1 .loop .inv)
+    hear1 .hear .kept .1 .1 .1 .1 .0 ∙ loop-long (loop1 .loop .inv)
 
 returns-2 : tie.Need-returns-2 Inv-loop μ-loop
 returns-2 c =
