@@ -153,7 +153,7 @@ static int read_in_both_forms(const struct reading *x, enum scan scan) {
 
     if (x->number != 0 ? !refused_clean(scan, number, x->number, x->keyword, x->position) : number != 0)
         return 0;
-    left = lent;
+    memcpy(&left, &lent, sizeof lent);
     number = scanned(WHOLE, scan, bytes, length);
     return x->cut ? refused_clean(scan, number, NUVALETA_CUT_SHORT, NUVALETA_NO_KEYWORD, (uint32_t)length)
                   : number == x->number && memcmp(&lent, &left, sizeof lent) == 0;
@@ -271,7 +271,8 @@ static int graphs(enum which which) {
     if (!scratch_is_zero())
         return wrong("a graph left scratch");
     memset(ordered, POISON, sizeof ordered);
-    if (nuvaleta_order(LENT(lent.nodes), lent.answer[NUVALETA_GRAPH_NODES], LENT(lent.edges), lent.answer[NUVALETA_GRAPH_EDGES], LENT(lent.order), ordered) != 0 ||
+    if (nuvaleta_order(LENT(lent.nodes), lent.answer[NUVALETA_GRAPH_NODES], LENT(lent.edges), lent.answer[NUVALETA_GRAPH_EDGES], LENT(lent.order),
+                       ordered) != 0 ||
         ordered[NUVALETA_ORDER_NUMBER] != 0 || ordered[NUVALETA_ORDER_LENGTH] != 3 || !HOLDS(order, order, sizeof order))
         return wrong("another order of a graph");
     return 0;
