@@ -282,7 +282,7 @@ due 'name: m\nprefix: m\nfirst revision: 2024-05-01\nnewest revision: 2024-05-01
 expect 0 meta cut.yang
 words='the text ends inside a string, or inside a statement that is passed over'
 advice='the text is cut off, or a quote, a ; or a } is missing: download it again, or complete it. A text without this refusal may be cut off too, where it'
-advice="$advice is not seen: behind the word that ends the scan, in a comment between statements, or between two statements of the module"
+advice="$advice is not seen: behind the word that ends the scan, in a comment between statements, or in the module's own block outside of strings"
 clash='expected the end of the string or of the statement, found the end of the text'
 told() { # WHERE LINE: a refusal of a text that ends with this line
     printf 'refused 11: %s: %s\n    %s\n    %*s^\n%s\nTo do: %s\n' "$1" "$words" "$2" "${#2}" '' "$clash" "$advice" >due

@@ -70,7 +70,7 @@ static MEANINGS: [Meaning; 28] = [
     row(
         11, "the text ends inside a string, or inside a statement that is passed over", "",
         "the text is cut off, or a quote, a ; or a } is missing: download it again, or complete it. A text without this refusal may be cut off too, where it \
-         is not seen: behind the word that ends the scan, in a comment between statements, or between two statements of the module",
+         is not seen: behind the word that ends the scan, in a comment between statements, or in the module's own block outside of strings",
     ),
     // an image, a bundle
     row(
