@@ -68,10 +68,10 @@ extern "C" {
  * a backslash before another byte is dropped. The values that are read are put into the store one behind the other, without quotes, those that a later
  * one replaces too, but of metadata no yang-version and no prefix behind the first; rows and records have the start of a value in the store and its length.
  *
- * WHOLE TEXTS. A text whose download broke off may be scanned as if it were whole, since a string, and a statement that is passed over, may end with the
- * text. The calls with _whole refuse that with NUVALETA_CUT_SHORT, in the place of an answer or of refusal 4, 6, 8 or 9. In all else they answer and leave what
- * the calls without _whole do. Passed over are, in the block of an import or include, all statements but prefix and revision-date; by metadata what stands
- * behind the value of belongs-to, the block of a revision, and each prefix behind the first.
+ * WHOLE TEXTS. A text whose download broke off may be scanned as if it were whole, since a string, and a statement that is passed over, may end with the text.
+ * The calls with _whole refuse that with NUVALETA_CUT_SHORT, with no keyword and the text's end as position, in the place of an answer or of refusal 4, 6, 8 or
+ * 9. In all else they answer and leave what the calls without _whole do. Passed over are, in the block of an import or include, all statements but prefix and
+ * revision-date; by metadata what stands behind the value of belongs-to, the block of a revision, and each prefix behind the first.
  *
  * That such a call answers says that nothing that was read broke off. It does not say that the file is whole: what the scan does not read is not looked at,
  * and neither the end inside a comment between statements nor a module's block that never closes is refused. Where a value, a byte or a } is missing at the
