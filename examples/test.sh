@@ -1,6 +1,6 @@
 #!/bin/sh
 # test.sh: the sources packed again give the bytes that stand here, yanglint takes the texts, and ../nuvaleta prints the graph and the order that
-# stand here. The archive must be there, as for ../host/rust/test.sh.
+# stand here; half a text is refused. The archive must be there, as for ../host/rust/test.sh.
 set -eu
 here=$(cd "$(dirname "$0")" && pwd)
 work=$(mktemp -d)
@@ -38,5 +38,13 @@ status=0
     fails=$((fails + 1))
     echo "examples: nuvaleta order of twice, without --complete, ends with $status and says" && cat "$work/said"
 }
+head -c 392 "$here/edge/acme-nat@2024-06-10.yang" >"$work/half"
+status=0
+"$here/../nuvaleta" deps --whole "$work/half" >/dev/null || fails=$((fails + 1))
+"$here/../nuvaleta" meta --whole - <"$work/half" >/dev/null 2>"$work/said" || status=$?
+[ "$status" = 1 ] && grep -q '^refused 11: standard input, line 22, column 17: ' "$work/said" || {
+    fails=$((fails + 1))
+    echo "examples: nuvaleta meta --whole of half a text ends with $status and says" && cat "$work/said"
+}
 [ "$fails" = 0 ] || exit 1
-echo "examples: the three routers are packed to the same bytes, and have the graph and the order that stand here"
+echo "examples: the three routers are packed to the same bytes, and have the graph and the order that stand here; half a text is refused"

@@ -3,6 +3,9 @@
  *     nuvaleta_dependencies         the imports and includes of a YANG text
  *     nuvaleta_printed              the same, with lines for a person to read
  *     nuvaleta_metadata             name, namespace, prefix, revisions and parent of a YANG text
+ *     nuvaleta_dependencies_whole   these three for a text that may be cut off: if what is read of it breaks off, it is refused
+ *     nuvaleta_printed_whole
+ *     nuvaleta_metadata_whole
  *     nuvaleta_find_module          a module of a library image by its name
  *     nuvaleta_find_submodule       a submodule
  *     nuvaleta_find_import_module   an import-only module
@@ -37,7 +40,7 @@
  *     x86-64          4        5       18     36     367      28             8
  *     aarch64         7        7       21     38     369      31            10
  *
- * nuvaleta_graph_complete took as much as nuvaleta_graph (x86-64).
+ * nuvaleta_graph_complete took as much as nuvaleta_graph, and a scan with _whole as much as the one without (x86-64).
  *
  * TIME. In a graph each text of the bundle is scanned at most once, however often it is included. Beyond the scans there is a look-up for each import and
  * include that they read, and for each name of the image: a router's library takes milliseconds. Names that were chosen so that the look-ups take long are
@@ -64,6 +67,15 @@ extern "C" {
  * A text has bytes below 128. A value in it is a name, a quoted string, or several strings joined by +. In double quotes \n is byte 10, \t is byte 9, and
  * a backslash before another byte is dropped. The values that are read are put into the store one behind the other, without quotes, those that a later
  * one replaces too, but of metadata no yang-version and no prefix behind the first; rows and records have the start of a value in the store and its length.
+ *
+ * WHOLE TEXTS. A text whose download broke off may be scanned as if it were whole, since a string, and a statement that is passed over, may end with the text.
+ * The calls with _whole refuse that with NUVALETA_CUT_SHORT, with no keyword and the text's end as position, in the place of an answer or of refusal 4, 6, 8 or
+ * 9. In all else they answer and leave what the calls without _whole do. Passed over are, in the block of an import or include, all statements but prefix and
+ * revision-date; by metadata what stands behind the value of belongs-to, the block of a revision, and each prefix behind the first.
+ *
+ * That such a call answers says that nothing that was read broke off. It does not say that the file is whole: what the scan does not read is not looked at,
+ * and neither the end inside a comment between statements nor a module's block that never closes is refused. Where a value, a byte or a } is missing at the
+ * end and no string is open, refusals 4, 6 and 8 tell it, as ever.
  */
 
 /* The longest text that is scanned, in bytes. The store must be at least as long as the text. */
@@ -115,7 +127,8 @@ enum nuvaleta_scan_word {
     NUVALETA_METADATA_STORED = 3         /* bytes of the store */
 };
 
-/* Refusals of a scan: 1, 2 and 3 are looked for first, in this order, the others as the text is read. "After it": after the keyword and its value. */
+/* Refusals of a scan: 1, 2 and 3 are looked for first, in this order, the others as the text is read. "After it": after the keyword and its value. 11 is of
+ * the calls with _whole alone. */
 enum nuvaleta_scan_refusal {
     NUVALETA_TEXT_TOO_LONG = 1,   /* text over NUVALETA_TEXT_MOST bytes */
     NUVALETA_LENT_TOO_SHORT = 2,  /* store, table or page too short */
@@ -126,7 +139,8 @@ enum nuvaleta_scan_refusal {
     NUVALETA_NO_PREFIX = 7,       /* an import closed without prefix; position: behind its closing brace */
     NUVALETA_OPEN_ENDED = 8,      /* the end inside the block of an import or include; position: the text's end */
     NUVALETA_NO_NAME = 9,         /* metadata without a name; position: behind the word that ended the scan, or the text's end */
-    NUVALETA_TOO_MANY = 10        /* a 257th import or a 257th include; position: behind that keyword */
+    NUVALETA_TOO_MANY = 10,       /* a 257th import or a 257th include; position: behind that keyword */
+    NUVALETA_CUT_SHORT = 11       /* the end inside a string, or inside a statement that is passed over; before 4, 6, 8 and 9; position: the text's end */
 };
 
 enum nuvaleta_keyword {
@@ -224,6 +238,66 @@ enum nuvaleta_value_word {
  *     assert(record[NUVALETA_VALUE_PARENT * NUVALETA_VALUE_ROW + NUVALETA_VALUE_PRESENT] == 0);
  */
 uint32_t nuvaleta_metadata(const uint8_t *text, size_t text_len, uint8_t *store, size_t store_len, uint32_t *record, uint32_t *answer);
+
+/* The imports and includes of a text of which nothing that is read may break off. Refusals: 1 to 8, 10 and 11.
+ *
+ * answer[NUVALETA_DEPENDENCIES_ANSWER]
+ *
+ * Example:
+ *     static const char text[] = "module m { namespace \"urn:m\"; import base { prefix b; } }";
+ *     static uint8_t store[sizeof text];
+ *     static uint32_t imports[NUVALETA_IMPORT_WORDS], includes[NUVALETA_INCLUDE_WORDS];
+ *     uint32_t answer[NUVALETA_DEPENDENCIES_ANSWER];
+ *     // Cut inside the namespace: without _whole it is a text that imports nothing.
+ *     uint32_t number = nuvaleta_dependencies((const uint8_t *)text, 24, store, sizeof store, imports, NUVALETA_IMPORT_WORDS,
+ *                                             includes, NUVALETA_INCLUDE_WORDS, answer);
+ *     assert(number == 0 && answer[NUVALETA_DEPENDENCIES_IMPORTS] == 0);
+ *     number = nuvaleta_dependencies_whole((const uint8_t *)text, 24, store, sizeof store, imports, NUVALETA_IMPORT_WORDS,
+ *                                          includes, NUVALETA_INCLUDE_WORDS, answer);
+ *     assert(number == NUVALETA_CUT_SHORT && answer[NUVALETA_SCAN_KEYWORD] == NUVALETA_NO_KEYWORD && answer[NUVALETA_SCAN_POSITION] == 24);
+ *     number = nuvaleta_dependencies_whole((const uint8_t *)text, strlen(text), store, sizeof store, imports, NUVALETA_IMPORT_WORDS,
+ *                                          includes, NUVALETA_INCLUDE_WORDS, answer);
+ *     assert(number == 0 && answer[NUVALETA_DEPENDENCIES_IMPORTS] == 1);
+ *     number = nuvaleta_dependencies_whole((const uint8_t *)text, 30, store, sizeof store, imports, NUVALETA_IMPORT_WORDS,
+ *                                          includes, NUVALETA_INCLUDE_WORDS, answer);
+ *     assert(number == 0 && answer[NUVALETA_DEPENDENCIES_IMPORTS] == 0); // cut between two statements: not seen
+ */
+uint32_t nuvaleta_dependencies_whole(const uint8_t *text, size_t text_len, uint8_t *store, size_t store_len, uint32_t *imports, size_t imports_len,
+                                     uint32_t *includes, size_t includes_len, uint32_t *answer);
+
+/* The same, and in the page what was read as lines for a person. Refusals: the same.
+ *
+ * answer[NUVALETA_PRINTED_ANSWER]
+ *
+ * Example:
+ *     static const char cut[] = "module m { include m-types; import base { prefix b; reference \"RFC 79";
+ *     static uint8_t store[sizeof cut], page[sizeof cut + NUVALETA_PAGE_MORE];
+ *     static uint32_t imports[NUVALETA_IMPORT_WORDS], includes[NUVALETA_INCLUDE_WORDS];
+ *     uint32_t answer[NUVALETA_PRINTED_ANSWER];
+ *     uint32_t number = nuvaleta_printed((const uint8_t *)cut, strlen(cut), store, sizeof store, imports, NUVALETA_IMPORT_WORDS,
+ *                                        includes, NUVALETA_INCLUDE_WORDS, page, sizeof page, answer);
+ *     assert(number == NUVALETA_OPEN_ENDED && answer[NUVALETA_SCAN_KEYWORD] == NUVALETA_IMPORT);
+ *     number = nuvaleta_printed_whole((const uint8_t *)cut, strlen(cut), store, sizeof store, imports, NUVALETA_IMPORT_WORDS,
+ *                                     includes, NUVALETA_INCLUDE_WORDS, page, sizeof page, answer);
+ *     assert(number == NUVALETA_CUT_SHORT && answer[NUVALETA_SCAN_POSITION] == strlen(cut) && answer[NUVALETA_PRINTED_LENGTH] == 0);
+ */
+uint32_t nuvaleta_printed_whole(const uint8_t *text, size_t text_len, uint8_t *store, size_t store_len, uint32_t *imports, size_t imports_len,
+                                uint32_t *includes, size_t includes_len, uint8_t *page, size_t page_len, uint32_t *answer);
+
+/* The metadata of a text of which nothing that is read may break off. Refusals: 1 to 6, 9 and 11.
+ *
+ * record[NUVALETA_RECORD_WORDS], answer[NUVALETA_METADATA_ANSWER]
+ *
+ * Example:
+ *     static const char cut[] = "module m { prefix m; revision 2024-05-01 { description \"The la";
+ *     static uint8_t store[sizeof cut];
+ *     uint32_t record[NUVALETA_RECORD_WORDS], answer[NUVALETA_METADATA_ANSWER];
+ *     uint32_t number = nuvaleta_metadata((const uint8_t *)cut, strlen(cut), store, sizeof store, record, answer);
+ *     assert(number == 0 && record[NUVALETA_VALUE_NEWEST_REVISION * NUVALETA_VALUE_ROW + NUVALETA_VALUE_PRESENT] == 1);
+ *     number = nuvaleta_metadata_whole((const uint8_t *)cut, strlen(cut), store, sizeof store, record, answer);
+ *     assert(number == NUVALETA_CUT_SHORT && answer[NUVALETA_SCAN_POSITION] == strlen(cut));
+ */
+uint32_t nuvaleta_metadata_whole(const uint8_t *text, size_t text_len, uint8_t *store, size_t store_len, uint32_t *record, uint32_t *answer);
 
 /* ---- Image and bundle
  *
@@ -371,7 +445,7 @@ enum nuvaleta_edge_word {
 enum nuvaleta_graph_word {
     NUVALETA_GRAPH_NUMBER = 0,
     NUVALETA_GRAPH_ENTRY = 1,         /* in whose walk the refusal came, from 1 on in the order above; 0 at 20, 21, 22 and 30 */
-    NUVALETA_GRAPH_SCAN_NUMBER = 2,   /* at 25 the three words of the scan: an enum nuvaleta_scan_refusal, .. */
+    NUVALETA_GRAPH_SCAN_NUMBER = 2,   /* at 25 the three words of the scan: an enum nuvaleta_scan_refusal, never 11, .. */
     NUVALETA_GRAPH_SCAN_KEYWORD = 3,
     NUVALETA_GRAPH_SCAN_POSITION = 4,
     NUVALETA_GRAPH_FAULT = 5,         /* at 20 the place in the image, at 21 in the bundle */
@@ -384,7 +458,7 @@ enum nuvaleta_graph_refusal {
     NUVALETA_GRAPH_LENT_TOO_SHORT = 22, /* a table, the store or the levels too short */
     NUVALETA_NO_ENTRY_TEXT = 23,        /* no text under the name of an entry */
     NUVALETA_NO_INCLUDED_TEXT = 24,     /* no text under the name of an included submodule */
-    NUVALETA_SCAN_REFUSED = 25,         /* the scan of a text refused */
+    NUVALETA_SCAN_REFUSED = 25,         /* the scan of a text refused, which is that of nuvaleta_dependencies, so not with 11 */
     NUVALETA_UNKNOWN_MODULE = 26,       /* an import, augmenting module or deviation that is no module and no import-only module */
     NUVALETA_UNKNOWN_SUBMODULE = 27,    /* an include that is no submodule of a module */
     NUVALETA_NO_NODE = 28,              /* an include that is one, but is no node, since its module was passed over; not by nuvaleta_graph_complete */

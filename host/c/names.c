@@ -19,44 +19,69 @@ static void expect(int held, const char *what) {
     }
 }
 
-static uint32_t dependencies(const uint8_t *bytes, size_t length) {
-    return nuvaleta_dependencies(bytes, length, store, sizeof store, imports, NUVALETA_IMPORT_WORDS, includes, NUVALETA_INCLUDE_WORDS, answer);
+/* Whether a scan is called by its name with _whole: each test of a scan is made with either. */
+static int whole;
+
+#define SCAN(call) (whole ? call##_whole : call)
+
+static uint32_t dependencies_over(size_t length, size_t store_len, size_t imports_len, size_t includes_len) {
+    return SCAN(nuvaleta_dependencies)(text, length, store, store_len, imports, imports_len, includes, includes_len, answer);
 }
 
-static uint32_t metadata(const uint8_t *bytes, size_t length) { return nuvaleta_metadata(bytes, length, store, sizeof store, record, answer); }
+static uint32_t dependencies(const uint8_t *bytes, size_t length) {
+    return SCAN(nuvaleta_dependencies)(bytes, length, store, sizeof store, imports, NUVALETA_IMPORT_WORDS, includes, NUVALETA_INCLUDE_WORDS, answer);
+}
+
+static uint32_t printed(size_t page_len) {
+    return SCAN(nuvaleta_printed)(text, NUVALETA_TEXT_MOST, store, sizeof store, imports, NUVALETA_IMPORT_WORDS, includes, NUVALETA_INCLUDE_WORDS, page,
+                                  page_len, answer);
+}
+
+static uint32_t metadata(const uint8_t *bytes, size_t length) { return SCAN(nuvaleta_metadata)(bytes, length, store, sizeof store, record, answer); }
 
 /* ---- scans */
 
+/* Without _whole each text has this answer, with it too but where the text is cut short. */
 static void scan_refusals(void) {
+    enum { STAYS, CUT };
     static const struct {
         uint32_t (*scan)(const uint8_t *, size_t);
         const char *text;
         uint32_t number, keyword, position;
+        int cut;
     } all[] = {
-        {dependencies, "a\200", NUVALETA_HIGH_BYTE, NUVALETA_NO_KEYWORD, 1},
-        {dependencies, "import ;", NUVALETA_NO_VALUE, NUVALETA_IMPORT, 7},
-        {dependencies, "import \"a", NUVALETA_NO_VALUE, NUVALETA_IMPORT, 9},
-        {dependencies, "import a b", NUVALETA_OTHER_BYTE, NUVALETA_IMPORT, 9},
-        {dependencies, "include a", NUVALETA_END_OF_TEXT, NUVALETA_INCLUDE, 9},
-        {dependencies, "import a{prefix", NUVALETA_NO_VALUE, NUVALETA_PREFIX, 15},
-        {dependencies, "import a{revision-date;", NUVALETA_NO_VALUE, NUVALETA_REVISION_DATE, 22},
-        {dependencies, "import a{} x", NUVALETA_NO_PREFIX, NUVALETA_IMPORT, 10},
-        {dependencies, "include a{x;", NUVALETA_OPEN_ENDED, NUVALETA_INCLUDE, 12},
-        {metadata, "module {", NUVALETA_NO_VALUE, NUVALETA_MODULE, 7},
-        {metadata, "submodule s;", NUVALETA_OTHER_BYTE, NUVALETA_SUBMODULE, 11},
-        {metadata, "belongs-to {", NUVALETA_NO_VALUE, NUVALETA_BELONGS_TO, 11},
-        {metadata, "namespace \"a\" + b;", NUVALETA_OTHER_BYTE, NUVALETA_NAMESPACE, 16},
-        {metadata, "prefix p", NUVALETA_END_OF_TEXT, NUVALETA_PREFIX, 8},
-        {metadata, "yang-version {", NUVALETA_OTHER_BYTE, NUVALETA_YANG_VERSION, 13},
-        {metadata, "revision r", NUVALETA_END_OF_TEXT, NUVALETA_REVISION, 10},
-        {metadata, "x container y", NUVALETA_NO_NAME, NUVALETA_NO_KEYWORD, 11},
-        {metadata, "x  ", NUVALETA_NO_NAME, NUVALETA_NO_KEYWORD, 3},
+        {dependencies, "a\200", NUVALETA_HIGH_BYTE, NUVALETA_NO_KEYWORD, 1, STAYS},
+        {dependencies, "import ;", NUVALETA_NO_VALUE, NUVALETA_IMPORT, 7, STAYS},
+        {dependencies, "import \"a", NUVALETA_NO_VALUE, NUVALETA_IMPORT, 9, CUT},
+        {dependencies, "import a b", NUVALETA_OTHER_BYTE, NUVALETA_IMPORT, 9, STAYS},
+        {dependencies, "include a", NUVALETA_END_OF_TEXT, NUVALETA_INCLUDE, 9, STAYS},
+        {dependencies, "import a{prefix", NUVALETA_NO_VALUE, NUVALETA_PREFIX, 15, STAYS},
+        {dependencies, "import a{revision-date;", NUVALETA_NO_VALUE, NUVALETA_REVISION_DATE, 22, STAYS},
+        {dependencies, "import a{} x", NUVALETA_NO_PREFIX, NUVALETA_IMPORT, 10, STAYS},
+        {dependencies, "include a{x;", NUVALETA_OPEN_ENDED, NUVALETA_INCLUDE, 12, STAYS},
+        {metadata, "module {", NUVALETA_NO_VALUE, NUVALETA_MODULE, 7, STAYS},
+        {metadata, "submodule s;", NUVALETA_OTHER_BYTE, NUVALETA_SUBMODULE, 11, STAYS},
+        {metadata, "belongs-to {", NUVALETA_NO_VALUE, NUVALETA_BELONGS_TO, 11, STAYS},
+        {metadata, "namespace \"a\" + b;", NUVALETA_OTHER_BYTE, NUVALETA_NAMESPACE, 16, STAYS},
+        {metadata, "prefix p", NUVALETA_END_OF_TEXT, NUVALETA_PREFIX, 8, STAYS},
+        {metadata, "yang-version {", NUVALETA_OTHER_BYTE, NUVALETA_YANG_VERSION, 13, STAYS},
+        {metadata, "revision r", NUVALETA_END_OF_TEXT, NUVALETA_REVISION, 10, STAYS},
+        {metadata, "x container y", NUVALETA_NO_NAME, NUVALETA_NO_KEYWORD, 11, STAYS},
+        {metadata, "x  ", NUVALETA_NO_NAME, NUVALETA_NO_KEYWORD, 3, STAYS},
+        {dependencies, "x \"abc", 0, NUVALETA_NO_KEYWORD, 0, CUT},
+        {dependencies, "import a{x", NUVALETA_OPEN_ENDED, NUVALETA_IMPORT, 10, CUT},
+        {metadata, "module m{revision r{", 0, NUVALETA_NO_KEYWORD, 0, CUT},
+        {metadata, "'", NUVALETA_NO_NAME, NUVALETA_NO_KEYWORD, 1, CUT},
+        {metadata, "yang-version \"1", NUVALETA_END_OF_TEXT, NUVALETA_YANG_VERSION, 15, CUT},
     };
 
     for (size_t i = 0; i < sizeof all / sizeof all[0]; i++) {
+        const size_t length = strlen(all[i].text);
+        const int cut = whole && all[i].cut;
+        const uint32_t number = cut ? (uint32_t)NUVALETA_CUT_SHORT : all[i].number, keyword = cut ? (uint32_t)NUVALETA_NO_KEYWORD : all[i].keyword;
         memset(answer, 0xa5, sizeof answer);
-        expect(all[i].scan((const uint8_t *)all[i].text, strlen(all[i].text)) == all[i].number && answer[NUVALETA_SCAN_NUMBER] == all[i].number &&
-                   answer[NUVALETA_SCAN_KEYWORD] == all[i].keyword && answer[NUVALETA_SCAN_POSITION] == all[i].position,
+        expect(all[i].scan((const uint8_t *)all[i].text, length) == number && answer[NUVALETA_SCAN_NUMBER] == number &&
+                   answer[NUVALETA_SCAN_KEYWORD] == keyword && answer[NUVALETA_SCAN_POSITION] == (cut ? length : all[i].position),
                all[i].text);
     }
 }
@@ -68,16 +93,16 @@ static void scan_limits(void) {
     memset(text, ' ', sizeof text);
     expect(dependencies(text, NUVALETA_TEXT_MOST) == 0, "the longest text");
     expect(dependencies(text, NUVALETA_TEXT_MOST + 1) == NUVALETA_TEXT_TOO_LONG, "a longer text");
-    expect(nuvaleta_dependencies(text, 9, store, 8, imports, NUVALETA_IMPORT_WORDS, includes, NUVALETA_INCLUDE_WORDS, answer) == NUVALETA_LENT_TOO_SHORT &&
-               nuvaleta_dependencies(text, 9, store, 9, imports, NUVALETA_IMPORT_WORDS - 1, includes, NUVALETA_INCLUDE_WORDS, answer) == NUVALETA_LENT_TOO_SHORT &&
-               nuvaleta_dependencies(text, 9, store, 9, imports, NUVALETA_IMPORT_WORDS, includes, NUVALETA_INCLUDE_WORDS - 1, answer) == NUVALETA_LENT_TOO_SHORT &&
-               nuvaleta_dependencies(text, 9, store, 9, imports, NUVALETA_IMPORT_WORDS, includes, NUVALETA_INCLUDE_WORDS, answer) == 0,
+    expect(dependencies_over(9, 8, NUVALETA_IMPORT_WORDS, NUVALETA_INCLUDE_WORDS) == NUVALETA_LENT_TOO_SHORT &&
+               dependencies_over(9, 9, NUVALETA_IMPORT_WORDS - 1, NUVALETA_INCLUDE_WORDS) == NUVALETA_LENT_TOO_SHORT &&
+               dependencies_over(9, 9, NUVALETA_IMPORT_WORDS, NUVALETA_INCLUDE_WORDS - 1) == NUVALETA_LENT_TOO_SHORT &&
+               dependencies_over(9, 9, NUVALETA_IMPORT_WORDS, NUVALETA_INCLUDE_WORDS) == 0,
            "the lengths lent to a scan");
-    expect(nuvaleta_printed(text, NUVALETA_TEXT_MOST, store, sizeof store, imports, NUVALETA_IMPORT_WORDS, includes, NUVALETA_INCLUDE_WORDS, page, sizeof page,
-                            answer) == 0 &&
-               nuvaleta_printed(text, NUVALETA_TEXT_MOST, store, sizeof store, imports, NUVALETA_IMPORT_WORDS, includes, NUVALETA_INCLUDE_WORDS, page,
-                                sizeof page - 1, answer) == NUVALETA_LENT_TOO_SHORT,
-           "a page for every text");
+    expect(printed(sizeof page) == 0 && printed(sizeof page - 1) == NUVALETA_LENT_TOO_SHORT, "a page for every text");
+    text[0] = '"';
+    expect(printed(sizeof page) == (whole ? (uint32_t)NUVALETA_CUT_SHORT : 0u) && answer[NUVALETA_SCAN_POSITION] == (whole ? NUVALETA_TEXT_MOST : 0u) &&
+               printed(sizeof page - 1) == NUVALETA_LENT_TOO_SHORT && dependencies(text, NUVALETA_TEXT_MOST + 1) == NUVALETA_TEXT_TOO_LONG,
+           "the longest text, of one string that never closes");
     for (uint32_t i = 0; i <= 256; i++, length += one)
         memcpy(text + length, "include a;", one);
     expect(dependencies(text, length - one) == 0 && answer[NUVALETA_DEPENDENCIES_INCLUDES] * NUVALETA_INCLUDE_ROW == NUVALETA_INCLUDE_WORDS, "256 includes");
@@ -248,14 +273,16 @@ static void copy(struct form *form, const uint8_t *bytes, size_t length) {
     form->length = length;
 }
 
-/* Modules a and m, m with submodule s; and a deviates from m. What the text of m says. */
+/* Modules a and m, m with submodule s; and a deviates from m. What the text of m says. A graph does not ask whether a text is cut short. */
 static void graph_refusals(void) {
     static const struct {
         const char *text;
         uint32_t number, entry, scan[3];
     } all[] = {
         {"", 0, 0, {0}},
+        {"x \"abc", 0, 0, {0}},
         {"import", NUVALETA_SCAN_REFUSED, 2, {NUVALETA_NO_VALUE, NUVALETA_IMPORT, 6}},
+        {"import \"a", NUVALETA_SCAN_REFUSED, 2, {NUVALETA_NO_VALUE, NUVALETA_IMPORT, 9}},
         {"import s{prefix p;}", NUVALETA_UNKNOWN_MODULE, 2, {0}},
         {"include a;", NUVALETA_UNKNOWN_SUBMODULE, 2, {0}},
         {"include s;", NUVALETA_NO_INCLUDED_TEXT, 2, {0}},
@@ -271,7 +298,8 @@ static void graph_refusals(void) {
                    answer[NUVALETA_GRAPH_SCAN_NUMBER] == all[i].scan[0] && answer[NUVALETA_GRAPH_SCAN_KEYWORD] == all[i].scan[1] &&
                    answer[NUVALETA_GRAPH_SCAN_POSITION] == all[i].scan[2] && answer[NUVALETA_GRAPH_FAULT] == 0,
                all[i].text);
-        expect(answer[NUVALETA_GRAPH_NODES] == (i == 0 ? 3u : 0u) && answer[NUVALETA_GRAPH_EDGES] == (i == 0 ? 1u : 0u), "the counts of a graph");
+        const int built = all[i].number == 0;
+        expect(answer[NUVALETA_GRAPH_NODES] == (built ? 3u : 0u) && answer[NUVALETA_GRAPH_EDGES] == (built ? 1u : 0u), "the counts of a graph");
     }
     bundle.length = 1;
     expect(graph() == NUVALETA_BUNDLE_BROKEN && answer[NUVALETA_GRAPH_FAULT] == 1, "a broken bundle");
@@ -380,10 +408,12 @@ static void answer_words(void) {
 
 int main(void) {
     answer_words();
-    scan_refusals();
-    scan_limits();
-    scan_words();
-    record_words();
+    for (whole = 0; whole < 2; whole++) {
+        scan_refusals();
+        scan_limits();
+        scan_words();
+        record_words();
+    }
     image_limits();
     bundle_limits();
     for (complete = 0; complete < 2; complete++) {

@@ -26,15 +26,22 @@ static uint32_t imports[NUVALETA_IMPORT_WORDS], includes[NUVALETA_INCLUDE_WORDS]
 
 static uint32_t nothing(void) { return 0; }
 
-static uint32_t dependencies(void) {
-    return nuvaleta_dependencies(BYTES(text), store, sizeof store, imports, NUVALETA_IMPORT_WORDS, includes, NUVALETA_INCLUDE_WORDS, answer);
-}
+#define TABLES imports, NUVALETA_IMPORT_WORDS, includes, NUVALETA_INCLUDE_WORDS
 
-static uint32_t printed(void) {
-    return nuvaleta_printed(BYTES(text), store, sizeof store, imports, NUVALETA_IMPORT_WORDS, includes, NUVALETA_INCLUDE_WORDS, page, sizeof page, answer);
-}
+static uint32_t dependencies(void) { return nuvaleta_dependencies(BYTES(text), store, sizeof store, TABLES, answer); }
+
+static uint32_t printed(void) { return nuvaleta_printed(BYTES(text), store, sizeof store, TABLES, page, sizeof page, answer); }
 
 static uint32_t metadata(void) { return nuvaleta_metadata(BYTES(text), store, sizeof store, record, answer); }
+
+static uint32_t dependencies_whole(void) { return nuvaleta_dependencies_whole(BYTES(text), store, sizeof store, TABLES, answer); }
+
+static uint32_t printed_whole(void) { return nuvaleta_printed_whole(BYTES(text), store, sizeof store, TABLES, page, sizeof page, answer); }
+
+static uint32_t metadata_whole(void) { return nuvaleta_metadata_whole(BYTES(text), store, sizeof store, record, answer); }
+
+/* The same text up to the block of its revision: it is cut short in there. */
+static uint32_t metadata_cut(void) { return nuvaleta_metadata_whole((const uint8_t *)text, sizeof text - 3, store, sizeof store, record, answer); }
 
 static uint32_t find_module(void) { return nuvaleta_find_module(BYTES(deep_image), BYTES("m"), answer); }
 
@@ -46,8 +53,8 @@ static uint32_t text_under(void) { return nuvaleta_text(BYTES(deep_bundle), BYTE
 
 static uint32_t drawn(int complete) {
     return (complete ? nuvaleta_graph_complete : nuvaleta_graph)(
-        BYTES(deep_image), BYTES(deep_bundle), nodes, NUVALETA_NODE_WORDS, edges, NUVALETA_EDGE_WORDS, store, sizeof store, imports, NUVALETA_IMPORT_WORDS,
-        includes, NUVALETA_INCLUDE_WORDS, levels, NUVALETA_LEVEL_WORDS, answer);
+        BYTES(deep_image), BYTES(deep_bundle), nodes, NUVALETA_NODE_WORDS, edges, NUVALETA_EDGE_WORDS, store, sizeof store, TABLES, levels,
+        NUVALETA_LEVEL_WORDS, answer);
 }
 
 static uint32_t graph(void) { return drawn(0); }
@@ -100,6 +107,8 @@ static size_t used(struct call *x, unsigned char *stack) {
 int main(void) {
     static struct call all[] = {
         {"a thread that does nothing", nothing, 0, 0}, {"dependencies", dependencies, 0, 0}, {"printed", printed, 0, 0}, {"metadata", metadata, 0, 0},
+        {"dependencies_whole", dependencies_whole, 0, 0}, {"printed_whole", printed_whole, 0, 0}, {"metadata_whole", metadata_whole, 0, 0},
+        {"metadata_whole of half a text", metadata_cut, NUVALETA_CUT_SHORT, 0},
         {"find_module", find_module, 0, 0}, {"find_submodule", find_submodule, 0, 0}, {"find_import_module", find_import_module, 0, 0},
         {"text", text_under, 0, 0}, {"graph", graph, NUVALETA_TOO_DEEP, 0}, {"graph_complete", graph_complete, NUVALETA_TOO_DEEP, 0},
         {"order", ring, NUVALETA_CYCLE, 0}, {"order_check", order_check, 0, 0},

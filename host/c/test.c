@@ -14,12 +14,12 @@
 
 static const char text[] = "module m {\n  import base { prefix b; revision-date 2024-05-01; }\n  include m-types;\n}\n";
 
-/* What is lent to be written, for all tests: a store for the longest text, an answer of the most words. */
+/* What is lent to be written, for all tests: a store for the longest text, an answer of the most words; and what another call left, to be held against it. */
 static struct {
     uint8_t store[128], page[sizeof text - 1 + NUVALETA_PAGE_MORE];
     uint32_t imports[NUVALETA_IMPORT_WORDS], includes[NUVALETA_INCLUDE_WORDS], nodes[NUVALETA_NODE_WORDS], edges[NUVALETA_EDGE_WORDS],
         levels[NUVALETA_LEVEL_WORDS], order[8], record[NUVALETA_RECORD_WORDS], answer[NUVALETA_GRAPH_ANSWER];
-} lent;
+} lent, left;
 
 static int wrong(const char *what) {
     fprintf(stderr, "c: %s\n", what);
@@ -48,68 +48,162 @@ static int answered(uint32_t number, const uint32_t *expected, size_t words) {
     (memcmp(lent.array, expected, size) == 0 && all_are(0, (const uint8_t *)lent.array + (size), sizeof lent.array - (size)))
 #define ZERO(array) HOLDS(array, "", 0)
 
-static uint32_t dependencies(const uint8_t *bytes, size_t length) {
+/* Which of the two forms of a scan is called. */
+enum form { USUAL, WHOLE };
+
+#define SCAN(form, call) ((form) == WHOLE ? call##_whole : call)
+
+static uint32_t dependencies(enum form form, const uint8_t *bytes, size_t length) {
     poison();
-    return nuvaleta_dependencies(bytes, length, LENT(lent.store), LENT(lent.imports), LENT(lent.includes), lent.answer);
+    return SCAN(form, nuvaleta_dependencies)(bytes, length, LENT(lent.store), LENT(lent.imports), LENT(lent.includes), lent.answer);
 }
 
-static int dependencies_read(void) {
+static int dependencies_read(enum form form) {
     static const uint32_t good[NUVALETA_DEPENDENCIES_ANSWER] = {0, 0, 0, 1, 1, 22};
     static const uint32_t refused[NUVALETA_DEPENDENCIES_ANSWER] = {NUVALETA_OTHER_BYTE, NUVALETA_IMPORT, 9, 0, 0, 0};
     static const uint32_t import[NUVALETA_IMPORT_ROW] = {0, 4, 4, 1, 1, 5, 10}, include[NUVALETA_INCLUDE_ROW] = {15, 7, 0, 0, 0};
 
-    if (!answered(dependencies(BYTES(text)), LENT(good)))
+    if (!answered(dependencies(form, BYTES(text)), LENT(good)))
         return wrong("another answer");
     if (!HOLDS(store, "baseb2024-05-01m-types", 22) || !HOLDS(imports, import, sizeof import) || !HOLDS(includes, include, sizeof include))
         return wrong("another row or value");
-    if (!answered(dependencies(BYTES("import a b")), LENT(refused)))
+    if (!answered(dependencies(form, BYTES("import a b")), LENT(refused)))
         return wrong("another refusal");
     if (!ZERO(store) || !ZERO(imports) || !ZERO(includes))
         return wrong("a refusal left something");
     return 0;
 }
 
-static uint32_t printed(size_t page_length) {
+static uint32_t printed(enum form form, const uint8_t *bytes, size_t length, size_t page_length) {
     poison();
-    return nuvaleta_printed(BYTES(text), LENT(lent.store), LENT(lent.imports), LENT(lent.includes), lent.page, page_length, lent.answer);
+    return SCAN(form, nuvaleta_printed)(bytes, length, LENT(lent.store), LENT(lent.imports), LENT(lent.includes), lent.page, page_length, lent.answer);
 }
 
-static int page_printed(void) {
+static int page_printed(enum form form) {
     static const char page[] = "Imports (1):\n  - base (prefix: b) @ 2024-05-01\n\nIncludes (1):\n  - m-types\n";
     static const uint32_t good[NUVALETA_PRINTED_ANSWER] = {0, 0, 0, 1, 1, 22, sizeof page - 1};
     static const uint32_t refused[NUVALETA_PRINTED_ANSWER] = {NUVALETA_LENT_TOO_SHORT, 0, 0, 0, 0, 0, 0};
     const size_t last = sizeof lent.page - 1;
 
-    if (!answered(printed(sizeof lent.page), LENT(good)))
+    if (!answered(printed(form, BYTES(text), sizeof lent.page), LENT(good)))
         return wrong("another answer with a page");
     if (!HOLDS(page, page, sizeof page - 1))
         return wrong("another page");
-    if (!answered(printed(last), LENT(refused)))
+    if (!answered(printed(form, BYTES(text), last), LENT(refused)))
         return wrong("a short page taken");
     if (!ZERO(store) || !ZERO(imports) || !ZERO(includes) || !all_are(0, lent.page, last) || lent.page[last] != POISON)
         return wrong("a short page not cleared, or more than it");
     return 0;
 }
 
-static uint32_t metadata(const uint8_t *bytes, size_t length) {
+static uint32_t metadata(enum form form, const uint8_t *bytes, size_t length) {
     poison();
-    return nuvaleta_metadata(bytes, length, LENT(lent.store), lent.record, lent.answer);
+    return SCAN(form, nuvaleta_metadata)(bytes, length, LENT(lent.store), lent.record, lent.answer);
 }
 
 /* Name, parent, prefix, two revisions of which the second is newer; then a text without a name. */
-static int metadata_read(void) {
+static int metadata_read(enum form form) {
     static const char module[] = "submodule s{belongs-to m{prefix p;} import a{prefix b;} revision 2020;revision 2021{}}";
     static const uint32_t good[NUVALETA_METADATA_ANSWER] = {0, 0, 0, 11}, refused[NUVALETA_METADATA_ANSWER] = {NUVALETA_NO_NAME, 0, 9, 0};
     static const uint32_t record[NUVALETA_RECORD_WORDS] = {1, 0, 1, 0, 0, 0, 1, 2, 1, 1, 3, 4, 1, 1, 1, 1, 7, 4};
 
-    if (!answered(metadata(BYTES(module)), LENT(good)))
+    if (!answered(metadata(form, BYTES(module)), LENT(good)))
         return wrong("another metadata answer");
     if (!HOLDS(store, "smb20202021", 11) || !HOLDS(record, record, sizeof record))
         return wrong("another metadata record");
-    if (!answered(metadata(BYTES("container x")), LENT(refused)))
+    if (!answered(metadata(form, BYTES("container x")), LENT(refused)))
         return wrong("a text without a name taken");
     if (!ZERO(store) || !ZERO(record))
         return wrong("a refusal of metadata left something");
+    return 0;
+}
+
+/* The three scans, and how many words each answers. */
+enum scan { DEPENDENCIES, PRINTED, METADATA };
+static const size_t answer_words[] = {NUVALETA_DEPENDENCIES_ANSWER, NUVALETA_PRINTED_ANSWER, NUVALETA_METADATA_ANSWER};
+
+static uint32_t scanned(enum form form, enum scan scan, const uint8_t *bytes, size_t length) {
+    switch (scan) {
+    case DEPENDENCIES: return dependencies(form, bytes, length);
+    case PRINTED: return printed(form, bytes, length, sizeof lent.page);
+    default: return metadata(form, bytes, length);
+    }
+}
+
+/* Whether a scan refused with these three words and left zeros alone in all that it was lent. */
+static int refused_clean(enum scan scan, uint32_t number, uint32_t due, uint32_t keyword, uint32_t position) {
+    const uint32_t expected[NUVALETA_PRINTED_ANSWER] = {due, keyword, position};
+    return answered(number, expected, answer_words[scan]) && ZERO(store) && (scan == METADATA ? ZERO(record) : ZERO(imports) && ZERO(includes)) &&
+           (scan != PRINTED || ZERO(page));
+}
+
+/* A text, the scans that it is for, what they answer without _whole, and whether they answer NUVALETA_CUT_SHORT at the text's end with it. If not, all is the
+ * same with it. */
+struct reading {
+    enum scan first, last;
+    const char *text;
+    uint32_t number, keyword, position;
+    int cut;
+};
+
+static int read_in_both_forms(const struct reading *x, enum scan scan) {
+    const uint8_t *bytes = (const uint8_t *)x->text;
+    const size_t length = strlen(x->text);
+    uint32_t number = scanned(USUAL, scan, bytes, length);
+
+    if (x->number != 0 ? !refused_clean(scan, number, x->number, x->keyword, x->position) : number != 0)
+        return 0;
+    memcpy(&left, &lent, sizeof lent);
+    number = scanned(WHOLE, scan, bytes, length);
+    return x->cut ? refused_clean(scan, number, NUVALETA_CUT_SHORT, NUVALETA_NO_KEYWORD, (uint32_t)length)
+                  : number == x->number && memcmp(&lent, &left, sizeof lent) == 0;
+}
+
+/* The readings of request 2026-07, in its order. */
+static int readings(void) {
+    enum { STAYS, CUT };
+    static const struct reading all[] = {
+        /* 1: a statement that is passed over ends with the text, also one of no bytes */
+        {METADATA, METADATA, "module m{belongs-to p", 0, 0, 0, CUT},
+        {METADATA, METADATA, "module m{prefix p;prefix", 0, 0, 0, CUT},
+        {METADATA, METADATA, "module m{revision 2020-01-01{", 0, 0, 0, CUT},
+        {DEPENDENCIES, PRINTED, "import a{x", NUVALETA_OPEN_ENDED, NUVALETA_IMPORT, 10, CUT},
+        {DEPENDENCIES, PRINTED, "import a{x/*c", NUVALETA_OPEN_ENDED, NUVALETA_IMPORT, 13, CUT},
+        /* 2: a token's string never closes */
+        {DEPENDENCIES, PRINTED, "x \"abc", 0, 0, 0, CUT},
+        {METADATA, METADATA, "\"", NUVALETA_NO_NAME, 0, 1, CUT},
+        {DEPENDENCIES, PRINTED, "\"\\\"", 0, 0, 0, CUT},
+        /* 3: a part of a value never closes */
+        {DEPENDENCIES, PRINTED, "import \"a", NUVALETA_NO_VALUE, NUVALETA_IMPORT, 9, CUT},
+        {DEPENDENCIES, PRINTED, "import \"a\"+\"b", NUVALETA_END_OF_TEXT, NUVALETA_IMPORT, 13, CUT},
+        {METADATA, METADATA, "module m{belongs-to \"p\"+\"x", 0, 0, 0, CUT},
+        {METADATA, METADATA, "yang-version \"1", NUVALETA_END_OF_TEXT, NUVALETA_YANG_VERSION, 15, CUT},
+        /* 4: a block ends where a statement or } is due */
+        {DEPENDENCIES, PRINTED, "import a{", NUVALETA_OPEN_ENDED, NUVALETA_IMPORT, 9, STAYS},
+        {DEPENDENCIES, PRINTED, "import a{x;", NUVALETA_OPEN_ENDED, NUVALETA_IMPORT, 11, STAYS},
+        {DEPENDENCIES, PRINTED, "import a{/*c", NUVALETA_OPEN_ENDED, NUVALETA_IMPORT, 12, STAYS},
+        /* 5: a value or a byte is missing, and no string is open */
+        {DEPENDENCIES, PRINTED, "import a{prefix", NUVALETA_NO_VALUE, NUVALETA_PREFIX, 15, STAYS},
+        {DEPENDENCIES, PRINTED, "include a", NUVALETA_END_OF_TEXT, NUVALETA_INCLUDE, 9, STAYS},
+        {METADATA, METADATA, "module m{revision 2020-01-01", NUVALETA_END_OF_TEXT, NUVALETA_REVISION, 28, STAYS},
+        /* 6: a comment between tokens, and the module's own block */
+        {METADATA, METADATA, "module m{/*cut", 0, 0, 0, STAYS},
+        {METADATA, METADATA, "module m{ description cut", 0, 0, 0, STAYS},
+        {DEPENDENCIES, PRINTED, "//cut", 0, 0, 0, STAYS},
+        /* 7: what is not read */
+        {DEPENDENCIES, PRINTED, "description \"cut", 0, 0, 0, STAYS},
+        /* 8: before a } */
+        {METADATA, METADATA, "module m{belongs-to p}", 0, 0, 0, STAYS},
+        /* 9: the order of reading, and what comes first of all */
+        {DEPENDENCIES, PRINTED, "import a{} \"x", NUVALETA_NO_PREFIX, NUVALETA_IMPORT, 10, STAYS},
+        {DEPENDENCIES, PRINTED, "import a b \"x", NUVALETA_OTHER_BYTE, NUVALETA_IMPORT, 9, STAYS},
+        {DEPENDENCIES, METADATA, "x \"abc\200", NUVALETA_HIGH_BYTE, 0, 6, STAYS},
+    };
+
+    for (size_t i = 0; i < sizeof all / sizeof all[0]; i++)
+        for (int scan = (int)all[i].first; scan <= (int)all[i].last; scan++)
+            if (!read_in_both_forms(&all[i], (enum scan)scan))
+                return wrong(all[i].text);
     return 0;
 }
 
@@ -177,7 +271,8 @@ static int graphs(enum which which) {
     if (!scratch_is_zero())
         return wrong("a graph left scratch");
     memset(ordered, POISON, sizeof ordered);
-    if (nuvaleta_order(LENT(lent.nodes), lent.answer[NUVALETA_GRAPH_NODES], LENT(lent.edges), lent.answer[NUVALETA_GRAPH_EDGES], LENT(lent.order), ordered) != 0 ||
+    if (nuvaleta_order(LENT(lent.nodes), lent.answer[NUVALETA_GRAPH_NODES], LENT(lent.edges), lent.answer[NUVALETA_GRAPH_EDGES], LENT(lent.order),
+                       ordered) != 0 ||
         ordered[NUVALETA_ORDER_NUMBER] != 0 || ordered[NUVALETA_ORDER_LENGTH] != 3 || !HOLDS(order, order, sizeof order))
         return wrong("another order of a graph");
     return 0;
@@ -297,25 +392,26 @@ static int lists(void) {
 }
 
 /* Null pointers of length 0 in the place of all slices, then of those that may be empty in a good call. */
-static int nothing_scanned(void) {
+static int nothing_scanned(enum form form) {
     static const uint32_t short_lent[NUVALETA_PRINTED_ANSWER] = {NUVALETA_LENT_TOO_SHORT}, good[NUVALETA_DEPENDENCIES_ANSWER] = {0};
     static const uint32_t nameless[NUVALETA_METADATA_ANSWER] = {NUVALETA_NO_NAME};
 
     poison();
-    if (!answered(nuvaleta_dependencies(NOTHING, NOTHING, NOTHING, NOTHING, lent.answer), short_lent, NUVALETA_DEPENDENCIES_ANSWER))
+    if (!answered(SCAN(form, nuvaleta_dependencies)(NOTHING, NOTHING, NOTHING, NOTHING, lent.answer), short_lent, NUVALETA_DEPENDENCIES_ANSWER))
         return wrong("no tables taken");
     poison();
-    if (!answered(nuvaleta_dependencies(NOTHING, NOTHING, LENT(lent.imports), LENT(lent.includes), lent.answer), LENT(good)) || !ZERO(imports) || !ZERO(includes))
+    if (!answered(SCAN(form, nuvaleta_dependencies)(NOTHING, NOTHING, LENT(lent.imports), LENT(lent.includes), lent.answer), LENT(good)) || !ZERO(imports) ||
+        !ZERO(includes))
         return wrong("a text of nothing refused");
     poison();
-    if (!answered(nuvaleta_printed(NOTHING, NOTHING, NOTHING, NOTHING, NOTHING, lent.answer), LENT(short_lent)))
+    if (!answered(SCAN(form, nuvaleta_printed)(NOTHING, NOTHING, NOTHING, NOTHING, NOTHING, lent.answer), LENT(short_lent)))
         return wrong("no page taken");
     poison();
-    if (nuvaleta_printed(NOTHING, NOTHING, LENT(lent.imports), LENT(lent.includes), LENT(lent.page), lent.answer) != 0 ||
+    if (SCAN(form, nuvaleta_printed)(NOTHING, NOTHING, LENT(lent.imports), LENT(lent.includes), LENT(lent.page), lent.answer) != 0 ||
         memchr(lent.page, 0, sizeof lent.page) != lent.page + lent.answer[NUVALETA_PRINTED_LENGTH])
         return wrong("a page of nothing refused");
     poison();
-    if (!answered(nuvaleta_metadata(NOTHING, NOTHING, lent.record, lent.answer), LENT(nameless)) || !ZERO(record))
+    if (!answered(SCAN(form, nuvaleta_metadata)(NOTHING, NOTHING, lent.record, lent.answer), LENT(nameless)) || !ZERO(record))
         return wrong("another refusal of metadata of nothing");
     return 0;
 }
@@ -362,32 +458,77 @@ static int nothing_drawn(enum which which) {
     return 0;
 }
 
-/* Each slice in turn is one element too short: then all that was lent is zero, and nothing behind it is touched. */
+/* A slice that is lent just as long as it must be. */
+struct slice {
+    void *at;
+    size_t size, element;
+};
+
+#define SLICE(array) {lent.array, sizeof lent.array, sizeof lent.array[0]}
+
+/* The lengths of slices of which one is an element too short. */
+static void one_short(const struct slice *all, size_t count, size_t which, size_t *length) {
+    for (size_t i = 0; i < count; i++)
+        length[i] = all[i].size / all[i].element - (i == which);
+}
+
+/* Whether all that was lent is zero, and nothing behind it is touched. */
+static int cleared(const struct slice *all, size_t count, const size_t *length) {
+    for (size_t i = 0; i < count; i++) {
+        const uint8_t *at = all[i].at;
+        const size_t size = length[i] * all[i].element;
+        if (!all_are(0, at, size) || !all_are(POISON, at + size, all[i].size - size))
+            return 0;
+    }
+    return 1;
+}
+
+/* Each slice in turn is one element too short for a text, which is cut short besides. */
+static int short_for_scan(enum form form) {
+    static const char cut[] = "module m{belongs-to \"p";
+    static const uint32_t refused[NUVALETA_PRINTED_ANSWER] = {NUVALETA_LENT_TOO_SHORT};
+    const struct slice all[] = {{lent.store, sizeof cut - 1, 1}, SLICE(imports), SLICE(includes), {lent.page, sizeof cut - 1 + NUVALETA_PAGE_MORE, 1}};
+    size_t length[4];
+
+    for (size_t i = 0; i < 4; i++) {
+        one_short(all, 4, i, length);
+        poison();
+        if (!answered(SCAN(form, nuvaleta_printed)(BYTES(cut), lent.store, length[0], lent.imports, length[1], lent.includes, length[2], lent.page, length[3],
+                                                   lent.answer),
+                      LENT(refused)) ||
+            !cleared(all, 4, length))
+            return wrong("a slice that is too short for a page taken or not cleared, or more than it");
+        poison();
+        if (i < 3 && (!answered(SCAN(form, nuvaleta_dependencies)(BYTES(cut), lent.store, length[0], lent.imports, length[1], lent.includes, length[2],
+                                                                  lent.answer),
+                                refused, NUVALETA_DEPENDENCIES_ANSWER) ||
+                      !cleared(all, 3, length)))
+            return wrong("a slice that is too short for a scan taken or not cleared, or more than it");
+    }
+    one_short(all, 1, 0, length);
+    poison();
+    if (!answered(SCAN(form, nuvaleta_metadata)(BYTES(cut), lent.store, length[0], lent.record, lent.answer), refused, NUVALETA_METADATA_ANSWER) ||
+        !cleared(all, 1, length) || !ZERO(record))
+        return wrong("a store that is too short for metadata taken or not cleared, or more than it");
+    return 0;
+}
+
+/* Each slice in turn is one element too short for a graph. */
 static int short_lent(enum which which) {
     static const uint8_t none[] = {0}, bundle[] = {1, 1, 'm', 2, ' ', ' '};
     static const uint32_t refused[NUVALETA_GRAPH_ANSWER] = {NUVALETA_GRAPH_LENT_TOO_SHORT};
-    const size_t word = sizeof(uint32_t);
-    const struct {
-        void *at;
-        size_t size, element;
-    } all[] = {{lent.nodes, sizeof lent.nodes, word},     {lent.edges, sizeof lent.edges, word},       {lent.store, 2, 1},
-               {lent.imports, sizeof lent.imports, word}, {lent.includes, sizeof lent.includes, word}, {lent.levels, sizeof lent.levels, word}};
+    const struct slice all[] = {SLICE(nodes), SLICE(edges), {lent.store, 2, 1}, SLICE(imports), SLICE(includes), SLICE(levels)};
+    size_t length[6];
 
     for (size_t i = 0; i < 6; i++) {
-        size_t length[6];
-        for (size_t j = 0; j < 6; j++)
-            length[j] = all[j].size / all[j].element - (i == j);
+        one_short(all, 6, i, length);
         poison();
         if (!answered(GRAPH(which)(LENT(none), LENT(bundle), lent.nodes, length[0], lent.edges, length[1], lent.store, length[2], lent.imports, length[3],
                                    lent.includes, length[4], lent.levels, length[5], lent.answer),
                       LENT(refused)))
             return wrong("a slice that is too short taken");
-        for (size_t j = 0; j < 6; j++) {
-            const uint8_t *at = all[j].at;
-            const size_t size = length[j] * all[j].element;
-            if (!all_are(0, at, size) || !all_are(POISON, at + size, all[j].size - size))
-                return wrong("a slice that is too short not cleared, or more than it");
-        }
+        if (!cleared(all, 6, length))
+            return wrong("a slice that is too short not cleared, or more than it");
     }
     return 0;
 }
@@ -408,11 +549,15 @@ static int nothing_ordered(void) {
 }
 
 int main(void) {
-    if (dependencies_read() != 0 || page_printed() != 0 || metadata_read() != 0 || finds() != 0 || graphs(PLAIN) != 0 || graphs(COMPLETE) != 0)
+    for (int form = USUAL; form <= WHOLE; form++)
+        if (dependencies_read((enum form)form) != 0 || page_printed((enum form)form) != 0 || metadata_read((enum form)form) != 0 ||
+            nothing_scanned((enum form)form) != 0 || short_for_scan((enum form)form) != 0)
+            return 1;
+    if (readings() != 0 || finds() != 0 || graphs(PLAIN) != 0 || graphs(COMPLETE) != 0)
         return 1;
     if (names_again() != 0 || orders() != 0 || lists() != 0)
         return 1;
-    if (nothing_scanned() != 0 || nothing_found() != 0 || nothing_drawn(PLAIN) != 0 || nothing_drawn(COMPLETE) != 0 || nothing_ordered() != 0)
+    if (nothing_found() != 0 || nothing_drawn(PLAIN) != 0 || nothing_drawn(COMPLETE) != 0 || nothing_ordered() != 0)
         return 1;
     if (short_lent(PLAIN) != 0 || short_lent(COMPLETE) != 0)
         return 1;

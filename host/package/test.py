@@ -182,6 +182,7 @@ class Package(unittest.TestCase):
         self.assertEqual(self.completed("--json", "expl"), ["explain"])
         self.assertEqual(self.completed("help", "gra"), ["graph"])
         self.assertEqual(self.completed("--v"), ["--version"])
+        self.assertEqual(self.completed("meta", "--w"), ["--whole"])
         self.assertEqual(self.completed("order", "--into", ""), ["core", "edge", "twice"])
         self.assertEqual(self.completed("explain", "7", "--at", ""), [])
         self.assertEqual(self.completed("nonsense", ""), [])
@@ -215,7 +216,7 @@ class Package(unittest.TestCase):
     def test_the_shared_library(self):
         library = self.prefix / "lib" / f"libnuvaleta.so.{VERSION}"
         calls = sorted(set(re.findall(r"^\w[\w ]*\b(nuvaleta_\w+)\(", (self.prefix / "include/nuvaleta.h").read_text(), re.M)))
-        self.assertEqual(len(calls), 11)
+        self.assertEqual(len(calls), 14)
         offered = [line.split()[1:] for line in run("nm", "-D", "--defined-only", library).stdout.splitlines()]
         self.assertEqual(sorted(offered), [["T", call] for call in calls])
         told = run("readelf", "-dlW", library).stdout

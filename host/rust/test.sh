@@ -243,6 +243,7 @@ for command in deps meta; do
     expect 0 "$command" "$work/a b/x y.yang"
     expect 0 "$command" -
     expect 0 "$command" -- -
+    expect 0 "$command" --whole -
 done
 due '{"name":"m-types","parent":"m","namespace":null,"prefix":"b","first_revision":"2023-11-02","newest_revision":"2024-05-01"}\n'
 expect 0 meta - --json
@@ -274,6 +275,40 @@ expect 1 deps early.yang --json
 printf 'module m { import a; }' >semicolon.yang
 "$nuvaleta" deps semicolon.yang >out 2>err && wrong "deps semicolon.yang" || :
 sed -n 4p err | grep -qx 'expected { after import a, found ;' || wrong "deps semicolon.yang"
+
+# A text that is cut off: it may be read as if it were whole, and is refused with --whole where that is seen.
+printf 'module m {\n  prefix m;\n  revision 2024-05-01 {\n    description "The la' >cut.yang
+due 'name: m\nprefix: m\nfirst revision: 2024-05-01\nnewest revision: 2024-05-01\n'
+expect 0 meta cut.yang
+words='the text ends inside a string, or inside a statement that is passed over'
+advice='the text is cut off, or a quote, a ; or a } is missing: download it again, or complete it. A text without this refusal may be cut off too, where it'
+advice="$advice is not seen: behind the word that ends the scan, in a comment between statements, or in the module's own block outside of strings"
+clash='expected the end of the string or of the statement, found the end of the text'
+told() { # WHERE LINE: a refusal of a text that ends with this line
+    printf 'refused 11: %s: %s\n    %s\n    %*s^\n%s\nTo do: %s\n' "$1" "$words" "$2" "${#2}" '' "$clash" "$advice" >due
+}
+told 'cut.yang, line 4, column 24' '    description "The la'
+expect 1 meta --whole cut.yang
+expect 1 --whole meta cut.yang
+place='"position":70,"line":4,"column":24'
+clashes='"expected":"the end of the string or of the statement","found":"the end of the text"'
+echo "{\"refused\":{\"number\":11,\"words\":\"$words\",$place,$clashes,\"advice\":\"$advice\"}}" >due
+expect 1 meta cut.yang --json --whole
+due 'Imports (0):\n\nIncludes (0):\n'
+expect 0 deps cut.yang
+expect 0 deps --whole cut.yang # the word description ends the scan
+printf 'module m { namespace "urn:m' >in
+expect 0 deps -
+told 'standard input, line 1, column 28' 'module m { namespace "urn:m'
+expect 1 deps --whole -
+printf '\001\001m\033module m { namespace "urn:m' >half
+due '{"order":["m"]}\n'
+expect 0 order --json one half # a graph does not ask
+printf 'scan refusal 11, of a text: %s\nTo do: %s\n' "$words" "$advice" >due
+expect 0 explain 11
+expect 0 explain 11 --keyword 0
+printf 'scan refusal 11, at byte 70 of a text: %s\n%s:\n%8sdescription "The la\n%27s^\nTo do: %s\n' "$words" 'cut.yang, line 4, column 24' '' '' "$advice" >due
+expect 0 explain 11 --at 70 cut.yang
 head -c 1048577 /dev/zero >long.yang
 due 'refused 1: long.yang: more than 1,048,576 bytes\nTo do: split the text: this is the most that is scanned\n'
 expect 1 deps long.yang
@@ -313,12 +348,12 @@ echo "{\"number\":20,\"words\":\"the image breaks its form at byte 9\",\"advice\
 expect 0 explain --json 20 --at 9 image
 expect 0 explain --json 20 --at 9
 "$nuvaleta" explain 42 --at 3 | grep -q '^refusal 42: the list is wrong at place 3, counted from 0$' || wrong "explain 42 --at 3"
-for number in 0 1 2 3 4 5 6 7 8 9 10 20 21 22 23 24 25 26 27 28 29 30 31 40 41 42 43; do
+for number in 0 1 2 3 4 5 6 7 8 9 10 11 20 21 22 23 24 25 26 27 28 29 30 31 40 41 42 43; do
     "$nuvaleta" explain $number >out 2>err || wrong "explain $number"
     sed -n 1p out | grep -q "refusal ${number}[:,] .\|^0: no refusal" && sed -n 2p out | grep -q '^To do: .' || wrong "explain $number"
 done
-for number in 11 19 32 39 44 4294967303 99999999999999999999; do
-    due "nuvaleta: no call answers $number: the numbers are 0 to 10, 20 to 31 and 40 to 43\n$(usage explain)\n"
+for number in 12 19 32 39 44 4294967303 99999999999999999999; do
+    due "nuvaleta: no call answers $number: the numbers are 0 to 11, 20 to 31 and 40 to 43\n$(usage explain)\n"
     expect 2 explain $number
 done
 
@@ -380,6 +415,10 @@ for command in deps meta texts explain; do
     due "nuvaleta: $command has no --complete\n$(usage $command)\n"
     expect 2 "$command" --complete early.yang
 done
+for command in graph order check texts explain; do
+    due "nuvaleta: $command has no --whole\n$(usage $command)\n"
+    expect 2 "$command" --whole image bundle
+done
 due "nuvaleta: --at needs a word behind it\n$(usage nuvaleta)\n"
 expect 2 explain 7 --at
 for number in seven '' +7 -; do
@@ -401,7 +440,7 @@ expect 2 explain 42 --at 1 early.yang
 due "nuvaleta: keyword and place beside 25 are those of the scan's number: explain that one\n$(usage explain)\n"
 expect 2 explain 25 --at 1
 expect 2 explain 25 --keyword import
-for pair in '8 module' '10 revision' '23 import' '9 module' '4 yang-version' '5 belongs-to'; do
+for pair in '8 module' '10 revision' '11 import' '23 import' '9 module' '4 yang-version' '5 belongs-to'; do
     due "nuvaleta: ${pair% *} does not come with the keyword ${pair#* }\n$(usage explain)\n"
     expect 2 explain "${pair% *}" --keyword "${pair#* }"
 done

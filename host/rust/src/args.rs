@@ -3,7 +3,7 @@
 use std::ffi::{OsStr, OsString};
 
 /// Options that stand alone, and those with a word behind them.
-const FLAGS: [&str; 6] = ["--json", "--help", "-h", "--version", "--all", "--complete"];
+const FLAGS: [&str; 7] = ["--json", "--help", "-h", "--version", "--all", "--complete", "--whole"];
 const VALUED: [&str; 4] = ["--into", "--keyword", "--at", "--seconds"];
 
 /// Words in their order, and the options among them, which may stand anywhere before `--`.

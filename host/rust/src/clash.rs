@@ -42,6 +42,7 @@ impl ScanRefusal {
             ScanFault::NoPrefix => ("prefix NAME; before the end of the block".to_string(), "}".to_string()),
             ScanFault::OpenEnded => (format!("}} at the end of the block of the {keyword}"), byte(text, at)),
             ScanFault::NoName => ("module NAME { or submodule NAME {".to_string(), ended(text, at)),
+            ScanFault::CutShort => ("the end of the string or of the statement".to_string(), byte(text, at)),
             ScanFault::TextTooLong | ScanFault::LentTooShort | ScanFault::TooMany => return None,
         };
         Some(Clash { expected, found })

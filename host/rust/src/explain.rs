@@ -9,9 +9,12 @@ use std::ffi::OsStr;
 struct Asked {
     meaning: &'static Meaning,
     keyword: Option<Keyword>,
-    /// A position in a text (3 to 10), a place in an image or a bundle (20, 21) or in a list (42).
+    /// A position in a text (3 to 11), a place in an image or a bundle (20, 21) or in a list (42).
     at: Option<usize>,
 }
+
+/// The last number of a scan: those from 1 to it are of a text.
+const LAST_SCAN: u32 = ScanFault::ALL.len() as u32;
 
 fn wrong<T>(why: String) -> Result<T, Wrong> {
     Err(Wrong::Usage(why))
@@ -49,7 +52,7 @@ impl Asked {
     fn read(args: &Args, word: &OsStr) -> Result<Asked, Wrong> {
         let meaning = match number(word)?.and_then(Meaning::of) {
             Some(meaning) => meaning,
-            None => return wrong(format!("no call answers {}: the numbers are 0 to 10, 20 to 31 and 40 to 43", word.to_string_lossy())),
+            None => return wrong(format!("no call answers {}: the numbers are 0 to 11, 20 to 31 and 40 to 43", word.to_string_lossy())),
         };
         let keyword = args.value("--keyword").map_or(Ok(None), keyword)?;
         let at = match args.value("--at").map(|word| Ok((word, number(word)?))).transpose()? {
@@ -67,7 +70,7 @@ impl Asked {
                 wrong("keyword and place beside 25 are those of the scan's number: explain that one".to_string())
             }
             Some(keyword) if !comes_with(number, keyword) => wrong(format!("{number} does not come with the keyword {keyword}")),
-            _ if self.at.is_some() && !matches!(number, 3..=10 | 20 | 21 | 42) => wrong(format!("{number} has no place")),
+            _ if self.at.is_some() && !matches!(number, 3..=LAST_SCAN | 20 | 21 | 42) => wrong(format!("{number} has no place")),
             _ => Ok(self),
         }
     }
@@ -75,7 +78,7 @@ impl Asked {
     /// In words, with what was told of it.
     fn words(&self) -> String {
         match (self.meaning.number, self.at) {
-            (number @ 1..=10, _) => {
+            (number @ 1..=LAST_SCAN, _) => {
                 let fault = ScanFault::ALL[number as usize - 1];
                 ScanRefusal { fault, keyword: self.keyword, position: None }.words()
             }
@@ -90,8 +93,8 @@ impl Asked {
         let number = self.meaning.number;
         let of = match (number, self.at) {
             (0, _) => "0: ".to_string(),
-            (1..=10, Some(position)) => format!("scan refusal {number}, at byte {position} of a text: "),
-            (1..=10, None) => format!("scan refusal {number}, of a text: "),
+            (1..=LAST_SCAN, Some(position)) => format!("scan refusal {number}, at byte {position} of a text: "),
+            (1..=LAST_SCAN, None) => format!("scan refusal {number}, of a text: "),
             (23..=29 | 31, _) => format!("refusal {number}, of a module or import-only module of the library: "),
             _ => format!("refusal {number}: "),
         };
@@ -124,7 +127,7 @@ fn place(number: u32, file: &OsStr, at: usize) -> Result<Place, Wrong> {
     if at > read.len() {
         return Err(Wrong::File(format!("{name}: there is no byte {at}, it has {}", read.len())));
     }
-    Ok(if number <= 10 { Place::Text(name, Line::at(&read, at)) } else { Place::Bytes(bytes(&name, &read, at)) })
+    Ok(if number <= LAST_SCAN { Place::Text(name, Line::at(&read, at)) } else { Place::Bytes(bytes(&name, &read, at)) })
 }
 
 fn as_json(asked: &Asked, place: &Option<Place>) -> String {
@@ -134,7 +137,7 @@ fn as_json(asked: &Asked, place: &Option<Place>) -> String {
         ("advice", json::quoted(asked.meaning.advice)),
     ];
     fields.extend(asked.keyword.map(|keyword| ("keyword", json::quoted(keyword.word()))));
-    fields.extend(asked.at.map(|at| (if asked.meaning.number <= 10 { "position" } else { "place" }, at.to_string())));
+    fields.extend(asked.at.map(|at| (if asked.meaning.number <= LAST_SCAN { "position" } else { "place" }, at.to_string())));
     if let Some(Place::Text(_, line)) = place {
         fields.extend([("line", line.number.to_string()), ("column", line.column.to_string())]);
     }
@@ -170,13 +173,14 @@ mod tests {
     use super::{comes_with, Keyword};
     use std::collections::BTreeSet;
 
-    /// What the two scans answer to short texts of all keywords is what `comes_with` says, no less and no more.
+    /// What the two scans, in both forms, answer to short texts of all keywords is what `comes_with` says, no less and no more.
     #[test]
     fn keywords() {
         let mut seen = BTreeSet::new();
         let mut scan = |text: String| {
-            let refusals = [nuvaleta::dependencies(text.as_bytes()).err(), nuvaleta::metadata(text.as_bytes()).err()];
-            seen.extend(refusals.iter().flatten().filter_map(|r| Some((r.number(), r.keyword?.number()))));
+            let deps = [nuvaleta::dependencies, nuvaleta::dependencies_whole].map(|scan| scan(text.as_bytes()).err());
+            let meta = [nuvaleta::metadata, nuvaleta::metadata_whole].map(|scan| scan(text.as_bytes()).err());
+            seen.extend(deps.iter().chain(&meta).flatten().filter_map(|r| Some((r.number(), r.keyword?.number()))));
         };
         for before in ["", "import a{", "include a{", "module a{", "submodule a{belongs-to b{", "revision a{"] {
             for keyword in Keyword::ALL {

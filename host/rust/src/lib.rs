@@ -57,7 +57,7 @@ pub use meaning::Meaning;
 pub use order::Order;
 pub use raw::{BUNDLE_MOST, IMAGE_MOST, TEXT_MOST};
 pub use refusal::{By, Entry, Fault, Listed, Refusal, Spot, Why};
-pub use scan::{dependencies, metadata, Dependencies, Import, Include, Metadata};
+pub use scan::{dependencies, dependencies_whole, metadata, metadata_whole, Dependencies, Import, Include, Metadata};
 pub use scan_refusal::{Keyword, Line, ScanFault, ScanRefusal};
 pub use warning::{Warning, WarningKind};
 #[doc(hidden)] // for the command, which has no unsafe code

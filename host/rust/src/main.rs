@@ -40,8 +40,8 @@ struct Command {
 const HELP: &str = include_str!("help/nuvaleta.txt");
 
 const COMMANDS: [Command; 8] = [
-    Command { name: "deps", help: include_str!("help/deps.txt"), options: &["--json"], run: deps },
-    Command { name: "meta", help: include_str!("help/meta.txt"), options: &["--json"], run: meta },
+    Command { name: "deps", help: include_str!("help/deps.txt"), options: &["--json", "--whole"], run: deps },
+    Command { name: "meta", help: include_str!("help/meta.txt"), options: &["--json", "--whole"], run: meta },
     Command { name: "graph", help: include_str!("help/graph.txt"), options: &["--json", "--complete"], run: graph },
     Command {
         name: "order",
@@ -100,11 +100,11 @@ fn scanned<T: Display>(args: &Args, scan: fn(&[u8]) -> Result<T, ScanRefusal>, j
 }
 
 fn deps(args: &Args) -> Ended {
-    scanned(args, nuvaleta::dependencies, json::dependencies)
+    scanned(args, if args.has("--whole") { nuvaleta::dependencies_whole } else { nuvaleta::dependencies }, json::dependencies)
 }
 
 fn meta(args: &Args) -> Ended {
-    scanned(args, nuvaleta::metadata, json::metadata)
+    scanned(args, if args.has("--whole") { nuvaleta::metadata_whole } else { nuvaleta::metadata }, json::metadata)
 }
 
 /// The image and the bundle of two files, of which one may be `-`, standard input.

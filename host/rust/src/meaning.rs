@@ -19,7 +19,7 @@ impl Meaning {
     /// ```
     /// let meaning = nuvaleta::Meaning::of(4).expect("a number of the header");
     /// assert_eq!(meaning.words(), "no value after the keyword");
-    /// assert!(nuvaleta::Meaning::of(11).is_none());
+    /// assert!(nuvaleta::Meaning::of(12).is_none());
     /// ```
     pub fn of(number: u32) -> Option<&'static Meaning> {
         MEANINGS.iter().find(|meaning| meaning.number == number)
@@ -44,7 +44,7 @@ const fn row(number: u32, words: &'static str, general: &'static str, advice: &'
     Meaning { number, words, general, advice }
 }
 
-static MEANINGS: [Meaning; 27] = [
+static MEANINGS: [Meaning; 28] = [
     row(0, "no refusal: the call has answered", "", "nothing"),
     // a scan
     row(1, "more than 1,048,576 bytes", "", "split the text: this is the most that is scanned"),
@@ -67,6 +67,11 @@ static MEANINGS: [Meaning; 27] = [
         "write `module NAME {` or `submodule NAME {` before the first container, list, leaf, grouping, typedef, identity, augment, rpc or notification",
     ),
     row(10, "a 257th {}", "import or include", "leave out what is not needed, or split the module: 256 imports and 256 includes are the most"),
+    row(
+        11, "the text ends inside a string, or inside a statement that is passed over", "",
+        "the text is cut off, or a quote, a ; or a } is missing: download it again, or complete it. A text without this refusal may be cut off too, where it \
+         is not seen: behind the word that ends the scan, in a comment between statements, or in the module's own block outside of strings",
+    ),
     // an image, a bundle
     row(
         20, "the image {}", "breaks its form, or has more than 65,536 bytes",

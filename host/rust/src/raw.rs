@@ -1,4 +1,4 @@
-//! include/nuvaleta.h, said in Rust: its lengths and its eleven calls, as they are.
+//! include/nuvaleta.h, said in Rust: its lengths and its fourteen calls, as they are.
 //!
 //! **The calls are `unsafe`, the one unsafe part of this crate's interface**, for programs that lend buffers of their own. The header says what each
 //! takes, writes and answers, and what a caller owes: lengths that are those of the slices, an `answer` and a `record` that are not null and as long as
@@ -21,11 +21,11 @@ pub const PAGE_MOST: usize = TEXT_MOST + PAGE_MORE;
 pub const IMPORT_ROW: usize = 7;
 /// Words of a row of the include table.
 pub const INCLUDE_ROW: usize = 5;
-/// Words of `answer` of [`nuvaleta_dependencies`].
+/// Words of `answer` of [`nuvaleta_dependencies`] and [`nuvaleta_dependencies_whole`].
 pub const DEPENDENCIES_ANSWER: usize = 6;
-/// Words of `answer` of [`nuvaleta_printed`].
+/// Words of `answer` of [`nuvaleta_printed`] and [`nuvaleta_printed_whole`].
 pub const PRINTED_ANSWER: usize = 7;
-/// Words of `answer` of [`nuvaleta_metadata`].
+/// Words of `answer` of [`nuvaleta_metadata`] and [`nuvaleta_metadata_whole`].
 pub const METADATA_ANSWER: usize = 4;
 /// Words of a metadata record: a row for each of six values.
 pub const RECORD_WORDS: usize = 18;
@@ -95,6 +95,18 @@ extern "C" {
     ) -> u32;
     /// The metadata of a text. `record` has [`RECORD_WORDS`]. `answer`: number, keyword, position, stored bytes.
     pub fn nuvaleta_metadata(text: *const u8, text_len: usize, store: *mut u8, store_len: usize, record: *mut u32, answer: *mut u32) -> u32;
+    /// [`nuvaleta_dependencies`] of a text of which nothing that is read may break off.
+    pub fn nuvaleta_dependencies_whole(
+        text: *const u8, text_len: usize, store: *mut u8, store_len: usize, imports: *mut u32, imports_len: usize, includes: *mut u32,
+        includes_len: usize, answer: *mut u32,
+    ) -> u32;
+    /// [`nuvaleta_printed`], likewise.
+    pub fn nuvaleta_printed_whole(
+        text: *const u8, text_len: usize, store: *mut u8, store_len: usize, imports: *mut u32, imports_len: usize, includes: *mut u32,
+        includes_len: usize, page: *mut u8, page_len: usize, answer: *mut u32,
+    ) -> u32;
+    /// [`nuvaleta_metadata`], likewise.
+    pub fn nuvaleta_metadata_whole(text: *const u8, text_len: usize, store: *mut u8, store_len: usize, record: *mut u32, answer: *mut u32) -> u32;
     /// A module of an image by its name. `answer`: number, place of the fault, found, place of the hit, its revisions.
     pub fn nuvaleta_find_module(image: *const u8, image_len: usize, name: *const u8, name_len: usize, answer: *mut u32) -> u32;
     /// A submodule of a module, likewise.

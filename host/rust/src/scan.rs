@@ -1,4 +1,4 @@
-//! The two scans of a text: what it imports and includes, and its metadata.
+//! The two scans of a text: what it imports and includes, and its metadata. Each may refuse a text that breaks off in what is read.
 
 use crate::raw::{IMPORT_ROW, IMPORT_WORDS, INCLUDE_ROW, INCLUDE_WORDS, PAGE_MORE, RECORD_WORDS, TEXT_MOST, VALUE_ROW};
 use crate::{sys, ScanRefusal};
@@ -64,10 +64,27 @@ fn store_for(text: &[u8]) -> Vec<u8> {
 /// # Ok::<(), nuvaleta::ScanRefusal>(())
 /// ```
 pub fn dependencies(text: &[u8]) -> Result<Dependencies, ScanRefusal> {
+    read_dependencies(false, text)
+}
+
+/// The same, and [`ScanFault::CutShort`](crate::ScanFault::CutShort) if a string that is read never closes, or a statement that is passed over has no end:
+/// then the text is cut off, as by a download that broke off. That it is not refused does not say that it is whole: what the scan does not read is not
+/// looked at, and neither the end inside a comment between statements nor a module's block that never closes is refused.
+///
+/// ```
+/// let half = b"module m { namespace \"urn:m"; // cut off before its imports
+/// assert_eq!(nuvaleta::dependencies(half).expect("a good scan").imports().len(), 0);
+/// assert_eq!(nuvaleta::dependencies_whole(half).unwrap_err().fault, nuvaleta::ScanFault::CutShort);
+/// ```
+pub fn dependencies_whole(text: &[u8]) -> Result<Dependencies, ScanRefusal> {
+    read_dependencies(true, text)
+}
+
+fn read_dependencies(whole: bool, text: &[u8]) -> Result<Dependencies, ScanRefusal> {
     let mut store = store_for(text);
     let mut page = vec![0; store.len() + PAGE_MORE];
     let [mut imports, mut includes] = [IMPORT_WORDS, INCLUDE_WORDS].map(|n| vec![0; n]);
-    let answer = sys::printed(text, &mut store, &mut imports, &mut includes, &mut page);
+    let answer = sys::printed(whole, text, &mut store, &mut imports, &mut includes, &mut page);
     ScanRefusal::of([answer[0], answer[1], answer[2]]).map_or(Ok(()), Err)?;
     imports.truncate(IMPORT_ROW * answer[3] as usize);
     includes.truncate(INCLUDE_ROW * answer[4] as usize);
@@ -110,9 +127,25 @@ pub struct Metadata {
 /// # Ok::<(), nuvaleta::ScanRefusal>(())
 /// ```
 pub fn metadata(text: &[u8]) -> Result<Metadata, ScanRefusal> {
+    read_metadata(false, text)
+}
+
+/// The same, and [`ScanFault::CutShort`](crate::ScanFault::CutShort) where [`dependencies_whole`] has it.
+///
+/// ```
+/// let half = b"module m { revision 2024-05-01 { description \"The la";
+/// assert_eq!(nuvaleta::metadata(half)?.newest_revision(), Some("2024-05-01"));
+/// assert_eq!(nuvaleta::metadata_whole(half).unwrap_err().position, Some(half.len()));
+/// # Ok::<(), nuvaleta::ScanRefusal>(())
+/// ```
+pub fn metadata_whole(text: &[u8]) -> Result<Metadata, ScanRefusal> {
+    read_metadata(true, text)
+}
+
+fn read_metadata(whole: bool, text: &[u8]) -> Result<Metadata, ScanRefusal> {
     let mut store = store_for(text);
     let mut record = [0; RECORD_WORDS];
-    let answer = sys::metadata(text, &mut store, &mut record);
+    let answer = sys::metadata(whole, text, &mut store, &mut record);
     ScanRefusal::of([answer[0], answer[1], answer[2]]).map_or(Ok(()), Err)?;
     Ok(Metadata { store: ascii(store, answer[3]), record })
 }

@@ -38,6 +38,8 @@ pub enum ScanFault {
     NoName = 9,
     /// A 257th import or include.
     TooMany = 10,
+    /// The end inside a string, or inside a statement that is passed over. Of [`crate::dependencies_whole`] and [`crate::metadata_whole`] alone.
+    CutShort = 11,
 }
 
 /// A keyword that a refusal names, under the header's number.
@@ -59,7 +61,7 @@ pub enum Keyword {
 
 impl ScanFault {
     /// All of them, in the order of their numbers.
-    pub const ALL: [ScanFault; 10] = [
+    pub const ALL: [ScanFault; 11] = [
         ScanFault::TextTooLong,
         ScanFault::LentTooShort,
         ScanFault::HighByte,
@@ -70,9 +72,10 @@ impl ScanFault {
         ScanFault::OpenEnded,
         ScanFault::NoName,
         ScanFault::TooMany,
+        ScanFault::CutShort,
     ];
 
-    /// The header's number, 1 to 10.
+    /// The header's number, 1 to 11.
     pub fn number(self) -> u32 {
         self as u32
     }
@@ -139,7 +142,7 @@ impl ScanRefusal {
         Some(ScanRefusal { fault, keyword, position: (number > 2).then_some(position as usize) })
     }
 
-    /// The header's number, 1 to 10.
+    /// The header's number, 1 to 11.
     pub fn number(&self) -> u32 {
         self.fault.number()
     }

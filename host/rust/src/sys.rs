@@ -17,12 +17,15 @@ pub fn dependencies(text: &[u8], store: &mut [u8], imports: &mut [u32], includes
     answer
 }
 
-/// The same, then the page's length.
-pub fn printed(text: &[u8], store: &mut [u8], imports: &mut [u32], includes: &mut [u32], page: &mut [u8]) -> [u32; raw::PRINTED_ANSWER] {
+/// The same, then the page's length. `whole`: of a text that may not break off.
+pub fn printed(
+    whole: bool, text: &[u8], store: &mut [u8], imports: &mut [u32], includes: &mut [u32], page: &mut [u8],
+) -> [u32; raw::PRINTED_ANSWER] {
+    let call = if whole { raw::nuvaleta_printed_whole } else { raw::nuvaleta_printed };
     let mut answer = [0; raw::PRINTED_ANSWER];
-    // SAFETY: as above.
+    // SAFETY: as above; the header gives both calls the same form.
     unsafe {
-        raw::nuvaleta_printed(
+        call(
             text.as_ptr(), text.len(), store.as_mut_ptr(), store.len(), imports.as_mut_ptr(), imports.len(), includes.as_mut_ptr(), includes.len(),
             page.as_mut_ptr(), page.len(), answer.as_mut_ptr(),
         );
@@ -30,12 +33,13 @@ pub fn printed(text: &[u8], store: &mut [u8], imports: &mut [u32], includes: &mu
     answer
 }
 
-/// Number, keyword, position, stored bytes.
-pub fn metadata(text: &[u8], store: &mut [u8], record: &mut [u32; RECORD_WORDS]) -> [u32; raw::METADATA_ANSWER] {
+/// Number, keyword, position, stored bytes. `whole`: of a text that may not break off.
+pub fn metadata(whole: bool, text: &[u8], store: &mut [u8], record: &mut [u32; RECORD_WORDS]) -> [u32; raw::METADATA_ANSWER] {
+    let call = if whole { raw::nuvaleta_metadata_whole } else { raw::nuvaleta_metadata };
     let mut answer = [0; raw::METADATA_ANSWER];
     // SAFETY: as above; `record` too has as many words as the header gives it.
     unsafe {
-        raw::nuvaleta_metadata(text.as_ptr(), text.len(), store.as_mut_ptr(), store.len(), record.as_mut_ptr(), answer.as_mut_ptr());
+        call(text.as_ptr(), text.len(), store.as_mut_ptr(), store.len(), record.as_mut_ptr(), answer.as_mut_ptr());
     }
     answer
 }

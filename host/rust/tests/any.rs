@@ -1,6 +1,7 @@
 //! Whatever is lent, every function answers: bytes of all kinds, damaged images and bundles, graphs and lists that no image gives.
 
-use nuvaleta::{check, dependencies, find_import_module, find_module, find_submodule, graph, graph_complete, metadata, text, Edge, Graph, Line, Refusal};
+use nuvaleta::{check, dependencies, dependencies_whole, find_import_module, find_module, find_submodule, graph, graph_complete};
+use nuvaleta::{metadata, metadata_whole, text, Edge, Graph, Line, Refusal};
 use vectors::libraries;
 use vectors::rng::Rng;
 use vectors::texts;
@@ -83,7 +84,8 @@ fn any_bytes() {
         assert!(warnings.iter().all(|warning| warning.line <= lines && warning.column > 0 && !warning.words.is_empty()));
         let place = r.below(text.len() + 1);
         text.insert(place, 128 + r.below(128) as u8);
-        let refusals = [dependencies(&text).expect_err("a high byte"), metadata(&text).expect_err("a high byte")];
-        assert!(refusals.iter().all(|refusal| (refusal.number(), refusal.position) == (3, Some(place))));
+        let deps = [dependencies, dependencies_whole].map(|scan| scan(&text).expect_err("a high byte"));
+        let meta = [metadata, metadata_whole].map(|scan| scan(&text).expect_err("a high byte"));
+        assert!(deps.iter().chain(&meta).all(|refusal| (refusal.number(), refusal.position) == (3, Some(place))));
     }
 }

@@ -41,13 +41,13 @@ fn parameters(list: &str) -> Vec<String> {
 #[test]
 fn the_calls() {
     let (declared, said) = (calls(HEADER, "uint32_t"), calls(RAW, "    pub fn"));
-    assert_eq!(declared.len(), 11);
+    assert_eq!(declared.len(), 14);
     assert!(declared.keys().eq(said.keys()));
     for (name, list) in &declared {
         let translated: Vec<String> = parameters(list).iter().map(|parameter| translated(parameter)).collect();
         assert_eq!(translated, parameters(said[name]), "{name}");
     }
-    assert_eq!(RAW.matches(") -> u32;").count(), 11);
+    assert_eq!(RAW.matches(") -> u32;").count(), 14);
 }
 
 /// What the header gives a name in an enum.
@@ -90,6 +90,6 @@ fn the_numbers() {
     let refusals = HEADER.split("enum nuvaleta_").filter(|part| part.split(' ').next().map_or(false, |name| name.ends_with("_refusal")));
     let numbers = refusals.flat_map(|part| part.split('}').next().unwrap_or("").lines().skip(1).filter_map(|line| line.strip_prefix("    NUVALETA_")));
     let numbers: Vec<u32> = numbers.map(|line| line.split([' ', ',']).nth(2).and_then(|n| n.parse().ok()).expect("a number")).collect();
-    assert_eq!(numbers.len(), 26);
+    assert_eq!(numbers.len(), 27);
     assert!(numbers.iter().all(|number| Meaning::of(*number).is_some()), "{numbers:?}");
 }

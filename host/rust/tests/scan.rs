@@ -1,6 +1,6 @@
-//! Both scans through the crate: document 01's examples, every refusal in words, lines and columns.
+//! Both scans through the crate: document 01's examples, every refusal in words, lines and columns; texts that are cut off.
 
-use nuvaleta::{dependencies, metadata, Dependencies, Keyword, Line, Meaning, Metadata, ScanFault, ScanRefusal};
+use nuvaleta::{dependencies, dependencies_whole, metadata, metadata_whole, Dependencies, Keyword, Line, Meaning, Metadata, ScanFault, ScanRefusal};
 use vectors::rng::Rng;
 use vectors::texts;
 
@@ -96,6 +96,10 @@ fn in_words() {
         assert_eq!(metadata(text.as_bytes()), Err(refused(ScanFault::NoValue, Some(keyword), text.len())));
         assert_eq!(keyword.to_string(), text);
     }
+    for refusal in [dependencies_whole(b"x 'y").map(|_| ()), metadata_whole(b"x 'y").map(|_| ())] {
+        let words = "the text ends inside a string, or inside a statement that is passed over (scan refusal 11, byte 4)";
+        assert_eq!(refusal.expect_err("a refusal").to_string(), words);
+    }
     assert_eq!(meta(b"yang-version 1.1"), "the text ends before the byte required after yang-version and its value (scan refusal 6, byte 16)");
 }
 
@@ -130,6 +134,10 @@ fn expected_and_found() {
     assert_eq!(meta("module m{revision 2024-01-01 x"), "expected ; or { after revision 2024-01-01, found x");
     assert_eq!(meta("<html>404</html>"), "expected module NAME { or submodule NAME {, found the end of the text");
     assert_eq!(meta("// none\ncontainer c;"), "expected module NAME { or submodule NAME {, found container");
+    let cut = "import a{description \"c";
+    assert_eq!(deps(cut), "expected } at the end of the block of the import, found the end of the text");
+    let whole = of(dependencies_whole(cut.as_bytes()).expect_err("a refusal"), cut.as_bytes());
+    assert_eq!(whole, "expected the end of the string or of the statement, found the end of the text");
 }
 
 /// Of a long text that holds the keyword everywhere the value is looked for in a short time.
@@ -142,10 +150,10 @@ fn expected_in_a_long_text() {
 
 #[test]
 fn numbers_and_meanings() {
-    assert!(ScanFault::ALL.iter().map(|fault| fault.number()).eq(1..=10));
+    assert!(ScanFault::ALL.iter().map(|fault| fault.number()).eq(1..=11));
     assert!(Keyword::ALL.iter().map(|keyword| keyword.number()).eq(1..=10));
-    assert!((0..100).filter(|number| Meaning::of(*number).is_some()).eq((0..=10).chain(20..=31).chain(40..=43)));
-    for number in (0..=10).chain(20..=31).chain(40..=43) {
+    assert!((0..100).filter(|number| Meaning::of(*number).is_some()).eq((0..=11).chain(20..=31).chain(40..=43)));
+    for number in (0..=11).chain(20..=31).chain(40..=43) {
         let meaning = Meaning::of(number).expect("a meaning");
         assert!(!meaning.words().is_empty() && !meaning.words().contains("{}") && !meaning.advice.is_empty(), "{meaning:?}");
     }
@@ -175,6 +183,50 @@ fn lines() {
     assert_eq!(long.line(b""), None);
 }
 
+// ---- texts that are cut off
+
+/// One scan of a text in both forms: the one that asks whether the text is cut off refuses at its end, in the place of an answer or of 4, 6, 8 or 9, or answers
+/// the same. Whether it refused so, and the number of the other, 0 for an answer.
+fn in_both<T: PartialEq + std::fmt::Debug>(scans: [fn(&[u8]) -> Result<T, ScanRefusal>; 2], text: &[u8]) -> (bool, u32) {
+    let [usual, whole] = scans.map(|scan| scan(text));
+    let number = usual.as_ref().err().map_or(0, ScanRefusal::number);
+    let cut = whole == Err(refused(ScanFault::CutShort, None, text.len()));
+    assert!(if cut { [0, 4, 6, 8, 9].contains(&number) } else { usual == whole }, "{:?}: {usual:?}, {whole:?}", String::from_utf8_lossy(text));
+    assert_ne!(number, 11);
+    (cut, number)
+}
+
+const DEPS: [fn(&[u8]) -> Result<Dependencies, ScanRefusal>; 2] = [dependencies, dependencies_whole];
+const META: [fn(&[u8]) -> Result<Metadata, ScanRefusal>; 2] = [metadata, metadata_whole];
+
+/// A text of each reading of request 2026-07, for imports and includes, then for metadata.
+#[test]
+fn cut_short() {
+    let cut = ["import a{x", "import a{x/*c", "x \"abc", "\"\\\"", "import \"a", "import \"a\"+\"b"];
+    assert_eq!(cut.map(|text| in_both(DEPS, text.as_bytes())), [8, 8, 0, 0, 4, 6].map(|number| (true, number)));
+    let stays = ["import a{", "import a{x;", "import a{/*c", "import a{prefix", "include a", "//cut", "description \"cut", "import a{} \"x", "import a b \"x"];
+    assert_eq!(stays.map(|text| in_both(DEPS, text.as_bytes())), [8, 8, 8, 4, 6, 0, 0, 7, 5].map(|number| (false, number)));
+    let cut = ["module m{belongs-to p", "module m{prefix p;prefix", "module m{revision 2020-01-01{", "\"", "module m{belongs-to \"p\"+\"x", "yang-version \"1"];
+    assert_eq!(cut.map(|text| in_both(META, text.as_bytes())), [0, 0, 0, 9, 0, 6].map(|number| (true, number)));
+    let stays = ["module m{revision 2020-01-01", "module m{/*cut", "module m{ description cut", "module m{belongs-to p}"];
+    assert_eq!(stays.map(|text| in_both(META, text.as_bytes())), [6, 0, 0, 0].map(|number| (false, number)));
+}
+
+/// Every beginning of a text, by its last byte: # if it is refused for being cut off.
+fn beginnings<T: PartialEq + std::fmt::Debug>(scans: [fn(&[u8]) -> Result<T, ScanRefusal>; 2], text: &str) -> String {
+    (1..=text.len()).map(|length| if in_both(scans, text[..length].as_bytes()).0 { '#' } else { '.' }).collect()
+}
+
+#[test]
+fn every_beginning() {
+    let text = "module m { namespace 'urn:m'; import a { prefix b; reference 'r'; } contact 'c'; include s; }";
+    let seen = ".....................######..............#####.....#############.............................";
+    assert_eq!(beginnings(DEPS, text), seen);
+    let text = "submodule s { belongs-to m { prefix m; } prefix s; revision 1 { description 'a'; } contact 'c' /* d */; }";
+    let seen = ".........................##############.......................###################..........##............";
+    assert_eq!(beginnings(META, text), seen);
+}
+
 // ---- generated texts
 
 /// The printed form, made once more of the items.
@@ -183,6 +235,21 @@ fn printed(found: &Dependencies) -> String {
     let imports: String = found.imports().map(|i| format!("  - {} (prefix: {}){}\n", i.name, i.prefix, at(i.revision))).collect();
     let includes: String = found.includes().map(|i| format!("  - {}{}\n", i.name, at(i.revision))).collect();
     format!("Imports ({}):\n{imports}\nIncludes ({}):\n{includes}", found.imports().len(), found.includes().len())
+}
+
+/// The two forms of a scan agree but where a text is cut off, of texts and of their beginnings.
+#[test]
+fn generated_in_both_forms() {
+    let mut r = Rng::new(43);
+    let mut seen = [[0; 11]; 2];
+    for _ in 0..20_000 {
+        let text = texts::any(&mut r).into_bytes();
+        let length = if r.once_in(2) { text.len() } else { r.below(text.len() + 1) };
+        for (cut, number) in [in_both(DEPS, &text[..length]), in_both(META, &text[..length])] {
+            seen[usize::from(cut)][number as usize] += 1;
+        }
+    }
+    assert!([0, 4, 6, 8, 9].iter().all(|number| seen[0][*number] > 20 && seen[1][*number] > 20), "{seen:?}");
 }
 
 /// Items and page agree, a refusal has a place inside its text, and the newest revision is not below the first.
