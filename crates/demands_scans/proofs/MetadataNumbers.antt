@@ -22,8 +22,8 @@ use Rattle.text.proofs.Here.{by-test, never}
 use Rattle.text_value.specs.Argument.{argumentAt}
 use Rattle.text_value.specs.declared.Argument.{Argument}
 use Rattle.text_value.specs.declared.Argument.the-variants.{Read, Refused as NoArgument}
-use Rattle.text_skip.specs.Skip.{tokenAt, skippedAt}
-use Rattle.text_statement.specs.Statement.{statementAt}
+use Rattle.text_skip.specs.Skip.{pastOf, tokenAt, pastToken, skippedAt, pastValue}
+use Rattle.text_statement.specs.Statement.{statementAt, pastStatement}
 use Rattle.text_skip.specs.declared.Skipped.{Skipped}
 use Rattle.text_skip.specs.declared.Skipped.the-variants.{Past, Refused as NoSkip}
 use Rattle.text_skip.proofs.PassLaws.{skipped-refused}
@@ -32,7 +32,7 @@ use Rattle.text_statement.proofs.StatementLaws.{statement-refused}
 use Rattle.text_lent.specs.Lent.{lentAt}
 use Rattle.text_lent.specs.declared.Lent.{Lent}
 use Rattle.text_lent.specs.declared.Lent.the-variants.{Fit, Unfit}
-use Rattle.scan_header.specs.Header.{pastOf, pastStatement, dueFor, afterRevision, afterValue, passed, kept, withRest, fieldAt, afterSkipped, laterPrefix}
+use Rattle.scan_header.specs.Header.{dueFor, afterRevision, afterValue, passed, kept, withRest, fieldAt, afterSkipped, laterPrefix}
 use Rattle.scan_header.specs.Header.{statementSaid, tagSaid, saidHere, saidAt}
 use Rattle.scan_tag.specs.Tag.{lastTag, orTag, dataAt, tagAt}
 use Rattle.scan_header.specs.declared.Heard.{Heard}
@@ -67,20 +67,20 @@ byte-is k h =
     due-is M k (of-number 5 refl) (of-number 6 refl)
 
 -- nothing that is skipped is refused
-past-is : (x : Skipped) → ((r : Refusal) → x ≡ NoSkip r → ⊥) → DueIs M (pastOf x)
+past-is : (m : ℕ) (x : Skipped) → ((r : Refusal) → x ≡ NoSkip r → ⊥) → DueIs M (pastOf false m x)
 unfolding pastOf
-past-is (Past c h) n = tt
-past-is (NoSkip r) n = absurd (n r refl)
+past-is m (Past c h) n = tt
+past-is m (NoSkip r) n = absurd (n r refl)
 
-past-statement-is : (s : List ℕ) (at : ℕ) → DueIs M (pastStatement s at)
+past-statement-is : (s : List ℕ) (at : ℕ) → DueIs M (pastStatement false s at)
 unfolding pastStatement
-past-statement-is s at = past-is (statementAt s at) (statement-refused s at)
+past-statement-is s at = past-is (length s) (statementAt s at) (statement-refused s at)
 
-revision-is : (s : List ℕ) (at : ℕ) → DueIs M (afterRevision s at)
+revision-is : (s : List ℕ) (at : ℕ) → DueIs M (afterRevision false s at)
 unfolding afterRevision isOne
 revision-is s at = by-test (eqb (look s at) 123) (λ t. rw t (past-statement-is s at)) (λ t. rw t (byte-is 7 refl s at 59))
 
-rest-is : (s : List ℕ) (at k : ℕ) → (eqb k 3 ≡ false → isOne k (1 ∷ 2 ∷ 4 ∷ 5 ∷ 6 ∷ 7 ∷ []) ≡ true) → DueIs M (afterValue s at k)
+rest-is : (s : List ℕ) (at k : ℕ) → (eqb k 3 ≡ false → isOne k (1 ∷ 2 ∷ 4 ∷ 5 ∷ 6 ∷ 7 ∷ []) ≡ true) → DueIs M (afterValue false s at k)
 unfolding afterValue
 rest-is s at k h =
     by-test (eqb k 3) (λ t. rw t (past-statement-is s at))
@@ -105,28 +105,28 @@ kept-is k u n (After c) h = tt
 kept-is k u n (Not r) h = h
 
 module _ (s : List ℕ) (k : ℕ) (after : eqb k 3 ≡ false → isOne k (1 ∷ 2 ∷ 4 ∷ 5 ∷ 6 ∷ 7 ∷ []) ≡ true) where
-  with-is : (u : ℕ) (a : Argument) → ArgumentIs M a → HeardIs (withRest s k u a)
+  with-is : (u : ℕ) (a : Argument) → ArgumentIs M a → HeardIs (withRest false s k u a)
   unfolding withRest
-  with-is u (Read c n) h = kept-is k u n (afterValue s (c .at) k) (rest-is s (c .at) k after)
+  with-is u (Read c n) h = kept-is k u n (afterValue false s (c .at) k) (rest-is s (c .at) k after)
   with-is u (NoArgument r) h = h
 
-  skipped-is : (x : Skipped) → ((r : Refusal) → x ≡ NoSkip r → ⊥) → HeardIs (afterSkipped s k x)
-  unfolding afterSkipped
-  skipped-is (Past c h) n = passed-is (afterValue s (c .at) k) (rest-is s (c .at) k after)
+  skipped-is : (x : Skipped) → ((r : Refusal) → x ≡ NoSkip r → ⊥) → HeardIs (afterSkipped false s k (pastOf false (length s) x))
+  unfolding afterSkipped pastOf
+  skipped-is (Past c h) n = passed-is (afterValue false s (c .at) k) (rest-is s (c .at) k after)
   skipped-is (NoSkip r) n = absurd (n r refl)
 
-  statement-is : (eqb k 6 ≡ false → isOne k (1 ∷ 2 ∷ 3 ∷ 4 ∷ 5 ∷ 7 ∷ []) ≡ true) → (at u : ℕ) (p : Bool) → HeardIs (statementSaid s at k u p .answer)
-  unfolding statementSaid fieldAt isOne
+  statement-is : (eqb k 6 ≡ false → isOne k (1 ∷ 2 ∷ 3 ∷ 4 ∷ 5 ∷ 7 ∷ []) ≡ true) → (at u : ℕ) (p : Bool) → HeardIs (statementSaid false s at k u p .answer)
+  unfolding statementSaid fieldAt isOne pastValue
   statement-is own at u p =
       by-test (eqb k 6) (λ t. rw t (skipped-is (skippedAt s at) (skipped-refused s at)))
-      (λ t. rw t (by-test (laterPrefix k p) (λ v. rw v (passed-is (pastStatement s at) (past-statement-is s at)))
-      (λ v. rw v (with-is u (argumentAt s at u k) (value-is M k (λ e. no-value (of (4 ∷ []) (1 ∷ 2 ∷ 3 ∷ 4 ∷ 5 ∷ 7 ∷ []) 4 k e refl (own t))) s at u)))))
+      (λ t. rw t (by-test (laterPrefix k p) (λ v. rw v (passed-is (pastStatement false s at) (past-statement-is s at)))
+      (λ v. rw v (with-is u (argumentAt false s at u k) (value-is M k (λ e. no-value (of (4 ∷ []) (1 ∷ 2 ∷ 3 ∷ 4 ∷ 5 ∷ 7 ∷ []) 4 k e refl (own t))) s at u)))))
 
 -- ---- which statement it is
 
 module _ (s : List ℕ) (at u : ℕ) (p : Bool) where
   abbrev TagIs : Tag → Type 0
-  TagIs t = HeardIs (tagSaid s at u p t .answer)
+  TagIs t = HeardIs (tagSaid false s at u p t .answer)
 
   or-is : (k : ℕ) → ((c : Cursor) → TagIs (Statement k c)) → (m : Match) (t : Tag) → TagIs t → TagIs (orTag k m t)
   unfolding orTag
@@ -134,9 +134,9 @@ module _ (s : List ℕ) (at u : ℕ) (p : Bool) where
   or-is k f Unmatched t h = h
 
   last-is : (m : Match) → TagIs (lastTag m)
-  unfolding lastTag tagSaid
+  unfolding lastTag tagSaid pastToken
   last-is (Matched c) = tt
-  last-is Unmatched = passed-is (pastOf (tokenAt s at)) (past-is (tokenAt s at) (token-refused s at))
+  last-is Unmatched = passed-is (pastToken false s at) (past-is (length s) (tokenAt s at) (token-refused s at))
 
   tag-is : TagIs (tagAt s at)
   unfolding tagAt tagSaid isOne
@@ -149,13 +149,13 @@ module _ (s : List ℕ) (at u : ℕ) (p : Bool) where
       (or-is 6 (λ c. statement-is s 6 (λ h. refl) (λ h. absurd (never h refl)) (c .at) u p) _ _
       (or-is 7 (λ c. statement-is s 7 (λ h. refl) (λ h. refl) (c .at) u p) _ _ (last-is (dataAt s at))))))))
 
-pub said-is : (s : List ℕ) (at u : ℕ) (p : Bool) → HeardIs (saidAt s at u p .answer)
+pub said-is : (s : List ℕ) (at u : ℕ) (p : Bool) → HeardIs (saidAt false s at u p .answer)
 unfolding saidAt saidHere
 said-is s at u p = let g = gapEnd s at in by-test (leb (length s) g) (λ t. rw t tt) (λ t. rw t (tag-is s g u p))
 
 -- ---- all of them
 
-abbrev ScanIs : Scan → Type 0
+abbrev pub ScanIs : Scan → Type 0
 ScanIs (good m) = Unit {0}
 ScanIs (bad r bs) = MetadataRefusal r
 
@@ -170,32 +170,32 @@ turn-is m bs (Passed c) r h e = let z : _≡_ {A = ℕ} 0 1 = cc in absurd (omeg
 turn-is m bs (Done c) r h e = let q : ended m (c .at) ≡ r = cc in subst ScanIs q (ended-is m (c .at))
 turn-is m bs (Refused x) r h e = let q : bad x (m .bytes ++ bs) ≡ r = cc in subst ScanIs q (header h)
 
-scanned-is : (s : List ℕ) → ScanIs (scanned s)
+pub scanned-is : (s : List ℕ) → ScanIs (scanned false s)
 unfolding scanned scanFrom metadataTurn
 scanned-is s =
-    turns-all (metadataTurn s) (good nothing) ScanIs
+    turns-all (metadataTurn false s) (good nothing) ScanIs
     (λ a r e. let x = length (a .read .bytes) in
     let p = a .read .prefix .present in
-    turn-is (a .read) _ (saidAt s (a .at) x p .answer) r (said-is s (a .at) x p) e)
+    turn-is (a .read) _ (saidAt false s (a .at) x p .answer) r (said-is s (a .at) x p) e)
     tt (suc (length s)) _
 
 module _ (s : List ℕ) (short : Bool) where
-  WholeIs : Scan → Type 0
-  WholeIs (good m) = Unit {0}
-  WholeIs (bad r bs) = RefusedAs MetadataRefusal s short r
+  EntryIs : Scan → Type 0
+  EntryIs (good m) = Unit {0}
+  EntryIs (bad r bs) = RefusedAs MetadataRefusal s short r
 
-  pub metadata-refused : (r : Refusal) (bs : List ℕ) → metadata s short ≡ bad r bs → RefusedAs MetadataRefusal s short r
-  unfolding metadata ifFit WholeIs
-  metadata-refused r bs e = subst WholeIs e (go (lentAt s short) (lent-is s short))
+  pub metadata-refused : (r : Refusal) (bs : List ℕ) → metadata false s short ≡ bad r bs → RefusedAs MetadataRefusal s short r
+  unfolding metadata ifFit EntryIs
+  metadata-refused r bs e = subst EntryIs e (go (lentAt s short) (lent-is s short))
     where
-      scan : (x : Scan) → Fits s short → ScanIs x → WholeIs x
+      scan : (x : Scan) → Fits s short → ScanIs x → EntryIs x
       scan (good m) f h = tt
       scan (bad q bs) f h = read f h
 
-      go : (x : Lent) → LentIs s short x → WholeIs (ifFit x (scanned s))
-      go Fit h = scan (scanned s) h (scanned-is s)
+      go : (x : Lent) → LentIs s short x → EntryIs (ifFit x (scanned false s))
+      go Fit h = scan (scanned false s) h (scanned-is s)
       go (Unfit q) h = first h
 
-  pub metadata-first : (r : Refusal) → FirstRefusal s short r → metadata s short ≡ bad r []
+  pub metadata-first : (whole : Bool) (r : Refusal) → FirstRefusal s short r → metadata whole s short ≡ bad r []
   unfolding metadata ifFit
-  metadata-first r f = ap (λ x. ifFit x (scanned s)) (first-unfit s short r f)
+  metadata-first whole r f = ap (λ x. ifFit x (scanned whole s)) (first-unfit s short r f)

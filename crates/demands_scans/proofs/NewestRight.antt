@@ -1,6 +1,7 @@
 -- The newest revision of every good metadata scan is the right one: each revision is stored as it was read, and the laws of newest hold for any such list.
 -- Assumes nothing.
 use mathlib.Core.Path.{_≡_, refl, ap, _∙_}
+use mathlib.Core.Bool.{Bool}
 use mathlib.Core.List.{List, [], _∷_}
 use Prim.Native.Nat.{ℕ}
 use Rattle.scan_rows.specs.Rows.{Each}
@@ -24,10 +25,10 @@ some-first : (rs : List Revision) → Each Read rs → (rs ≡ [] → ⊥) → F
 some-first [] h n = absurd (n refl)
 some-first (r ∷ rs) h n = newest-first r rs h
 
-of-scanned : (s : List ℕ) (m : Metadata) → scanned s ≡ good m → NewestIsRight m
-of-scanned s m h =
+of-scanned : (whole : Bool) (s : List ℕ) (m : Metadata) → scanned whole s ≡ good m → NewestIsRight m
+of-scanned whole s m h =
     let rs = m .revisions in
-    let kept = scan-placed s m h .revisions in
+    let kept = scan-placed whole s m h .revisions in
     let read : Each Read rs = each-of (Kept (m .bytes)) Read (λ r k. k .0) rs kept in
     record {
       none = λ e. ap (λ z. newest z .span) e ∙ ap (λ z. z .span) newest-none;
@@ -45,4 +46,4 @@ fitted (Unfit r) x m h = let z : _≡_ {A = ℕ} 0 1 = cc in absurd (omega arith
 
 pub newest-is-right : NewestRight
 unfolding metadata
-newest-is-right s short m h = of-scanned s m (fitted (lentAt s short) (scanned s) m h)
+newest-is-right whole s short m h = of-scanned whole s m (fitted (lentAt s short) (scanned whole s) m h)

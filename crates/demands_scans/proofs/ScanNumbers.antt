@@ -1,4 +1,4 @@
--- The refusals of a scan, by number and keyword: each comes from a place in the definitions that has both, and nothing on the way changes them. A block
+-- The refusals of a scan in the old mode, by number and keyword: each comes from a place in the definitions that has both, and nothing on the way changes them. A block
 -- ends before its turns do.
 -- Assumes nothing.
 use Prim.Native.Nat.{ℕ, suc, _+_, _-_}
@@ -23,12 +23,12 @@ use Rattle.text.specs.declared.Refusal.{Refusal}
 use Rattle.text.specs.declared.Run.the-variants.{Low}
 use Rattle.text.proofs.Here.{by-test, never}
 use Rattle.text.proofs.Turns.{turns-rule}
-use Rattle.text_value.specs.Argument.{argumentOf, argumentAt, afterDue, afterArgument, lineAt}
+use Rattle.text_value.specs.Argument.{argumentOf, breaksOff, argumentAt, afterDue, afterArgument, lineAt}
 use Rattle.text_value.specs.Value.{Val, value, none, valueAt}
 use Rattle.text_value.specs.declared.Argument.{Argument}
 use Rattle.text_value.specs.declared.Argument.the-variants.{Read, Refused as NoArgument}
-use Rattle.text_skip.specs.Skip.{tokenAt}
-use Rattle.text_statement.specs.Statement.{statementAt}
+use Rattle.text_skip.specs.Skip.{pastOf, tokenAt, pastToken}
+use Rattle.text_statement.specs.Statement.{statementAt, pastStatement}
 use Rattle.text_skip.specs.declared.Skipped.{Skipped}
 use Rattle.text_skip.specs.declared.Skipped.the-variants.{Past, Refused as NoSkip}
 use Rattle.text_skip.proofs.SkipLaws.{token-refused}
@@ -125,7 +125,7 @@ module _ (P : Refusal → Type 0) where
       due-is s at b = due-here-is s (gapEnd s at) b
 
       pub line-is : (four : (at : ℕ) → P (refusal 4 k at)) → (s : List ℕ) (at u b : ℕ) → ArgumentIs (lineAt false s at u k b)
-      unfolding lineAt argumentAt afterDue afterArgument argumentOf
+      unfolding lineAt argumentAt breaksOff afterDue afterArgument argumentOf
       line-is four s at u b = go (valueAt s at)
         where
           behind : (n : ℕ) (d : Due) → DueIs d → ArgumentIs (afterDue n d)
@@ -137,7 +137,7 @@ module _ (P : Refusal → Type 0) where
           go (none e) = four e
 
     pub value-is : (four : (at : ℕ) → P (refusal 4 k at)) → (s : List ℕ) (at u : ℕ) → ArgumentIs (argumentAt false s at u k)
-    unfolding argumentAt argumentOf
+    unfolding argumentAt breaksOff argumentOf
     value-is four s at u = go (valueAt s at)
       where
         go : (v : Val) → ArgumentIs (argumentOf u k v)
@@ -193,8 +193,8 @@ module _ (s : List ℕ) (k : ℕ) where
   with-value-is b j (NoArgument r) h = h
 
   -- no statement that is skipped is refused
-  with-skipped-is : (b : Body) (x : Skipped) → ((r : Refusal) → x ≡ NoSkip r → ⊥) → InsideIs k (withSkipped b x)
-  unfolding withSkipped
+  with-skipped-is : (b : Body) (x : Skipped) → ((r : Refusal) → x ≡ NoSkip r → ⊥) → InsideIs k (withSkipped b (pastOf false (length s) x))
+  unfolding withSkipped pastOf
   with-skipped-is b (Past c h) n = tt
   with-skipped-is b (NoSkip r) n = absurd (n r refl)
 
@@ -215,7 +215,7 @@ module _ (s : List ℕ) (k : ℕ) where
       (λ t. rw t (or-line-is 5 (prefix-refusable k (eqb-true k 8 t)) (matchAt s at prefixWord) (revisionLine s at) revision)) (λ t. rw t revision)
 
   kind-is : (at : ℕ) (b : Body) (x : Line) → LineIs x → InsideIs k (afterKind false s at b x .answer)
-  unfolding afterKind
+  unfolding afterKind pastStatement
   kind-is at b (ValueLine j c) h = with-value-is b j (lineAt false s (c .at) (b .used) j 59) (argument-is k j h s (c .at) (b .used) 59)
   kind-is at b OtherLine h = with-skipped-is b (statementAt s at) (statement-refused s at)
 
@@ -314,19 +314,19 @@ unfolding includeStep
 include-step-is far bs (ReadInclude c n i) h = tt
 include-step-is far bs (NoInclude r) h = include h
 
-token-is : (far : Sofar) (x : Skipped) → ((r : Refusal) → x ≡ NoSkip r → ⊥) → NextIs (afterToken far x)
-unfolding afterToken
-token-is far (Past c h) n = tt
-token-is far (NoSkip r) n = absurd (n r refl)
+token-is : (far : Sofar) (m : ℕ) (x : Skipped) → ((r : Refusal) → x ≡ NoSkip r → ⊥) → NextIs (afterToken far (pastOf false m x))
+unfolding afterToken pastOf
+token-is far m (Past c h) n = tt
+token-is far m (NoSkip r) n = absurd (n r refl)
 
 head-is : (s : List ℕ) (far : Sofar) (at : ℕ) (w : Head) → NextIs (headStep false s far at w .answer)
-unfolding headStep importHere includeHere isOne
+unfolding headStep importHere includeHere isOne pastToken
 head-is s far at (Import c) =
     full-is (far .imports) 8 (c .at) _ refl (import-step-is far _ (importAt false s (c .at) (far .used) .answer) (import-is s (c .at) (far .used)))
 head-is s far at (Include c) =
     full-is (far .includes) 9 (c .at) _ refl (include-step-is far _ (includeAt false s (c .at) (far .used) .answer) (include-is s (c .at) (far .used)))
 head-is s far at (Last c) = tt
-head-is s far at Other = token-is far (tokenAt s at) (token-refused s at)
+head-is s far at Other = token-is far (length s) (tokenAt s at) (token-refused s at)
 
 step-is : (s : List ℕ) (far : Sofar) → NextIs (stepAt false s far .answer)
 unfolding stepAt stepHere
@@ -334,7 +334,7 @@ step-is s far =
     let g = gapEnd s (far .at) in
     by-test (leb (length s) g) (λ t. rw t tt) (λ t. rw t (head-is s far g (headAt s g)))
 
-abbrev ScanIs : Deps.Scan → Type 0
+abbrev pub ScanIs : Deps.Scan → Type 0
 ScanIs (Deps.good d) = Unit {0}
 ScanIs (Deps.bad r d) = DependenciesRefusal r
 
@@ -344,7 +344,7 @@ turn-is d (On far) r h e = let z : _≡_ {A = ℕ} 0 1 = cc in absurd (omega ari
 turn-is d Done r h e = let q : Deps.good d ≡ r = cc in subst ScanIs q tt
 turn-is d (Stop x) r h e = let q : Deps.bad x d ≡ r = cc in subst ScanIs q h
 
-scanned-is : (s : List ℕ) → ScanIs (Deps.scanned false s)
+pub scanned-is : (s : List ℕ) → ScanIs (Deps.scanned false s)
 unfolding Deps.scanned Deps.scanFrom scanTurn
 scanned-is s =
     turns-all (scanTurn false s) (Deps.good Deps.none) ScanIs (λ a r e. turn-is _ (stepAt false s (a .far) .answer) r (step-is s (a .far)) e) tt (suc (length s)) _
@@ -376,22 +376,22 @@ module _ (s : List ℕ) (short : Bool) where
   first-number r (too-little h k e) z = omega (arith, z, ap (λ q. q .number) e)
   first-number r (high h k l e) z = omega (arith, z, ap (λ q. q .number) e)
 
-  WholeIs : Deps.Scan → Type 0
-  WholeIs (Deps.good d) = Unit {0}
-  WholeIs (Deps.bad r d) = RefusedAs DependenciesRefusal s short r
+  EntryIs : Deps.Scan → Type 0
+  EntryIs (Deps.good d) = Unit {0}
+  EntryIs (Deps.bad r d) = RefusedAs DependenciesRefusal s short r
 
   pub dependencies-refused : (r : Refusal) (d : Deps.Dependencies) → Deps.dependencies false s short ≡ Deps.bad r d → RefusedAs DependenciesRefusal s short r
-  unfolding Deps.dependencies Deps.ifFit WholeIs
-  dependencies-refused r d e = subst WholeIs e (go (lentAt s short) lent-is)
+  unfolding Deps.dependencies Deps.ifFit EntryIs
+  dependencies-refused r d e = subst EntryIs e (go (lentAt s short) lent-is)
     where
-      scan : (x : Deps.Scan) → Fits s short → ScanIs x → WholeIs x
+      scan : (x : Deps.Scan) → Fits s short → ScanIs x → EntryIs x
       scan (Deps.good k) f h = tt
       scan (Deps.bad q k) f h = read f h
 
-      go : (x : Lent) → LentIs x → WholeIs (Deps.ifFit x (Deps.scanned false s))
+      go : (x : Lent) → LentIs x → EntryIs (Deps.ifFit x (Deps.scanned false s))
       go Fit h = scan (Deps.scanned false s) h (scanned-is s)
       go (Unfit q) h = first h
 
-  pub dependencies-first : (r : Refusal) → FirstRefusal s short r → Deps.dependencies false s short ≡ Deps.bad r Deps.none
+  pub dependencies-first : (whole : Bool) (r : Refusal) → FirstRefusal s short r → Deps.dependencies whole s short ≡ Deps.bad r Deps.none
   unfolding Deps.dependencies Deps.ifFit
-  dependencies-first r f = ap (λ x. Deps.ifFit x (Deps.scanned false s)) (first-unfit r f)
+  dependencies-first whole r f = ap (λ x. Deps.ifFit x (Deps.scanned whole s)) (first-unfit r f)

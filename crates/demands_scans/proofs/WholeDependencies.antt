@@ -396,10 +396,14 @@ module _ (s : List ℕ) where
       (λ n h. let f = subst (StepWent s (g .far) (stepAt false s (g .far) .adds)) h (step-said false s (g .far) .went) in
       later (after g n) (omega (arith, f .0, f .1))))
 
+  pub scanned-whole : ScanModes (Deps.scanned true s) (Deps.scanned false s)
+  unfolding Deps.scanned
+  scanned-whole = scan-modes (record { far = Deps.start; read = Deps.none })
+
 pub dependencies-whole : DependenciesWhole
-unfolding Deps.dependencies Deps.ifFit Deps.scanned
+unfolding Deps.dependencies Deps.ifFit
 dependencies-whole s short = go (lentAt s short)
   where
     go : (l : Lent) → WholeOrOld toldDependencies (0 ∷ 4 ∷ 6 ∷ 8 ∷ []) s (Deps.ifFit l (Deps.scanned true s)) (Deps.ifFit l (Deps.scanned false s))
-    go Fit = scan-modes s (record { far = Deps.start; read = Deps.none })
+    go Fit = scanned-whole s
     go (Unfit r) = same refl

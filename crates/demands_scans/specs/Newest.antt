@@ -22,6 +22,6 @@ pub record NewestIsRight (m : Metadata) : Type 0 where
   -- its bytes are where it says
   pub stored : valueIn (m .bytes) (newest (m .revisions) .span) ≡ newest (m .revisions) .value
 
--- and so for every good scan
+-- and so for every good scan, in either mode
 abbrev pub NewestRight : Type 0
-NewestRight = (s : List ℕ) (short : Bool) (m : Metadata) → metadata s short ≡ good m → NewestIsRight m
+NewestRight = (whole : Bool) (s : List ℕ) (short : Bool) (m : Metadata) → metadata whole s short ≡ good m → NewestIsRight m

@@ -1,11 +1,12 @@
 -- Which refusals a scan can give, by number and keyword. 1 to 3 are given exactly when they are due. Of 4 to 10 it is shown that no other number or keyword
--- comes: when they come is in the definitions of the scans alone.
+-- comes: when they come is in the definitions of the scans alone. 11 comes in the whole-text mode only (2026-07).
 -- Assumes nothing.
 use Prim.Native.Nat.{ℕ, _≤_, _<_}
 use mathlib.Core.Path.{_≡_}
 use mathlib.Core.Bool.{Bool, true, false}
 use mathlib.Core.List.{List, [], _∷_, List·Memᴰ}
 use lib.ListN.{length}
+use Rattle.text.specs.Refusal.{cutAt}
 use Rattle.text.specs.Scan.{runEnd}
 use Rattle.text.specs.declared.Refusal.{Refusal}
 use Rattle.text.specs.declared.Run.the-variants.{Low}
@@ -58,3 +59,13 @@ pub data HeaderRefusal (r : Refusal) : Type 0 where
 pub data MetadataRefusal (r : Refusal) : Type 0 where
   header : HeaderRefusal r → MetadataRefusal r
   no-name : OneOf (9 ∷ []) (0 ∷ []) r → MetadataRefusal r
+
+-- In the whole-text mode: 11 at the text's end, or a refusal of the old mode
+pub data WholeRefusal (Read : Refusal → Type 0) (s : List ℕ) (r : Refusal) : Type 0 where
+  cut-short : r ≡ cutAt (length s) → WholeRefusal Read s r
+  as-before : Read r → WholeRefusal Read s r
+
+-- by the mode
+abbrev pub ModeRefusal : Bool → (Refusal → Type 0) → List ℕ → Refusal → Type 0
+ModeRefusal true Read s r = WholeRefusal Read s r
+ModeRefusal false Read s r = Read r

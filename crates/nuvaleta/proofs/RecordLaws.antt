@@ -50,35 +50,35 @@ refused-small r h = record {
     w : Fits missing
     w = (omega arith, omega arith)
 
-scan-small : (s : List ℕ) → length s ≤ 1048576 → (x : Scan) → scanned s ≡ x → Small (answerOf x)
+scan-small : (whole : Bool) (s : List ℕ) → length s ≤ 1048576 → (x : Scan) → scanned whole s ≡ x → Small (answerOf x)
 unfolding answerOf
-scan-small s l (good m) h =
-    let k = scan-good s m h in
+scan-small whole s l (good m) h =
+    let k = scan-good whole s m h in
     record {
       six-values = values-six m;
       fit = each-of (Within (length (m .bytes))) Fits (within-fits (length (m .bytes)) (omega (arith, k .1))) (valuesOf m) (k .0);
       place = omega arith;
       count = omega (arith, k .1);
     }
-scan-small s l (bad r bs) h = refused-small r (omega (arith, scan-bad s r bs h .0))
+scan-small whole s l (bad r bs) h = refused-small r (omega (arith, scan-bad whole s r bs h .0))
 
-lent-small : (s : List ℕ) (short : Bool) (x : Lent) → lentAt s short ≡ x → Small (answerOf (ifFit x (scanned s)))
+lent-small : (whole : Bool) (s : List ℕ) (short : Bool) (x : Lent) → lentAt s short ≡ x → Small (answerOf (ifFit x (scanned whole s)))
 unfolding ifFit answerOf
-lent-small s short Fit h = scan-small s (fit-said s short h .0) (scanned s) refl
-lent-small s short (Unfit r) h =
+lent-small whole s short Fit h = scan-small whole s (fit-said s short h .0) (scanned whole s) refl
+lent-small whole s short (Unfit r) h =
     by-test (ltb 1048576 (length s))
     (λ t. let e : Unfit (record { number = 1; keyword = 0; at = 0 }) ≡ Unfit r = lent-long s short (ltb-true 1048576 (length s) t) ∙ h in
     let k : 0 ≡ r .at = cc in refused-small r (omega (arith, k)))
     (λ t. refused-small r (omega (arith, ltb-false 1048576 (length s) t, lent-within s short r h)))
 
-module _ (s : List ℕ) (short : Bool) (d : List ℕ) {m : YangModuleMetadata} {e : List ℕ} (w : Leaves (metadata s short) d m e) where
+module _ (whole : Bool) (s : List ℕ) (short : Bool) (d : List ℕ) {m : YangModuleMetadata} {e : List ℕ} (w : Leaves (metadata whole s short) d m e) where
   pub small : Small m
   unfolding metadata
-  small = subst Small (sym (w .answer)) (lent-small s short (lentAt s short) refl)
+  small = subst Small (sym (w .answer)) (lent-small whole s short (lentAt s short) refl)
 
   pub described : {n : ℕ} {v a : List ℕ} → v ≡ recordWords (m .values) → a ≡ m .answer .number ∷ m .answer .keyword ∷ m .answer .at ∷ m .used ∷ []
       → n ≡ m .answer .number
-      → Described (metadata s short) d n e v a
+      → Described (metadata whole s short) d n e v a
   described ve ae ne = record {
     stored = w .stored;
     words = ve ∙ ap (λ x. recordWords (x .values)) (w .answer);

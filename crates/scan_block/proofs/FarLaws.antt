@@ -20,11 +20,11 @@ use Rattle.text.proofs.Here.{by-test, here}
 use Rattle.text.proofs.KeywordLaws.{match-far}
 use Rattle.text.proofs.Laws.{gap-from, gap-within, gap-twice}
 use Rattle.text_value.specs.Argument.{lineAt}
-use Rattle.text_value.specs.Value.{Val, value, none, valueAt, valueBytes}
+use Rattle.text_value.specs.Value.{valueAt, valueBytes}
 use Rattle.text_value.specs.declared.Argument.{Argument}
 use Rattle.text_value.specs.declared.Argument.the-variants.{Read, Refused as RefusedLine}
 use Rattle.text_value.proofs.ArgumentLaws.{line-far, line-refusal}
-use Rattle.text_value.proofs.JoinLaws.{value-size}
+use Rattle.text_value.proofs.JoinLaws.{bytes-fit}
 use Rattle.text_statement.specs.Statement.{pastStatement}
 use Rattle.text_statement.proofs.PastLaws.{past-statement-far, past-statement-moves, past-statement-not}
 use Rattle.scan_rows.specs.Span.{held}
@@ -37,15 +37,6 @@ use Rattle.scan_block.specs.declared.Inside.{Inside}
 use Rattle.scan_block.specs.declared.Inside.the-variants.{On, Closed, Refused}
 use Rattle.scan_block.proofs.InsideLaws.{inside-end, inside-close, inside-kind}
 use Rattle.scan_block.proofs.Spans.{Sound, sound-moved, sound-kept, kept-place}
-
--- what is stored of a value fits the rest of the text
-value-fits : (s : List ℕ) (at : ℕ) (v : Val) → valueAt s at ≡ v → length (valueBytes v) ≤ length s - at
-unfolding valueBytes
-value-fits s at (value bs e) h = omega (arith, value-size s at bs e h)
-value-fits s at (none e) h = omega arith
-
-pub bytes-fit : (s : List ℕ) (at : ℕ) → length (valueBytes (valueAt s at)) ≤ length s - at
-bytes-fit s at = value-fits s at (valueAt s at) refl
 
 -- ---- a keyword
 

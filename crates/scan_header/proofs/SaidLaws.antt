@@ -20,11 +20,11 @@ use Rattle.text.specs.declared.Refusal.{Refusal}
 use Rattle.text.proofs.DueLaws.{due-far, due-refused-within}
 use Rattle.text.proofs.Laws.{gap-from, gap-within}
 use Rattle.text_value.specs.Argument.{argumentAt}
-use Rattle.text_value.specs.Value.{Val, value, none, valueAt, valueBytes}
+use Rattle.text_value.specs.Value.{valueAt, valueBytes}
 use Rattle.text_value.specs.declared.Argument.{Argument}
 use Rattle.text_value.specs.declared.Argument.the-variants.{Read, Refused as NoArgument}
 use Rattle.text_value.proofs.ArgumentLaws.{argument-far, argument-refused}
-use Rattle.text_value.proofs.JoinLaws.{value-far}
+use Rattle.text_value.proofs.JoinLaws.{bytes-fit}
 use Rattle.text_skip.specs.Skip.{pastToken, pastValue}
 use Rattle.text_skip.proofs.PastLaws.{past-token-far, past-token-not, past-value-far, past-value-not}
 use Rattle.text_statement.specs.Statement.{pastStatement}
@@ -105,12 +105,6 @@ Went s at u bs (Refused r) = (r .at ≤ length s) × (length bs ≤ length s - a
 abbrev Goes : List ℕ → ℕ → ℕ → Said → Type 0
 Goes s at u x = Went s at u (x .bytes) (x .answer)
 
--- what is stored of a value fits the rest of the text
-value-fits : (s : List ℕ) (at : ℕ) (v : Val) → valueAt s at ≡ v → length (valueBytes v) ≤ length s - at
-unfolding valueBytes
-value-fits s at (value bs e) h = omega (arith, value-far s at bs e h)
-value-fits s at (none e) h = omega arith
-
 -- i: behind the keyword
 module _ (w : Bool) (s : List ℕ) (at i u : ℕ) (behind : at < i) (in-text : i ≤ length s) where
   passed-went : (j : ℕ) (d : Due) → i ≤ j → Ends s j d → Went s at u [] (passed d)
@@ -129,7 +123,7 @@ module _ (w : Bool) (s : List ℕ) (at i u : ℕ) (behind : at < i) (in-text : i
   rest-went k (Read c n) h =
       let f = argument-far w s i u k c n h in
       kept-went k (c .at) n (valueBytes (valueAt s i)) (afterValue w s (c .at) k) (f .1) (f .2) (f .3) (value-ends w s (c .at) k (f .2))
-  rest-went k (NoArgument r) h = (argument-refused w s i u k r in-text h .1, omega (arith, value-fits s i (valueAt s i) refl))
+  rest-went k (NoArgument r) h = (argument-refused w s i u k r in-text h .1, omega (arith, bytes-fit s i))
 
   field-goes : (k : ℕ) → Goes s at u (fieldAt w s i k u)
   unfolding fieldAt

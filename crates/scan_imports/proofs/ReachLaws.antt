@@ -26,6 +26,7 @@ use Rattle.text_value.specs.Value.{valueAt, valueBytes}
 use Rattle.text_value.specs.declared.Argument.{Argument}
 use Rattle.text_value.specs.declared.Argument.the-variants.{Read, Refused as RefusedValue}
 use Rattle.text_value.proofs.ArgumentLaws.{argument-far, argument-refused, line-far, line-refusal}
+use Rattle.text_value.proofs.JoinLaws.{bytes-fit}
 use Rattle.scan_rows.specs.Span.{held}
 use Rattle.scan_rows.specs.declared.YangImport.{YangImport}
 use Rattle.scan_rows.specs.declared.YangInclude.{YangInclude}
@@ -42,7 +43,7 @@ use Rattle.scan_imports.specs.declared.ParsedImport.the-variants.{Import
 use Rattle.scan_imports.specs.declared.ParsedInclude.{ParsedInclude}
 use Rattle.scan_imports.specs.declared.ParsedInclude.the-variants.{Include, NoInclude}
 use Rattle.scan_block.proofs.BlockLaws.{turn-far, block-falls}
-use Rattle.scan_block.proofs.FarLaws.{Forth, Went, inside-went, bytes-fit}
+use Rattle.scan_block.proofs.FarLaws.{Forth, Went, inside-went}
 use Rattle.scan_block.proofs.Spans.{Lies, MayLie, Sound, lies-held, lies-more, may-more, may-lies, sound-begun}
 
 -- ---- a block

@@ -1,6 +1,7 @@
 -- Metadata: name (last wins), parent (last wins), namespace (last wins), prefix (first wins), revision (first wins) and the newest revision. 9: metadata
 -- without a name (keyword 0), where the scan stopped. 1 to 3 come first; 4 to 9 in reading order.
--- 2026-07: beside this mode there is a whole-text mode. In it the first token, statement or value that the text's end ends is refused by 11.
+-- 2026-07: beside this mode there is a whole-text mode. In it the first string of a token or value that never closes, and the first skipped statement that the
+-- text's end ends, is refused by 11.
 -- Assumes nothing.
 use Prim.Native.Nat.{ℕ, suc}
 use mathlib.Core.Bool.{Bool, cond}

@@ -21,7 +21,7 @@ use Rattle.text.proofs.Laws.{in-name, gap-from, gap-within, run-more, run-from,
 use Rattle.text_value.specs.Str.{Str, whole, cut, strEnd, strBytes, strAt, closedBy, escapes, answerOf, bytesOf}
 use Rattle.text_value.specs.Value.{isQuote, More, added, ends, broken, addedBy, moreAt, Bytes, addTo, joinTurn, joinedWith, joined, moreAnswer, moreBytes}
 use Rattle.text_value.specs.Value.{joinAnswer, Val, value, none, ofString, nameAt, valueHere, valueAt, startsName, closedMore, closedTurn, closedFrom}
-use Rattle.text_value.specs.Value.{closedString, closedHere, closedAt, valueAnswer, valueEnd, valueClosed, placeOf}
+use Rattle.text_value.specs.Value.{closedString, closedHere, closedAt, valueAnswer, valueBytes, valueEnd, valueClosed, placeOf}
 use Rattle.text.specs.declared.Cursor.{Cursor}
 use Rattle.text.proofs.Writing.{sets-append}
 use Rattle.text_value.specs.declared.Joined.{Joined}
@@ -413,6 +413,15 @@ value-size s at bs e h =
         let z = whole-size s (gapEnd s at) cs f k in
         omega (arith, m .1, ap length (m .0), length-append cs (joined s f .bytes), joined-size s f (omega arith), gap-from s at)
     by-str cut k q = absurd (none-not (value-cut s at refl refl refl q k) h)
+
+-- what is stored of a value fits the rest of the text
+value-fits : (s : List ℕ) (at : ℕ) (v : Val) → valueAt s at ≡ v → length (valueBytes v) ≤ length s - at
+unfolding valueBytes
+value-fits s at (value bs e) h = omega (arith, value-size s at bs e h)
+value-fits s at (none e) h = omega arith
+
+pub bytes-fit : (s : List ℕ) (at : ℕ) → length (valueBytes (valueAt s at)) ≤ length s - at
+bytes-fit s at = value-fits s at (valueAt s at) refl
 
 -- what begins a name belongs to it
 pub starts-name-in : (b : ℕ) → startsName b ≡ true → inIdent b ≡ true

@@ -54,11 +54,11 @@ bundle-low b p e = broken-in b [] p (ap (lookIn []) e)
 
 scan-low : (t : List ℕ) (a : Refusal) → scanText t ≡ refusing a → a .at ≤ length t
 unfolding scanText
-scan-low t a e = go (dependencies t false) refl e
+scan-low t a e = go (dependencies false t false) refl e
   where
-    go : (x : Scan) → dependencies t false ≡ x → scanSeen x ≡ refusing a → a .at ≤ length t
+    go : (x : Scan) → dependencies false t false ≡ x → scanSeen x ≡ refusing a → a .at ≤ length t
     go (scanGood d) h k = let z : _≡_ {A = ℕ} 0 1 = cc in absurd (omega arith)
-    go (scanBad r d) h k = let z : r .at ≡ a .at = cc in omega (arith, entry-refusal t false r d h)
+    go (scanBad r d) h k = let z : r .at ≡ a .at = cc in omega (arith, entry-refusal false t false r d h)
 
 text-low : (b : List ℕ) (v : Name) (a : Refusal) → textOf b v ≡ refusing a → a .at ≤ 16777216
 unfolding textOf

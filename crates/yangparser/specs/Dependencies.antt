@@ -1,5 +1,6 @@
 -- Dependencies: the imports and includes of a text. 10: a 257th import or include, at the cursor after its keyword. 4 to 10 come in reading order.
--- 2026-07: beside this mode there is a whole-text mode. In it the first token, statement or value that the text's end ends is refused by 11.
+-- 2026-07: beside this mode there is a whole-text mode. In it the first string of a token or value that never closes, and the first skipped statement that the
+-- text's end ends, is refused by 11.
 -- Assumes nothing.
 use Prim.Native.Nat.{ℕ, suc, _+_}
 use mathlib.Core.Bool.{Bool, cond}

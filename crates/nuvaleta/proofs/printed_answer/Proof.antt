@@ -1,9 +1,9 @@
--- `nuvaleta_printed`. What the scan answered, in words, and the page.
+-- `nuvaleta::printed_answer`. What the scan answered, in words, and the page.
 -- Assumes nothing.
 use borrow.Author.Needs.{needs}
 use Rattle.nuvaleta.proofs.HostLaws.{page-words-fit, page-size-fits, page-answered}
-use Rattle.nuvaleta.proofs.nuvaleta_printed.Statement.{statement}
-use Rattle.nuvaleta.proofs.nuvaleta_printed.Tie as tie
+use Rattle.nuvaleta.proofs.printed_answer.Statement.{statement}
+use Rattle.nuvaleta.proofs.printed_answer.Tie as tie
 
 scan-words-requires : tie.Need-scan-words-requires
 scan-words-requires c κs = search page-words-fit
@@ -14,8 +14,8 @@ page-words-requires c κs = search page-size-fits
 returns : tie.Need-returns
 returns c = search page-answered
 
-pub nuvaleta-printed-spec : {M : Type 1} → statement M
-nuvaleta-printed-spec =
+pub printed-answer-spec : {M : Type 1} → statement M
+printed-answer-spec =
     tie.close
     (tie.spec
     (λ c κs. search needs)
