@@ -37,10 +37,11 @@ use Rattle.graph_nodes.specs.Adding.{wordsAt, NodesAs, nodesNumber}
 use Rattle.graph_nodes.specs.declared.Nodes.{Nodes}
 use Rattle.graph_nodes.specs.declared.Nodes.the-variants.{Count, TooMany}
 use Rattle.host_words.specs.Words.{toldWords}
-use Rattle.demands_scans.specs.Refusals.{FirstRefusal, too-little, StatementRefusal, HeaderRefusal}
+use Rattle.demands_scans.specs.Refusals.{FirstRefusal, too-little, StatementRefusal, HeaderRefusal, ModeRefusal}
 use Rattle.demands.specs.Answers.{Refuses, Answers}
-use Rattle.demands_scans.proofs.ScanNumbers.{ImportedIs, IncludedIs, import-is, include-is, statement-number, LentIs, lent-is, first-unfit, first-number}
-use Rattle.demands_scans.proofs.MetadataNumbers.{HeardIs, said-is, header-number}
+use Rattle.demands_scans.proofs.ScanNumbers.{ImportedIs, IncludedIs, statement-number, LentIs, lent-is, first-unfit, first-number}
+use Rattle.demands_scans.proofs.MetadataNumbers.{HeardIs, header-number}
+use Rattle.demands_scans.proofs.WholeNumbers.{mode-number, import-mode, include-mode, heard-mode}
 
 -- ---- an answer that is a refusal, and one that is none
 
@@ -67,25 +68,24 @@ lent-refuses s short Fit h =
     not-refused Unfit lentRefusal (FirstRefusal s short) Fit refl (λ r e. let z : _≡_ {A = ℕ} 0 1 = cc in omega arith)
 lent-refuses s short (Unfit r) h = refused Unfit lentRefusal (FirstRefusal s short) (λ q. refl) (first-number s short) r h
 
-import-refuses : (x : ParsedImport) → ImportedIs x → Refuses NoImport importRefusal (StatementRefusal 8) x
-unfolding importRefusal
-import-refuses (Import c n i) h =
-    not-refused NoImport importRefusal (StatementRefusal 8) (Import c n i) refl (λ r e. let z : _≡_ {A = ℕ} 0 1 = cc in omega arith)
-import-refuses (NoImport r) h = refused NoImport importRefusal (StatementRefusal 8) (λ q. refl) (statement-number 8) r h
+-- D: which refusals can come in a mode
+module _ (D : Refusal → Type 0) (numbered : (r : Refusal) → D r → r .number ≡ 0 → ⊥) where
+  import-refuses : (x : ParsedImport) → ImportedIs D x → Refuses NoImport importRefusal D x
+  unfolding importRefusal
+  import-refuses (Import c n i) h = not-refused NoImport importRefusal D (Import c n i) refl (λ r e. let z : _≡_ {A = ℕ} 0 1 = cc in omega arith)
+  import-refuses (NoImport r) h = refused NoImport importRefusal D (λ q. refl) numbered r h
 
-include-refuses : (x : ParsedInclude) → IncludedIs x → Refuses NoInclude includeRefusal (StatementRefusal 9) x
-unfolding includeRefusal
-include-refuses (Include c n i) h =
-    not-refused NoInclude includeRefusal (StatementRefusal 9) (Include c n i) refl (λ r e. let z : _≡_ {A = ℕ} 0 1 = cc in omega arith)
-include-refuses (NoInclude r) h = refused NoInclude includeRefusal (StatementRefusal 9) (λ q. refl) (statement-number 9) r h
+  include-refuses : (x : ParsedInclude) → IncludedIs D x → Refuses NoInclude includeRefusal D x
+  unfolding includeRefusal
+  include-refuses (Include c n i) h = not-refused NoInclude includeRefusal D (Include c n i) refl (λ r e. let z : _≡_ {A = ℕ} 0 1 = cc in omega arith)
+  include-refuses (NoInclude r) h = refused NoInclude includeRefusal D (λ q. refl) numbered r h
 
-heard-refuses : (x : Heard) → HeardIs x → Refuses Refused heardRefusal HeaderRefusal x
-unfolding heardRefusal
-heard-refuses (Value k v c n) h =
-    not-refused Refused heardRefusal HeaderRefusal (Value k v c n) refl (λ r e. let z : _≡_ {A = ℕ} 0 1 = cc in omega arith)
-heard-refuses (Passed c) h = not-refused Refused heardRefusal HeaderRefusal (Passed c) refl (λ r e. let z : _≡_ {A = ℕ} 0 1 = cc in omega arith)
-heard-refuses (Done c) h = not-refused Refused heardRefusal HeaderRefusal (Done c) refl (λ r e. let z : _≡_ {A = ℕ} 0 1 = cc in omega arith)
-heard-refuses (Refused r) h = refused Refused heardRefusal HeaderRefusal (λ q. refl) header-number r h
+  heard-refuses : (x : Heard) → HeardIs D x → Refuses Refused heardRefusal D x
+  unfolding heardRefusal
+  heard-refuses (Value k v c n) h = not-refused Refused heardRefusal D (Value k v c n) refl (λ r e. let z : _≡_ {A = ℕ} 0 1 = cc in omega arith)
+  heard-refuses (Passed c) h = not-refused Refused heardRefusal D (Passed c) refl (λ r e. let z : _≡_ {A = ℕ} 0 1 = cc in omega arith)
+  heard-refuses (Done c) h = not-refused Refused heardRefusal D (Done c) refl (λ r e. let z : _≡_ {A = ℕ} 0 1 = cc in omega arith)
+  heard-refuses (Refused r) h = refused Refused heardRefusal D (λ q. refl) numbered r h
 
 -- ---- images, nodes and look-ups
 
@@ -135,9 +135,14 @@ pub answers : Answers
 answers = record {
   lent = λ s short. lent-refuses s short (lentAt s short) (lent-is s short);
   lent-due = first-unfit;
-  import = λ s at u. import-refuses (importAt s at u .answer) (import-is s at u);
-  include = λ s at u. include-refuses (includeAt s at u .answer) (include-is s at u);
-  heard = λ s at u p. heard-refuses (saidAt s at u p .answer) (said-is s at u p);
+  import = λ whole s at u.
+      import-refuses (ModeRefusal whole (StatementRefusal 8) s) (mode-number (statement-number 8) s whole) (importAt whole s at u .answer)
+      (import-mode s at u whole);
+  include = λ whole s at u.
+      include-refuses (ModeRefusal whole (StatementRefusal 9) s) (mode-number (statement-number 9) s whole) (includeAt whole s at u .answer)
+      (include-mode s at u whole);
+  heard = λ whole s at u p.
+      heard-refuses (ModeRefusal whole HeaderRefusal s) (mode-number header-number s whole) (saidAt whole s at u p .answer) (heard-mode s at u p whole);
   read = λ s r e. read-number r (imageAt s) e .0;
   read-wrong = λ s r e. read-number r (imageAt s) e .1;
   nodes = λ mode s tab {r} {after} c. nodes-number mode s after r (c .answer) .0;

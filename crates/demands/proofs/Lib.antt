@@ -10,3 +10,4 @@ pub mod Zeros
 pub mod Answers
 pub mod Complete
 pub mod Once
+pub mod Whole

@@ -26,7 +26,7 @@ use Rattle.text.specs.Due.{dueNumber, dueHere, dueAt}
 use Rattle.text.specs.Keyword.{startsIdent, endsKeyword, same, part, keywordAt, matchAt, orMatch}
 use Rattle.text.specs.Scan.{inIdent, inRun, span, runEnd, pairAt, closing, blockEnd, commentEnd, afterWhite, gapTurn, gapEnd}
 use Rattle.text.specs.Turns.{turns}
-use Rattle.text_value.specs.Argument.{argumentOf, argumentAt, afterDue}
+use Rattle.text_value.specs.Argument.{argumentOf, breaksOff, argumentAt, afterDue}
 use Rattle.text_value.specs.Value.{isQuote, startsName, addedBy, afterPlus, joinedWith, joined as joinedValue, ofString, valueHere, valueAt, valueBytes}
 use Rattle.text_skip.specs.Skip.{closedToken, tokenHere}
 use Rattle.text_statement.specs.Statement.{statementAt}
@@ -112,7 +112,7 @@ unfolding with-s with-t textsRead entriesRead walkRead includesRead walkOnce inc
     textsAt filedAt bodyAt libraryOf imageAt libraryAt setAt importOnlyAt moduleAt counted countAt newName nameAt nameBody printableAt many numberAt groups
     modulesOf importOnlyOf submodulesOf flatMap joined importStep includeStep unlessFull importHere includeHere movedTo afterToken headStep stepHere stepAt
     afterStep scanTurn scanFrom scanned lentAt ifFit dependencies orMatch lastAt orHead headAt orLine plainOf blockOf openOrPlain afterValue includeAt
-    argumentOf argumentAt afterDue isQuote startsName addedBy afterPlus joinedWith joinedValue ofString valueHere valueAt valueBytes closedToken tokenHere
+    argumentOf breaksOff argumentAt afterDue isQuote startsName addedBy afterPlus joinedWith joinedValue ofString valueHere valueAt valueBytes closedToken tokenHere
     statementAt dueNumber dueHere dueAt startsIdent endsKeyword same part keywordAt matchAt gapEnd gapTurn afterWhite commentEnd blockEnd closing pairAt
     runEnd span inRun inIdent classOf turns
 computed = record {

@@ -40,9 +40,10 @@ use Rattle.graph_build.specs.declared.Graphed.{Graphed}
 use Rattle.graph_build.specs.declared.Graphed.the-variants.{Built, Refused}
 use Rattle.nuvaleta.specs.Words.{graphWords}
 use Rattle.demands.specs.Demand1.{GraphCause, image, bundle, lent, graph, GraphNumbers, Buildable, Demand1}
-use Rattle.demands_scans.proofs.ScanNumbers.{isOne, one-of, is-one, dependencies-refused, dependencies-first}
+use Rattle.demands_scans.proofs.ScanNumbers.{isOne, one-of, is-one, dependencies-first}
 use Rattle.demands.proofs.Graphing.{graphHere, before, graph-reached, drawn}
-use Rattle.demands_scans.proofs.MetadataNumbers.{metadata-refused, metadata-first}
+use Rattle.demands_scans.proofs.MetadataNumbers.{metadata-first}
+use Rattle.demands_scans.proofs.WholeNumbers.{dependencies-mode-refused, metadata-mode-refused}
 use Rattle.demands.proofs.Zeros.{zeros-left}
 
 -- ---- finds and texts
@@ -125,7 +126,7 @@ module _ (mode : Mode) (s b : List ℕ) where
 -- ---- 25
 
 -- a text that is refused stands in the bundle, and its scan is refused so
-refused-scan : (b : List ℕ) (v : Name) (a : Refusal) → textOf b v ≡ refusing a → (d : Dependencies) × (dependencies (textUnder b v) false ≡ scanBad a d)
+refused-scan : (b : List ℕ) (v : Name) (a : Refusal) → textOf b v ≡ refusing a → (d : Dependencies) × (dependencies false (textUnder b v) false ≡ scanBad a d)
 unfolding textOf scanText textUnder
 refused-scan b v a e = look (lookUp b v) e
   where
@@ -133,10 +134,10 @@ refused-scan b v a e = look (lookUp b v) e
     scan (scanGood d) h = let z : _≡_ {A = ℕ} 0 1 = cc in absurd (omega arith)
     scan (scanBad r d) h = (d, cc)
 
-    look : (x : LookUp) → lookText b x ≡ refusing a → (d : Dependencies) × (dependencies (partOf b x) false ≡ scanBad a d)
+    look : (x : LookUp) → lookText b x ≡ refusing a → (d : Dependencies) × (dependencies false (partOf b x) false ≡ scanBad a d)
     look (Broken p) h = let z : _≡_ {A = ℕ} 0 1 = cc in absurd (omega arith)
     look Nothing h = let z : _≡_ {A = ℕ} 0 1 = cc in absurd (omega arith)
-    look (At from size) h = scan (dependencies (take size (drop from b)) false) h
+    look (At from size) h = scan (dependencies false (take size (drop from b)) false) h
 
 module _ (mode : Mode) (s b : List ℕ) where
   abbrev RefusedText : ScanAnswer → Type 0
@@ -225,9 +226,9 @@ never-begun s b k h =
 pub demand1 : Demand1
 unfolding findModule findSubmodule findImportModule
 demand1 = record {
-  dependencies = dependencies-refused;
-  metadata = metadata-refused;
-  first-refused = λ s short r f. (dependencies-first s short r f, metadata-first s short r f);
+  dependencies = λ whole s short r d h. dependencies-mode-refused s short r d whole h;
+  metadata = λ whole s short r bs h. metadata-mode-refused s short r bs whole h;
+  first-refused = λ whole s short r f. (dependencies-first s short whole r f, metadata-first s short whole r f);
   module-found = λ s t p.
       find-broken (firstModule t) (λ l. never-broken (λ (m : Module). m .name) (λ m. m .name .place) (λ m. 0) t (modulesOf l)) s p;
   submodule-found = λ s t p.

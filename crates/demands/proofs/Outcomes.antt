@@ -43,23 +43,23 @@ use Rattle.demands.specs.OneOutcome.{LosesNothing, OneOutcome}
 -- ---- dependencies
 
 -- the lengths lent decide whether something is too short
-scans : (s : List ℕ) {b b′ : Bool} (d t u d′ t′ u′ : List ℕ) → b ≡ b′ → length d ≡ length d′ → length t ≡ length t′ → length u ≡ length u′
-    → dependencies s (tooShort b (length s) (length d) (length t) (length u)) ≡ dependencies s (tooShort b′ (length s) (length d′) (length t′) (length u′))
-scans s {b} {b′} d t u d′ t′ u′ bs ds ts us =
-    ap (λ z. dependencies s (tooShort z (length s) (length d) (length t) (length u))) bs
-    ∙ ap (λ n. dependencies s (tooShort b′ (length s) n (length t) (length u))) ds
-    ∙ ap (λ n. dependencies s (tooShort b′ (length s) (length d′) n (length u))) ts
-    ∙ ap (λ n. dependencies s (tooShort b′ (length s) (length d′) (length t′) n)) us
+scans : (whole : Bool) (s : List ℕ) {b b′ : Bool} (d t u d′ t′ u′ : List ℕ) → b ≡ b′ → length d ≡ length d′ → length t ≡ length t′ → length u ≡ length u′
+    → dependencies whole s (tooShort b (length s) (length d) (length t) (length u)) ≡ dependencies whole s (tooShort b′ (length s) (length d′) (length t′) (length u′))
+scans whole s {b} {b′} d t u d′ t′ u′ bs ds ts us =
+    ap (λ z. dependencies whole s (tooShort z (length s) (length d) (length t) (length u))) bs
+    ∙ ap (λ n. dependencies whole s (tooShort b′ (length s) n (length t) (length u))) ds
+    ∙ ap (λ n. dependencies whole s (tooShort b′ (length s) (length d′) n (length u))) ts
+    ∙ ap (λ n. dependencies whole s (tooShort b′ (length s) (length d′) (length t′) n)) us
 
 -- a buffer holds what a definition gives of the scan
 module _ {X : Type 0} (of : X → List ℕ) {x x′ : X} (xe : x ≡ x′) where
-  filled : {m n : ℕ} → m ≡ n → {e e′ : List ℕ} → e ≡ padded m (of x) → e′ ≡ padded n (of x′) → e ≡ e′
+  pub filled : {m n : ℕ} → m ≡ n → {e e′ : List ℕ} → e ≡ padded m (of x) → e′ ≡ padded n (of x′) → e ≡ e′
   filled {m} {n} l h h′ = h ∙ ap (λ k. padded k (of x)) l ∙ ap (λ y. padded n (of y)) xe ∙ sym h′
 
-equals : {X Y : Type 0} (of : X → Y) {x x′ : X} → x ≡ x′ → {a a′ : Y} → a ≡ of x → a′ ≡ of x′ → a ≡ a′
+pub equals : {X Y : Type 0} (of : X → Y) {x x′ : X} → x ≡ x′ → {a a′ : Y} → a ≡ of x → a′ ≡ of x′ → a ≡ a′
 equals of xe h h′ = h ∙ ap of xe ∙ sym h′
 
-leaves-one : {x x′ : Scan} → x ≡ x′ → {d t u d′ t′ u′ : List ℕ} → length d ≡ length d′ → length t ≡ length t′ → length u ≡ length u′
+pub leaves-one : {x x′ : Scan} → x ≡ x′ → {d t u d′ t′ u′ : List ℕ} → length d ≡ length d′ → length t ≡ length t′ → length u ≡ length u′
     → {r r′ : Parsed} {e f g e′ f′ g′ : List ℕ} → Leaves x d t u r e f g → Leaves x′ d′ t′ u′ r′ e′ f′ g′ → (r ≡ r′) × (e ≡ e′) × (f ≡ f′) × (g ≡ g′)
 leaves-one xe ds ts us a b = (
   equals parsedOf xe (a .answer) (b .answer),
@@ -68,15 +68,15 @@ leaves-one xe ds ts us a b = (
   filled (λ x. includeWordsOf (keptOf x)) xe us (a .includes) (b .includes),
 )
 
-pageScans : (s d t u p d′ t′ u′ p′ : List ℕ) → length d ≡ length d′ → length t ≡ length t′ → length u ≡ length u′ → length p ≡ length p′
-    → dependencies s (tooShort (pageShort (length s) (length p)) (length s) (length d) (length t) (length u))
-    ≡ dependencies s (tooShort (pageShort (length s) (length p′)) (length s) (length d′) (length t′) (length u′))
-pageScans s d t u p d′ t′ u′ p′ ds ts us ps = scans s d t u d′ t′ u′ (ap (pageShort (length s)) ps) ds ts us
+pageScans : (whole : Bool) (s d t u p d′ t′ u′ p′ : List ℕ) → length d ≡ length d′ → length t ≡ length t′ → length u ≡ length u′ → length p ≡ length p′
+    → dependencies whole s (tooShort (pageShort (length s) (length p)) (length s) (length d) (length t) (length u))
+    ≡ dependencies whole s (tooShort (pageShort (length s) (length p′)) (length s) (length d′) (length t′) (length u′))
+pageScans whole s d t u p d′ t′ u′ p′ ds ts us ps = scans whole s d t u d′ t′ u′ (ap (pageShort (length s)) ps) ds ts us
 
 -- ---- metadata
 
-records : (s d d′ : List ℕ) → length d ≡ length d′ → Metadata.metadata s (ltb (length d) (length s)) ≡ Metadata.metadata s (ltb (length d′) (length s))
-records s d d′ ds = ap (λ n. Metadata.metadata s (ltb n (length s))) ds
+records : (whole : Bool) (s d d′ : List ℕ) → length d ≡ length d′ → Metadata.metadata whole s (ltb (length d) (length s)) ≡ Metadata.metadata whole s (ltb (length d′) (length s))
+records whole s d d′ ds = ap (λ n. Metadata.metadata whole s (ltb n (length s))) ds
 
 -- ---- views
 
@@ -185,27 +185,27 @@ one-outcome = record {
     node = seen-node;
     cursor = λ c d e i. record { at = e i };
   };
-  dependencies = λ s short d t u d′ t′ u′ ds ts us a b. leaves-one (scans s d t u d′ t′ u′ refl ds ts us) ds ts us a b;
-  over = λ s short d t u a b. (
+  dependencies = λ whole s short d t u d′ t′ u′ ds ts us a b. leaves-one (scans whole s d t u d′ t′ u′ refl ds ts us) ds ts us a b;
+  over = λ whole s short d t u a b. (
     a .answer ∙ sym (b .answer),
     a .holds .stored ∙ sym (b .holds .stored),
     a .holds .imports ∙ sym (b .holds .imports),
     a .holds .includes ∙ sym (b .holds .includes),
   );
   wrote = λ d at bs a b. (a .left ∙ sym (b .left), a .next ∙ sym (b .next));
-  printed = λ s d t u p d′ t′ u′ p′ ds ts us ps a b.
-      let xe = pageScans s d t u p d′ t′ u′ p′ ds ts us ps in
+  printed = λ whole s d t u p d′ t′ u′ p′ ds ts us ps a b.
+      let xe = pageScans whole s d t u p d′ t′ u′ p′ ds ts us ps in
       let k = leaves-one xe ds ts us (a .scan) (b .scan) in
       (k .0, equals (λ x. length (pageOf x)) xe (a .length-is) (b .length-is), k .1, k .2, k .3, filled pageOf xe ps (a .page) (b .page));
-  metadata = λ s d d′ ds a b.
-      let xe = records s d d′ ds in
+  metadata = λ whole s d d′ ds a b.
+      let xe = records whole s d d′ ds in
       (equals Metadata.answerOf xe (a .answer) (b .answer), filled Metadata.keptOf xe ds (a .stored) (b .stored));
-  host-dependencies = λ s d t u d′ t′ u′ ds ts us a b.
-      let xe = scans s d t u d′ t′ u′ refl ds ts us in
+  host-dependencies = λ whole s d t u d′ t′ u′ ds ts us a b.
+      let xe = scans whole s d t u d′ t′ u′ refl ds ts us in
       let k = leaves-one xe ds ts us (a .scan) (b .scan) in
       (equals (λ x. numberOf (parsedOf x)) xe (a .number) (b .number), k .1, k .2, k .3, equals (λ x. answerWords (parsedOf x)) xe (a .answer) (b .answer));
-  host-printed = λ s d t u p d′ t′ u′ p′ ds ts us ps a b.
-      let xe = pageScans s d t u p d′ t′ u′ p′ ds ts us ps in
+  host-printed = λ whole s d t u p d′ t′ u′ p′ ds ts us ps a b.
+      let xe = pageScans whole s d t u p d′ t′ u′ p′ ds ts us ps in
       let k = leaves-one xe ds ts us (a .scan) (b .scan) in (
         equals (λ x. numberOf (parsedOf x)) xe (a .number) (b .number),
         k .1,
@@ -214,8 +214,8 @@ one-outcome = record {
         filled pageOf xe ps (a .page) (b .page),
         equals (λ x. answerWords (parsedOf x) ++ (length (pageOf x) ∷ [])) xe (a .answer) (b .answer),
       );
-  host-metadata = λ s d d′ ds a b.
-      let xe = records s d d′ ds in (
+  host-metadata = λ whole s d d′ ds a b.
+      let xe = records whole s d d′ ds in (
         equals (λ x. Metadata.answerOf x .answer .number) xe (a .number) (b .number),
         filled Metadata.keptOf xe ds (a .stored) (b .stored),
         equals (λ x. recordWords (Metadata.answerOf x .values)) xe (a .words) (b .words),

@@ -6,16 +6,16 @@ use Rattle.text.specs.Due.{dueNumber, dueHere, dueAt}
 use Rattle.text.specs.Keyword.{startsIdent, endsKeyword, same, part, keywordAt, matchAt, orMatch}
 use Rattle.text.specs.Scan.{inIdent, inRun, span, runEnd, pairAt, closing, blockEnd, commentEnd, afterWhite, gapTurn, gapEnd}
 use Rattle.text.specs.Turns.{turns}
-use Rattle.text_value.specs.Argument.{argumentOf, argumentAt, afterDue, afterArgument, lineAt}
+use Rattle.text_value.specs.Argument.{argumentOf, breaksOff, argumentAt, afterDue, afterArgument, lineAt}
 use Rattle.text_value.specs.Str.{escaped, escapes, strEnd, strBytes, closedBy, strAt}
 use Rattle.text_value.specs.Value.{isQuote, startsName, addedBy, afterPlus, afterGap, moreAt, addTo, joinTurn, joinedWith, joined as joinedValue, ofString}
 use Rattle.text_value.specs.Value.{valueHere, valueAt, valueBytes}
-use Rattle.text_skip.specs.Skip.{closedToken, tokenHere, tokenAt}
+use Rattle.text_skip.specs.Skip.{pastOf, closedToken, tokenHere, tokenAt, pastToken}
 use Rattle.text_statement.specs.Statement.{closes, quotedLen, quotedEnd, atSemicolon, atClose, partOf, partAt, ofPart, statementTurn, statementFrom}
-use Rattle.text_statement.specs.Statement.{statementAt}
+use Rattle.text_statement.specs.Statement.{statementAt, pastStatement}
 use Rattle.text_lent.specs.Lent.{lentAt}
 use Rattle.scan_newest.specs.Newest.{newer, newestFrom, newest, less}
-use Rattle.scan_header.specs.Header.{pastOf, pastStatement, dueFor, afterRevision, afterValue as afterHeaderValue, passed, kept, withRest, fieldAt, laterPrefix}
+use Rattle.scan_header.specs.Header.{dueFor, afterRevision, afterValue as afterHeaderValue, passed, kept, withRest, fieldAt, laterPrefix}
 use Rattle.scan_header.specs.Header.{statementSaid, tagSaid, saidHere, saidAt}
 use Rattle.scan_tag.specs.Tag.{dataAt, lastTag, orTag, tagAt}
 use Rattle.scan_metadata.specs.Metadata as Metadata
@@ -51,7 +51,7 @@ unfolding starred all holds enough drawn graphed tooShort nodeWords rowWords gra
     addGroups addAll among textOf scanText importNames includeNames valueIn longestText longestOf lookUp bundleAt textsAt filedAt bodyAt libraryOf imageAt
     libraryAt setAt importOnlyAt moduleAt counted countAt newName nameAt nameBody printableAt many numberAt groups modulesOf importOnlyOf submodulesOf flatMap
     outcome described recordWords metadata Metadata.ifFit Metadata.scanned Metadata.scanFrom metadataTurn afterHeard ended told firstOf valuesOf newer
-    newestFrom newest less pastOf pastStatement dueFor afterRevision afterHeaderValue passed kept withRest fieldAt laterPrefix statementSaid tagSaid saidHere
+    newestFrom newest less pastOf pastToken pastStatement breaksOff dueFor afterRevision afterHeaderValue passed kept withRest fieldAt laterPrefix statementSaid tagSaid saidHere
     saidAt dataAt lastTag orTag tagAt joined importStep includeStep unlessFull importHere includeHere movedTo afterToken headStep stepHere stepAt afterStep
     scanTurn scanFrom scanned lentAt ifFit dependencies orMatch lastAt orHead headAt orLine lineKind withValue keptLine withSkipped afterKind insideHere
     insideAt afterInside blockTurn blockFrom blockAt ofBody importOf withName afterName importAt includeOf plainOf blockOf openOrPlain afterValue includeAt

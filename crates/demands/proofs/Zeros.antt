@@ -146,12 +146,12 @@ told (RefusedGraph n e a p) h = record { number = n; entry = e; scan = a; place 
 
 pub zeros-left : Zeros
 zeros-left = record {
-  dependencies = λ s short d t u {r} h. scan-zero h (nothing-kept _ r (sym (h .answer)));
-  printed = λ s d t u p {x} {r} h q.
+  dependencies = λ whole s short d t u {r} h. scan-zero h (nothing-kept _ r (sym (h .answer)));
+  printed = λ whole s d t u p {x} {r} h q.
       let n = nothing-kept _ r (sym (h .scan .answer) ∙ q) in
       let z = scan-zero (h .scan) n in
       (h .length-is ∙ ap length (n .page), z .0, z .1, z .2, page-zero n p (h .page));
-  metadata = λ s d {x} h f.
+  metadata = λ whole s d {x} h f.
       let m = missing-all _ (λ z. f (ap (λ (y : YangModuleMetadata). y .answer .number) (h .answer) ∙ z)) in (
         ap (λ (y : YangModuleMetadata). y .values) (h .answer) ∙ m .values,
         ap (λ (y : YangModuleMetadata). y .used) (h .answer) ∙ m .used,
@@ -159,11 +159,11 @@ zeros-left = record {
       );
   graph = λ mode s b n e d f g l {number} {entry} {place} {a} h.
       graph-left h (undrawn mode s b (lengthsOf n e d f g l) number entry a place (sym (h .answer)));
-  host-dependencies = λ s d t u h f.
+  host-dependencies = λ whole s d t u h f.
       let r = refused-scan _ (λ z. f (h .number ∙ z)) in
       let z = scan-zero (h .scan) (nothing-kept _ (r .0) (r .1)) in
       (z .0, z .1, z .2, ap (drop 3) (h .answer ∙ ap answerWords (r .1)) ∙ behind (r .0));
-  host-printed = λ s d t u p h f.
+  host-printed = λ whole s d t u p h f.
       let r = refused-scan _ (λ z. f (h .number ∙ z)) in
       let n = nothing-kept _ (r .0) (r .1) in
       let z = scan-zero (h .scan) n in (
@@ -173,7 +173,7 @@ zeros-left = record {
         page-zero n p (h .page),
         ap (drop 3) (h .answer ∙ ap₂ (λ w q. answerWords w ++ (length q ∷ [])) (r .1) (n .page)) ∙ behind-page (r .0),
       );
-  host-metadata = λ s d h f.
+  host-metadata = λ whole s d h f.
       let m = missing-all _ (λ z. f (h .number ∙ z)) in (
         emptied (λ z. z) (m .kept) refl d (h .stored),
         h .words ∙ ap recordWords (m .values) ∙ no-words,

@@ -30,7 +30,7 @@ use Rattle.graph.specs.Nodes.{Mode}
 use Rattle.graph_nodes.specs.Adding.{wordsAt, Constructed, nodesNumber}
 use Rattle.graph_nodes.specs.declared.Nodes.{Nodes}
 use Rattle.host_words.specs.Words.{toldWords}
-use Rattle.demands_scans.specs.Refusals.{FirstRefusal, StatementRefusal, HeaderRefusal}
+use Rattle.demands_scans.specs.Refusals.{FirstRefusal, StatementRefusal, HeaderRefusal, ModeRefusal}
 
 -- x: an answer; `No r`: the case of the refusal r; refusal: the definition that gives every case its refusal; Due: which refusals can come
 pub record Refuses {A : Type 0} (No : Refusal → A) (refusal : A → Refusal) (Due : Refusal → Type 0) (x : A) : Type 0 where
@@ -44,10 +44,13 @@ pub record Answers : Type 0 where
   -- check_lent: 1 to 3, and each whenever it is due
   pub lent : (s : List ℕ) (short : Bool) → Refuses Unfit lentRefusal (FirstRefusal s short) (lentAt s short)
   pub lent-due : (s : List ℕ) (short : Bool) (r : Refusal) → FirstRefusal s short r → lentAt s short ≡ Unfit r
-  -- parse_import, parse_include and hear
-  pub import : (s : List ℕ) (at used : ℕ) → Refuses NoImport importRefusal (StatementRefusal 8) (importAt s at used .answer)
-  pub include : (s : List ℕ) (at used : ℕ) → Refuses NoInclude includeRefusal (StatementRefusal 9) (includeAt s at used .answer)
-  pub heard : (s : List ℕ) (at used : ℕ) (prefixed : Bool) → Refuses Refused heardRefusal HeaderRefusal (saidAt s at used prefixed .answer)
+  -- parse_import, parse_include and hear, in each mode
+  pub import : (whole : Bool) (s : List ℕ) (at used : ℕ)
+      → Refuses NoImport importRefusal (ModeRefusal whole (StatementRefusal 8) s) (importAt whole s at used .answer)
+  pub include : (whole : Bool) (s : List ℕ) (at used : ℕ)
+      → Refuses NoInclude includeRefusal (ModeRefusal whole (StatementRefusal 9) s) (includeAt whole s at used .answer)
+  pub heard : (whole : Bool) (s : List ℕ) (at used : ℕ) (prefixed : Bool)
+      → Refuses Refused heardRefusal (ModeRefusal whole HeaderRefusal s) (saidAt whole s at used prefixed .answer)
   -- read_image: 0 exactly if the image has its form, 20 exactly if it is wrong somewhere
   pub read : (s : List ℕ) (r : Read) → readSeen r ≡ done (imageAt s) → (readNumber r ≡ 0) ↔ Reads (imageAt s)
   pub read-wrong : (s : List ℕ) (r : Read) → readSeen r ≡ done (imageAt s) → (readNumber r ≡ 20) ↔ ((p : ℕ) × (imageAt s ≡ bad p))

@@ -38,7 +38,7 @@ use Rattle.graph_texts.specs.Texts.{textOf}
 use Rattle.yanglib.specs.ToGraph.{graphed, Graphs}
 use Rattle.graph_tables.specs.Lengths.{Lengths, tooShort}
 use Rattle.graph_build.specs.declared.Graphed.the-variants.{Built, Refused}
-use Rattle.demands_scans.specs.Refusals.{FirstRefusal, RefusedAs, DependenciesRefusal, MetadataRefusal}
+use Rattle.demands_scans.specs.Refusals.{FirstRefusal, RefusedAs, DependenciesRefusal, MetadataRefusal, ModeRefusal}
 
 -- ---- graphs
 
@@ -79,23 +79,24 @@ pub record ZeroedGraph (n e d f g l n₁ e₁ d₁ f₁ g₁ l₁ : List ℕ) : 
   pub includes : Zeroed g g₁
   pub levels : Zeroed l l₁
 
--- of the functions, and of a host's calls
+-- of the functions, and of a host's calls, in each mode
 pub record Zeros : Type 0 where
   -- d, t, u, p: store, import table, include table and page at entry, of any length; e, f, g, q: at exit
-  pub dependencies : (s : List ℕ) (short : Bool) (d t u : List ℕ) {r : Refusal} {e f g : List ℕ} → Extracts s short d t u (RefusedScan r) e f g
+  pub dependencies : (whole : Bool) (s : List ℕ) (short : Bool) (d t u : List ℕ) {r : Refusal} {e f g : List ℕ}
+      → Extracts whole s short d t u (RefusedScan r) e f g
       → Zeroed d e × Zeroed t f × Zeroed u g
-  pub printed : (s d t u p : List ℕ) {x : Page} {r : Refusal} {e f g q : List ℕ} → Prints s d t u p x e f g q → x .parsed ≡ RefusedScan r
+  pub printed : (whole : Bool) (s d t u p : List ℕ) {x : Page} {r : Refusal} {e f g q : List ℕ} → Prints whole s d t u p x e f g q → x .parsed ≡ RefusedScan r
       → (x .length ≡ 0) × Zeroed d e × Zeroed t f × Zeroed u g × Zeroed p q
-  pub metadata : (s d : List ℕ) {x : YangModuleMetadata} {e : List ℕ} → MetadataPromises.Extracts s d x e → (x .answer .number ≡ 0 → ⊥)
+  pub metadata : (whole : Bool) (s d : List ℕ) {x : YangModuleMetadata} {e : List ℕ} → MetadataPromises.Extracts whole s d x e → (x .answer .number ≡ 0 → ⊥)
       → (x .values ≡ Metadata.noValues) × (x .used ≡ 0) × Zeroed d e
   pub graph : (mode : Mode) (s b n e d f g l : List ℕ) {number entry place : ℕ} {a : Refusal} {n₁ e₁ d₁ f₁ g₁ l₁ : List ℕ}
       → Graphs mode s b n e d f g l (Refused number entry a place) n₁ e₁ d₁ f₁ g₁ l₁ → ZeroedGraph n e d f g l n₁ e₁ d₁ f₁ g₁ l₁
   -- the same of a host's calls: i is the number returned, a the answer, w the record. Behind the words that tell the refusal the answer is 0 too
-  pub host-dependencies : (s d t u : List ℕ) {i : ℕ} {e f g a : List ℕ} → DependenciesAnswered s d t u i e f g a → (i ≡ 0 → ⊥)
+  pub host-dependencies : (whole : Bool) (s d t u : List ℕ) {i : ℕ} {e f g a : List ℕ} → DependenciesAnswered whole s d t u i e f g a → (i ≡ 0 → ⊥)
       → Zeroed d e × Zeroed t f × Zeroed u g × (drop 3 a ≡ Padded.zeros 3)
-  pub host-printed : (s d t u p : List ℕ) {i : ℕ} {e f g q a : List ℕ} → PrintedAnswered s d t u p i e f g q a → (i ≡ 0 → ⊥)
+  pub host-printed : (whole : Bool) (s d t u p : List ℕ) {i : ℕ} {e f g q a : List ℕ} → PrintedAnswered whole s d t u p i e f g q a → (i ≡ 0 → ⊥)
       → Zeroed d e × Zeroed t f × Zeroed u g × Zeroed p q × (drop 3 a ≡ Padded.zeros 4)
-  pub host-metadata : (s d : List ℕ) {i : ℕ} {e w a : List ℕ} → MetadataAnswered s d i e w a → (i ≡ 0 → ⊥)
+  pub host-metadata : (whole : Bool) (s d : List ℕ) {i : ℕ} {e w a : List ℕ} → MetadataAnswered whole s d i e w a → (i ≡ 0 → ⊥)
       → Zeroed d e × (w ≡ Padded.zeros 18) × (drop 3 a ≡ Padded.zeros 1)
   pub host-graph : (mode : Mode) (s b n e d f g l : List ℕ) {i : ℕ} {n₁ e₁ d₁ f₁ g₁ l₁ a : List ℕ}
       → GraphAnswered mode s b n e d f g l i n₁ e₁ d₁ f₁ g₁ l₁ a → (i ≡ 0 → ⊥) → ZeroedGraph n e d f g l n₁ e₁ d₁ f₁ g₁ l₁ × (drop 6 a ≡ Padded.zeros 2)
@@ -103,13 +104,14 @@ pub record Zeros : Type 0 where
 -- ---- the demand
 
 pub record Demand1 : Type 0 where
-  -- extract_yang_dependencies, print_yang_dependencies; extract_yang_metadata
-  pub dependencies : (s : List ℕ) (short : Bool) (r : Refusal) (d : Dependencies.Dependencies) → Dependencies.dependencies s short ≡ Dependencies.bad r d
-      → RefusedAs DependenciesRefusal s short r
-  pub metadata : (s : List ℕ) (short : Bool) (r : Refusal) (bs : List ℕ) → Metadata.metadata s short ≡ Metadata.bad r bs → RefusedAs MetadataRefusal s short r
+  -- extract_yang_dependencies, print_yang_dependencies; extract_yang_metadata, in each mode: 11 is given in the whole-text mode only
+  pub dependencies : (whole : Bool) (s : List ℕ) (short : Bool) (r : Refusal) (d : Dependencies.Dependencies)
+      → Dependencies.dependencies whole s short ≡ Dependencies.bad r d → RefusedAs (ModeRefusal whole DependenciesRefusal s) s short r
+  pub metadata : (whole : Bool) (s : List ℕ) (short : Bool) (r : Refusal) (bs : List ℕ)
+      → Metadata.metadata whole s short ≡ Metadata.bad r bs → RefusedAs (ModeRefusal whole MetadataRefusal s) s short r
   -- and 1 to 3 are given whenever they are due
-  pub first-refused : (s : List ℕ) (short : Bool) (r : Refusal) → FirstRefusal s short r
-      → (Dependencies.dependencies s short ≡ Dependencies.bad r Dependencies.none) × (Metadata.metadata s short ≡ Metadata.bad r [])
+  pub first-refused : (whole : Bool) (s : List ℕ) (short : Bool) (r : Refusal) → FirstRefusal s short r
+      → (Dependencies.dependencies whole s short ≡ Dependencies.bad r Dependencies.none) × (Metadata.metadata whole s short ≡ Metadata.bad r [])
   -- the finds: 20 exactly if the image is wrong there; the text under a name: 21 exactly if the bundle is
   pub module-found : (s t : List ℕ) (p : ℕ) → (findModule s t ≡ Broken p) ↔ (imageAt s ≡ bad p)
   pub submodule-found : (s t : List ℕ) (p : ℕ) → (findSubmodule s t ≡ Broken p) ↔ (imageAt s ≡ bad p)
@@ -118,9 +120,9 @@ pub record Demand1 : Type 0 where
   -- to_graph, in each mode
   pub graph-refused : (mode : Mode) (s b : List ℕ) (k : Lengths) (number entry place : ℕ) (a : Refusal)
       → graphed mode s b k .answer ≡ Refused number entry a place → GraphCause mode s b k number entry a place × GraphNumbers number entry a place
-  -- 25 carries the answer of the scan of a text in the bundle
+  -- 25 carries the answer of the scan of a text in the bundle, in the old mode: so it is never 11
   pub scan-carried : (mode : Mode) (s b : List ℕ) (k : Lengths) (entry place : ℕ) (a : Refusal) → graphed mode s b k .answer ≡ Refused 25 entry a place
-      → (v : Name) × (d : Dependencies.Dependencies) × (Dependencies.dependencies (textUnder b v) false ≡ Dependencies.bad a d)
+      → (v : Name) × (d : Dependencies.Dependencies) × (Dependencies.dependencies false (textUnder b v) false ≡ Dependencies.bad a d)
   pub graph-built : (mode : Mode) (s b : List ℕ) (k : Lengths) → ((n : ℕ) × (m : ℕ) × (graphed mode s b k .answer ≡ Built n m)) ↔ Buildable mode s b k
   -- nuvaleta_graph_complete never answers 28: i is the number returned, a the answer
   pub has-node : (s b n e d f g l : List ℕ) {i : ℕ} {n₁ e₁ d₁ f₁ g₁ l₁ a : List ℕ}

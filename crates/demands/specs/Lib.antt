@@ -7,3 +7,4 @@ pub mod Starred
 pub mod Answers
 pub mod Complete
 pub mod Once
+pub mod Whole

@@ -65,31 +65,32 @@ pub record OneOutcome : Type 1 where
   pub equal : {A : Type 0} {x r r′ : A} → r ≡ x → r′ ≡ x → r ≡ r′
   pub viewed : {A B : Type 0} (view : A → B) → LosesNothing view → {x : B} {r r′ : A} → view r ≡ x → view r′ ≡ x → r ≡ r′
   pub views : Views
-  -- scan_lent, and with false extract_yang_dependencies
-  pub dependencies : (s : List ℕ) (short : Bool) (d t u d′ t′ u′ : List ℕ) → length d ≡ length d′ → length t ≡ length t′ → length u ≡ length u′
-      → {r r′ : Parsed} {e f g e′ f′ g′ : List ℕ} → Dependencies.Extracts s short d t u r e f g → Dependencies.Extracts s short d′ t′ u′ r′ e′ f′ g′
+  -- scan_lent, and with nothing else too short extract_yang_dependencies; whole: the mode
+  pub dependencies : (whole : Bool) (s : List ℕ) (short : Bool) (d t u d′ t′ u′ : List ℕ) → length d ≡ length d′ → length t ≡ length t′ → length u ≡ length u′
+      → {r r′ : Parsed} {e f g e′ f′ g′ : List ℕ} → Dependencies.Extracts whole s short d t u r e f g → Dependencies.Extracts whole s short d′ t′ u′ r′ e′ f′ g′
       → (r ≡ r′) × (e ≡ e′) × (f ≡ f′) × (g ≡ g′)
   -- scan_over, which clears nothing: what it leaves depends on what was there
-  pub over : (s : List ℕ) (short : Bool) (d t u : List ℕ) {r r′ : Parsed} {e f g e′ f′ g′ : List ℕ}
-      → Dependencies.Scans s short d t u r e f g → Dependencies.Scans s short d t u r′ e′ f′ g′ → (r ≡ r′) × (e ≡ e′) × (f ≡ f′) × (g ≡ g′)
+  pub over : (whole : Bool) (s : List ℕ) (short : Bool) (d t u : List ℕ) {r r′ : Parsed} {e f g e′ f′ g′ : List ℕ}
+      → Dependencies.Scans whole s short d t u r e f g → Dependencies.Scans whole s short d t u r′ e′ f′ g′ → (r ≡ r′) × (e ≡ e′) × (f ≡ f′) × (g ≡ g′)
   -- put and put_number; d: the page at entry, bs: the bytes that are written from a place on
   pub wrote : (d : List ℕ) (at : ℕ) (bs : List ℕ) {e e′ : List ℕ} {r r′ : ℕ} → Wrote d at bs e r → Wrote d at bs e′ r′ → (e ≡ e′) × (r ≡ r′)
   -- print_yang_dependencies
-  pub printed : (s d t u p d′ t′ u′ p′ : List ℕ) → length d ≡ length d′ → length t ≡ length t′ → length u ≡ length u′ → length p ≡ length p′
-      → {r r′ : Page} {e f g q e′ f′ g′ q′ : List ℕ} → Prints s d t u p r e f g q → Prints s d′ t′ u′ p′ r′ e′ f′ g′ q′
+  pub printed : (whole : Bool) (s d t u p d′ t′ u′ p′ : List ℕ) → length d ≡ length d′ → length t ≡ length t′ → length u ≡ length u′ → length p ≡ length p′
+      → {r r′ : Page} {e f g q e′ f′ g′ q′ : List ℕ} → Prints whole s d t u p r e f g q → Prints whole s d′ t′ u′ p′ r′ e′ f′ g′ q′
       → (r .parsed ≡ r′ .parsed) × (r .length ≡ r′ .length) × (e ≡ e′) × (f ≡ f′) × (g ≡ g′) × (q ≡ q′)
   -- extract_yang_metadata
-  pub metadata : (s d d′ : List ℕ) → length d ≡ length d′
-      → {r r′ : YangModuleMetadata} {e e′ : List ℕ} → Metadata.Extracts s d r e → Metadata.Extracts s d′ r′ e′ → (r ≡ r′) × (e ≡ e′)
-  -- nuvaleta_dependencies, nuvaleta_printed, nuvaleta_metadata; n: the number returned, a: the answer, w: the record
-  pub host-dependencies : (s d t u d′ t′ u′ : List ℕ) → length d ≡ length d′ → length t ≡ length t′ → length u ≡ length u′
-      → {n n′ : ℕ} {e f g a e′ f′ g′ a′ : List ℕ} → DependenciesAnswered s d t u n e f g a → DependenciesAnswered s d′ t′ u′ n′ e′ f′ g′ a′
+  pub metadata : (whole : Bool) (s d d′ : List ℕ) → length d ≡ length d′
+      → {r r′ : YangModuleMetadata} {e e′ : List ℕ} → Metadata.Extracts whole s d r e → Metadata.Extracts whole s d′ r′ e′ → (r ≡ r′) × (e ≡ e′)
+  -- nuvaleta_dependencies, nuvaleta_printed, nuvaleta_metadata, and in the whole-text mode nuvaleta_dependencies_whole, nuvaleta_printed_whole,
+  -- nuvaleta_metadata_whole; n: the number returned, a: the answer, w: the record
+  pub host-dependencies : (whole : Bool) (s d t u d′ t′ u′ : List ℕ) → length d ≡ length d′ → length t ≡ length t′ → length u ≡ length u′
+      → {n n′ : ℕ} {e f g a e′ f′ g′ a′ : List ℕ} → DependenciesAnswered whole s d t u n e f g a → DependenciesAnswered whole s d′ t′ u′ n′ e′ f′ g′ a′
       → (n ≡ n′) × (e ≡ e′) × (f ≡ f′) × (g ≡ g′) × (a ≡ a′)
-  pub host-printed : (s d t u p d′ t′ u′ p′ : List ℕ) → length d ≡ length d′ → length t ≡ length t′ → length u ≡ length u′ → length p ≡ length p′
-      → {n n′ : ℕ} {e f g q a e′ f′ g′ q′ a′ : List ℕ} → PrintedAnswered s d t u p n e f g q a → PrintedAnswered s d′ t′ u′ p′ n′ e′ f′ g′ q′ a′
+  pub host-printed : (whole : Bool) (s d t u p d′ t′ u′ p′ : List ℕ) → length d ≡ length d′ → length t ≡ length t′ → length u ≡ length u′ → length p ≡ length p′
+      → {n n′ : ℕ} {e f g q a e′ f′ g′ q′ a′ : List ℕ} → PrintedAnswered whole s d t u p n e f g q a → PrintedAnswered whole s d′ t′ u′ p′ n′ e′ f′ g′ q′ a′
       → (n ≡ n′) × (e ≡ e′) × (f ≡ f′) × (g ≡ g′) × (q ≡ q′) × (a ≡ a′)
-  pub host-metadata : (s d d′ : List ℕ) → length d ≡ length d′
-      → {n n′ : ℕ} {e w a e′ w′ a′ : List ℕ} → MetadataAnswered s d n e w a → MetadataAnswered s d′ n′ e′ w′ a′ → (n ≡ n′) × (e ≡ e′) × (w ≡ w′) × (a ≡ a′)
+  pub host-metadata : (whole : Bool) (s d d′ : List ℕ) → length d ≡ length d′
+      → {n n′ : ℕ} {e w a e′ w′ a′ : List ℕ} → MetadataAnswered whole s d n e w a → MetadataAnswered whole s d′ n′ e′ w′ a′ → (n ≡ n′) × (e ≡ e′) × (w ≡ w′) × (a ≡ a′)
   -- nuvaleta_find_module, nuvaleta_find_submodule, nuvaleta_find_import_module, nuvaleta_text
   pub host-module : (s t : List ℕ) {n n′ : ℕ} {a a′ : List ℕ} → let w = toldWords imageBroken (findModule s t) in
       Told w n a → Told w n′ a′ → (n ≡ n′) × (a ≡ a′)

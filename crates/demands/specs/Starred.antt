@@ -43,8 +43,8 @@ unfoldable pub drawn : Result → List ℕ
 drawn x = graphWords (x .answer) ++ (nodeWords (x .nodes) ++ rowWords (x .rows))
 
 unfoldable pub holds : Example → Bool
-holds (D s xs) = same (outcome (dependencies s false)) xs
-holds (M s xs) = same (described (metadata s false)) xs
+holds (D s xs) = same (outcome (dependencies false s false)) xs
+holds (M s xs) = same (described (metadata false s false)) xs
 holds (G s b xs) = same (drawn (graphed passOver s b (enough b))) xs
 
 unfoldable pub all : List Example → Bool

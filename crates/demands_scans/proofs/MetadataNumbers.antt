@@ -88,34 +88,34 @@ rest-is s at k h =
 
 -- ---- a statement
 
-abbrev pub HeardIs : Heard → Type 0
-HeardIs (Value k x c n) = Unit {0}
-HeardIs (Passed c) = Unit {0}
-HeardIs (Done c) = Unit {0}
-HeardIs (Refused r) = M r
+abbrev pub HeardIs : (Refusal → Type 0) → Heard → Type 0
+HeardIs P (Value k x c n) = Unit {0}
+HeardIs P (Passed c) = Unit {0}
+HeardIs P (Done c) = Unit {0}
+HeardIs P (Refused r) = P r
 
-passed-is : (d : Due) → DueIs M d → HeardIs (passed d)
+passed-is : (d : Due) → DueIs M d → HeardIs M (passed d)
 unfolding passed
 passed-is (After c) h = tt
 passed-is (Not r) h = h
 
-kept-is : (k u n : ℕ) (d : Due) → DueIs M d → HeardIs (kept k u n d)
+kept-is : (k u n : ℕ) (d : Due) → DueIs M d → HeardIs M (kept k u n d)
 unfolding kept
 kept-is k u n (After c) h = tt
 kept-is k u n (Not r) h = h
 
 module _ (s : List ℕ) (k : ℕ) (after : eqb k 3 ≡ false → isOne k (1 ∷ 2 ∷ 4 ∷ 5 ∷ 6 ∷ 7 ∷ []) ≡ true) where
-  with-is : (u : ℕ) (a : Argument) → ArgumentIs M a → HeardIs (withRest false s k u a)
+  with-is : (u : ℕ) (a : Argument) → ArgumentIs M a → HeardIs M (withRest false s k u a)
   unfolding withRest
   with-is u (Read c n) h = kept-is k u n (afterValue false s (c .at) k) (rest-is s (c .at) k after)
   with-is u (NoArgument r) h = h
 
-  skipped-is : (x : Skipped) → ((r : Refusal) → x ≡ NoSkip r → ⊥) → HeardIs (afterSkipped false s k (pastOf false (length s) x))
+  skipped-is : (x : Skipped) → ((r : Refusal) → x ≡ NoSkip r → ⊥) → HeardIs M (afterSkipped false s k (pastOf false (length s) x))
   unfolding afterSkipped pastOf
   skipped-is (Past c h) n = passed-is (afterValue false s (c .at) k) (rest-is s (c .at) k after)
   skipped-is (NoSkip r) n = absurd (n r refl)
 
-  statement-is : (eqb k 6 ≡ false → isOne k (1 ∷ 2 ∷ 3 ∷ 4 ∷ 5 ∷ 7 ∷ []) ≡ true) → (at u : ℕ) (p : Bool) → HeardIs (statementSaid false s at k u p .answer)
+  statement-is : (eqb k 6 ≡ false → isOne k (1 ∷ 2 ∷ 3 ∷ 4 ∷ 5 ∷ 7 ∷ []) ≡ true) → (at u : ℕ) (p : Bool) → HeardIs M (statementSaid false s at k u p .answer)
   unfolding statementSaid fieldAt isOne pastValue
   statement-is own at u p =
       by-test (eqb k 6) (λ t. rw t (skipped-is (skippedAt s at) (skipped-refused s at)))
@@ -126,7 +126,7 @@ module _ (s : List ℕ) (k : ℕ) (after : eqb k 3 ≡ false → isOne k (1 ∷ 
 
 module _ (s : List ℕ) (at u : ℕ) (p : Bool) where
   abbrev TagIs : Tag → Type 0
-  TagIs t = HeardIs (tagSaid false s at u p t .answer)
+  TagIs t = HeardIs M (tagSaid false s at u p t .answer)
 
   or-is : (k : ℕ) → ((c : Cursor) → TagIs (Statement k c)) → (m : Match) (t : Tag) → TagIs t → TagIs (orTag k m t)
   unfolding orTag
@@ -149,7 +149,7 @@ module _ (s : List ℕ) (at u : ℕ) (p : Bool) where
       (or-is 6 (λ c. statement-is s 6 (λ h. refl) (λ h. absurd (never h refl)) (c .at) u p) _ _
       (or-is 7 (λ c. statement-is s 7 (λ h. refl) (λ h. refl) (c .at) u p) _ _ (last-is (dataAt s at))))))))
 
-pub said-is : (s : List ℕ) (at u : ℕ) (p : Bool) → HeardIs (saidAt false s at u p .answer)
+pub said-is : (s : List ℕ) (at u : ℕ) (p : Bool) → HeardIs M (saidAt false s at u p .answer)
 unfolding saidAt saidHere
 said-is s at u p = let g = gapEnd s at in by-test (leb (length s) g) (λ t. rw t tt) (λ t. rw t (tag-is s g u p))
 
@@ -163,7 +163,7 @@ ended-is : (m : Metadata) (at : ℕ) → ScanIs (ended m at)
 unfolding ended isOne
 ended-is m at = by-test (m .name .present) (λ t. rw t tt) (λ t. rw t (no-name (of (9 ∷ []) (0 ∷ []) 9 0 at refl refl)))
 
-turn-is : (m : Metadata) (bs : List ℕ) (x : Heard) (r : Scan) → HeardIs x → afterHeard m bs x ≡ stop r → ScanIs r
+turn-is : (m : Metadata) (bs : List ℕ) (x : Heard) (r : Scan) → HeardIs M x → afterHeard m bs x ≡ stop r → ScanIs r
 unfolding afterHeard
 turn-is m bs (Value k y c n) r h e = let z : _≡_ {A = ℕ} 0 1 = cc in absurd (omega arith)
 turn-is m bs (Passed c) r h e = let z : _≡_ {A = ℕ} 0 1 = cc in absurd (omega arith)

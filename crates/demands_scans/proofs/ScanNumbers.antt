@@ -242,53 +242,53 @@ module _ (s : List ℕ) (k : ℕ) where
       (λ a r e. stop-is (a .bytes ++ insideAt false s k (a .body) .bytes) (insideAt false s k (a .body) .answer) r (inside-is (a .body)) e)
       (λ a b r e h. h) (suc (length s)) (record { body = begun at u; bytes = [] }) (omega arith)
 
-abbrev pub ImportedIs : ParsedImport → Type 0
-ImportedIs (ReadImport c n i) = Unit {0}
-ImportedIs (NoImport r) = StatementRefusal 8 r
+abbrev pub ImportedIs : (Refusal → Type 0) → ParsedImport → Type 0
+ImportedIs P (ReadImport c n i) = Unit {0}
+ImportedIs P (NoImport r) = P r
 
-abbrev pub IncludedIs : ParsedInclude → Type 0
-IncludedIs (ReadInclude c n i) = Unit {0}
-IncludedIs (NoInclude r) = StatementRefusal 9 r
+abbrev pub IncludedIs : (Refusal → Type 0) → ParsedInclude → Type 0
+IncludedIs P (ReadInclude c n i) = Unit {0}
+IncludedIs P (NoInclude r) = P r
 
-body-is : (name : Span) (b : Block) → BlockIs 8 b → ImportedIs (importOf name b)
+body-is : (name : Span) (b : Block) → BlockIs 8 b → ImportedIs (StatementRefusal 8) (importOf name b)
 unfolding importOf ofBody isOne
 body-is name (Whole b) h =
     by-test (b .prefix .present) (λ t. rw t tt) (λ t. rw t (no-prefix refl (of (7 ∷ []) (8 ∷ []) 7 8 (b .at) refl refl)))
 body-is name (Broken r) h = h
 
-included-is : (name : Span) (b : Block) → BlockIs 9 b → IncludedIs (includeOf name b)
+included-is : (name : Span) (b : Block) → BlockIs 9 b → IncludedIs (StatementRefusal 9) (includeOf name b)
 unfolding includeOf
 included-is name (Whole b) h = tt
 included-is name (Broken r) h = h
 
-plain-is : (name : Span) (n : ℕ) (d : Due) → DueIs (StatementRefusal 9) d → IncludedIs (plainOf name n d)
+plain-is : (name : Span) (n : ℕ) (d : Due) → DueIs (StatementRefusal 9) d → IncludedIs (StatementRefusal 9) (plainOf name n d)
 unfolding plainOf
 plain-is name n (After c) h = tt
 plain-is name n (Not r) h = h
 
 module _ (s : List ℕ) where
-  name-is : (u : ℕ) (bytes : List ℕ) (a : Argument) → ArgumentIs (StatementRefusal 8) a → ImportedIs (afterName false s u bytes a .answer)
+  name-is : (u : ℕ) (bytes : List ℕ) (a : Argument) → ArgumentIs (StatementRefusal 8) a → ImportedIs (StatementRefusal 8) (afterName false s u bytes a .answer)
   unfolding afterName withName
   name-is u bytes (Read c n) h = body-is _ (blockAt false s (c .at) n 8 .answer) (block-is s 8 (c .at) n)
   name-is u bytes (NoArgument r) h = h
 
-  pub import-is : (at u : ℕ) → ImportedIs (importAt false s at u .answer)
+  pub import-is : (at u : ℕ) → ImportedIs (StatementRefusal 8) (importAt false s at u .answer)
   unfolding importAt
   import-is at u = name-is u _ (lineAt false s at u 8 123) (argument-is 8 8 (name-refusable 8) s at u 123)
 
-  rest-is : (at n : ℕ) (name : Span) (bytes : List ℕ) → IncludedIs (openOrPlain false s at n name bytes .answer)
+  rest-is : (at n : ℕ) (name : Span) (bytes : List ℕ) → IncludedIs (StatementRefusal 9) (openOrPlain false s at n name bytes .answer)
   unfolding openOrPlain blockOf isOne
   rest-is at n name bytes =
       by-test (eqb (look s at) 123) (λ t. rw t (included-is name (blockAt false s (at + 1) n 9 .answer) (block-is s 9 (at + 1) n)))
       (λ t. let f = name-refusable 9 in
       rw t (plain-is name n (dueHere s at 59 9) (due-here-is (StatementRefusal 9) 9 (f 5 refl) (f 6 refl) s at 59)))
 
-  value-read-is : (u : ℕ) (bytes : List ℕ) (a : Argument) → ArgumentIs (StatementRefusal 9) a → IncludedIs (afterValue false s u bytes a .answer)
+  value-read-is : (u : ℕ) (bytes : List ℕ) (a : Argument) → ArgumentIs (StatementRefusal 9) a → IncludedIs (StatementRefusal 9) (afterValue false s u bytes a .answer)
   unfolding afterValue
   value-read-is u bytes (Read c n) h = rest-is (gapEnd s (c .at)) n _ bytes
   value-read-is u bytes (NoArgument r) h = h
 
-  pub include-is : (at u : ℕ) → IncludedIs (includeAt false s at u .answer)
+  pub include-is : (at u : ℕ) → IncludedIs (StatementRefusal 9) (includeAt false s at u .answer)
   unfolding includeAt isOne
   include-is at u = value-read-is u _ (argumentAt false s at u 9) (value-is (StatementRefusal 9) 9 (name-refusable 9 4 refl) s at u)
 
@@ -304,12 +304,12 @@ unfolding unlessFull isOne
 full-is n k at x own h =
     by-test (leb 256 n) (λ t. rw t (rows (of (10 ∷ []) (8 ∷ 9 ∷ []) 10 k at refl own))) (λ t. rw t h)
 
-import-step-is : (far : Sofar) (bs : List ℕ) (i : ParsedImport) → ImportedIs i → NextIs (importStep far bs i .answer)
+import-step-is : (far : Sofar) (bs : List ℕ) (i : ParsedImport) → ImportedIs (StatementRefusal 8) i → NextIs (importStep far bs i .answer)
 unfolding importStep
 import-step-is far bs (ReadImport c n i) h = tt
 import-step-is far bs (NoImport r) h = import h
 
-include-step-is : (far : Sofar) (bs : List ℕ) (i : ParsedInclude) → IncludedIs i → NextIs (includeStep far bs i .answer)
+include-step-is : (far : Sofar) (bs : List ℕ) (i : ParsedInclude) → IncludedIs (StatementRefusal 9) i → NextIs (includeStep far bs i .answer)
 unfolding includeStep
 include-step-is far bs (ReadInclude c n i) h = tt
 include-step-is far bs (NoInclude r) h = include h

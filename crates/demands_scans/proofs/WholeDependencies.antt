@@ -68,7 +68,7 @@ use Rattle.demands_scans.proofs.Loops.{by-falling}
 
 -- ---- the old mode's refusals
 
-abbrev Old : Refusal → Type 0
+abbrev pub Old : Refusal → Type 0
 Old r = List·Memᴰ (r .number) (4 ∷ 6 ∷ 8 ∷ [])
 
 four-or-six : (r : Refusal) → FourOrSix r → Old r
@@ -78,12 +78,12 @@ four-or-six r (inr e) = List·Memᴰ·tail (List·Memᴰ·head e)
 -- ---- one statement of a block
 
 -- what the old mode answers where the other is 11: it goes on at the text's end, or it is refused there
-abbrev OldInside : List ℕ → Inside → Type 0
+abbrev pub OldInside : List ℕ → Inside → Type 0
 OldInside s (OnInside y) = y .at ≡ length s
 OldInside s (Closed y) = ⊥
 OldInside s (RefusedInside r) = FourOrSix r
 
-abbrev InsideModes : List ℕ → Left Inside → Left Inside → Type 0
+abbrev pub InsideModes : List ℕ → Left Inside → Left Inside → Type 0
 InsideModes s x y = (x ≡ y) ⊎ ((x .answer ≡ RefusedInside (cutAt (length s))) × OldInside s (y .answer))
 
 skipped-modes : (s : List ℕ) (b : Body) (x y : Due) → SameOrCut (length s) x y
@@ -125,7 +125,7 @@ inside-modes s k b =
 
 -- ---- a block
 
-abbrev BlockModes : List ℕ → Left Block → Left Block → Type 0
+abbrev pub BlockModes : List ℕ → Left Block → Left Block → Type 0
 BlockModes s x y = (x ≡ y) ⊎ ((x .answer ≡ Broken (cutAt (length s))) × (r : Refusal) × (y .answer ≡ Broken r) × Old r)
 
 -- at the text's end it is refused by 8
@@ -202,7 +202,7 @@ block-begun s at u k = block-modes s k (record { body = begun at u; bytes = [] }
 
 -- ---- an import and an include
 
-abbrev ImportModes : List ℕ → Left ParsedImport → Left ParsedImport → Type 0
+abbrev pub ImportModes : List ℕ → Left ParsedImport → Left ParsedImport → Type 0
 ImportModes s x y = (x ≡ y) ⊎ ((x .answer ≡ NoImport (cutAt (length s))) × (r : Refusal) × (y .answer ≡ NoImport r) × Old r)
 
 import-block : (s : List ℕ) (name : Span) (bs : List ℕ) (x y : Left Block) → BlockModes s x y → ImportModes s (withName name bs x) (withName name bs y)
@@ -210,7 +210,7 @@ unfolding withName importOf
 import-block s name bs x y (inl e) = inl (ap (withName name bs) e)
 import-block s name bs x y (inr e) = inr (ap (importOf name) (e .0), e .1, ap (importOf name) (e .2), e .3)
 
-import-modes : (s : List ℕ) (at u : ℕ) → ImportModes s (importAt true s at u) (importAt false s at u)
+pub import-modes : (s : List ℕ) (at u : ℕ) → ImportModes s (importAt true s at u) (importAt false s at u)
 unfolding importAt afterName
 import-modes s at u =
     ⊎-elim (λ e. named (lineAt false s at u 8 123) e)
@@ -227,7 +227,7 @@ import-modes s at u =
     named : (a : Argument) → lineAt true s at u 8 123 ≡ a → ImportModes s (importAt true s at u) (afterName false s u (valueBytes (valueAt s at)) a)
     named a e = subst (λ z. ImportModes s (afterName true s u (valueBytes (valueAt s at)) z) (afterName false s u (valueBytes (valueAt s at)) a)) (sym e) (by-name a)
 
-abbrev IncludeModes : List ℕ → Left ParsedInclude → Left ParsedInclude → Type 0
+abbrev pub IncludeModes : List ℕ → Left ParsedInclude → Left ParsedInclude → Type 0
 IncludeModes s x y = (x ≡ y) ⊎ ((x .answer ≡ NoInclude (cutAt (length s))) × (r : Refusal) × (y .answer ≡ NoInclude r) × Old r)
 
 include-block : (s : List ℕ) (name : Span) (bs : List ℕ) (x y : Left Block) → BlockModes s x y → IncludeModes s (blockOf name bs x) (blockOf name bs y)
@@ -252,7 +252,7 @@ plain-past s c n name bs e =
     let t : eqb (getD s g 256) 123 ≡ false = rw p refl in
     rw t (ap (plainOf name n) (due-past s (c .at) 59 9 (omega arith) e))
 
-include-modes : (s : List ℕ) (at u : ℕ) → IncludeModes s (includeAt true s at u) (includeAt false s at u)
+pub include-modes : (s : List ℕ) (at u : ℕ) → IncludeModes s (includeAt true s at u) (includeAt false s at u)
 unfolding includeAt afterValue
 include-modes s at u =
     let bs = valueBytes (valueAt s at) in

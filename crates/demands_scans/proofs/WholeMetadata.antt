@@ -95,13 +95,13 @@ after-past s at k e =
 -- ---- a statement or token
 
 -- what the old mode answers where the other is 11: it goes on at the text's end, or it is refused there
-abbrev OldHeard : List ℕ → Heard → Type 0
+abbrev pub OldHeard : List ℕ → Heard → Type 0
 OldHeard s (Value k x c n) = c .at ≡ length s
 OldHeard s (Passed c) = c .at ≡ length s
 OldHeard s (Done c) = ⊥
 OldHeard s (Refused r) = FourOrSix r
 
-abbrev SaidModes : List ℕ → Said → Said → Type 0
+abbrev pub SaidModes : List ℕ → Said → Said → Type 0
 SaidModes s x y = (x ≡ y) ⊎ ((x .answer ≡ Refused (cutAt (length s))) × OldHeard s (y .answer))
 
 passed-modes : (s : List ℕ) (x y : Due) → SameOrCut (length s) x y → SaidModes s (said (passed x)) (said (passed y))
@@ -181,7 +181,7 @@ tag-modes s g u p (Statement k c) i h = said-modes-of s (c .at) k u p (tag-far s
 tag-modes s g u p (Last c) i h = inl refl
 tag-modes s g u p Other i h = passed-modes s (pastToken true s g) (pastToken false s g) (token-modes s g i)
 
-said-modes : (s : List ℕ) (at u : ℕ) (p : Bool) → SaidModes s (saidAt true s at u p) (saidAt false s at u p)
+pub said-modes : (s : List ℕ) (at u : ℕ) (p : Bool) → SaidModes s (saidAt true s at u p) (saidAt false s at u p)
 unfolding saidAt saidHere
 said-modes s at u p =
     let g = gapEnd s at in

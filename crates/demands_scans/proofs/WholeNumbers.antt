@@ -2,6 +2,7 @@
 -- Assumes nothing.
 use mathlib.Core.Path.{_≡_, refl, sym, ap, subst, _∙_}
 use mathlib.Core.Bool.{Bool, true, false}
+use mathlib.Core.Logic.{⊎-elim}
 use mathlib.Core.List.{List, [], _∷_}
 use Prim.Native.Nat.{ℕ}
 use native.Mathlib.Omega.{arith}
@@ -13,15 +14,26 @@ use Rattle.text_skip.specs.Skip.{pastOf}
 use Rattle.text_lent.specs.Lent.{lentAt}
 use Rattle.text_lent.specs.declared.Lent.{Lent}
 use Rattle.text_lent.specs.declared.Lent.the-variants.{Fit, Unfit}
+use Rattle.scan_imports.specs.Statement.{importAt, includeAt}
+use Rattle.scan_imports.specs.declared.ParsedImport.{ParsedImport}
+use Rattle.scan_imports.specs.declared.ParsedImport.the-variants.{Import, NoImport}
+use Rattle.scan_imports.specs.declared.ParsedInclude.{ParsedInclude}
+use Rattle.scan_imports.specs.declared.ParsedInclude.the-variants.{Include, NoInclude}
+use Rattle.scan_header.specs.Header.{saidAt}
+use Rattle.scan_header.specs.declared.Heard.{Heard}
+use Rattle.scan_header.specs.declared.Heard.the-variants.{Value, Passed, Done, Refused}
 use Rattle.yangparser.specs.Dependencies as Deps
 use Rattle.scan_metadata.specs.Metadata as Meta
-use Rattle.demands_scans.specs.Refusals.{FirstRefusal, RefusedAs, first, read, DependenciesRefusal, MetadataRefusal, WholeRefusal, cut-short, as-before, ModeRefusal}
+use Rattle.demands_scans.specs.Refusals.{FirstRefusal, RefusedAs, first, read, StatementRefusal, DependenciesRefusal, HeaderRefusal, MetadataRefusal, WholeRefusal}
+use Rattle.demands_scans.specs.Refusals.{cut-short, as-before, ModeRefusal}
 use Rattle.demands_scans.specs.Whole.{OldMode, toldDependencies, toldMetadata, WholeOrOld, same, cut}
-use Rattle.demands_scans.proofs.ScanNumbers.{LentIs, lent-is, dependencies-refused}
+use Rattle.demands_scans.proofs.ScanNumbers.{ImportedIs, IncludedIs, import-is, include-is, LentIs, lent-is, dependencies-refused}
 use Rattle.demands_scans.proofs.ScanNumbers as Scans
-use Rattle.demands_scans.proofs.MetadataNumbers.{metadata-refused}
+use Rattle.demands_scans.proofs.MetadataNumbers.{HeardIs, said-is, metadata-refused}
 use Rattle.demands_scans.proofs.MetadataNumbers as Headers
+use Rattle.demands_scans.proofs.WholeDependencies.{import-modes, include-modes}
 use Rattle.demands_scans.proofs.WholeDependencies as Dependencies
+use Rattle.demands_scans.proofs.WholeMetadata.{said-modes}
 use Rattle.demands_scans.proofs.WholeMetadata as Metadata
 
 -- the old mode is what it was
@@ -29,10 +41,52 @@ pub old-mode : OldMode
 unfolding pastOf argumentAt breaksOff
 old-mode = record { skipped = λ n c h. refl; value = λ s at u k. refl }
 
--- its number is not 0
-pub whole-number : {Read : Refusal → Type 0} → ((q : Refusal) → Read q → q .number ≡ 0 → ⊥) → (s : List ℕ) (q : Refusal) → WholeRefusal Read s q → q .number ≡ 0 → ⊥
-whole-number f s q (cut-short e) z = omega (arith, z, ap (λ r. r .number) e)
-whole-number f s q (as-before h) z = f q h z
+-- no refusal has the number 0
+pub mode-number : {Read : Refusal → Type 0} → ((q : Refusal) → Read q → q .number ≡ 0 → ⊥) → (s : List ℕ) (whole : Bool) (q : Refusal)
+    → ModeRefusal whole Read s q → q .number ≡ 0 → ⊥
+mode-number f s true q (cut-short e) z = omega (arith, z, ap (λ r. r .number) e)
+mode-number f s true q (as-before h) z = f q h z
+mode-number f s false q h z = f q h z
+
+-- ---- one statement
+
+import-before : (s : List ℕ) (x : ParsedImport) → ImportedIs (StatementRefusal 8) x → ImportedIs (WholeRefusal (StatementRefusal 8) s) x
+import-before s (Import c n i) h = tt
+import-before s (NoImport r) h = as-before h
+
+include-before : (s : List ℕ) (x : ParsedInclude) → IncludedIs (StatementRefusal 9) x → IncludedIs (WholeRefusal (StatementRefusal 9) s) x
+include-before s (Include c n i) h = tt
+include-before s (NoInclude r) h = as-before h
+
+heard-before : (s : List ℕ) (x : Heard) → HeardIs HeaderRefusal x → HeardIs (WholeRefusal HeaderRefusal s) x
+heard-before s (Value k v c n) h = tt
+heard-before s (Passed c) h = tt
+heard-before s (Done c) h = tt
+heard-before s (Refused r) h = as-before h
+
+module _ (s : List ℕ) (at u : ℕ) where
+  pub import-mode : (whole : Bool) → ImportedIs (ModeRefusal whole (StatementRefusal 8) s) (importAt whole s at u .answer)
+  import-mode true =
+      ⊎-elim
+      (λ e. subst (λ x. ImportedIs (WholeRefusal (StatementRefusal 8) s) (x .answer)) (sym e) (import-before s (importAt false s at u .answer) (import-is s at u)))
+      (λ e. subst (ImportedIs (WholeRefusal (StatementRefusal 8) s)) (sym (e .0)) (cut-short refl)) (import-modes s at u)
+  import-mode false = import-is s at u
+
+  pub include-mode : (whole : Bool) → IncludedIs (ModeRefusal whole (StatementRefusal 9) s) (includeAt whole s at u .answer)
+  include-mode true =
+      ⊎-elim
+      (λ e. subst (λ x. IncludedIs (WholeRefusal (StatementRefusal 9) s) (x .answer)) (sym e) (include-before s (includeAt false s at u .answer) (include-is s at u)))
+      (λ e. subst (IncludedIs (WholeRefusal (StatementRefusal 9) s)) (sym (e .0)) (cut-short refl)) (include-modes s at u)
+  include-mode false = include-is s at u
+
+  pub heard-mode : (p whole : Bool) → HeardIs (ModeRefusal whole HeaderRefusal s) (saidAt whole s at u p .answer)
+  heard-mode p true =
+      ⊎-elim
+      (λ e. subst (λ x. HeardIs (WholeRefusal HeaderRefusal s) (x .answer)) (sym e) (heard-before s (saidAt false s at u p .answer) (said-is s at u p)))
+      (λ e. subst (HeardIs (WholeRefusal HeaderRefusal s)) (sym (e .0)) (cut-short refl)) (said-modes s at u p)
+  heard-mode p false = said-is s at u p
+
+-- ---- a scan
 
 module _ (s : List ℕ) (short : Bool) where
   module _ (r : Refusal) (d : Deps.Dependencies) where

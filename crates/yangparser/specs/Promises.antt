@@ -60,6 +60,6 @@ lentScan whole s short d t u = dependencies whole s (tooShort short (length s) (
 abbrev pub Scans : Bool → List ℕ → Bool → List ℕ → List ℕ → List ℕ → Parsed → List ℕ → List ℕ → List ℕ → Type 0
 Scans whole s short d t u r e f g = Parses (lentScan whole s short d t u) d t u r e f g
 
--- scan_lent, and with false extract_yang_dependencies
+-- scan_lent, and with short false extract_yang_dependencies
 abbrev pub Extracts : Bool → List ℕ → Bool → List ℕ → List ℕ → List ℕ → Parsed → List ℕ → List ℕ → List ℕ → Type 0
 Extracts whole s short d t u r e f g = Leaves (lentScan whole s short d t u) d t u r e f g
