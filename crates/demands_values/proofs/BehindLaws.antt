@@ -3,6 +3,7 @@
 use Prim.Native.Nat.{ℕ, _+_, _-_, _<_}
 use mathlib.Core.Path.{_≡_, refl, sym, ap, ap₂, _∙_}
 use mathlib.Core.Logic.{_⊎_, inl, inr, ⊎-elim}
+use mathlib.Core.Bool.{false}
 use mathlib.Core.List.{List, _++_}
 use native.Mathlib.Omega.{arith}
 use lib.ListN.{length, drop, length-append, length-drop}
@@ -16,7 +17,7 @@ use Rattle.text.specs.declared.Due.the-variants.{After as Stands, Not as NotDue
 use Rattle.text.specs.declared.Match.{Match}
 use Rattle.text.specs.declared.Match.the-variants.{After, Not}
 use Rattle.text.proofs.KeywordLaws.{match-one}
-use Rattle.text_value.specs.Argument.{argumentOf, argumentAt, afterDue, afterArgument, lineAt}
+use Rattle.text_value.specs.Argument.{argumentOf, breaksOff, argumentAt, afterDue, afterArgument, lineAt}
 use Rattle.text_value.specs.Value.{Val, value, none, valueAt, valueBytes}
 use Rattle.text_value.specs.declared.Argument.the-variants.{Read}
 use Rattle.scan_rows.specs.Span.{held, valueIn}
@@ -33,8 +34,8 @@ module _ (s : List ℕ) (at u k : ℕ) where
   value-of (value bs e) c n h = let q : e ≡ c .at = cc in ap (value bs) q
   value-of (none e) c n h = let z : _≡_ {A = ℕ} 0 1 = cc in absurd (omega arith)
 
-  pub argument-value : (c : Cursor) (n : ℕ) → argumentAt s at u k ≡ Read c n → valueAt s at ≡ value (valueBytes (valueAt s at)) (c .at)
-  unfolding argumentAt
+  pub argument-value : (c : Cursor) (n : ℕ) → argumentAt false s at u k ≡ Read c n → valueAt s at ≡ value (valueBytes (valueAt s at)) (c .at)
+  unfolding argumentAt breaksOff
   argument-value c n h = value-of (valueAt s at) c n h
 
   module _ (b : ℕ) (c : Cursor) (n : ℕ) where
@@ -48,8 +49,8 @@ module _ (s : List ℕ) (at u k : ℕ) where
     line-of (value bs e) h = (e, refl, due-of (u + length bs) (dueAt s e b k) h)
     line-of (none e) h = let z : _≡_ {A = ℕ} 0 1 = cc in absurd (omega arith)
 
-    pub line-value : lineAt s at u k b ≡ Read c n → (e : ℕ) × (valueAt s at ≡ value (valueBytes (valueAt s at)) e) × (dueAt s e b k ≡ Stands c)
-    unfolding lineAt argumentAt
+    pub line-value : lineAt false s at u k b ≡ Read c n → (e : ℕ) × (valueAt s at ≡ value (valueBytes (valueAt s at)) e) × (dueAt s e b k ≡ Stands c)
+    unfolding lineAt argumentAt breaksOff
     line-value h = line-of (valueAt s at) h
 
 -- ---- at one place no other keyword matches

@@ -2,7 +2,7 @@
 -- Assumes nothing.
 use Prim.Native.Nat.{ℕ, zero, suc, _+_, _-_, _<_}
 use mathlib.Core.Path.{_≡_, refl, sym, ap, subst, _∙_}
-use mathlib.Core.Bool.{true}
+use mathlib.Core.Bool.{true, false}
 use mathlib.Core.Logic.{_⊎_, inl, inr, ⊎-elim}
 use mathlib.Core.List.{List, [], _++_, append-assoc}
 use native.Mathlib.Nat.{not-suc-le-zero}
@@ -17,6 +17,8 @@ use Rattle.text.specs.Scan.{gapEnd}
 use Rattle.text.specs.Turns.{stop, on}
 use Rattle.text.specs.Words.{prefixWord, revisionDateWord}
 use Rattle.text.specs.declared.Cursor.{Cursor}
+use Rattle.text.specs.declared.Due.{Due}
+use Rattle.text.specs.declared.Due.the-variants.{After as Stands, Not as NotDue}
 use Rattle.text.specs.declared.Match.{Match}
 use Rattle.text.specs.declared.Match.the-variants.{After, Not}
 use Rattle.text.proofs.Here.{by-test}
@@ -26,9 +28,7 @@ use Rattle.text_value.specs.Value.{valueAt, valueBytes}
 use Rattle.text_value.specs.declared.Argument.{Argument}
 use Rattle.text_value.specs.declared.Argument.the-variants.{Read, Refused as NoArgument}
 use Rattle.text_value.proofs.ArgumentLaws.{line-far}
-use Rattle.text_skip.specs.declared.Skipped.{Skipped}
-use Rattle.text_skip.specs.declared.Skipped.the-variants.{Past, Refused as NoSkip}
-use Rattle.text_statement.specs.Statement.{statementAt}
+use Rattle.text_statement.specs.Statement.{pastStatement}
 use Rattle.scan_rows.specs.Span.{held}
 use Rattle.scan_rows.specs.declared.Span.{Span}
 use Rattle.scan_block.specs.Left.{Left}
@@ -80,8 +80,8 @@ unfolding startsIdent classOf
 closed-not s at word t = match-none s at word refl refl (ap startsIdent (eqb-true (look s at) 125 t))
 
 -- each statement goes forward
-block-forward : (s : List ℕ) (k : ℕ) (g h : Stored) → blockTurn s k g ≡ on h → g .body .at < h .body .at
-block-forward s k g h t = omega (arith, turn-far s k g h t .0 .0)
+block-forward : (s : List ℕ) (k : ℕ) (g h : Stored) → blockTurn false s k g ≡ on h → g .body .at < h .body .at
+block-forward s k g h t = omega (arith, turn-far false s k g h t .0 .0)
 
 -- ---- one statement from the state g; store: the bytes stored so far
 
@@ -90,7 +90,7 @@ module _ (s : List ℕ) (k : ℕ) (g : Stored) (store : List ℕ) (count : g .bo
   place = gapEnd s (g .body .at)
 
   abbrev LineGives : List ℕ → List ℕ → Span → Span → Type 0
-  LineGives word bs x y = Gives (blockTurn s k) (λ b. b .body .at) s word g (store ++ bs) x y
+  LineGives word bs x y = Gives (blockTurn false s k) (λ b. b .body .at) s word g (store ++ bs) x y
 
   abbrev InsideHas : List ℕ → Inside → Type 0
   InsideHas bs (On y) =
@@ -102,13 +102,13 @@ module _ (s : List ℕ) (k : ℕ) (g : Stored) (store : List ℕ) (count : g .bo
   InsideHas bs (Refused r) = Unit {0}
 
   -- a value of the keyword j, which ended at c
-  value-has : (j : ℕ) (c : Cursor) → KindIs s place k (Value j c) → (a : Argument) → lineAt s (c .at) (g .body .used) j 59 ≡ a
+  value-has : (j : ℕ) (c : Cursor) → KindIs s place k (Value j c) → (a : Argument) → lineAt false s (c .at) (g .body .used) j 59 ≡ a
       → InsideHas (valueBytes (valueAt s (c .at))) (withValue (g .body) j a)
   unfolding withValue kept
   value-has j c kind (Read d n) h =
       let b = g .body in
       let bs = valueBytes (valueAt s (c .at)) in
-      let f = line-far s (c .at) (b .used) j 59 d n (omega arith) h in
+      let f = line-far false s (c .at) (b .used) j 59 d n (omega arith) h in
       let w = line-value s (c .at) (b .used) j 59 d n h in
       let x = held (b .used) (n - b .used) in
       let end : n ≡ length (store ++ bs) = omega (arith, count, f .2, length-append store bs) in
@@ -118,17 +118,17 @@ module _ (s : List ℕ) (k : ℕ) (g : Stored) (store : List ℕ) (count : g .bo
       (λ q. rw (q .0) (end, λ h. inr (q .1, refl), inl (new revisionDateWord (q .2)))) kind
   value-has j c kind (NoArgument r) h = tt
 
-  skipped-has : KindIs s place k Other → (x : Skipped) → InsideHas [] (withSkipped (g .body) x)
+  skipped-has : KindIs s place k Other → (x : Due) → InsideHas [] (withSkipped (g .body) x)
   unfolding withSkipped
-  skipped-has kind (Past c h) = (omega (arith, count, length-append store []), λ e. inr (kind .0 e, refl), inr (kind .1, refl))
-  skipped-has kind (NoSkip r) = tt
+  skipped-has kind (Stands c) = (omega (arith, count, length-append store []), λ e. inr (kind .0 e, refl), inr (kind .1, refl))
+  skipped-has kind (NotDue r) = tt
 
-  kind-has : (x : Line) → KindIs s place k x → InsideHas (afterKind s place (g .body) x .bytes) (afterKind s place (g .body) x .answer)
+  kind-has : (x : Line) → KindIs s place k x → InsideHas (afterKind false s place (g .body) x .bytes) (afterKind false s place (g .body) x .answer)
   unfolding afterKind
-  kind-has (Value j c) h = value-has j c h (lineAt s (c .at) (g .body .used) j 59) refl
-  kind-has Other h = skipped-has h (statementAt s place)
+  kind-has (Value j c) h = value-has j c h (lineAt false s (c .at) (g .body .used) j 59) refl
+  kind-has Other h = skipped-has h (pastStatement false s place)
 
-  inside-has : InsideHas (insideAt s k (g .body) .bytes) (insideAt s k (g .body) .answer)
+  inside-has : InsideHas (insideAt false s k (g .body) .bytes) (insideAt false s k (g .body) .answer)
   unfolding insideAt insideHere
   inside-has =
       by-test (eqb (look s place) 256) (λ t. rw t tt)
@@ -141,7 +141,7 @@ module _ (s : List ℕ) (k : ℕ) (g : Stored) (store : List ℕ) (count : g .bo
 
 module _ (s : List ℕ) (k : ℕ) (pre : List ℕ) where
   abbrev pub LineWon : List ℕ → Stored → List ℕ → Span → Span → Type 0
-  LineWon word g store x y = Won (blockTurn s k) (λ b. b .body .at) s word g store x y
+  LineWon word g store x y = Won (blockTurn false s k) (λ b. b .body .at) s word g store x y
 
   pub record Ends (g : Stored) (cs : List ℕ) (y : Body) : Type 0 where
     pub rest : List ℕ
@@ -155,13 +155,13 @@ module _ (s : List ℕ) (k : ℕ) (pre : List ℕ) where
 
   -- m: more than the bytes that are left
   from-has : (m : ℕ) (g : Stored) → length s - g .body .at < m → g .body .used ≡ length (pre ++ g .bytes)
-      → BlockHas g (blockFrom s k g .bytes) (blockFrom s k g .answer)
+      → BlockHas g (blockFrom false s k g .bytes) (blockFrom false s k g .answer)
   unfolding blockTurn afterInside
   from-has zero g l count = absurd (not-suc-le-zero l)
   from-has (suc m) g l count = of (i .answer) refl (inside-has s k g (pre ++ g .bytes) count) (from-has m)
     where
       i : Left Inside
-      i = insideAt s k (g .body)
+      i = insideAt false s k (g .body)
 
       bs : List ℕ
       bs = g .bytes ++ i .bytes
@@ -170,7 +170,7 @@ module _ (s : List ℕ) (k : ℕ) (pre : List ℕ) where
       assoc = append-assoc pre (g .bytes) (i .bytes)
 
       -- over the turn to h
-      more : (h : Stored) → blockTurn s k g ≡ on h → h .bytes ≡ bs → InsideHas s k g (pre ++ g .bytes) count (i .bytes) (On (h .body))
+      more : (h : Stored) → blockTurn false s k g ≡ on h → h .bytes ≡ bs → InsideHas s k g (pre ++ g .bytes) count (i .bytes) (On (h .body))
           → (cs : List ℕ) (b : Block) → BlockHas h cs b → BlockHas g cs b
       more h turn hb has cs (Broken r) w = tt
       more h turn hb has cs (Whole y) w =
@@ -180,36 +180,36 @@ module _ (s : List ℕ) (k : ℕ) (pre : List ℕ) where
             rest = i .bytes ++ w .rest;
             grown = behind ∙ append-assoc (pre ++ g .bytes) (i .bytes) (w .rest);
             prefix = λ e.
-                won-on (blockTurn s k) (λ b. b .body .at) (block-forward s k) s prefixWord turn (pre ++ cs) (pre ++ g .bytes ++ i .bytes) (w .rest) behind
+                won-on (blockTurn false s k) (λ b. b .body .at) (block-forward s k) s prefixWord turn (pre ++ cs) (pre ++ g .bytes ++ i .bytes) (w .rest) behind
                 (g .body .prefix) (h .body .prefix) (y .prefix) (has .1 e) (w .prefix e);
             revision =
-                won-on (blockTurn s k) (λ b. b .body .at) (block-forward s k) s revisionDateWord turn (pre ++ cs) (pre ++ g .bytes ++ i .bytes) (w .rest) behind
+                won-on (blockTurn false s k) (λ b. b .body .at) (block-forward s k) s revisionDateWord turn (pre ++ cs) (pre ++ g .bytes ++ i .bytes) (w .rest) behind
                 (g .body .revision) (h .body .revision) (y .revision) (has .2) (w .revision);
           }
 
       of : (r : Inside) → i .answer ≡ r → InsideHas s k g (pre ++ g .bytes) count (i .bytes) r
           → ((h : Stored) → length s - h .body .at < m → h .body .used ≡ length (pre ++ h .bytes)
-          → BlockHas h (blockFrom s k h .bytes) (blockFrom s k h .answer))
-          → BlockHas g (blockFrom s k g .bytes) (blockFrom s k g .answer)
+          → BlockHas h (blockFrom false s k h .bytes) (blockFrom false s k h .answer))
+          → BlockHas g (blockFrom false s k g .bytes) (blockFrom false s k g .answer)
       of (On y) e has go =
           let h : Stored = record { body = y; bytes = bs } in
-          let turn : blockTurn s k g ≡ on h = ap (afterInside bs) e in
-          let w = go h (omega (arith, block-falls s k g h turn)) (has .0 ∙ ap length assoc) in
-          subst (λ (z : Left Block). BlockHas g (z .bytes) (z .answer)) (sym (block-on s k g y e))
-          (more h turn refl has (blockFrom s k h .bytes) (blockFrom s k h .answer) w)
+          let turn : blockTurn false s k g ≡ on h = ap (afterInside bs) e in
+          let w = go h (omega (arith, block-falls false s k g h turn)) (has .0 ∙ ap length assoc) in
+          subst (λ (z : Left Block). BlockHas g (z .bytes) (z .answer)) (sym (block-on false s k g y e))
+          (more h turn refl has (blockFrom false s k h .bytes) (blockFrom false s k h .answer) w)
       of (Closed y) e has go =
-          let turn : blockTurn s k g ≡ stop (record { answer = Whole y; bytes = bs }) = ap (afterInside bs) e in
-          subst (λ (z : Left Block). BlockHas g (z .bytes) (z .answer)) (sym (block-close s k g y e))
+          let turn : blockTurn false s k g ≡ stop (record { answer = Whole y; bytes = bs }) = ap (afterInside bs) e in
+          subst (λ (z : Left Block). BlockHas g (z .bytes) (z .answer)) (sym (block-close false s k g y e))
           (record {
             rest = i .bytes;
             grown = sym assoc;
-            prefix = λ e. won-stop (blockTurn s k) (λ b. b .body .at) (block-forward s k) s prefixWord turn (has .0 .0) (pre ++ bs) (has .0 .1);
-            revision = won-stop (blockTurn s k) (λ b. b .body .at) (block-forward s k) s revisionDateWord turn (has .1 .0) (pre ++ bs) (has .1 .1);
+            prefix = λ e. won-stop (blockTurn false s k) (λ b. b .body .at) (block-forward s k) s prefixWord turn (has .0 .0) (pre ++ bs) (has .0 .1);
+            revision = won-stop (blockTurn false s k) (λ b. b .body .at) (block-forward s k) s revisionDateWord turn (has .1 .0) (pre ++ bs) (has .1 .1);
           })
-      of (Refused r) e has go = subst (λ (z : Left Block). BlockHas g (z .bytes) (z .answer)) (sym (block-broken s k g r e)) tt
+      of (Refused r) e has go = subst (λ (z : Left Block). BlockHas g (z .bytes) (z .answer)) (sym (block-broken false s k g r e)) tt
 
   -- from its first state; u: the store's place there
   pub block-has : (from u : ℕ) → u ≡ length pre
-      → BlockHas (record { body = begun from u; bytes = [] }) (blockAt s from u k .bytes) (blockAt s from u k .answer)
+      → BlockHas (record { body = begun from u; bytes = [] }) (blockAt false s from u k .bytes) (blockAt false s from u k .answer)
   unfolding blockAt
   block-has from u e = from-has (suc (length s)) (record { body = begun from u; bytes = [] }) (omega arith) (omega (arith, e, length-append pre []))

@@ -37,8 +37,12 @@ use Rattle.scan_metadata.proofs.ScanLaws.{scan-good}
 use Rattle.host_words.specs.Words.{recordWords}
 use Rattle.nuvaleta.specs.Words.{numberOf, answerWords}
 use Rattle.demands_scans.specs.Refusals.{RefusedAs, first, read}
-use Rattle.demands_scans.proofs.MetadataNumbers.{metadata-number, metadata-refused}
-use Rattle.demands_scans.proofs.ScanNumbers.{dependencies-number, first-number, dependencies-refused}
+use Rattle.demands_scans.specs.Whole.{toldDependencies, toldMetadata, WholeOrOld, same, cut}
+use Rattle.demands_scans.proofs.MetadataNumbers.{metadata-number}
+use Rattle.demands_scans.proofs.ScanNumbers.{dependencies-number, first-number}
+use Rattle.demands_scans.proofs.WholeDependencies.{dependencies-whole}
+use Rattle.demands_scans.proofs.WholeMetadata.{metadata-whole}
+use Rattle.demands_scans.proofs.WholeNumbers.{mode-number, dependencies-mode-refused, metadata-mode-refused}
 use Rattle.demands_rfc.specs.Rfc.{reads, rfcValue}
 use Rattle.demands_rfc.specs.RfcDomain.{plainAt}
 use Rattle.demands_rfc.specs.RfcQuoted.{Quoted}
@@ -54,7 +58,7 @@ use Rattle.demands_values.proofs.ScanValues.{import-more, include-more,
 -- ---- dependencies
 
 -- over a store that begins with the bytes, and tables that read back
-rows-read : (s : List ℕ) (x : Dependencies) → scanned s ≡ good x → (zs : List ℕ) {e f g : List ℕ} → e ≡ x .bytes ++ zs
+rows-read : (s : List ℕ) (x : Dependencies) → scanned false s ≡ good x → (zs : List ℕ) {e f g : List ℕ} → e ≡ x .bytes ++ zs
     → importsIn f (length (x .imports)) ≡ x .imports → includesIn g (length (x .includes)) ≡ x .includes
     → RowsRead s e f (length (x .imports)) g (length (x .includes))
 unfolding importsIn includesIn
@@ -71,10 +75,19 @@ rows-read s x h zs {e} {f} {g} p q r =
       every-include = include-has-row s x h;
     })
 
-module _ (s : List ℕ) (short : Bool) where
-  sound-good : (x : Dependencies) → scanned s ≡ good x → Sound s x
+-- a good scan of either mode is the old mode's
+old-good : (mode : Bool) (s : List ℕ) (short : Bool) (x : Dependencies) → dependencies mode s short ≡ good x → dependencies false s short ≡ good x
+old-good true s short x h = of (dependencies-whole s short)
+  where
+    of : WholeOrOld toldDependencies (0 ∷ 4 ∷ 6 ∷ 8 ∷ []) s (dependencies true s short) (dependencies false s short) → dependencies false s short ≡ good x
+    of (same e) = sym e ∙ h
+    of (cut e m) = absurd (omega (arith, ap (λ (q : Refusal). q .number) (sym (ap toldDependencies h) ∙ e)))
+old-good false s short x h = h
+
+module _ (mode : Bool) (s : List ℕ) (short : Bool) where
+  sound-good : (x : Dependencies) → scanned false s ≡ good x → Sound s x
   unfolding readOf
-  sound-good x h = subst (λ z. Sound s (readOf z)) h (scan-sound s)
+  sound-good x h = subst (λ z. Sound s (readOf z)) h (scan-sound false s)
 
   module _ (d t u : List ℕ) {r : Parsed} {e f g : List ℕ} (i j n : ℕ) (h : r ≡ Good i j n) where
     -- the counts are those of what was read
@@ -82,12 +95,12 @@ module _ (s : List ℕ) (short : Bool) where
         → RowsRead s e f i g j
     counted x p q w = subst (λ m. RowsRead s e f m g j) (sym p) (subst (λ m. RowsRead s e f (length (x .imports)) g m) (sym q) w)
 
-    pub left-rows : Leaves (dependencies s short) d t u r e f g → RowsRead s e f i g j
+    pub left-rows : Leaves (dependencies mode s short) d t u r e f g → RowsRead s e f i g j
     unfolding keptOf padded
     left-rows l =
-        let k = parsed-good (dependencies s short) i j n (sym (l .answer) ∙ h) in
+        let k = parsed-good (dependencies mode s short) i j n (sym (l .answer) ∙ h) in
         let x = k .0 in
-        let good-scan = entry-good s short x (k .1) .0 in
+        let good-scan = entry-good false s short x (old-good mode s short x (k .1)) .0 in
         let sound = sound-good x good-scan in
         counted x (k .2) (k .3)
         (rows-read s x good-scan _ (l .stored ∙ ap (λ z. padded (length d) (keptOf z .bytes)) (k .1))
@@ -97,18 +110,18 @@ module _ (s : List ℕ) (short : Bool) where
         ∙ padded-includes x sound (length u)))
 
 -- scan_over writes over what the buffers held
-over-rows : (s : List ℕ) (short : Bool) (d t u : List ℕ) {r : Parsed} {e f g : List ℕ} → Parses (lentScan s short d t u) d t u r e f g
+over-rows : (mode : Bool) (s : List ℕ) (short : Bool) (d t u : List ℕ) {r : Parsed} {e f g : List ℕ} → Parses (lentScan mode s short d t u) d t u r e f g
     → (i j n : ℕ) → r ≡ Good i j n → RowsRead s e f i g j
 unfolding readOf
-over-rows s short d t u {r} {e} {f} {g} l i j n h =
+over-rows mode s short d t u {r} {e} {f} {g} l i j n h =
     let long = tooShort short (length s) (length d) (length t) (length u) in
-    let k = parsed-good (dependencies s long) i j n (sym (l .answer) ∙ h) in
+    let k = parsed-good (dependencies mode s long) i j n (sym (l .answer) ∙ h) in
     let x = k .0 in
-    let entry = entry-good s long x (k .1) in
+    let entry = entry-good false s long x (old-good mode s long x (k .1)) in
     let room = long-enough short (length s) (length d) (length t) (length u) (entry .2) in
-    let sound = sound-good s long x (entry .0) in
+    let sound = sound-good mode s long x (entry .0) in
     let holds = subst (λ z. Holds (readOf z) d t u e f g) (k .1) (l .holds) in
-    counted s long d t u i j n h x (k .2) (k .3)
+    counted mode s long d t u i j n h x (k .2) (k .3)
     (rows-read s x (entry .0) (drop (0 + length (x .bytes)) d)
     (holds .stored ∙ sets-eq (x .bytes) d 0 (omega (arith, sound .short, room .0)))
     (held-imports x sound holds (room .1)) (held-includes x sound holds (room .2)))
@@ -120,18 +133,19 @@ refused-number {s = s} {short = short} {r = r} numbered (first f) z = first-numb
 refused-number {r = r} numbered (read f h) z = numbered r h z
 
 -- the counts of a good answer in words, with more words behind
-module _ (s : List ℕ) (short : Bool) (d t u : List ℕ) {e f g : List ℕ} (l : Leaves (dependencies s short) d t u (parsedOf (dependencies s short)) e f g) where
-  told-rows : {n : ℕ} → n ≡ numberOf (parsedOf (dependencies s short)) → n ≡ 0 → (more : List ℕ) {a : List ℕ}
-      → a ≡ answerWords (parsedOf (dependencies s short)) ++ more → RowsRead s e f (getD a 3 0) g (getD a 4 0)
+module _ (mode : Bool) (s : List ℕ) (short : Bool) (d t u : List ℕ) {e f g : List ℕ}
+    (l : Leaves (dependencies mode s short) d t u (parsedOf (dependencies mode s short)) e f g) where
+  told-rows : {n : ℕ} → n ≡ numberOf (parsedOf (dependencies mode s short)) → n ≡ 0 → (more : List ℕ) {a : List ℕ}
+      → a ≡ answerWords (parsedOf (dependencies mode s short)) ++ more → RowsRead s e f (getD a 3 0) g (getD a 4 0)
   unfolding answerWords numberOf
-  told-rows ne z more {a} h = subst (λ w. RowsRead s e f (getD w 3 0) g (getD w 4 0)) (sym h) (of (parsedOf (dependencies s short)) refl (sym ne ∙ z))
+  told-rows ne z more {a} h = subst (λ w. RowsRead s e f (getD w 3 0) g (getD w 4 0)) (sym h) (of (parsedOf (dependencies mode s short)) refl (sym ne ∙ z))
     where
-      of : (p : Parsed) → parsedOf (dependencies s short) ≡ p → numberOf p ≡ 0
+      of : (p : Parsed) → parsedOf (dependencies mode s short) ≡ p → numberOf p ≡ 0
           → RowsRead s e f (getD (answerWords p ++ more) 3 0) g (getD (answerWords p ++ more) 4 0)
-      of (Good i j n) q z = left-rows s short d t u i j n q l
+      of (Good i j n) q z = left-rows mode s short d t u i j n q l
       of (Refused r) q z =
-          let k = parsed-refused (dependencies s short) r q in
-          absurd (refused-number dependencies-number (dependencies-refused s short r (k .0) (k .1)) z)
+          let k = parsed-refused (dependencies mode s short) r q in
+          absurd (refused-number (mode-number dependencies-number s mode) (dependencies-mode-refused s short r (k .0) mode (k .1)) z)
 
 -- ---- metadata
 
@@ -146,16 +160,16 @@ name-more s bytes zs n = record {
 }
 
 -- the six values of what was told, over a store that begins with its bytes
-module _ (s : List ℕ) (m : Metadata) (h : Metadata.scanned s ≡ Metadata.good m) (zs : List ℕ) where
+module _ (s : List ℕ) (m : Metadata) (h : Metadata.scanned false s ≡ Metadata.good m) (zs : List ℕ) where
   ends : Ends s m begin
   ends = scan-ends s m h
 
   abbrev MetRevision : Span → Type 0
-  MetRevision x = Met (metadataTurn s) (λ b. b .at) s revisionWord (m .bytes ++ zs) begin x
+  MetRevision x = Met (metadataTurn false s) (λ b. b .at) s revisionWord (m .bytes ++ zs) begin x
 
   name-read : NameRead s (m .bytes ++ zs) begin (m .name)
   name-read =
-      ⊎-elim (λ e. absurd (never (ap (λ x. x .present) (e .0)) (scan-good s m h .2))) (λ n. name-more s (m .bytes) zs n) (ends .name)
+      ⊎-elim (λ e. absurd (never (ap (λ x. x .present) (e .0)) (scan-good false s m h .2))) (λ n. name-more s (m .bytes) zs n) (ends .name)
 
   -- the first of the revisions, and the newest
   first-read : (rs : List Revision) → Revised s (m .bytes) begin rs
@@ -168,7 +182,7 @@ module _ (s : List ℕ) (m : Metadata) (h : Metadata.scanned s ≡ Metadata.good
   unfolding Revised Each
   newest-read [] u = inl (ap (λ r. r .span) newest-none, u)
   newest-read (r ∷ rs) w =
-      let P : Revision → Type 0 = λ q. Met (metadataTurn s) (λ b. b .at) s revisionWord (m .bytes) begin (q .span) in
+      let P : Revision → Type 0 = λ q. Met (metadataTurn false s) (λ b. b .at) s revisionWord (m .bytes) begin (q .span) in
       let Q : Revision → Type 0 = λ q. q .span .present ≡ true → MetRevision (q .span) in
       let all : Each P (r ∷ rs) = (w .0 .0, w .1) in
       let present = newest-present r rs (each-of P Present (λ q k. k .value .present) (r ∷ rs) all) in
@@ -212,34 +226,42 @@ words-read s store a b c d e f r = record {
   first-revision = told-either (NoHeader s revisionWord) (HeaderFirst s revisionWord store) d (λ h. h .0 .value .present) (r .first-revision);
   parent = told-either (NoHeader s belongsToWord) (HeaderLast s belongsToWord store) e (λ h. h .0 .value .present) (r .parent);
   newest =
-      told-either (NoHeader s revisionWord) (Met (metadataTurn s) (λ b. b .at) s revisionWord store begin) f (λ h. h .value .present) (r .newest);
+      told-either (NoHeader s revisionWord) (Met (metadataTurn false s) (λ b. b .at) s revisionWord store begin) f (λ h. h .value .present) (r .newest);
 }
 
--- a good call is a good scan
-metadata-good : (s : List ℕ) (short : Bool) (m : Metadata) → metadata s short ≡ Metadata.good m → Metadata.scanned s ≡ Metadata.good m
-unfolding metadata Metadata.ifFit
-metadata-good s short m h = of (lentAt s short) h
+-- a good call of either mode is a good scan of the old one
+metadata-old : (mode : Bool) (s : List ℕ) (short : Bool) (m : Metadata) → metadata mode s short ≡ Metadata.good m → metadata false s short ≡ Metadata.good m
+metadata-old true s short m h = of (metadata-whole s short)
   where
-    of : (x : Lent) → Metadata.ifFit x (Metadata.scanned s) ≡ Metadata.good m → Metadata.scanned s ≡ Metadata.good m
+    of : WholeOrOld toldMetadata (0 ∷ 4 ∷ 6 ∷ 9 ∷ []) s (metadata true s short) (metadata false s short) → metadata false s short ≡ Metadata.good m
+    of (same e) = sym e ∙ h
+    of (cut e k) = absurd (omega (arith, ap (λ (q : Refusal). q .number) (sym (ap toldMetadata h) ∙ e)))
+metadata-old false s short m h = h
+
+metadata-good : (mode : Bool) (s : List ℕ) (short : Bool) (m : Metadata) → metadata mode s short ≡ Metadata.good m → Metadata.scanned false s ≡ Metadata.good m
+unfolding metadata Metadata.ifFit
+metadata-good mode s short m h = of (lentAt s short) (metadata-old mode s short m h)
+  where
+    of : (x : Lent) → Metadata.ifFit x (Metadata.scanned false s) ≡ Metadata.good m → Metadata.scanned false s ≡ Metadata.good m
     of Fit h = h
     of (Unfit r) h = let z : _≡_ {A = ℕ} 0 1 = cc in absurd (omega arith)
 
 -- what a good scan leaves in a store of length n, as spans and as words
-module _ (s : List ℕ) (short : Bool) (n : ℕ) where
+module _ (mode : Bool) (s : List ℕ) (short : Bool) (n : ℕ) where
   abbrev Answers : Metadata.Scan → Type 0
   Answers x =
       answerOf x .answer .number ≡ 0 → RecordRead s (padded n (Metadata.keptOf x)) (answerOf x .values)
       × RecordRead s (padded n (Metadata.keptOf x)) (recordIn (recordWords (answerOf x .values)))
 
-  call-answers : Answers (metadata s short)
+  call-answers : Answers (metadata mode s short)
   unfolding answerOf refusedWith Metadata.keptOf padded valuesOf
-  call-answers = of (metadata s short) refl
+  call-answers = of (metadata mode s short) refl
     where
-      of : (x : Metadata.Scan) → metadata s short ≡ x → Answers x
+      of : (x : Metadata.Scan) → metadata mode s short ≡ x → Answers x
       of (Metadata.good m) h z =
-          let r = values-read s m (metadata-good s short m h) (zeros (n - length (m .bytes))) in
+          let r = values-read s m (metadata-good mode s short m h) (zeros (n - length (m .bytes))) in
           (r, words-read s (padded n (m .bytes)) _ _ _ _ _ _ r)
-      of (Metadata.bad r bs) h z = absurd (refused-number metadata-number (metadata-refused s short r bs h) z)
+      of (Metadata.bad r bs) h z = absurd (refused-number (mode-number metadata-number s mode) (metadata-mode-refused s short r bs mode h) z)
 
 -- ---- the RFC's values
 
@@ -267,19 +289,19 @@ shortPage s d t u p = short s (pageShort (length s) (length p)) d t u
 
 pub demand2 : Demand2
 demand2 = record {
-  dependencies = λ s b d t u l i j n h. left-rows s (short s b d t u) d t u i j n h l;
+  dependencies = λ mode s b d t u l i j n h. left-rows mode s (short s b d t u) d t u i j n h l;
   over = over-rows;
-  printed = λ s d t u p l i j n h. left-rows s (shortPage s d t u p) d t u i j n h (l .scan);
-  metadata = λ s d {r} {e} l z. let b = ltb (length d) (length s) in
+  printed = λ mode s d t u p l i j n h. left-rows mode s (shortPage s d t u p) d t u i j n h (l .scan);
+  metadata = λ mode s d {r} {e} l z. let b = ltb (length d) (length s) in
       subst (λ v. RecordRead s e (v .values)) (sym (l .answer))
-      (subst (λ w. RecordRead s w (answerOf (metadata s b) .values)) (sym (l .stored))
-      (call-answers s b (length d) (ap (λ v. v .answer .number) (sym (l .answer)) ∙ z) .0));
-  host-dependencies = λ s d t u l z. told-rows s (short s false d t u) d t u (l .scan) (l .number) z [] (l .answer ∙ sym (append-nil _));
-  host-printed = λ s d t u p l z. told-rows s (shortPage s d t u p) d t u (l .scan) (l .number) z _ (l .answer);
-  host-metadata = λ s d {n} {e} l z. let b = ltb (length d) (length s) in
+      (subst (λ w. RecordRead s w (answerOf (metadata mode s b) .values)) (sym (l .stored))
+      (call-answers mode s b (length d) (ap (λ v. v .answer .number) (sym (l .answer)) ∙ z) .0));
+  host-dependencies = λ mode s d t u l z. told-rows mode s (short s false d t u) d t u (l .scan) (l .number) z [] (l .answer ∙ sym (append-nil _));
+  host-printed = λ mode s d t u p l z. told-rows mode s (shortPage s d t u p) d t u (l .scan) (l .number) z _ (l .answer);
+  host-metadata = λ mode s d {n} {e} l z. let b = ltb (length d) (length s) in
       subst (λ v. RecordRead s e (recordIn v)) (sym (l .words))
-      (subst (λ w. RecordRead s w (recordIn (recordWords (answerOf (metadata s b) .values)))) (sym (l .stored))
-      (call-answers s b (length d) (sym (l .number) ∙ z) .1));
+      (subst (λ w. RecordRead s w (recordIn (recordWords (answerOf (metadata mode s b) .values)))) (sym (l .stored))
+      (call-answers mode s b (length d) (sym (l .number) ∙ z) .1));
   whole = behind-size;
   shorter = shorter-refused;
   rfc = is-rfc;

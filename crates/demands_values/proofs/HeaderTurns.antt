@@ -23,16 +23,15 @@ use Rattle.text_value.specs.Value.{valueAt, valueBytes}
 use Rattle.text_value.specs.declared.Argument.{Argument}
 use Rattle.text_value.specs.declared.Argument.the-variants.{Read, Refused as NoArgument}
 use Rattle.text_value.proofs.ArgumentLaws.{argument-far}
-use Rattle.text_skip.specs.Skip.{tokenAt, skippedAt}
-use Rattle.text_skip.specs.declared.Skipped.{Skipped}
-use Rattle.text_skip.specs.declared.Skipped.the-variants.{Past, Refused as NoSkip}
+use Rattle.text_skip.specs.Skip.{pastToken, pastValue}
+use Rattle.text_statement.specs.Statement.{pastStatement}
 use Rattle.scan_rows.specs.Span.{held}
 use Rattle.scan_rows.specs.declared.Span.{Span}
 use Rattle.scan_newest.specs.Newest.{Revision}
 use Rattle.scan_tag.specs.Tag.{lastTag, orTag, dataAt, tagAt}
 use Rattle.scan_tag.specs.declared.Tag.{Tag}
 use Rattle.scan_tag.specs.declared.Tag.the-variants.{Statement}
-use Rattle.scan_header.specs.Header.{pastOf, pastStatement, afterValue, passed, kept, withRest, fieldAt, afterSkipped, laterPrefix, statementSaid, tagSaid}
+use Rattle.scan_header.specs.Header.{afterValue, passed, kept, withRest, fieldAt, afterSkipped, laterPrefix, statementSaid, tagSaid}
 use Rattle.scan_header.specs.Header.{saidHere, saidAt}
 use Rattle.scan_header.specs.declared.Heard.{Heard}
 use Rattle.scan_header.specs.declared.Heard.the-variants.{Value, Passed, Done, Refused}
@@ -97,7 +96,7 @@ RevisionGives s p store rs qs =
     ((r : Revision) × (qs ≡ rs ++ r ∷ []) × Behind s revisionWord p store (r .span)) ⊎ ((qs ≡ rs) × (matchAt s p revisionWord ≡ Not))
 
 abbrev pub WordGives : List ℕ → List ℕ → Reading → List ℕ → Span → Span → Type 0
-WordGives s word g store x y = Gives (metadataTurn s) (λ b. b .at) s word g store x y
+WordGives s word g store x y = Gives (metadataTurn false s) (λ b. b .at) s word g store x y
 
 pub record Turns (s : List ℕ) (g : Reading) (m : Metadata) : Type 0 where
   pub part : List ℕ
@@ -235,10 +234,10 @@ module _ (s : List ℕ) (g : Reading) where
   passed-has h (Stands c) = h
   passed-has h (NotDue r) = tt
 
-  skipped-has : Turns s g (g .read) → (k : ℕ) (x : Skipped) → HeardHas [] (afterSkipped s k x)
+  skipped-has : Turns s g (g .read) → (k : ℕ) (x : Due) → HeardHas [] (afterSkipped false s k x)
   unfolding afterSkipped
-  skipped-has h k (Past c e) = passed-has h (afterValue s (c .at) k)
-  skipped-has h k (NoSkip r) = tt
+  skipped-has h k (Stands c) = passed-has h (afterValue false s (c .at) k)
+  skipped-has h k (NotDue r) = tt
 
   abbrev pub has-prefix : Bool
   has-prefix = g .read .prefix .present
@@ -253,28 +252,28 @@ module _ (s : List ℕ) (g : Reading) where
     kept-has f bs u n (Stands e) h = tell f bs (held u (n - u)) h
     kept-has f bs u n (NotDue r) h = tt
 
-    rest-has : laterPrefix k has-prefix ≡ false → (u : ℕ) → u ≡ length (g .read .bytes) → (a : Argument) → argumentAt s (c .at) u k ≡ a
-        → HeardHas (valueBytes (valueAt s (c .at))) (withRest s k u a)
+    rest-has : laterPrefix k has-prefix ≡ false → (u : ℕ) → u ≡ length (g .read .bytes) → (a : Argument) → argumentAt false s (c .at) u k ≡ a
+        → HeardHas (valueBytes (valueAt s (c .at))) (withRest false s k u a)
     unfolding withRest
     rest-has f u count (Read e n) h =
         let bs = valueBytes (valueAt s (c .at)) in
-        let far = argument-far s (c .at) u k e n h in
-        kept-has f bs u n (afterValue s (e .at) k)
+        let far = argument-far false s (c .at) u k e n h in
+        kept-has f bs u n (afterValue false s (e .at) k)
         (behind-new (g .read .bytes) bs (held u (n - u)) m (argument-value s (c .at) u k e n h) (held-new (g .read .bytes) bs count (far .3)))
     rest-has f u count (NoArgument r) h = tt
 
     statement-has : (u : ℕ) → u ≡ length (g .read .bytes)
-        → HeardHas (statementSaid s (c .at) k u has-prefix .bytes) (statementSaid s (c .at) k u has-prefix .answer)
+        → HeardHas (statementSaid false s (c .at) k u has-prefix .bytes) (statementSaid false s (c .at) k u has-prefix .answer)
     unfolding statementSaid fieldAt
     statement-has u count =
-        rw six (by-test (laterPrefix k has-prefix) (λ t. rw t (passed-has (later t) (pastStatement s (c .at))))
-        (λ t. rw t (rest-has t u count (argumentAt s (c .at) u k) refl)))
+        rw six (by-test (laterPrefix k has-prefix) (λ t. rw t (passed-has (later t) (pastStatement false s (c .at))))
+        (λ t. rw t (rest-has t u count (argumentAt false s (c .at) u k) refl)))
 
   -- ---- which keyword stands there; u: the store's next place
 
   module _ (u : ℕ) (count : u ≡ length (g .read .bytes)) where
     abbrev TagHas : Tag → Type 0
-    TagHas t = HeardHas (tagSaid s place u has-prefix t .bytes) (tagSaid s place u has-prefix t .answer)
+    TagHas t = HeardHas (tagSaid false s place u has-prefix t .bytes) (tagSaid false s place u has-prefix t .answer)
 
     or-has : (k : ℕ) (word : List ℕ) (t : Tag) → ((c : Cursor) → matchAt s place word ≡ After c → TagHas (Statement k c))
         → (matchAt s place word ≡ Not → TagHas t) → TagHas (orTag k (matchAt s place word) t)
@@ -300,12 +299,12 @@ module _ (s : List ℕ) (g : Reading) where
 
     version-has : (c : Cursor) → matchAt s place yangVersionWord ≡ After c → TagHas (Statement 6 c)
     unfolding tagSaid statementSaid
-    version-has c m = skipped-has (passed-turn (frees-version s place m)) 6 (skippedAt s (c .at))
+    version-has c m = skipped-has (passed-turn (frees-version s place m)) 6 (pastValue false s (c .at))
 
     last-has : Frees s place → (m : Match) → TagHas (lastTag m)
     unfolding lastTag tagSaid
     last-has f (After c) = f
-    last-has f Not = passed-has (passed-turn f) (pastOf (tokenAt s place))
+    last-has f Not = passed-has (passed-turn f) (pastToken false s place)
 
     tag-has : TagHas (tagAt s place)
     unfolding tagAt same
@@ -326,7 +325,7 @@ module _ (s : List ℕ) (g : Reading) where
           revision-not = n₇;
         }) (dataAt s place))))))))
 
-    pub said-has : HeardHas (saidAt s (g .at) u has-prefix .bytes) (saidAt s (g .at) u has-prefix .answer)
+    pub said-has : HeardHas (saidAt false s (g .at) u has-prefix .bytes) (saidAt false s (g .at) u has-prefix .answer)
     unfolding saidAt saidHere
     said-has =
         by-test (leb (length s) place) (λ t. rw t (frees-past s place (leb-true (length s) place t))) (λ t. rw t tag-has)

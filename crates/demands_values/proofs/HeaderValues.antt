@@ -32,13 +32,13 @@ use Rattle.demands_values.proofs.HeaderTurns.{Frees, WordGives, Turns, 
 
 module _ (s : List ℕ) where
   abbrev WordUnmet : List ℕ → Reading → Type 0
-  WordUnmet word g = Unmet (metadataTurn s) (λ b. b .at) s word g
+  WordUnmet word g = Unmet (metadataTurn false s) (λ b. b .at) s word g
 
   abbrev WordMet : List ℕ → List ℕ → Reading → Span → Type 0
-  WordMet word store g x = Met (metadataTurn s) (λ b. b .at) s word store g x
+  WordMet word store g x = Met (metadataTurn false s) (λ b. b .at) s word store g x
 
   abbrev WordFirst : List ℕ → List ℕ → Reading → Span → Type 0
-  WordFirst word store g x = MetFirst (metadataTurn s) (λ b. b .at) s word store g x
+  WordFirst word store g x = MetFirst (metadataTurn false s) (λ b. b .at) s word store g x
 
   -- the revisions that are read from the state g on
   unfoldable pub Revised : List ℕ → Reading → List Revision → Type 0
@@ -49,23 +49,23 @@ module _ (s : List ℕ) where
     pub rest : List ℕ
     pub grown : d .bytes ≡ g .read .bytes ++ rest
     pub name : ((d .name ≡ g .read .name) × WordUnmet moduleWord g × WordUnmet submoduleWord g) ⊎ NameRead s (d .bytes) g (d .name)
-    pub namespace : Won (metadataTurn s) (λ b. b .at) s namespaceWord g (d .bytes) (g .read .namespace) (d .namespace)
-    pub parent : Won (metadataTurn s) (λ b. b .at) s belongsToWord g (d .bytes) (g .read .parent) (d .parent)
+    pub namespace : Won (metadataTurn false s) (λ b. b .at) s namespaceWord g (d .bytes) (g .read .namespace) (d .namespace)
+    pub parent : Won (metadataTurn false s) (λ b. b .at) s belongsToWord g (d .bytes) (g .read .parent) (d .parent)
     pub prefix-kept : g .read .prefix .present ≡ true → d .prefix ≡ g .read .prefix
     pub prefix : g .read .prefix .present ≡ false → ((d .prefix ≡ g .read .prefix) × WordUnmet prefixWord g) ⊎ WordFirst prefixWord (d .bytes) g (d .prefix)
     pub new : List Revision
     pub revisions : d .revisions ≡ g .read .revisions ++ new
     pub revised : Revised (d .bytes) g new
 
-  forward : (g h : Reading) → metadataTurn s g ≡ on h → g .at < h .at
-  forward g h t = omega (arith, turn-falls s g h t)
+  forward : (g h : Reading) → metadataTurn false s g ≡ on h → g .at < h .at
+  forward g h t = omega (arith, turn-falls false s g h t)
 
   -- where the scan stops
-  ends-stop : (g : Reading) (x : Scan) → metadataTurn s g ≡ stop x → Frees s (gapEnd s (g .at)) → Ends (g .read) g
+  ends-stop : (g : Reading) (x : Scan) → metadataTurn false s g ≡ stop x → Frees s (gapEnd s (g .at)) → Ends (g .read) g
   unfolding Revised
   ends-stop g x t f =
       let unmet : (word : List ℕ) → matchAt s (gapEnd s (g .at)) word ≡ Not → WordUnmet word g
-      = λ word. unmet-stop (metadataTurn s) (λ b. b .at) forward s word t in
+      = λ word. unmet-stop (metadataTurn false s) (λ b. b .at) forward s word t in
       record {
         rest = [];
         grown = sym (append-nil (g .read .bytes));
@@ -80,22 +80,22 @@ module _ (s : List ℕ) where
       }
 
   -- over a turn from g to h
-  module _ (d : Metadata) (g h : Reading) (t : metadataTurn s g ≡ on h) (has : Turns s g (h .read)) (ends : Ends d h) where
+  module _ (d : Metadata) (g h : Reading) (t : metadataTurn false s g ≡ on h) (has : Turns s g (h .read)) (ends : Ends d h) where
     abbrev Free : List ℕ → Type 0
     Free word = matchAt s (gapEnd s (g .at)) word ≡ Not
 
     unmet : (word : List ℕ) → Free word → WordUnmet word h → WordUnmet word g
-    unmet word = unmet-on (metadataTurn s) (λ b. b .at) forward s word t
+    unmet word = unmet-on (metadataTurn false s) (λ b. b .at) forward s word t
 
-    won : (word : List ℕ) (x y z : Span) → WordGives s word g (h .read .bytes) x y → Won (metadataTurn s) (λ b. b .at) s word h (d .bytes) y z
-        → Won (metadataTurn s) (λ b. b .at) s word g (d .bytes) x z
-    won word = won-on (metadataTurn s) (λ b. b .at) forward s word t (d .bytes) (h .read .bytes) (ends .rest) (ends .grown)
+    won : (word : List ℕ) (x y z : Span) → WordGives s word g (h .read .bytes) x y → Won (metadataTurn false s) (λ b. b .at) s word h (d .bytes) y z
+        → Won (metadataTurn false s) (λ b. b .at) s word g (d .bytes) x z
+    won word = won-on (metadataTurn false s) (λ b. b .at) forward s word t (d .bytes) (h .read .bytes) (ends .rest) (ends .grown)
 
     here : (word : List ℕ) (z : Span) → Behind s word (gapEnd s (g .at)) (h .read .bytes) z → WordFirst word (d .bytes) g z
-    here word = first-here (metadataTurn s) (λ b. b .at) forward s word t (d .bytes) (h .read .bytes) (ends .rest) (ends .grown)
+    here word = first-here (metadataTurn false s) (λ b. b .at) forward s word t (d .bytes) (h .read .bytes) (ends .rest) (ends .grown)
 
     later : (word : List ℕ) → Free word → (z : Span) → WordFirst word (d .bytes) h z → WordFirst word (d .bytes) g z
-    later word = first-on (metadataTurn s) (λ b. b .at) forward s word t (d .bytes) (h .read .bytes) (ends .rest) (ends .grown)
+    later word = first-on (metadataTurn false s) (λ b. b .at) forward s word t (d .bytes) (h .read .bytes) (ends .rest) (ends .grown)
 
     -- the name, behind either keyword
     name-given : (d .name ≡ h .read .name) × WordUnmet moduleWord h × WordUnmet submoduleWord h → (word : List ℕ) → (word ≡ moduleWord) ⊎ (word ≡ submoduleWord)
@@ -104,21 +104,21 @@ module _ (s : List ℕ) where
       word = word;
       either = either;
       met =
-          met-here (metadataTurn s) (λ b. b .at) forward s word t (d .bytes) (h .read .bytes) (ends .rest) (ends .grown) (d .name)
+          met-here (metadataTurn false s) (λ b. b .at) forward s word t (d .bytes) (h .read .bytes) (ends .rest) (ends .grown) (d .name)
           (subst (Behind s word (gapEnd s (g .at)) (h .read .bytes)) (sym (stays .0)) b);
-      no-module = behind-here (metadataTurn s) (λ b. b .at) forward s moduleWord t (stays .1);
-      no-submodule = behind-here (metadataTurn s) (λ b. b .at) forward s submoduleWord t (stays .2);
+      no-module = behind-here (metadataTurn false s) (λ b. b .at) forward s moduleWord t (stays .1);
+      no-submodule = behind-here (metadataTurn false s) (λ b. b .at) forward s submoduleWord t (stays .2);
     }
 
     name-later : NameRead s (d .bytes) h (d .name) → NameRead s (d .bytes) g (d .name)
     name-later n =
-        let l = reach-at (metadataTurn s) (λ b. b .at) forward (n .met .reached) in
+        let l = reach-at (metadataTurn false s) (λ b. b .at) forward (n .met .reached) in
         record {
           word = n .word;
           either = n .either;
-          met = met-on (metadataTurn s) (λ b. b .at) forward s (n .word) t (n .met);
-          no-module = behind-later (metadataTurn s) (λ b. b .at) forward s moduleWord t l (n .no-module);
-          no-submodule = behind-later (metadataTurn s) (λ b. b .at) forward s submoduleWord t l (n .no-submodule);
+          met = met-on (metadataTurn false s) (λ b. b .at) forward s (n .word) t (n .met);
+          no-module = behind-later (metadataTurn false s) (λ b. b .at) forward s moduleWord t l (n .no-module);
+          no-submodule = behind-later (metadataTurn false s) (λ b. b .at) forward s submoduleWord t l (n .no-submodule);
         }
 
     name-on : ((d .name ≡ g .read .name) × WordUnmet moduleWord g × WordUnmet submoduleWord g) ⊎ NameRead s (d .bytes) g (d .name)
@@ -139,7 +139,7 @@ module _ (s : List ℕ) where
     mets : (rs : List Revision) → Each (λ q. WordMet revisionWord (d .bytes) h (q .span)) rs → Each (λ q. WordMet revisionWord (d .bytes) g (q .span)) rs
     mets rs m =
         each-of (λ q. WordMet revisionWord (d .bytes) h (q .span)) (λ q. WordMet revisionWord (d .bytes) g (q .span))
-        (λ q w. met-on (metadataTurn s) (λ b. b .at) forward s revisionWord t w) rs m
+        (λ q w. met-on (metadataTurn false s) (λ b. b .at) forward s revisionWord t w) rs m
 
     revised-later : Free revisionWord → (rs : List Revision) → Revised (d .bytes) h rs → Revised (d .bytes) g rs
     unfolding Revised
@@ -150,7 +150,7 @@ module _ (s : List ℕ) where
         → Revised (d .bytes) g (r ∷ rs)
     unfolding Revised Each
     revised-here r b [] u = (here revisionWord (r .span) b, tt)
-    revised-here r b (q ∷ rs) w = (here revisionWord (r .span) b, (met-on (metadataTurn s) (λ b. b .at) forward s revisionWord t (w .0 .0), mets rs (w .1)))
+    revised-here r b (q ∷ rs) w = (here revisionWord (r .span) b, (met-on (metadataTurn false s) (λ b. b .at) forward s revisionWord t (w .0 .0), mets rs (w .1)))
 
     revisions-on : (new : List Revision) × (d .revisions ≡ g .read .revisions ++ new) × Revised (d .bytes) g new
     revisions-on =
@@ -190,26 +190,26 @@ module _ (s : List ℕ) where
   good-bad h = let z : _≡_ {A = ℕ} 0 1 = cc in absurd (omega arith)
 
   -- m: more than the bytes that are left
-  from-ends : (d : Metadata) (m : ℕ) (g : Reading) → length s - g .at < m → scanFrom s g ≡ good d → Ends d g
+  from-ends : (d : Metadata) (m : ℕ) (g : Reading) → length s - g .at < m → scanFrom false s g ≡ good d → Ends d g
   unfolding metadataTurn afterHeard
   from-ends d zero g l e = absurd (not-suc-le-zero l)
-  from-ends d (suc m) g l e = of (heard s g .answer) refl (said-has s g (length (g .read .bytes)) refl) (from-ends d m)
+  from-ends d (suc m) g l e = of (heard false s g .answer) refl (said-has s g (length (g .read .bytes)) refl) (from-ends d m)
     where
-      of : (r : Heard) → heard s g .answer ≡ r → HeardHas s g (heard s g .bytes) r
-          → ((h : Reading) → length s - h .at < m → scanFrom s h ≡ good d → Ends d h) → Ends d g
+      of : (r : Heard) → heard false s g .answer ≡ r → HeardHas s g (heard false s g .bytes) r
+          → ((h : Reading) → length s - h .at < m → scanFrom false s h ≡ good d → Ends d h) → Ends d g
       of (Value k x c n) q has go =
-          let h : Reading = record { at = c .at; read = told (g .read) k x (heard s g .bytes) } in
-          let t : metadataTurn s g ≡ on h = ap (afterHeard (g .read) (heard s g .bytes)) q in
-          ends-on d g h t has (go h (omega (arith, turn-falls s g h t)) (sym (scan-value s g k x c n q) ∙ e))
+          let h : Reading = record { at = c .at; read = told (g .read) k x (heard false s g .bytes) } in
+          let t : metadataTurn false s g ≡ on h = ap (afterHeard (g .read) (heard false s g .bytes)) q in
+          ends-on d g h t has (go h (omega (arith, turn-falls false s g h t)) (sym (scan-value false s g k x c n q) ∙ e))
       of (Passed c) q has go =
           let h : Reading = record { at = c .at; read = g .read } in
-          let t : metadataTurn s g ≡ on h = ap (afterHeard (g .read) (heard s g .bytes)) q in
-          ends-on d g h t has (go h (omega (arith, turn-falls s g h t)) (sym (scan-passed s g c q) ∙ e))
+          let t : metadataTurn false s g ≡ on h = ap (afterHeard (g .read) (heard false s g .bytes)) q in
+          ends-on d g h t has (go h (omega (arith, turn-falls false s g h t)) (sym (scan-passed false s g c q) ∙ e))
       of (Done c) q has go =
-          let k = ended-good (g .read) d (c .at) (sym (scan-done s g c q) ∙ e) in
-          subst (λ z. Ends z g) k (ends-stop g (ended (g .read) (c .at)) (ap (afterHeard (g .read) (heard s g .bytes)) q) has)
-      of (Refused r) q has go = good-bad (sym e ∙ scan-refused s g r q)
+          let k = ended-good (g .read) d (c .at) (sym (scan-done false s g c q) ∙ e) in
+          subst (λ z. Ends z g) k (ends-stop g (ended (g .read) (c .at)) (ap (afterHeard (g .read) (heard false s g .bytes)) q) has)
+      of (Refused r) q has go = good-bad (sym e ∙ scan-refused false s g r q)
 
-  pub scan-ends : (d : Metadata) → scanned s ≡ good d → Ends d begin
+  pub scan-ends : (d : Metadata) → scanned false s ≡ good d → Ends d begin
   unfolding scanned
   scan-ends d h = from-ends d (suc (length s)) begin (omega arith) h

@@ -22,13 +22,13 @@ use Rattle.text.specs.declared.Due.the-variants.{After as Stands}
 use Rattle.text.specs.declared.Match.the-variants.{After, Not}
 use Rattle.text.proofs.Here.{by-test}
 use Rattle.text.proofs.Laws.{gap-from}
-use Rattle.text_value.specs.Argument.{argumentOf, argumentAt, afterDue, afterArgument, lineAt}
+use Rattle.text_value.specs.Argument.{argumentOf, breaksOff, argumentAt, afterDue, afterArgument, lineAt}
 use Rattle.text_value.specs.Str.{escaped, escapes, strEnd, strBytes, closedBy, strAt}
 use Rattle.text_value.specs.Value.{isQuote, startsName, addedBy, afterPlus, afterGap, moreAt, addTo, joinTurn, joinedWith, joined as joinedValue, ofString}
 use Rattle.text_value.specs.Value.{value, valueHere, valueAt, valueBytes}
-use Rattle.text_skip.specs.Skip.{closedToken, tokenHere, tokenAt}
+use Rattle.text_skip.specs.Skip.{pastOf, closedToken, tokenHere, tokenAt, pastToken}
 use Rattle.text_statement.specs.Statement.{closes, quotedLen, quotedEnd, atSemicolon, atClose, partOf, partAt, ofPart, statementTurn, statementFrom}
-use Rattle.text_statement.specs.Statement.{statementAt}
+use Rattle.text_statement.specs.Statement.{statementAt, pastStatement}
 use Rattle.text_lent.specs.Lent.{lentAt}
 use Rattle.text_lent.specs.Padded.{padded}
 use Rattle.scan_rows.specs.Rows.{importWords, includeWords, table, importTable, includeTable, spanAt, markedAt, importAt as importIn, includeAt as includeIn}
@@ -77,10 +77,10 @@ include-row = record { «submodule_name» = held 5 1; «revision_date» = held 6
 abbrev read : Dependencies
 read = record { imports = rowWith (held 0 2) (held 3 1) ∷ []; includes = include-row ∷ []; bytes = stored }
 
-scan : dependencies text false ≡ good read
-unfolding joined importStep includeStep unlessFull importHere includeHere movedTo afterToken headStep stepHere stepAt afterStep scanTurn scanFrom scanned
+scan : dependencies false text false ≡ good read
+unfolding joined importStep includeStep unlessFull importHere includeHere movedTo afterToken pastOf pastToken pastStatement headStep stepHere stepAt afterStep scanTurn scanFrom scanned
     lentAt ifFit dependencies orMatch lastAt orHead headAt orLine lineKind withValue kept withSkipped afterKind insideHere insideAt afterInside blockTurn
-    blockFrom blockAt ofBody importOf withName afterName importAt includeOf plainOf blockOf openOrPlain afterValue includeAt argumentOf argumentAt afterDue
+    blockFrom blockAt ofBody importOf withName afterName importAt includeOf plainOf blockOf openOrPlain afterValue includeAt argumentOf breaksOff argumentAt afterDue
     afterArgument lineAt escaped escapes strEnd strBytes closedBy strAt isQuote startsName addedBy afterPlus afterGap moreAt addTo joinTurn joinedWith
     joinedValue ofString valueHere valueAt valueBytes closedToken tokenHere tokenAt closes quotedLen quotedEnd atSemicolon atClose partOf partAt ofPart
     statementTurn statementFrom statementAt dueNumber dueHere dueAt startsIdent endsKeyword same part keywordAt matchAt gapEnd gapTurn afterWhite
@@ -89,16 +89,16 @@ scan = refl
 
 -- what the call answers and leaves
 module _ (d t u : List ℕ) (long : tooShort false (length text) (length d) (length t) (length u) ≡ false) {r : Parsed} {e f g : List ℕ}
-    (l : Extracts text false d t u r e f g) where
-  called : dependencies text (tooShort false (length text) (length d) (length t) (length u)) ≡ good read
-  called = ap (dependencies text) long ∙ scan
+    (l : Extracts false text false d t u r e f g) where
+  called : dependencies false text (tooShort false (length text) (length d) (length t) (length u)) ≡ good read
+  called = ap (dependencies false text) long ∙ scan
 
   answered : r ≡ Good 1 1 7
   unfolding parsedOf
   answered = l .answer ∙ ap parsedOf called
 
   rows : RowsRead text e f 1 g 1
-  rows = demand2 .dependencies text false d t u l 1 1 7 answered
+  rows = demand2 .dependencies false text false d t u l 1 1 7 answered
 
   -- the rows of the tables, and what the theorem says of them
   import-left : importIn f 0 ≡ (rowWith (held 0 2) (held 3 1))
@@ -168,8 +168,8 @@ block-opens : {end : ℕ} {c : Cursor} → end ≡ 14 → dueAt text end 123 8 �
 unfolding dueAt dueHere gapEnd gapTurn afterWhite commentEnd blockEnd closing pairAt runEnd span inRun inIdent classOf turns
 block-opens {c = c} e h = let q : Stands (record { at = 15 }) ≡ Stands c = ap (λ z. dueAt text z 123 8) (sym e) ∙ h in cc
 
-block-turn : (u : ℕ) → blockTurn text 8 (record { body = begun 15 u; bytes = [] }) ≡ on (second u)
-unfolding orLine lineKind withValue kept afterKind insideHere insideAt afterInside blockTurn argumentOf argumentAt afterDue afterArgument lineAt isQuote
+block-turn : (u : ℕ) → blockTurn false text 8 (record { body = begun 15 u; bytes = [] }) ≡ on (second u)
+unfolding orLine lineKind withValue kept afterKind insideHere insideAt afterInside blockTurn argumentOf breaksOff argumentAt afterDue afterArgument lineAt isQuote
     startsName valueHere valueAt valueBytes dueNumber dueHere dueAt startsIdent endsKeyword same part keywordAt matchAt gapEnd gapTurn afterWhite
     commentEnd blockEnd closing pairAt runEnd span inRun inIdent classOf turns
 block-turn u = refl
@@ -186,7 +186,7 @@ first-refused r =
     let m = o .holds .0 in
     let p = gapEnd text (m .state .body .at) in
     let at = block-opens (name-read (r .name) .1) (o .brace) in
-    let reached = subst (λ z. Reaches (blockTurn text 8) (record { body = begun z (o .used); bytes = [] }) (second (o .used))) (sym at)
+    let reached = subst (λ z. Reaches (blockTurn false text 8) (record { body = begun z (o .used); bytes = [] }) (second (o .used))) (sym at)
     (next first (block-turn (o .used))) in
     ⊎-elim
     (λ e. let not = o .holds .1 (second (o .used)) reached (omega (arith, e, gap-from text (m .state .body .at))) in
@@ -211,7 +211,7 @@ quoted =
     }
 
 module _ (d t u : List ℕ) (long : tooShort false (length text) (length d) (length t) (length u) ≡ false) {r : Parsed} {e f g : List ℕ}
-    (l : Extracts text false d t u r e f g) where
+    (l : Extracts false text false d t u r e f g) where
   rfc-name : rfcValue text 6 ≡ reads (valueIn e (held 0 2)) 14
   rfc-name =
       let i = import-read d t u long l in

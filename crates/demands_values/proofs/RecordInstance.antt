@@ -19,11 +19,11 @@ use Rattle.text.specs.Words.{moduleWord, submoduleWord}
 use Rattle.text.specs.declared.Cursor.{Cursor}
 use Rattle.text.specs.declared.Match.the-variants.{After}
 use Rattle.text.proofs.Here.{never}
-use Rattle.text_value.specs.Argument.{argumentOf, argumentAt}
+use Rattle.text_value.specs.Argument.{argumentOf, breaksOff, argumentAt}
 use Rattle.text_value.specs.Value.{value, isQuote, startsName, valueHere, valueAt, valueBytes}
-use Rattle.text_skip.specs.Skip.{closedToken, tokenHere, tokenAt}
+use Rattle.text_skip.specs.Skip.{pastOf, closedToken, tokenHere, tokenAt, pastToken}
 use Rattle.text_statement.specs.Statement.{closes, quotedLen, quotedEnd, atSemicolon, atClose, partOf, partAt, ofPart, statementTurn, statementFrom}
-use Rattle.text_statement.specs.Statement.{statementAt}
+use Rattle.text_statement.specs.Statement.{statementAt, pastStatement}
 use Rattle.text_lent.specs.Lent.{lentAt}
 use Rattle.text_lent.specs.Padded.{padded}
 use Rattle.scan_rows.specs.Rows.{spanAt, markedAt, rowsOf}
@@ -31,7 +31,7 @@ use Rattle.scan_rows.specs.Span.{held, valueIn}
 use Rattle.scan_rows.specs.declared.Span.{Span}
 use Rattle.scan_newest.specs.Newest.{newer, newestFrom, newest, less}
 use Rattle.scan_tag.specs.Tag.{dataAt, lastTag, orTag, tagAt}
-use Rattle.scan_header.specs.Header.{pastOf, pastStatement, dueFor, afterRevision, afterValue, passed, kept, withRest, fieldAt, laterPrefix, statementSaid}
+use Rattle.scan_header.specs.Header.{dueFor, afterRevision, afterValue, passed, kept, withRest, fieldAt, laterPrefix, statementSaid}
 use Rattle.scan_header.specs.Header.{tagSaid, saidHere, saidAt}
 use Rattle.scan_metadata.specs.Metadata.{Metadata, told, firstOf, valuesOf, good, ended, afterHeard, metadataTurn, scanFrom, scanned, ifFit, metadata}
 use Rattle.scan_metadata.specs.Metadata.{answerOf, keptOf}
@@ -69,18 +69,18 @@ read = record {
   bytes = stored;
 }
 
-scan : metadata text false ≡ good read
-unfolding metadata ifFit scanned scanFrom metadataTurn afterHeard ended told pastOf pastStatement dueFor afterRevision afterValue passed kept withRest fieldAt
-    laterPrefix statementSaid tagSaid saidHere saidAt dataAt lastTag orTag tagAt lentAt orMatch argumentOf argumentAt isQuote startsName valueHere valueAt
+scan : metadata false text false ≡ good read
+unfolding metadata ifFit scanned scanFrom metadataTurn afterHeard ended told pastOf pastToken pastStatement dueFor afterRevision afterValue passed kept withRest fieldAt
+    laterPrefix statementSaid tagSaid saidHere saidAt dataAt lastTag orTag tagAt lentAt orMatch argumentOf breaksOff argumentAt isQuote startsName valueHere valueAt
     valueBytes closedToken tokenHere tokenAt closes quotedLen quotedEnd atSemicolon atClose partOf partAt ofPart statementTurn statementFrom statementAt
     dueNumber dueHere dueAt startsIdent endsKeyword same part keywordAt matchAt gapEnd gapTurn afterWhite commentEnd blockEnd closing pairAt runEnd span inRun
     inIdent classOf turns
 scan = refl
 
 -- what the call answers and leaves
-module _ (d : List ℕ) (long : ltb (length d) (length text) ≡ false) {n : ℕ} {e w a : List ℕ} (l : MetadataAnswered text d n e w a) where
-  called : metadata text (ltb (length d) (length text)) ≡ good read
-  called = ap (metadata text) long ∙ scan
+module _ (d : List ℕ) (long : ltb (length d) (length text) ≡ false) {n : ℕ} {e w a : List ℕ} (l : MetadataAnswered false text d n e w a) where
+  called : metadata false text (ltb (length d) (length text)) ≡ good read
+  called = ap (metadata false text) long ∙ scan
 
   record-left : recordIn w ≡ valuesWith (held 0 2)
   unfolding answerOf valuesOf firstOf newest newestFrom newer less recordWords rowsOf markedAt spanAt
@@ -91,7 +91,7 @@ module _ (d : List ℕ) (long : ltb (length d) (length text) ≡ false) {n : ℕ
   answered = l .number ∙ ap (λ x. answerOf x .answer .number) called
 
   record-read : RecordRead text e (valuesWith (held 0 2))
-  record-read = subst (RecordRead text e) record-left (demand2 .host-metadata text d l answered)
+  record-read = subst (RecordRead text e) record-left (demand2 .host-metadata false text d l answered)
 
   -- ab, n, p, 1, m, 2
   values : (valueIn e (held 0 2) ≡ 97 ∷ 98 ∷ []) × (valueIn e (held 2 1) ≡ 110 ∷ []) × (valueIn e (held 3 1) ≡ 112 ∷ [])

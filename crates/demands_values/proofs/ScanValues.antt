@@ -2,6 +2,7 @@
 -- Assumes nothing.
 use Prim.Native.Nat.{ℕ, suc, _+_}
 use mathlib.Core.Path.{_≡_, refl, subst, _∙_}
+use mathlib.Core.Bool.{false}
 use mathlib.Core.List.{List, _++_}
 use native.Mathlib.Omega.{arith}
 use lib.Dec.{leb}
@@ -86,7 +87,7 @@ module _ (s bytes zs : List ℕ) (k : ℕ) where
 
 -- ---- a step from the state g
 
-module _ (s : List ℕ) (g : Scanning) (reached : Reaches (scanTurn s) (record { far = start; read = none }) g)
+module _ (s : List ℕ) (g : Scanning) (reached : Reaches (scanTurn false s) (record { far = start; read = none }) g)
     (count : g .far .used ≡ length (g .read .bytes)) where
   abbrev Adds : Dependencies → Type 0
   Adds d =
@@ -112,20 +113,20 @@ module _ (s : List ℕ) (g : Scanning) (reached : Reaches (scanTurn s) (record {
   include-adds bs (ReadInclude c n i) h = (tt, (record { state = g; reached = reached; before = refl; name = h .0; revision = h .1 }, tt))
   include-adds bs (NoInclude r) h = (tt, tt)
 
-  head-adds : (w : Head) → HeadIs s (gapEnd s (g .far .at)) w → Adds (headStep s (g .far) (gapEnd s (g .far .at)) w .adds)
+  head-adds : (w : Head) → HeadIs s (gapEnd s (g .far .at)) w → Adds (headStep false s (g .far) (gapEnd s (g .far .at)) w .adds)
   unfolding headStep importHere includeHere
   head-adds (Import c) m =
-      let x = importAt s (c .at) (g .far .used) in
+      let x = importAt false s (c .at) (g .far .used) in
       unless-adds (g .far .imports) 8 (c .at) (importStep (g .far) (x .bytes) (x .answer))
       (import-adds (x .bytes) (x .answer) (import-has s (gapEnd s (g .far .at)) c m (g .far .used) (g .read .bytes) count))
   head-adds (Include c) m =
-      let x = includeAt s (c .at) (g .far .used) in
+      let x = includeAt false s (c .at) (g .far .used) in
       unless-adds (g .far .includes) 9 (c .at) (includeStep (g .far) (x .bytes) (x .answer))
       (include-adds (x .bytes) (x .answer) (include-has s (gapEnd s (g .far .at)) c m (g .far .used) (g .read .bytes) count))
   head-adds (Last c) m = adds-none
   head-adds Other m = adds-none
 
-  step-adds : Adds (stepAt s (g .far) .adds)
+  step-adds : Adds (stepAt false s (g .far) .adds)
   unfolding stepAt stepHere
   step-adds =
       let p = gapEnd s (g .far .at) in
@@ -140,7 +141,7 @@ pub record Rows (s : List ℕ) (d : Dependencies) : Type 0 where
 module _ (s : List ℕ) where
   -- more rows behind
   module _ (g : Scanning) (f : Stands s g) (rows : Rows s (g .read)) (d : Dependencies) where
-    rows-joined : (reached : Reaches (scanTurn s) (record { far = start; read = none }) g) → Adds s g reached (f .used) d → Rows s (joined (g .read) d)
+    rows-joined : (reached : Reaches (scanTurn false s) (record { far = start; read = none }) g) → Adds s g reached (f .used) d → Rows s (joined (g .read) d)
     unfolding joined
     rows-joined reached a =
         let bytes = g .read .bytes in
@@ -159,43 +160,43 @@ module _ (s : List ℕ) where
         from-zero n = omega arith
 
   -- the state that a turn goes on from
-  pub turn-is : (g h : Scanning) → scanTurn s g ≡ on h
-      → (n : Sofar) × (stepAt s (g .far) .answer ≡ On n) × (record { far = n; read = joined (g .read) (stepAt s (g .far) .adds) } ≡ h)
+  pub turn-is : (g h : Scanning) → scanTurn false s g ≡ on h
+      → (n : Sofar) × (stepAt false s (g .far) .answer ≡ On n) × (record { far = n; read = joined (g .read) (stepAt false s (g .far) .adds) } ≡ h)
   unfolding scanTurn afterStep
-  turn-is g h t = of (stepAt s (g .far) .answer) refl t
+  turn-is g h t = of (stepAt false s (g .far) .answer) refl t
     where
       d : Dependencies
-      d = joined (g .read) (stepAt s (g .far) .adds)
+      d = joined (g .read) (stepAt false s (g .far) .adds)
 
-      of : (r : Next) → stepAt s (g .far) .answer ≡ r → afterStep d r ≡ on h
-          → (n : Sofar) × (stepAt s (g .far) .answer ≡ On n) × (record { far = n; read = d } ≡ h)
+      of : (r : Next) → stepAt false s (g .far) .answer ≡ r → afterStep d r ≡ on h
+          → (n : Sofar) × (stepAt false s (g .far) .answer ≡ On n) × (record { far = n; read = d } ≡ h)
       of (On n) e t = (n, e, cc)
       of Done e t = let z : _≡_ {A = ℕ} 0 1 = cc in absurd (omega arith)
       of (Stop r) e t = let z : _≡_ {A = ℕ} 0 1 = cc in absurd (omega arith)
 
   abbrev Stays : Scanning → Type 0
-  Stays g = Reaches (scanTurn s) (record { far = start; read = none }) g × Stands s g × Rows s (g .read)
+  Stays g = Reaches (scanTurn false s) (record { far = start; read = none }) g × Stands s g × Rows s (g .read)
 
   abbrev ScanHas : Scan → Type 0
   ScanHas (good d) = Rows s d
   ScanHas (bad r d) = Unit {0}
 
   module _ (g : Scanning) (i : Stays g) where
-    step-rows : Rows s (joined (g .read) (stepAt s (g .far) .adds))
-    step-rows = rows-joined g (i .1) (i .2) (stepAt s (g .far) .adds) (i .0) (step-adds s g (i .0) (i .1 .used))
+    step-rows : Rows s (joined (g .read) (stepAt false s (g .far) .adds))
+    step-rows = rows-joined g (i .1) (i .2) (stepAt false s (g .far) .adds) (i .0) (step-adds s g (i .0) (i .1 .used))
 
-    turn-on : (h : Scanning) → scanTurn s g ≡ on h → Stands s h × Rows s (h .read)
+    turn-on : (h : Scanning) → scanTurn false s g ≡ on h → Stands s h × Rows s (h .read)
     turn-on h t =
         let w = turn-is g h t in
         subst (λ (z : Scanning). Stands s z × Rows s (z .read)) (w .2)
-        (stands-step s g (i .1) (stepAt s (g .far)) (step-said s (g .far)) (w .0) (w .1), step-rows)
+        (stands-step s g (i .1) (stepAt false s (g .far)) (step-said false s (g .far)) (w .0) (w .1), step-rows)
 
-    turn-stop : (x : Scan) → scanTurn s g ≡ stop x → ScanHas x
+    turn-stop : (x : Scan) → scanTurn false s g ≡ stop x → ScanHas x
     unfolding scanTurn afterStep
-    turn-stop x t = of (stepAt s (g .far) .answer) t
+    turn-stop x t = of (stepAt false s (g .far) .answer) t
       where
         d : Dependencies
-        d = joined (g .read) (stepAt s (g .far) .adds)
+        d = joined (g .read) (stepAt false s (g .far) .adds)
 
         of : (r : Next) → afterStep d r ≡ stop x → ScanHas x
         of (On n) t = let z : _≡_ {A = ℕ} 0 1 = cc in absurd (omega arith)
@@ -206,11 +207,11 @@ module _ (s : List ℕ) where
   unfolding EachFrom
   rows-none = record { imports = tt; includes = tt }
 
-  scan-has : ScanHas (scanned s)
+  scan-has : ScanHas (scanned false s)
   unfolding scanned scanFrom
   scan-has =
-      turns-keep (scanTurn s) (good none) Stays ScanHas (λ a b i t. let w = turn-on a i b t in (next (i .0) t, w .0, w .1))
+      turns-keep (scanTurn false s) (good none) Stays ScanHas (λ a b i t. let w = turn-on a i b t in (next (i .0) t, w .0, w .1))
       (λ a x i t. turn-stop a i x t) rows-none (suc (length s)) (record { far = start; read = none }) (first, stands-first s, rows-none)
 
-  pub scan-rows : (d : Dependencies) → scanned s ≡ good d → Rows s d
+  pub scan-rows : (d : Dependencies) → scanned false s ≡ good d → Rows s d
   scan-rows d h = subst ScanHas h scan-has

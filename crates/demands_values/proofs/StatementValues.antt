@@ -3,7 +3,7 @@
 use Prim.Native.Nat.{ℕ, _+_, _-_, _<_, _≤_}
 use mathlib.Core.Path.{_≡_, refl, ap, subst}
 use mathlib.Core.Logic.{_⊎_, inl, inr, ⊎-elim}
-use mathlib.Core.Bool.{true}
+use mathlib.Core.Bool.{true, false}
 use mathlib.Core.List.{List, [], _++_, append-assoc}
 use native.Mathlib.Omega.{arith}
 use lib.Dec.{eqb}
@@ -48,13 +48,13 @@ module _ (s : List ℕ) (k end : ℕ) (c : Cursor) (brace : dueAt s end 123 k �
 
   module _ (pre word store : List ℕ) (x : Span) where
     abbrev Last : Type 0
-    Last = MetLast (blockTurn s k) (λ b. b .body .at) s word store begin x
+    Last = MetLast (blockTurn false s k) (λ b. b .body .at) s word store begin x
 
     in-block : Last → InBlock s k end word store x
-    in-block l = opened (λ g. MetLast (blockTurn s k) (λ b. b .body .at) s word store g x) l
+    in-block l = opened (λ g. MetLast (blockTurn false s k) (λ b. b .body .at) s word store g x) l
 
-    not-in : Unmet (blockTurn s k) (λ b. b .body .at) s word begin → NotInBlock s k end word
-    not-in u = opened (Unmet (blockTurn s k) (λ b. b .body .at) s word) u
+    not-in : Unmet (blockTurn false s k) (λ b. b .body .at) s word begin → NotInBlock s k end word
+    not-in u = opened (Unmet (blockTurn false s k) (λ b. b .body .at) s word) u
 
     either-in : LineWon s k pre word begin store missing x → Either (NotInBlock s k end word) (InBlock s k end word store) x
     either-in w = ⊎-elim (λ e. inl (e .0, not-in (e .1))) (λ l. inr (in-block l)) w
@@ -73,12 +73,12 @@ ImportHas s p store (NoImport r) = Unit {0}
 
 -- pre: the bytes stored before it
 module _ (s : List ℕ) (p : ℕ) (c : Cursor) (m : matchAt s p importWord ≡ After c) (u : ℕ) (pre : List ℕ) (count : u ≡ length pre) where
-  name-has : (a : Argument) → lineAt s (c .at) u 8 123 ≡ a
-      → ImportHas s p (pre ++ afterName s u (valueBytes (valueAt s (c .at))) a .bytes) (afterName s u (valueBytes (valueAt s (c .at))) a .answer)
+  name-has : (a : Argument) → lineAt false s (c .at) u 8 123 ≡ a
+      → ImportHas s p (pre ++ afterName false s u (valueBytes (valueAt s (c .at))) a .bytes) (afterName false s u (valueBytes (valueAt s (c .at))) a .answer)
   unfolding afterName withName importOf
   name-has (NoArgument r) h = tt
   name-has (Read d n) h =
-      let b = blockAt s (d .at) n 8 in
+      let b = blockAt false s (d .at) n 8 in
       let at : n ≡ length (pre ++ bs) = omega (arith, count, f .2, length-append pre bs) in
       subst (λ l. ImportHas s p l (importOf (held u (n - u)) (b .answer))) (append-assoc pre bs (b .bytes))
       (of (b .bytes) (b .answer) (block-has s 8 (pre ++ bs) (d .at) n at))
@@ -87,7 +87,7 @@ module _ (s : List ℕ) (p : ℕ) (c : Cursor) (m : matchAt s p importWord ≡ A
       bs = valueBytes (valueAt s (c .at))
 
       f : (c .at + length bs < d .at) × (d .at ≤ length s) × (n ≡ u + length bs)
-      f = line-far s (c .at) u 8 123 d n (omega arith) h
+      f = line-far false s (c .at) u 8 123 d n (omega arith) h
 
       of : (cs : List ℕ) (b : Block) → BlockHas s 8 (pre ++ bs) (record { body = begun (d .at) n; bytes = [] }) cs b
           → ImportHas s p (pre ++ bs ++ cs) (importOf (held u (n - u)) b)
@@ -105,9 +105,9 @@ module _ (s : List ℕ) (p : ℕ) (c : Cursor) (m : matchAt s p importWord ≡ A
           ))
           (λ t. subst (ImportHas s p store) (of-bare (held u (n - u)) y t) tt)
 
-  pub import-has : ImportHas s p (pre ++ importAt s (c .at) u .bytes) (importAt s (c .at) u .answer)
+  pub import-has : ImportHas s p (pre ++ importAt false s (c .at) u .bytes) (importAt false s (c .at) u .answer)
   unfolding importAt
-  import-has = name-has (lineAt s (c .at) u 8 123) refl
+  import-has = name-has (lineAt false s (c .at) u 8 123) refl
 
 -- ---- an include
 
@@ -140,23 +140,23 @@ module _ (s : List ℕ) (p : ℕ) (store : List ℕ) (x : Span) (n : ℕ) (count
   plain-included (Not r) h = tt
 
 module _ (s : List ℕ) (p : ℕ) (c : Cursor) (m : matchAt s p includeWord ≡ After c) (u : ℕ) (pre : List ℕ) (count : u ≡ length pre) where
-  value-has : (a : Argument) → argumentAt s (c .at) u 9 ≡ a
-      → IncludeHas s p (pre ++ afterValue s u (valueBytes (valueAt s (c .at))) a .bytes) (afterValue s u (valueBytes (valueAt s (c .at))) a .answer)
+  value-has : (a : Argument) → argumentAt false s (c .at) u 9 ≡ a
+      → IncludeHas s p (pre ++ afterValue false s u (valueBytes (valueAt s (c .at))) a .bytes) (afterValue false s u (valueBytes (valueAt s (c .at))) a .answer)
   unfolding afterValue openOrPlain blockOf dueAt
   value-has (NoArgument r) h = tt
   value-has (Read d n) h =
       let bs = valueBytes (valueAt s (c .at)) in
-      let f = argument-far s (c .at) u 9 d n h in
+      let f = argument-far false s (c .at) u 9 d n h in
       let x = held u (n - u) in
       let name = behind-new pre bs x m (argument-value s (c .at) u 9 d n h) (held-new pre bs count (f .3)) in
       let at : n ≡ length (pre ++ bs) = omega (arith, count, f .3, length-append pre bs) in
       let g = gapEnd s (d .at) in
-      let b = blockAt s (g + 1) n 9 in
+      let b = blockAt false s (g + 1) n 9 in
       by-test (eqb (look s g) 123)
       (λ t. rw t (subst (λ l. IncludeHas s p l (includeOf x (b .answer))) (append-assoc pre bs (b .bytes))
       (block-included s p (pre ++ bs) x n at name (record { at = g + 1 }) (opens s (d .at) t) (b .bytes) (b .answer) (block-has s 9 (pre ++ bs) (g + 1) n at))))
       (λ t. rw t (plain-included s p (pre ++ bs) x n at name (dueHere s g 59 9) refl))
 
-  pub include-has : IncludeHas s p (pre ++ includeAt s (c .at) u .bytes) (includeAt s (c .at) u .answer)
+  pub include-has : IncludeHas s p (pre ++ includeAt false s (c .at) u .bytes) (includeAt false s (c .at) u .answer)
   unfolding includeAt
-  include-has = value-has (argumentAt s (c .at) u 9) refl
+  include-has = value-has (argumentAt false s (c .at) u 9) refl

@@ -3,7 +3,7 @@
 -- Assumes nothing.
 use Prim.Native.Nat.{ℕ, _<_}
 use mathlib.Core.Path.{_≡_}
-use mathlib.Core.Bool.{true}
+use mathlib.Core.Bool.{true, false}
 use mathlib.Core.Logic.{_⊎_}
 use mathlib.Core.List.{List, []}
 use lib.ListN.{length, getD}
@@ -40,7 +40,7 @@ pub record Behind (s word : List ℕ) (p : ℕ) (store : List ℕ) (x : Span) : 
 abbrev pub Either : (No : Type 0) (Yes : Span → Type 0) → Span → Type 0
 Either No Yes x = ((x ≡ missing) × No) ⊎ Yes x
 
--- ---- where a scan stands
+-- ---- where a scan stands. Of the two modes (2026-07) the old one is named: a good scan of the whole-text mode is the old mode's
 
 -- the states that a loop comes to from a
 pub data Reaches {A R : Type 0} (step : A → Turn A R) (a : A) : A → Type 0 where
@@ -87,17 +87,17 @@ Ended s k end = (c : Cursor) × (dueAt s end semicolon k ≡ Stands c)
 
 -- `prefix` value `;`, `revision-date` value `;`, any other statement skipped. Last one read wins.
 abbrev pub InBlock : List ℕ → ℕ → ℕ → List ℕ → List ℕ → Span → Type 0
-InBlock s k end word store x = Opened s k end (λ g. MetLast (blockTurn s k) (λ b. b .body .at) s word store g x)
+InBlock s k end word store x = Opened s k end (λ g. MetLast (blockTurn false s k) (λ b. b .body .at) s word store g x)
 
 abbrev pub NotInBlock : List ℕ → ℕ → ℕ → List ℕ → Type 0
-NotInBlock s k end word = Opened s k end (Unmet (blockTurn s k) (λ b. b .body .at) s word)
+NotInBlock s k end word = Opened s k end (Unmet (blockTurn false s k) (λ b. b .body .at) s word)
 
 -- ---- dependencies
 
 -- Import: value, `{`, then its block. Prefix is required. The row k: its keyword stands where the scan has read k imports.
 pub record ImportRead (s store : List ℕ) (k : ℕ) (i : YangImport) : Type 0 where
   pub state : Scanning
-  pub reached : Reaches (scanTurn s) (record { far = start; read = none }) state
+  pub reached : Reaches (scanTurn false s) (record { far = start; read = none }) state
   pub before : state .far .imports ≡ k
   pub name : Behind s importWord (gapEnd s (state .far .at)) store (i .«module_name»)
   pub prefix : InBlock s importKeyword (name .end) prefixWord store (i .prefix)
@@ -107,7 +107,7 @@ pub record ImportRead (s store : List ℕ) (k : ℕ) (i : YangImport) : Type 0 w
 -- Include: value, then `;`, or `{` with its block. The row k: its keyword stands where the scan has read k includes.
 pub record IncludeRead (s store : List ℕ) (k : ℕ) (i : YangInclude) : Type 0 where
   pub state : Scanning
-  pub reached : Reaches (scanTurn s) (record { far = start; read = none }) state
+  pub reached : Reaches (scanTurn false s) (record { far = start; read = none }) state
   pub before : state .far .includes ≡ k
   pub name : Behind s includeWord (gapEnd s (state .far .at)) store (i .«submodule_name»)
   pub revision : Either (Ended s includeKeyword (name .end) ⊎ NotInBlock s includeKeyword (name .end) revisionDateWord)
@@ -120,21 +120,21 @@ begin = record { at = 0; read = nothing }
 
 module _ (s : List ℕ) where
   abbrev pub NoHeader : List ℕ → Type 0
-  NoHeader word = Unmet (metadataTurn s) (λ b. b .at) s word begin
+  NoHeader word = Unmet (metadataTurn false s) (λ b. b .at) s word begin
 
   abbrev pub HeaderFirst : List ℕ → List ℕ → Span → Type 0
-  HeaderFirst word store x = MetFirst (metadataTurn s) (λ b. b .at) s word store begin x
+  HeaderFirst word store x = MetFirst (metadataTurn false s) (λ b. b .at) s word store begin x
 
   abbrev pub HeaderLast : List ℕ → List ℕ → Span → Type 0
-  HeaderLast word store x = MetLast (metadataTurn s) (λ b. b .at) s word store begin x
+  HeaderLast word store x = MetLast (metadataTurn false s) (λ b. b .at) s word store begin x
 
 -- `module` or `submodule` value (last wins); from the state g on
 pub record NameRead (s store : List ℕ) (g : Reading) (x : Span) : Type 0 where
   pub word : List ℕ
   pub either : (word ≡ moduleWord) ⊎ (word ≡ submoduleWord)
-  pub met : Met (metadataTurn s) (λ b. b .at) s word store g x
-  pub no-module : UnmetBehind (metadataTurn s) (λ b. b .at) s moduleWord g (met .state .at)
-  pub no-submodule : UnmetBehind (metadataTurn s) (λ b. b .at) s submoduleWord g (met .state .at)
+  pub met : Met (metadataTurn false s) (λ b. b .at) s word store g x
+  pub no-module : UnmetBehind (metadataTurn false s) (λ b. b .at) s moduleWord g (met .state .at)
+  pub no-submodule : UnmetBehind (metadataTurn false s) (λ b. b .at) s submoduleWord g (met .state .at)
 
 -- `belongs-to` value (last wins); `namespace` value (last wins); `prefix` value (first wins); `revision` value (first wins). The newest is one of the
 -- revisions; which one is said in demands (Newest).
@@ -144,4 +144,4 @@ pub record RecordRead (s store : List ℕ) (values : List Span) : Type 0 where
   pub prefix : Either (NoHeader s prefixWord) (HeaderFirst s prefixWord store) (getD values prefixValue missing)
   pub first-revision : Either (NoHeader s revisionWord) (HeaderFirst s revisionWord store) (getD values firstValue missing)
   pub parent : Either (NoHeader s belongsToWord) (HeaderLast s belongsToWord store) (getD values parentValue missing)
-  pub newest : Either (NoHeader s revisionWord) (Met (metadataTurn s) (λ b. b .at) s revisionWord store begin) (getD values newestValue missing)
+  pub newest : Either (NoHeader s revisionWord) (Met (metadataTurn false s) (λ b. b .at) s revisionWord store begin) (getD values newestValue missing)
