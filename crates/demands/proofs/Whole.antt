@@ -41,7 +41,7 @@ use Rattle.host_words.specs.Words.{recordWords}
 use Rattle.nuvaleta.specs.Words.{numberOf, answerWords}
 use Rattle.nuvaleta.specs.Host.{Answered, AnsweredPage}
 use Rattle.nuvaleta.specs.Record.{Described}
-use Rattle.demands_scans.specs.Whole.{toldDependencies, toldMetadata, WholeOrOld, same as asBefore, cut}
+use Rattle.demands_scans.specs.Whole.{toldDependencies, toldMetadata, WholeOrOld, same as asBefore, cut, oldDependencies, oldMetadata}
 use Rattle.demands_scans.proofs.WholeDependencies.{dependencies-whole}
 use Rattle.demands_scans.proofs.WholeMetadata.{metadata-whole}
 use Rattle.demands_scans.proofs.WholeNumbers.{old-mode}
@@ -66,19 +66,19 @@ among : (ns : List ℕ) (x : Scan) {n : ℕ} → List·Memᴰ (toldDependencies 
 among ns x m e = subst (λ i. List·Memᴰ i ns) (told-number x ∙ sym e) m
 
 module _ (s : List ℕ) (x y : Scan) (d t u : List ℕ) where
-  calls : WholeOrOld toldDependencies (0 ∷ 4 ∷ 6 ∷ 8 ∷ []) s x y → {n n′ : ℕ} {e f g a e′ f′ g′ a′ : List ℕ}
+  calls : WholeOrOld toldDependencies oldDependencies s x y → {n n′ : ℕ} {e f g a e′ f′ g′ a′ : List ℕ}
       → Answered x d t u n e f g a → Answered y d t u n′ e′ f′ g′ a′
       → ((n ≡ n′) × (e ≡ e′) × (f ≡ f′) × (g ≡ g′) × (a ≡ a′))
-      ⊎ ((n ≡ 11) × (a ≡ 11 ∷ 0 ∷ length s ∷ 0 ∷ 0 ∷ 0 ∷ []) × List·Memᴰ n′ (0 ∷ 4 ∷ 6 ∷ 8 ∷ []))
+      ⊎ ((n ≡ 11) × (a ≡ 11 ∷ 0 ∷ length s ∷ 0 ∷ 0 ∷ 0 ∷ []) × List·Memᴰ n′ oldDependencies)
   calls (asBefore q) h k =
       let l = leaves-one q refl refl refl (h .scan) (k .scan) in
       inl (equals (λ z. numberOf (parsedOf z)) q (h .number) (k .number), l .1, l .2, l .3, equals (λ z. answerWords (parsedOf z)) q (h .answer) (k .answer))
-  calls (cut q m) h k = let w = told-words x (length s) q in inr (h .number ∙ w .0, h .answer ∙ w .1, among (0 ∷ 4 ∷ 6 ∷ 8 ∷ []) y m (k .number))
+  calls (cut q m) h k = let w = told-words x (length s) q in inr (h .number ∙ w .0, h .answer ∙ w .1, among oldDependencies y m (k .number))
 
-  pages : (p : List ℕ) → WholeOrOld toldDependencies (0 ∷ 4 ∷ 6 ∷ 8 ∷ []) s x y → {n n′ : ℕ} {e f g i a e′ f′ g′ i′ a′ : List ℕ}
+  pages : (p : List ℕ) → WholeOrOld toldDependencies oldDependencies s x y → {n n′ : ℕ} {e f g i a e′ f′ g′ i′ a′ : List ℕ}
       → AnsweredPage x d t u p n e f g i a → AnsweredPage y d t u p n′ e′ f′ g′ i′ a′
       → ((n ≡ n′) × (e ≡ e′) × (f ≡ f′) × (g ≡ g′) × (i ≡ i′) × (a ≡ a′))
-      ⊎ ((n ≡ 11) × (a ≡ 11 ∷ 0 ∷ length s ∷ 0 ∷ 0 ∷ 0 ∷ 0 ∷ []) × List·Memᴰ n′ (0 ∷ 4 ∷ 6 ∷ 8 ∷ []))
+      ⊎ ((n ≡ 11) × (a ≡ 11 ∷ 0 ∷ length s ∷ 0 ∷ 0 ∷ 0 ∷ 0 ∷ []) × List·Memᴰ n′ oldDependencies)
   pages p (asBefore q) h k =
       let l = leaves-one q refl refl refl (h .scan) (k .scan) in
       inl (
@@ -91,7 +91,7 @@ module _ (s : List ℕ) (x y : Scan) (d t u : List ℕ) where
       )
   pages p (cut q m) h k =
       let w = told-words x (length s) q in
-      inr (h .number ∙ w .0, h .answer ∙ ap₂ (λ v i. v ++ (length i ∷ [])) (w .1) (w .2), among (0 ∷ 4 ∷ 6 ∷ 8 ∷ []) y m (k .number))
+      inr (h .number ∙ w .0, h .answer ∙ ap₂ (λ v i. v ++ (length i ∷ [])) (w .1) (w .2), among oldDependencies y m (k .number))
 
 -- ---- metadata
 
@@ -106,9 +106,9 @@ unfolding Metadata.answerOf Metadata.refusedWith
 record-number (Metadata.good m) = refl
 record-number (Metadata.bad r bs) = refl
 
-records : (s : List ℕ) (x y : Metadata.Scan) (d : List ℕ) → WholeOrOld toldMetadata (0 ∷ 4 ∷ 6 ∷ 9 ∷ []) s x y → {n n′ : ℕ} {e w a e′ w′ a′ : List ℕ}
+records : (s : List ℕ) (x y : Metadata.Scan) (d : List ℕ) → WholeOrOld toldMetadata oldMetadata s x y → {n n′ : ℕ} {e w a e′ w′ a′ : List ℕ}
     → Described x d n e w a → Described y d n′ e′ w′ a′
-    → ((n ≡ n′) × (e ≡ e′) × (w ≡ w′) × (a ≡ a′)) ⊎ ((n ≡ 11) × (a ≡ 11 ∷ 0 ∷ length s ∷ 0 ∷ []) × List·Memᴰ n′ (0 ∷ 4 ∷ 6 ∷ 9 ∷ []))
+    → ((n ≡ n′) × (e ≡ e′) × (w ≡ w′) × (a ≡ a′)) ⊎ ((n ≡ 11) × (a ≡ 11 ∷ 0 ∷ length s ∷ 0 ∷ []) × List·Memᴰ n′ oldMetadata)
 records s x y d (asBefore q) h k =
     inl (
       h .number ∙ ap (λ z. Metadata.answerOf z .answer .number) q ∙ sym (k .number),
@@ -123,7 +123,7 @@ records s x y d (cut q m) h k =
     inr (
       h .number ∙ ap (λ r. r .number) (v .0),
       h .answer ∙ ap₂ (λ r i. r .number ∷ r .keyword ∷ r .at ∷ i ∷ []) (v .0) (v .1),
-      subst (λ i. List·Memᴰ i (0 ∷ 4 ∷ 6 ∷ 9 ∷ [])) (record-number y ∙ sym (k .number)) m,
+      subst (λ i. List·Memᴰ i oldMetadata) (record-number y ∙ sym (k .number)) m,
     )
 
 -- ---- all of it

@@ -15,7 +15,7 @@ use Rattle.yangparser.specs.Dependencies.{dependencies}
 use Rattle.scan_metadata.specs.Metadata.{metadata}
 use Rattle.nuvaleta.specs.Host.{DependenciesAnswered, PrintedAnswered}
 use Rattle.nuvaleta.specs.Record.{MetadataAnswered}
-use Rattle.demands_scans.specs.Whole.{OldMode, toldDependencies, toldMetadata, DependenciesWhole, MetadataWhole}
+use Rattle.demands_scans.specs.Whole.{OldMode, toldDependencies, toldMetadata, DependenciesWhole, MetadataWhole, oldDependencies, oldMetadata}
 
 -- ---- the readings: D is the dependency scan, M the metadata scan
 
@@ -83,13 +83,13 @@ pub record WholeMode : Type 0 where
   pub host-dependencies : (s d t u : List ℕ) {n n′ : ℕ} {e f g a e′ f′ g′ a′ : List ℕ}
       → DependenciesAnswered true s d t u n e f g a → DependenciesAnswered false s d t u n′ e′ f′ g′ a′
       → ((n ≡ n′) × (e ≡ e′) × (f ≡ f′) × (g ≡ g′) × (a ≡ a′))
-      ⊎ ((n ≡ 11) × (a ≡ 11 ∷ 0 ∷ length s ∷ 0 ∷ 0 ∷ 0 ∷ []) × List·Memᴰ n′ (0 ∷ 4 ∷ 6 ∷ 8 ∷ []))
+      ⊎ ((n ≡ 11) × (a ≡ 11 ∷ 0 ∷ length s ∷ 0 ∷ 0 ∷ 0 ∷ []) × List·Memᴰ n′ oldDependencies)
   pub host-printed : (s d t u p : List ℕ) {n n′ : ℕ} {e f g q a e′ f′ g′ q′ a′ : List ℕ}
       → PrintedAnswered true s d t u p n e f g q a → PrintedAnswered false s d t u p n′ e′ f′ g′ q′ a′
       → ((n ≡ n′) × (e ≡ e′) × (f ≡ f′) × (g ≡ g′) × (q ≡ q′) × (a ≡ a′))
-      ⊎ ((n ≡ 11) × (a ≡ 11 ∷ 0 ∷ length s ∷ 0 ∷ 0 ∷ 0 ∷ 0 ∷ []) × List·Memᴰ n′ (0 ∷ 4 ∷ 6 ∷ 8 ∷ []))
+      ⊎ ((n ≡ 11) × (a ≡ 11 ∷ 0 ∷ length s ∷ 0 ∷ 0 ∷ 0 ∷ 0 ∷ []) × List·Memᴰ n′ oldDependencies)
   pub host-metadata : (s d : List ℕ) {n n′ : ℕ} {e w a e′ w′ a′ : List ℕ} → MetadataAnswered true s d n e w a → MetadataAnswered false s d n′ e′ w′ a′
       → ((n ≡ n′) × (e ≡ e′) × (w ≡ w′) × (a ≡ a′))
-      ⊎ ((n ≡ 11) × (a ≡ 11 ∷ 0 ∷ length s ∷ 0 ∷ []) × List·Memᴰ n′ (0 ∷ 4 ∷ 6 ∷ 9 ∷ []))
+      ⊎ ((n ≡ 11) × (a ≡ 11 ∷ 0 ∷ length s ∷ 0 ∷ []) × List·Memᴰ n′ oldMetadata)
   -- neither side is empty: both come among the readings
   pub readings-right : T (all readings)

@@ -63,7 +63,7 @@ use Rattle.yangparser.proofs.AddLaws.{full-is, room-is}
 use Rattle.yangparser.proofs.StepLaws.{step-past, step-head}
 use Rattle.yangparser.proofs.FarLaws.{Went as StepWent, step-said}
 use Rattle.yangparser.proofs.ScanLaws.{scan-on, scan-done, scan-stop}
-use Rattle.demands_scans.specs.Whole.{toldDependencies, WholeOrOld, same, cut, DependenciesWhole}
+use Rattle.demands_scans.specs.Whole.{toldDependencies, WholeOrOld, same, cut, DependenciesWhole, oldDependencies}
 use Rattle.demands_scans.proofs.Loops.{by-falling}
 
 -- ---- the old mode's refusals
@@ -340,7 +340,7 @@ step-modes s far =
 
 module _ (s : List ℕ) where
   abbrev ScanModes : Deps.Scan → Deps.Scan → Type 0
-  ScanModes x y = WholeOrOld toldDependencies (0 ∷ 4 ∷ 6 ∷ 8 ∷ []) s x y
+  ScanModes x y = WholeOrOld toldDependencies oldDependencies s x y
 
   abbrev BothScans : Scanning → Type 0
   BothScans g = ScanModes (scanFrom true s g) (scanFrom false s g)
@@ -350,7 +350,7 @@ module _ (s : List ℕ) where
 
   scans-are : {x y v w : Deps.Scan} → x ≡ v → y ≡ w → ScanModes v w → ScanModes x y
   scans-are p q (same e) = same (p ∙ e ∙ sym q)
-  scans-are p q (cut e m) = cut (ap toldDependencies p ∙ e) (subst (λ z. List·Memᴰ (toldDependencies z .number) (0 ∷ 4 ∷ 6 ∷ 8 ∷ [])) (sym q) m)
+  scans-are p q (cut e m) = cut (ap toldDependencies p ∙ e) (subst (λ z. List·Memᴰ (toldDependencies z .number) oldDependencies) (sym q) m)
 
   -- at the text's end the scan is good
   scan-past : (g : Scanning) → g .far .at ≡ length s → toldDependencies (scanFrom false s g) ≡ noRefusal
@@ -382,7 +382,7 @@ module _ (s : List ℕ) where
     scan-cut c Done h o = absurd o
     scan-cut c (Stop r) h o =
         cut (ap toldDependencies (scan-stop true s g (cutAt (length s)) c))
-        (subst (λ z. List·Memᴰ (toldDependencies z .number) (0 ∷ 4 ∷ 6 ∷ 8 ∷ [])) (sym (scan-stop false s g r h)) (List·Memᴰ·tail o))
+        (subst (λ z. List·Memᴰ (toldDependencies z .number) oldDependencies) (sym (scan-stop false s g r h)) (List·Memᴰ·tail o))
 
     scan-one : BothScans g
     scan-one =
@@ -404,6 +404,6 @@ pub dependencies-whole : DependenciesWhole
 unfolding Deps.dependencies Deps.ifFit
 dependencies-whole s short = go (lentAt s short)
   where
-    go : (l : Lent) → WholeOrOld toldDependencies (0 ∷ 4 ∷ 6 ∷ 8 ∷ []) s (Deps.ifFit l (Deps.scanned true s)) (Deps.ifFit l (Deps.scanned false s))
+    go : (l : Lent) → WholeOrOld toldDependencies oldDependencies s (Deps.ifFit l (Deps.scanned true s)) (Deps.ifFit l (Deps.scanned false s))
     go Fit = scanned-whole s
     go (Unfit r) = same refl

@@ -45,7 +45,7 @@ use Rattle.scan_tag.proofs.TagLaws.{tag-far}
 use Rattle.scan_metadata.specs.Metadata as Meta
 use Rattle.scan_metadata.specs.Metadata.{Metadata, told, Reading, ended, scanFrom}
 use Rattle.scan_metadata.proofs.ScanLaws.{heard, told-nearer, passed-nearer, scan-value, scan-passed, scan-done, scan-refused}
-use Rattle.demands_scans.specs.Whole.{toldMetadata, WholeOrOld, same, cut, MetadataWhole}
+use Rattle.demands_scans.specs.Whole.{toldMetadata, WholeOrOld, same, cut, MetadataWhole, oldMetadata}
 use Rattle.demands_scans.proofs.Loops.{by-falling}
 
 -- ---- what follows a value
@@ -196,7 +196,7 @@ said-past s at u p e =
 -- ---- all of them
 
 -- good, or 9
-ended-number : (m : Metadata) (at : ℕ) → List·Memᴰ (toldMetadata (ended m at) .number) (0 ∷ 4 ∷ 6 ∷ 9 ∷ [])
+ended-number : (m : Metadata) (at : ℕ) → List·Memᴰ (toldMetadata (ended m at) .number) oldMetadata
 unfolding ended
 ended-number m at =
     by-test (m .name .present) (λ t. rw t (List·Memᴰ·head refl))
@@ -204,13 +204,13 @@ ended-number m at =
 
 module _ (s : List ℕ) where
   abbrev ScanModes : Meta.Scan → Meta.Scan → Type 0
-  ScanModes x y = WholeOrOld toldMetadata (0 ∷ 4 ∷ 6 ∷ 9 ∷ []) s x y
+  ScanModes x y = WholeOrOld toldMetadata oldMetadata s x y
 
   abbrev BothScans : Reading → Type 0
   BothScans g = ScanModes (scanFrom true s g) (scanFrom false s g)
 
   abbrev Among : Meta.Scan → Type 0
-  Among x = List·Memᴰ (toldMetadata x .number) (0 ∷ 4 ∷ 6 ∷ 9 ∷ [])
+  Among x = List·Memᴰ (toldMetadata x .number) oldMetadata
 
   scans-are : {x y v w : Meta.Scan} → x ≡ v → y ≡ w → ScanModes v w → ScanModes x y
   scans-are p q (same e) = same (p ∙ e ∙ sym q)
@@ -248,7 +248,7 @@ module _ (s : List ℕ) where
         old (Done c) h o = absurd o
         old (Refused q) h o = subst Among (sym (scan-refused false s g q h)) (number o)
           where
-            number : FourOrSix q → List·Memᴰ (q .number) (0 ∷ 4 ∷ 6 ∷ 9 ∷ [])
+            number : FourOrSix q → List·Memᴰ (q .number) oldMetadata
             number (inl e) = List·Memᴰ·tail (List·Memᴰ·head e)
             number (inr e) = List·Memᴰ·tail (List·Memᴰ·tail (List·Memᴰ·head e))
 
@@ -269,6 +269,6 @@ pub metadata-whole : MetadataWhole
 unfolding Meta.metadata Meta.ifFit
 metadata-whole s short = go (lentAt s short)
   where
-    go : (l : Lent) → WholeOrOld toldMetadata (0 ∷ 4 ∷ 6 ∷ 9 ∷ []) s (Meta.ifFit l (Meta.scanned true s)) (Meta.ifFit l (Meta.scanned false s))
+    go : (l : Lent) → WholeOrOld toldMetadata oldMetadata s (Meta.ifFit l (Meta.scanned true s)) (Meta.ifFit l (Meta.scanned false s))
     go Fit = scanned-whole s
     go (Unfit r) = same refl

@@ -26,7 +26,7 @@ use Rattle.yangparser.specs.Dependencies as Deps
 use Rattle.scan_metadata.specs.Metadata as Meta
 use Rattle.demands_scans.specs.Refusals.{FirstRefusal, RefusedAs, first, read, StatementRefusal, DependenciesRefusal, HeaderRefusal, MetadataRefusal, WholeRefusal}
 use Rattle.demands_scans.specs.Refusals.{cut-short, as-before, ModeRefusal}
-use Rattle.demands_scans.specs.Whole.{OldMode, toldDependencies, toldMetadata, WholeOrOld, same, cut}
+use Rattle.demands_scans.specs.Whole.{OldMode, toldDependencies, toldMetadata, WholeOrOld, same, cut, oldDependencies, oldMetadata}
 use Rattle.demands_scans.proofs.ScanNumbers.{ImportedIs, IncludedIs, import-is, include-is, LentIs, lent-is, dependencies-refused}
 use Rattle.demands_scans.proofs.ScanNumbers as Scans
 use Rattle.demands_scans.proofs.MetadataNumbers.{HeardIs, said-is, metadata-refused}
@@ -90,7 +90,7 @@ module _ (s : List ℕ) (at u : ℕ) where
 
 module _ (s : List ℕ) (short : Bool) where
   module _ (r : Refusal) (d : Deps.Dependencies) where
-    scan-read : (x : Deps.Scan) → WholeOrOld toldDependencies (0 ∷ 4 ∷ 6 ∷ 8 ∷ []) s x (Deps.scanned false s) → x ≡ Deps.bad r d
+    scan-read : (x : Deps.Scan) → WholeOrOld toldDependencies oldDependencies s x (Deps.scanned false s) → x ≡ Deps.bad r d
         → WholeRefusal DependenciesRefusal s r
     scan-read x (same e) h = as-before (subst Scans.ScanIs (sym e ∙ h) (Scans.scanned-is s))
     scan-read x (cut e m) h = cut-short (sym (ap toldDependencies h) ∙ e)
@@ -109,7 +109,7 @@ module _ (s : List ℕ) (short : Bool) where
     dependencies-mode-refused false h = dependencies-refused s short r d h
 
   module _ (r : Refusal) (bs : List ℕ) where
-    header-read : (x : Meta.Scan) → WholeOrOld toldMetadata (0 ∷ 4 ∷ 6 ∷ 9 ∷ []) s x (Meta.scanned false s) → x ≡ Meta.bad r bs → WholeRefusal MetadataRefusal s r
+    header-read : (x : Meta.Scan) → WholeOrOld toldMetadata oldMetadata s x (Meta.scanned false s) → x ≡ Meta.bad r bs → WholeRefusal MetadataRefusal s r
     header-read x (same e) h = as-before (subst Headers.ScanIs (sym e ∙ h) (Headers.scanned-is s))
     header-read x (cut e m) h = cut-short (sym (ap toldMetadata h) ∙ e)
 

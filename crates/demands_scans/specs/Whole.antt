@@ -40,11 +40,17 @@ pub data WholeOrOld {A : Type 0} (told : A → Refusal) (numbers s : List ℕ) (
   same : x ≡ y → WholeOrOld told numbers s x y
   cut : told x ≡ cutAt (length s) → List·Memᴰ (told y .number) numbers → WholeOrOld told numbers s x y
 
--- of every text, whatever is lent: 11 takes the place of good, 4, 6 or 8, and of nothing else
+-- 11 takes the place of good, 4, 6 or 8, of metadata of good, 4, 6 or 9, and of nothing else
+abbrev pub oldDependencies : List ℕ
+oldDependencies = 0 ∷ 4 ∷ 6 ∷ 8 ∷ []
+
+abbrev pub oldMetadata : List ℕ
+oldMetadata = 0 ∷ 4 ∷ 6 ∷ 9 ∷ []
+
+-- of every text, whatever is lent
 abbrev pub DependenciesWhole : Type 0
 DependenciesWhole =
-    (s : List ℕ) (short : Bool) → WholeOrOld toldDependencies (0 ∷ 4 ∷ 6 ∷ 8 ∷ []) s (Deps.dependencies true s short) (Deps.dependencies false s short)
+    (s : List ℕ) (short : Bool) → WholeOrOld toldDependencies oldDependencies s (Deps.dependencies true s short) (Deps.dependencies false s short)
 
--- of good, 4, 6 or 9
 abbrev pub MetadataWhole : Type 0
-MetadataWhole = (s : List ℕ) (short : Bool) → WholeOrOld toldMetadata (0 ∷ 4 ∷ 6 ∷ 9 ∷ []) s (Meta.metadata true s short) (Meta.metadata false s short)
+MetadataWhole = (s : List ℕ) (short : Bool) → WholeOrOld toldMetadata oldMetadata s (Meta.metadata true s short) (Meta.metadata false s short)

@@ -37,7 +37,7 @@ use Rattle.scan_metadata.proofs.ScanLaws.{scan-good}
 use Rattle.host_words.specs.Words.{recordWords}
 use Rattle.nuvaleta.specs.Words.{numberOf, answerWords}
 use Rattle.demands_scans.specs.Refusals.{RefusedAs, first, read}
-use Rattle.demands_scans.specs.Whole.{toldDependencies, toldMetadata, WholeOrOld, same, cut}
+use Rattle.demands_scans.specs.Whole.{toldDependencies, toldMetadata, WholeOrOld, same, cut, oldDependencies, oldMetadata}
 use Rattle.demands_scans.proofs.MetadataNumbers.{metadata-number}
 use Rattle.demands_scans.proofs.ScanNumbers.{dependencies-number, first-number}
 use Rattle.demands_scans.proofs.WholeDependencies.{dependencies-whole}
@@ -79,7 +79,7 @@ rows-read s x h zs {e} {f} {g} p q r =
 old-good : (mode : Bool) (s : List ℕ) (short : Bool) (x : Dependencies) → dependencies mode s short ≡ good x → dependencies false s short ≡ good x
 old-good true s short x h = of (dependencies-whole s short)
   where
-    of : WholeOrOld toldDependencies (0 ∷ 4 ∷ 6 ∷ 8 ∷ []) s (dependencies true s short) (dependencies false s short) → dependencies false s short ≡ good x
+    of : WholeOrOld toldDependencies oldDependencies s (dependencies true s short) (dependencies false s short) → dependencies false s short ≡ good x
     of (same e) = sym e ∙ h
     of (cut e m) = absurd (omega (arith, ap (λ (q : Refusal). q .number) (sym (ap toldDependencies h) ∙ e)))
 old-good false s short x h = h
@@ -233,7 +233,7 @@ words-read s store a b c d e f r = record {
 metadata-old : (mode : Bool) (s : List ℕ) (short : Bool) (m : Metadata) → metadata mode s short ≡ Metadata.good m → metadata false s short ≡ Metadata.good m
 metadata-old true s short m h = of (metadata-whole s short)
   where
-    of : WholeOrOld toldMetadata (0 ∷ 4 ∷ 6 ∷ 9 ∷ []) s (metadata true s short) (metadata false s short) → metadata false s short ≡ Metadata.good m
+    of : WholeOrOld toldMetadata oldMetadata s (metadata true s short) (metadata false s short) → metadata false s short ≡ Metadata.good m
     of (same e) = sym e ∙ h
     of (cut e k) = absurd (omega (arith, ap (λ (q : Refusal). q .number) (sym (ap toldMetadata h) ∙ e)))
 metadata-old false s short m h = h
