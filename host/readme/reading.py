@@ -21,6 +21,7 @@ TOPICS = [
     ("demand 3: which edges a graph has", set(), ["demands/Demand3", "demands/Demand3Needs"]),
     ("a graph with all names as nodes: what it gives beyond demand 3", set(), ["graph/Complete", "demands/Complete"]),
     ("each included text once: the walk with a memory is the plain walk, and reads no text twice", set(), ["graph/Once", "demands/Once"]),
+    ("the whole-text mode of a scan beside the old one, with all readings of its request", set(), ["demands_scans/Whole", "demands/Whole"]),
     ("what an order is, by edges alone", set(), ["demands_order/Order", "demands/OrderCalls"]),
     ("document 01's starred examples", set(), ["demands/Starred"]),
 ]
