@@ -107,14 +107,14 @@ pub record Computed : Type 0 where
   pub read-once : textsRead passOver fullFirst includes ≡ 0 ∷ 1 ∷ []
 
 pub computed : Computed
-unfolding with-s with-t textsRead entriesRead walkRead includesRead walkOnce includesOnce codesAt eachO memR graphed tooShort wordsAt numberOf graphOf
-    walkFrom run addBy memE textSteps nodesBy addGroups addAll among textOf scanText importNames includeNames valueIn longestText longestOf lookUp bundleAt
-    textsAt filedAt bodyAt libraryOf imageAt libraryAt setAt importOnlyAt moduleAt counted countAt newName nameAt nameBody printableAt many numberAt groups
-    modulesOf importOnlyOf submodulesOf flatMap joined importStep includeStep unlessFull importHere includeHere movedTo afterToken headStep stepHere stepAt
-    afterStep scanTurn scanFrom scanned lentAt ifFit dependencies orMatch lastAt orHead headAt orLine plainOf blockOf openOrPlain afterValue includeAt
-    argumentOf breaksOff argumentAt afterDue isQuote startsName addedBy afterPlus joinedWith joinedValue ofString valueHere valueAt valueBytes closedToken tokenHere
-    statementAt dueNumber dueHere dueAt startsIdent endsKeyword same part keywordAt matchAt gapEnd gapTurn afterWhite commentEnd blockEnd closing pairAt
-    runEnd span inRun inIdent classOf turns
+unfolding with-s with-t textsRead entriesRead walkRead includesRead walkOnce includesOnce codesAt eachO memR graphed tooShort wordsAt numberOf graphOf walkFrom
+    run addBy memE textSteps nodesBy addGroups addAll among textOf scanText importNames includeNames valueIn longestText longestOf lookUp bundleAt textsAt
+    filedAt bodyAt libraryOf imageAt libraryAt setAt importOnlyAt moduleAt counted countAt newName nameAt nameBody printableAt many numberAt groups modulesOf
+    importOnlyOf submodulesOf flatMap joined importStep includeStep unlessFull importHere includeHere movedTo afterToken headStep stepHere stepAt afterStep
+    scanTurn scanFrom scanned lentAt ifFit dependencies orMatch lastAt orHead headAt orLine plainOf blockOf openOrPlain afterValue includeAt argumentOf
+    breaksOff argumentAt afterDue isQuote startsName addedBy afterPlus joinedWith joinedValue ofString valueHere valueAt valueBytes closedToken tokenHere
+    statementAt dueNumber dueHere dueAt startsIdent endsKeyword same part keywordAt matchAt gapEnd gapTurn afterWhite commentEnd blockEnd closing pairAt runEnd
+    span inRun inIdent classOf turns
 computed = record {
   empty = refl;
   full = refl;

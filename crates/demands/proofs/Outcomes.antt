@@ -44,7 +44,8 @@ use Rattle.demands.specs.OneOutcome.{LosesNothing, OneOutcome}
 
 -- the lengths lent decide whether something is too short
 scans : (whole : Bool) (s : List ℕ) {b b′ : Bool} (d t u d′ t′ u′ : List ℕ) → b ≡ b′ → length d ≡ length d′ → length t ≡ length t′ → length u ≡ length u′
-    → dependencies whole s (tooShort b (length s) (length d) (length t) (length u)) ≡ dependencies whole s (tooShort b′ (length s) (length d′) (length t′) (length u′))
+    → dependencies whole s (tooShort b (length s) (length d) (length t) (length u))
+    ≡ dependencies whole s (tooShort b′ (length s) (length d′) (length t′) (length u′))
 scans whole s {b} {b′} d t u d′ t′ u′ bs ds ts us =
     ap (λ z. dependencies whole s (tooShort z (length s) (length d) (length t) (length u))) bs
     ∙ ap (λ n. dependencies whole s (tooShort b′ (length s) n (length t) (length u))) ds
@@ -75,7 +76,8 @@ pageScans whole s d t u p d′ t′ u′ p′ ds ts us ps = scans whole s d t u 
 
 -- ---- metadata
 
-records : (whole : Bool) (s d d′ : List ℕ) → length d ≡ length d′ → Metadata.metadata whole s (ltb (length d) (length s)) ≡ Metadata.metadata whole s (ltb (length d′) (length s))
+records : (whole : Bool) (s d d′ : List ℕ) → length d ≡ length d′ → Metadata.metadata whole s (ltb (length d) (length s))
+    ≡ Metadata.metadata whole s (ltb (length d′) (length s))
 records whole s d d′ ds = ap (λ n. Metadata.metadata whole s (ltb n (length s))) ds
 
 -- ---- views

@@ -51,12 +51,12 @@ unfolding starred all holds enough drawn graphed tooShort nodeWords rowWords gra
     addGroups addAll among textOf scanText importNames includeNames valueIn longestText longestOf lookUp bundleAt textsAt filedAt bodyAt libraryOf imageAt
     libraryAt setAt importOnlyAt moduleAt counted countAt newName nameAt nameBody printableAt many numberAt groups modulesOf importOnlyOf submodulesOf flatMap
     outcome described recordWords metadata Metadata.ifFit Metadata.scanned Metadata.scanFrom metadataTurn afterHeard ended told firstOf valuesOf newer
-    newestFrom newest less pastOf pastToken pastStatement breaksOff dueFor afterRevision afterHeaderValue passed kept withRest fieldAt laterPrefix statementSaid tagSaid saidHere
-    saidAt dataAt lastTag orTag tagAt joined importStep includeStep unlessFull importHere includeHere movedTo afterToken headStep stepHere stepAt afterStep
-    scanTurn scanFrom scanned lentAt ifFit dependencies orMatch lastAt orHead headAt orLine lineKind withValue keptLine withSkipped afterKind insideHere
-    insideAt afterInside blockTurn blockFrom blockAt ofBody importOf withName afterName importAt includeOf plainOf blockOf openOrPlain afterValue includeAt
-    argumentOf argumentAt afterDue afterArgument lineAt escaped escapes strEnd strBytes closedBy strAt isQuote startsName addedBy afterPlus afterGap moreAt
-    addTo joinTurn joinedWith joinedValue ofString valueHere valueAt valueBytes closedToken tokenHere tokenAt closes quotedLen quotedEnd atSemicolon atClose
-    partOf partAt ofPart statementTurn statementFrom statementAt dueNumber dueHere dueAt startsIdent endsKeyword same part keywordAt matchAt gapEnd gapTurn
-    afterWhite commentEnd blockEnd closing pairAt runEnd span inRun inIdent classOf turns
+    newestFrom newest less pastOf pastToken pastStatement breaksOff dueFor afterRevision afterHeaderValue passed kept withRest fieldAt laterPrefix statementSaid
+    tagSaid saidHere saidAt dataAt lastTag orTag tagAt joined importStep includeStep unlessFull importHere includeHere movedTo afterToken headStep stepHere
+    stepAt afterStep scanTurn scanFrom scanned lentAt ifFit dependencies orMatch lastAt orHead headAt orLine lineKind withValue keptLine withSkipped afterKind
+    insideHere insideAt afterInside blockTurn blockFrom blockAt ofBody importOf withName afterName importAt includeOf plainOf blockOf openOrPlain afterValue
+    includeAt argumentOf argumentAt afterDue afterArgument lineAt escaped escapes strEnd strBytes closedBy strAt isQuote startsName addedBy afterPlus afterGap
+    moreAt addTo joinTurn joinedWith joinedValue ofString valueHere valueAt valueBytes closedToken tokenHere tokenAt closes quotedLen quotedEnd atSemicolon
+    atClose partOf partAt ofPart statementTurn statementFrom statementAt dueNumber dueHere dueAt startsIdent endsKeyword same part keywordAt matchAt gapEnd
+    gapTurn afterWhite commentEnd blockEnd closing pairAt runEnd span inRun inIdent classOf turns
 right = tt

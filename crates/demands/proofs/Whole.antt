@@ -51,7 +51,8 @@ use Rattle.demands.proofs.Outcomes.{leaves-one, filled, equals}
 -- ---- dependencies
 
 -- a scan of 11, in words
-told-words : (x : Scan) (n : ℕ) → toldDependencies x ≡ cutAt n → (numberOf (parsedOf x) ≡ 11) × (answerWords (parsedOf x) ≡ 11 ∷ 0 ∷ n ∷ 0 ∷ 0 ∷ 0 ∷ []) × (pageOf x ≡ [])
+told-words : (x : Scan) (n : ℕ) → toldDependencies x ≡ cutAt n → (numberOf (parsedOf x) ≡ 11) × (answerWords (parsedOf x) ≡ 11 ∷ 0 ∷ n ∷ 0 ∷ 0 ∷ 0 ∷ [])
+    × (pageOf x ≡ [])
 unfolding numberOf parsedOf answerWords pageOf
 told-words (good d) n h = absurd (omega (arith, ap (λ (q : Refusal). q .number) h))
 told-words (bad r d) n h = (ap (λ q. q .number) h, ap (λ q. q .number ∷ q .keyword ∷ q .at ∷ 0 ∷ 0 ∷ 0 ∷ []) h, refl)
@@ -115,7 +116,8 @@ records s x y d (asBefore q) h k =
       filled Metadata.keptOf q refl (h .stored) (k .stored),
       h .words ∙ ap (λ z. recordWords (Metadata.answerOf z .values)) q ∙ sym (k .words),
       h .answer
-          ∙ ap (λ z. Metadata.answerOf z .answer .number ∷ Metadata.answerOf z .answer .keyword ∷ Metadata.answerOf z .answer .at ∷ Metadata.answerOf z .used ∷ []) q
+          ∙ ap (λ z. Metadata.answerOf z .answer .number ∷ Metadata.answerOf z .answer .keyword ∷ Metadata.answerOf z .answer .at ∷ Metadata.answerOf z .used
+          ∷ []) q
           ∙ sym (k .answer),
     )
 records s x y d (cut q m) h k =

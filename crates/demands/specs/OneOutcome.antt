@@ -90,7 +90,8 @@ pub record OneOutcome : Type 1 where
       → {n n′ : ℕ} {e f g q a e′ f′ g′ q′ a′ : List ℕ} → PrintedAnswered whole s d t u p n e f g q a → PrintedAnswered whole s d′ t′ u′ p′ n′ e′ f′ g′ q′ a′
       → (n ≡ n′) × (e ≡ e′) × (f ≡ f′) × (g ≡ g′) × (q ≡ q′) × (a ≡ a′)
   pub host-metadata : (whole : Bool) (s d d′ : List ℕ) → length d ≡ length d′
-      → {n n′ : ℕ} {e w a e′ w′ a′ : List ℕ} → MetadataAnswered whole s d n e w a → MetadataAnswered whole s d′ n′ e′ w′ a′ → (n ≡ n′) × (e ≡ e′) × (w ≡ w′) × (a ≡ a′)
+      → {n n′ : ℕ} {e w a e′ w′ a′ : List ℕ} → MetadataAnswered whole s d n e w a → MetadataAnswered whole s d′ n′ e′ w′ a′ → (n ≡ n′) × (e ≡ e′) × (w ≡ w′)
+      × (a ≡ a′)
   -- nuvaleta_find_module, nuvaleta_find_submodule, nuvaleta_find_import_module, nuvaleta_text
   pub host-module : (s t : List ℕ) {n n′ : ℕ} {a a′ : List ℕ} → let w = toldWords imageBroken (findModule s t) in
       Told w n a → Told w n′ a′ → (n ≡ n′) × (a ≡ a′)

@@ -1,5 +1,5 @@
--- The refusals of a scan in the old mode, by number and keyword: each comes from a place in the definitions that has both, and nothing on the way changes them. A block
--- ends before its turns do.
+-- The refusals of a scan in the old mode, by number and keyword: each comes from a place in the definitions that has both, and nothing on the way changes them.
+-- A block ends before its turns do.
 -- Assumes nothing.
 use Prim.Native.Nat.{ℕ, suc, _+_, _-_}
 use mathlib.Core.Path.{_≡_, refl, sym, ap, _∙_, subst}
@@ -283,7 +283,8 @@ module _ (s : List ℕ) where
       (λ t. let f = name-refusable 9 in
       rw t (plain-is name n (dueHere s at 59 9) (due-here-is (StatementRefusal 9) 9 (f 5 refl) (f 6 refl) s at 59)))
 
-  value-read-is : (u : ℕ) (bytes : List ℕ) (a : Argument) → ArgumentIs (StatementRefusal 9) a → IncludedIs (StatementRefusal 9) (afterValue false s u bytes a .answer)
+  value-read-is : (u : ℕ) (bytes : List ℕ) (a : Argument) → ArgumentIs (StatementRefusal 9) a
+      → IncludedIs (StatementRefusal 9) (afterValue false s u bytes a .answer)
   unfolding afterValue
   value-read-is u bytes (Read c n) h = rest-is (gapEnd s (c .at)) n _ bytes
   value-read-is u bytes (NoArgument r) h = h
@@ -347,7 +348,8 @@ turn-is d (Stop x) r h e = let q : Deps.bad x d ≡ r = cc in subst ScanIs q h
 pub scanned-is : (s : List ℕ) → ScanIs (Deps.scanned false s)
 unfolding Deps.scanned Deps.scanFrom scanTurn
 scanned-is s =
-    turns-all (scanTurn false s) (Deps.good Deps.none) ScanIs (λ a r e. turn-is _ (stepAt false s (a .far) .answer) r (step-is s (a .far)) e) tt (suc (length s)) _
+    turns-all (scanTurn false s) (Deps.good Deps.none) ScanIs (λ a r e. turn-is _ (stepAt false s (a .far) .answer) r (step-is s (a .far)) e) tt
+    (suc (length s)) _
 
 -- ---- what comes first
 

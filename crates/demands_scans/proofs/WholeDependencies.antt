@@ -1,5 +1,5 @@
--- The dependency scan in the whole-text mode and in the old one, side by side: where they part, the one is 11 and the other stands at the text's end, so that it
--- is refused there by 4, 6 or 8, or ends.
+-- The dependency scan in the whole-text mode and in the old one, side by side: where they part, the one is 11 and the other stands at the text's end, so that
+-- it is refused there by 4, 6 or 8, or ends.
 -- Assumes nothing.
 use Prim.Native.Nat.{ℕ, _+_, _-_, _<_, _≤_}
 use mathlib.Core.Path.{_≡_, refl, sym, ap, ap₂, subst, _∙_}
@@ -54,7 +54,8 @@ use Rattle.scan_head.specs.Head.{headAt}
 use Rattle.scan_head.specs.declared.Head.{Head}
 use Rattle.scan_head.specs.declared.Head.the-variants.{Import, Include, Last, Other}
 use Rattle.yangparser.specs.Dependencies as Deps
-use Rattle.yangparser.specs.Dependencies.{Step, adding, importStep, includeStep, full, unlessFull, importHere, includeHere, movedTo, afterToken, headStep, stepAt}
+use Rattle.yangparser.specs.Dependencies.{Step, adding, importStep, includeStep, full, unlessFull, importHere, includeHere, movedTo, afterToken, headStep}
+use Rattle.yangparser.specs.Dependencies.{stepAt}
 use Rattle.yangparser.specs.Dependencies.{Scanning, scanFrom}
 use Rattle.yangparser.specs.declared.Next.{Next}
 use Rattle.yangparser.specs.declared.Next.the-variants.{On, Done, Stop}
@@ -225,7 +226,8 @@ import-modes s at u =
     by-name (NoArgument r) = inl refl
 
     named : (a : Argument) → lineAt true s at u 8 123 ≡ a → ImportModes s (importAt true s at u) (afterName false s u (valueBytes (valueAt s at)) a)
-    named a e = subst (λ z. ImportModes s (afterName true s u (valueBytes (valueAt s at)) z) (afterName false s u (valueBytes (valueAt s at)) a)) (sym e) (by-name a)
+    named a e = subst (λ z. ImportModes s (afterName true s u (valueBytes (valueAt s at)) z) (afterName false s u (valueBytes (valueAt s at)) a)) (sym e)
+        (by-name a)
 
 abbrev pub IncludeModes : List ℕ → Left ParsedInclude → Left ParsedInclude → Type 0
 IncludeModes s x y = (x ≡ y) ⊎ ((x .answer ≡ NoInclude (cutAt (length s))) × (r : Refusal) × (y .answer ≡ NoInclude r) × Old r)

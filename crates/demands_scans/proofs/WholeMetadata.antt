@@ -130,7 +130,8 @@ unfolding fieldAt withRest
 field-modes s at k u =
     let bs = valueBytes (valueAt s at) in
     ⊎-elim
-    (λ e. subst (λ a. SaidModes s (record { answer = withRest true s k u a; bytes = bs }) (fieldAt false s at k u)) (sym e) (by-value (argumentAt false s at u k) refl))
+    (λ e. subst (λ a. SaidModes s (record { answer = withRest true s k u a; bytes = bs }) (fieldAt false s at k u)) (sym e)
+    (by-value (argumentAt false s at u k) refl))
     (λ e. inr (ap (withRest true s k u) (e .0), old (argument-open s at u k (e .1)))) (argument-modes s at u k)
   where
     by-value : (a : Argument) → argumentAt false s at u k ≡ a
@@ -154,7 +155,8 @@ skip-modes : (s : List ℕ) (at k : ℕ) → at ≤ length s
 unfolding afterSkipped
 skip-modes s at k l =
     ⊎-elim
-    (λ e. subst (λ d. SaidModes s (said (afterSkipped true s k d)) (said (afterSkipped false s k (pastValue false s at)))) (sym e) (by-value (pastValue false s at) refl))
+    (λ e. subst (λ d. SaidModes s (said (afterSkipped true s k d)) (said (afterSkipped false s k (pastValue false s at)))) (sym e)
+    (by-value (pastValue false s at) refl))
     (λ e. inr (
       ap (afterSkipped true s k) (e .0),
       subst (λ d. OldHeard s (afterSkipped false s k d)) (sym (e .2))

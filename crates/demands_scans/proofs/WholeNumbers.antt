@@ -24,7 +24,8 @@ use Rattle.scan_header.specs.declared.Heard.{Heard}
 use Rattle.scan_header.specs.declared.Heard.the-variants.{Value, Passed, Done, Refused}
 use Rattle.yangparser.specs.Dependencies as Deps
 use Rattle.scan_metadata.specs.Metadata as Meta
-use Rattle.demands_scans.specs.Refusals.{FirstRefusal, RefusedAs, first, read, StatementRefusal, DependenciesRefusal, HeaderRefusal, MetadataRefusal, WholeRefusal}
+use Rattle.demands_scans.specs.Refusals.{FirstRefusal, RefusedAs, first, read, StatementRefusal, DependenciesRefusal, HeaderRefusal, MetadataRefusal}
+use Rattle.demands_scans.specs.Refusals.{WholeRefusal}
 use Rattle.demands_scans.specs.Refusals.{cut-short, as-before, ModeRefusal}
 use Rattle.demands_scans.specs.Whole.{OldMode, toldDependencies, toldMetadata, WholeOrOld, same, cut, oldDependencies, oldMetadata}
 use Rattle.demands_scans.proofs.ScanNumbers.{ImportedIs, IncludedIs, import-is, include-is, LentIs, lent-is, dependencies-refused}
@@ -68,14 +69,16 @@ module _ (s : List ℕ) (at u : ℕ) where
   pub import-mode : (whole : Bool) → ImportedIs (ModeRefusal whole (StatementRefusal 8) s) (importAt whole s at u .answer)
   import-mode true =
       ⊎-elim
-      (λ e. subst (λ x. ImportedIs (WholeRefusal (StatementRefusal 8) s) (x .answer)) (sym e) (import-before s (importAt false s at u .answer) (import-is s at u)))
+      (λ e. subst (λ x. ImportedIs (WholeRefusal (StatementRefusal 8) s) (x .answer)) (sym e)
+      (import-before s (importAt false s at u .answer) (import-is s at u)))
       (λ e. subst (ImportedIs (WholeRefusal (StatementRefusal 8) s)) (sym (e .0)) (cut-short refl)) (import-modes s at u)
   import-mode false = import-is s at u
 
   pub include-mode : (whole : Bool) → IncludedIs (ModeRefusal whole (StatementRefusal 9) s) (includeAt whole s at u .answer)
   include-mode true =
       ⊎-elim
-      (λ e. subst (λ x. IncludedIs (WholeRefusal (StatementRefusal 9) s) (x .answer)) (sym e) (include-before s (includeAt false s at u .answer) (include-is s at u)))
+      (λ e. subst (λ x. IncludedIs (WholeRefusal (StatementRefusal 9) s) (x .answer)) (sym e)
+      (include-before s (includeAt false s at u .answer) (include-is s at u)))
       (λ e. subst (IncludedIs (WholeRefusal (StatementRefusal 9) s)) (sym (e .0)) (cut-short refl)) (include-modes s at u)
   include-mode false = include-is s at u
 
@@ -104,7 +107,8 @@ module _ (s : List ℕ) (short : Bool) where
         go (Unfit q) f h = let e : q ≡ r = cc in first (subst (FirstRefusal s short) e f)
 
     -- in either mode
-    pub dependencies-mode-refused : (whole : Bool) → Deps.dependencies whole s short ≡ Deps.bad r d → RefusedAs (ModeRefusal whole DependenciesRefusal s) s short r
+    pub dependencies-mode-refused : (whole : Bool) → Deps.dependencies whole s short ≡ Deps.bad r d
+        → RefusedAs (ModeRefusal whole DependenciesRefusal s) s short r
     dependencies-mode-refused true h = dependencies-whole-refused h
     dependencies-mode-refused false h = dependencies-refused s short r d h
 

@@ -183,7 +183,8 @@ module _ (s : List ℕ) (k : ℕ) (pre : List ℕ) where
                 won-on (blockTurn false s k) (λ b. b .body .at) (block-forward s k) s prefixWord turn (pre ++ cs) (pre ++ g .bytes ++ i .bytes) (w .rest) behind
                 (g .body .prefix) (h .body .prefix) (y .prefix) (has .1 e) (w .prefix e);
             revision =
-                won-on (blockTurn false s k) (λ b. b .body .at) (block-forward s k) s revisionDateWord turn (pre ++ cs) (pre ++ g .bytes ++ i .bytes) (w .rest) behind
+                won-on (blockTurn false s k) (λ b. b .body .at) (block-forward s k) s revisionDateWord turn (pre ++ cs) (pre ++ g .bytes ++ i .bytes)
+                (w .rest) behind
                 (g .body .revision) (h .body .revision) (y .revision) (has .2) (w .revision);
           }
 

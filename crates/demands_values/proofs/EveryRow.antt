@@ -71,7 +71,8 @@ module _ (s : List ℕ) (d : Dependencies) where
       of (Stop r) e go = good-bad (sym h ∙ scan-stop false s g r e)
 
   -- a state that is reached stands as said, and what is read from there is what is read of the whole
-  reached-good : (g : Scanning) → Reaches (scanTurn false s) (record { far = start; read = none }) g → scanned false s ≡ good d → Stands s g × (scanFrom false s g ≡ good d)
+  reached-good : (g : Scanning) → Reaches (scanTurn false s) (record { far = start; read = none }) g → scanned false s ≡ good d → Stands s g
+      × (scanFrom false s g ≡ good d)
   unfolding scanned
   reached-good g first h = (stands-first s, h)
   reached-good g (next {b = b} r t) h =

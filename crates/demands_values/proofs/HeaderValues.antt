@@ -150,7 +150,10 @@ module _ (s : List ℕ) where
         → Revised (d .bytes) g (r ∷ rs)
     unfolding Revised Each
     revised-here r b [] u = (here revisionWord (r .span) b, tt)
-    revised-here r b (q ∷ rs) w = (here revisionWord (r .span) b, (met-on (metadataTurn false s) (λ b. b .at) forward s revisionWord t (w .0 .0), mets rs (w .1)))
+    revised-here r b (q ∷ rs) w = (
+      here revisionWord (r .span) b,
+      (met-on (metadataTurn false s) (λ b. b .at) forward s revisionWord t (w .0 .0), mets rs (w .1)),
+    )
 
     revisions-on : (new : List Revision) × (d .revisions ≡ g .read .revisions ++ new) × Revised (d .bytes) g new
     revisions-on =

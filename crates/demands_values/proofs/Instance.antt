@@ -78,12 +78,12 @@ abbrev read : Dependencies
 read = record { imports = rowWith (held 0 2) (held 3 1) ∷ []; includes = include-row ∷ []; bytes = stored }
 
 scan : dependencies false text false ≡ good read
-unfolding joined importStep includeStep unlessFull importHere includeHere movedTo afterToken pastOf pastToken pastStatement headStep stepHere stepAt afterStep scanTurn scanFrom scanned
-    lentAt ifFit dependencies orMatch lastAt orHead headAt orLine lineKind withValue kept withSkipped afterKind insideHere insideAt afterInside blockTurn
-    blockFrom blockAt ofBody importOf withName afterName importAt includeOf plainOf blockOf openOrPlain afterValue includeAt argumentOf breaksOff argumentAt afterDue
-    afterArgument lineAt escaped escapes strEnd strBytes closedBy strAt isQuote startsName addedBy afterPlus afterGap moreAt addTo joinTurn joinedWith
-    joinedValue ofString valueHere valueAt valueBytes closedToken tokenHere tokenAt closes quotedLen quotedEnd atSemicolon atClose partOf partAt ofPart
-    statementTurn statementFrom statementAt dueNumber dueHere dueAt startsIdent endsKeyword same part keywordAt matchAt gapEnd gapTurn afterWhite
+unfolding joined importStep includeStep unlessFull importHere includeHere movedTo afterToken pastOf pastToken pastStatement headStep stepHere stepAt afterStep
+    scanTurn scanFrom scanned lentAt ifFit dependencies orMatch lastAt orHead headAt orLine lineKind withValue kept withSkipped afterKind insideHere insideAt
+    afterInside blockTurn blockFrom blockAt ofBody importOf withName afterName importAt includeOf plainOf blockOf openOrPlain afterValue includeAt argumentOf
+    breaksOff argumentAt afterDue afterArgument lineAt escaped escapes strEnd strBytes closedBy strAt isQuote startsName addedBy afterPlus afterGap moreAt addTo
+    joinTurn joinedWith joinedValue ofString valueHere valueAt valueBytes closedToken tokenHere tokenAt closes quotedLen quotedEnd atSemicolon atClose partOf
+    partAt ofPart statementTurn statementFrom statementAt dueNumber dueHere dueAt startsIdent endsKeyword same part keywordAt matchAt gapEnd gapTurn afterWhite
     commentEnd blockEnd closing pairAt runEnd span inRun inIdent classOf turns
 scan = refl
 
@@ -169,8 +169,8 @@ unfolding dueAt dueHere gapEnd gapTurn afterWhite commentEnd blockEnd closing pa
 block-opens {c = c} e h = let q : Stands (record { at = 15 }) ≡ Stands c = ap (λ z. dueAt text z 123 8) (sym e) ∙ h in cc
 
 block-turn : (u : ℕ) → blockTurn false text 8 (record { body = begun 15 u; bytes = [] }) ≡ on (second u)
-unfolding orLine lineKind withValue kept afterKind insideHere insideAt afterInside blockTurn argumentOf breaksOff argumentAt afterDue afterArgument lineAt isQuote
-    startsName valueHere valueAt valueBytes dueNumber dueHere dueAt startsIdent endsKeyword same part keywordAt matchAt gapEnd gapTurn afterWhite
+unfolding orLine lineKind withValue kept afterKind insideHere insideAt afterInside blockTurn argumentOf breaksOff argumentAt afterDue afterArgument lineAt
+    isQuote startsName valueHere valueAt valueBytes dueNumber dueHere dueAt startsIdent endsKeyword same part keywordAt matchAt gapEnd gapTurn afterWhite
     commentEnd blockEnd closing pairAt runEnd span inRun inIdent classOf turns
 block-turn u = refl
 

@@ -70,11 +70,11 @@ read = record {
 }
 
 scan : metadata false text false ≡ good read
-unfolding metadata ifFit scanned scanFrom metadataTurn afterHeard ended told pastOf pastToken pastStatement dueFor afterRevision afterValue passed kept withRest fieldAt
-    laterPrefix statementSaid tagSaid saidHere saidAt dataAt lastTag orTag tagAt lentAt orMatch argumentOf breaksOff argumentAt isQuote startsName valueHere valueAt
-    valueBytes closedToken tokenHere tokenAt closes quotedLen quotedEnd atSemicolon atClose partOf partAt ofPart statementTurn statementFrom statementAt
-    dueNumber dueHere dueAt startsIdent endsKeyword same part keywordAt matchAt gapEnd gapTurn afterWhite commentEnd blockEnd closing pairAt runEnd span inRun
-    inIdent classOf turns
+unfolding metadata ifFit scanned scanFrom metadataTurn afterHeard ended told pastOf pastToken pastStatement dueFor afterRevision afterValue passed kept withRest
+    fieldAt laterPrefix statementSaid tagSaid saidHere saidAt dataAt lastTag orTag tagAt lentAt orMatch argumentOf breaksOff argumentAt isQuote startsName
+    valueHere valueAt valueBytes closedToken tokenHere tokenAt closes quotedLen quotedEnd atSemicolon atClose partOf partAt ofPart statementTurn statementFrom
+    statementAt dueNumber dueHere dueAt startsIdent endsKeyword same part keywordAt matchAt gapEnd gapTurn afterWhite commentEnd blockEnd closing pairAt runEnd
+    span inRun inIdent classOf turns
 scan = refl
 
 -- what the call answers and leaves

@@ -57,7 +57,8 @@ pub record Demand2 : Type 0 where
   -- extract_yang_metadata
   pub metadata : (mode : Bool) (s d : List ℕ) {r : YangModuleMetadata} {e : List ℕ} → Metadata.Extracts mode s d r e → r .answer .number ≡ 0
       → RecordRead s e (r .values)
-  -- nuvaleta_dependencies, nuvaleta_printed, nuvaleta_metadata, and in the whole-text mode the same with _whole; n: the number returned, a: the answer, w: the record
+  -- nuvaleta_dependencies, nuvaleta_printed, nuvaleta_metadata, and in the whole-text mode the same with _whole; n: the number returned, a: the answer, w: the
+  -- record
   pub host-dependencies : (mode : Bool) (s d t u : List ℕ) {n : ℕ} {e f g a : List ℕ} → DependenciesAnswered mode s d t u n e f g a → n ≡ 0
       → RowsRead s e f (getD a 3 0) g (getD a 4 0)
   pub host-printed : (mode : Bool) (s d t u p : List ℕ) {n : ℕ} {e f g q a : List ℕ} → PrintedAnswered mode s d t u p n e f g q a → n ≡ 0

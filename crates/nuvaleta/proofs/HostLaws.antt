@@ -64,7 +64,8 @@ module _ (whole : Bool) (s : List ℕ) (z : Bool) (d t u p : List ℕ) (r : Page
   pub page-size-fits : r .length < 4294967296
   page-size-fits = omega (arith, w .length-is, page-fits whole s z)
 
-  pub page-answered : {v a : List ℕ} → v ≡ answerWords (r .parsed) → a ≡ v ++ (r .length ∷ []) → AnsweredPage (dependencies whole s z) d t u p (getD v 0 0) e f g q a
+  pub page-answered : {v a : List ℕ} → v ≡ answerWords (r .parsed) → a ≡ v ++ (r .length ∷ [])
+      → AnsweredPage (dependencies whole s z) d t u p (getD v 0 0) e f g q a
   page-answered ve ae =
       let scan = answered whole s z d t u (w .scan) ve in
       record {

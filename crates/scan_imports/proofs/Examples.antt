@@ -136,9 +136,10 @@ examples =
 
 right : T (all examples)
 unfolding examples all holds isRefusal isImport isNoImport isInclude isNoInclude importWords includeWords importAt afterName withName importOf ofBody includeAt
-    afterValue openOrPlain blockOf includeOf plainOf blockAt blockFrom blockTurn afterInside insideAt insideHere afterKind withValue kept withSkipped pastStatement pastOf brokeOff lineKind
-    orLine statementAt statementFrom statementTurn ofPart partAt partOf atSemicolon atClose quotedEnd quotedLen closes matchAt keywordAt startsIdent
-    endsKeyword lineAt afterArgument afterDue argumentAt breaksOff argumentOf dueAt dueHere dueNumber same valueAt valueBytes valueHere ofString closedAt closedHere closedString closedFrom closedTurn closedMore joined joinedWith
-    joinTurn addTo moreAt afterGap afterPlus addedBy isQuote startsName strAt closedBy strBytes strEnd escaped escapes part gapEnd gapTurn afterWhite
-    commentEnd blockEnd closing pairAt runEnd span inRun inIdent classOf turns
+    afterValue openOrPlain blockOf includeOf plainOf blockAt blockFrom blockTurn afterInside insideAt insideHere afterKind withValue kept withSkipped
+    pastStatement pastOf brokeOff lineKind orLine statementAt statementFrom statementTurn ofPart partAt partOf atSemicolon atClose quotedEnd quotedLen closes
+    matchAt keywordAt startsIdent endsKeyword lineAt afterArgument afterDue argumentAt breaksOff argumentOf dueAt dueHere dueNumber same valueAt valueBytes
+    valueHere ofString closedAt closedHere closedString closedFrom closedTurn closedMore joined joinedWith joinTurn addTo moreAt afterGap afterPlus addedBy
+    isQuote startsName strAt closedBy strBytes strEnd escaped escapes part gapEnd gapTurn afterWhite commentEnd blockEnd closing pairAt runEnd span inRun
+    inIdent classOf turns
 right = tt

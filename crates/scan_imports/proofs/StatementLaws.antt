@@ -51,7 +51,8 @@ module _ (x : Span) (b : Body) where
   of-bare h = rw h refl
 
 -- a: what reading the name and its brace answered; the store was d and is e then
-module _ (w : Bool) (s : List ℕ) (at u : ℕ) (d : List ℕ) {a : Argument} {e : List ℕ} (ae : a ≡ lineAt w s at u 8 123) (ee : e ≡ sets d u (valueBytes (valueAt s at))) where
+module _ (w : Bool) (s : List ℕ) (at u : ℕ) (d : List ℕ) {a : Argument} {e : List ℕ} (ae : a ≡ lineAt w s at u 8 123)
+    (ee : e ≡ sets d u (valueBytes (valueAt s at))) where
   pub import-refused : (r : Refusal) → a ≡ Refused r → {q : Refusal} → q ≡ argumentRefusal a → Leaves (importAt w s at u) d u (NoImport q) e
   unfolding importAt afterName
   import-refused r h p = leaves (ap (afterName w s u (valueBytes (valueAt s at))) (sym ae ∙ h)) d u (ap NoImport (refusal-is h p), ee)
@@ -93,12 +94,14 @@ pub argument-grows : (w : Bool) (s : List ℕ) (at u k : ℕ) (c : Cursor) (n : 
 argument-grows w s at u k c n ae h = omega (arith, argument-far w s at u k c n (sym ae ∙ h))
 
 -- g after the gap: room in the store for the rest of the text stays
-pub inner-room : (w : Bool) (s : List ℕ) (at u k m : ℕ) (c : Cursor) (n : ℕ) {a : Argument} → a ≡ argumentAt w s at u k → a ≡ Read c n → {g : ℕ} → g ≡ gapEnd s (c .at)
+pub inner-room : (w : Bool) (s : List ℕ) (at u k m : ℕ) (c : Cursor) (n : ℕ) {a : Argument} → a ≡ argumentAt w s at u k → a ≡ Read c n → {g : ℕ} → g
+    ≡ gapEnd s (c .at)
     → u + (length s - at) ≤ m → n + (length s - (g + 1)) ≤ m
 inner-room w s at u k m c n ae h ge r = omega (arith, argument-room w s at u k m c n (sym ae ∙ h) r, gap-from s (c .at))
 
 -- a: what reading the name answered; the store was d and is e then
-module _ (w : Bool) (s : List ℕ) (at u : ℕ) (d : List ℕ) {a : Argument} {e : List ℕ} (ae : a ≡ argumentAt w s at u 9) (ee : e ≡ sets d u (valueBytes (valueAt s at))) where
+module _ (w : Bool) (s : List ℕ) (at u : ℕ) (d : List ℕ) {a : Argument} {e : List ℕ} (ae : a ≡ argumentAt w s at u 9)
+    (ee : e ≡ sets d u (valueBytes (valueAt s at))) where
   pub include-refused : (r : Refusal) → a ≡ Refused r → {q : Refusal} → q ≡ argumentRefusal a → Leaves (includeAt w s at u) d u (NoInclude q) e
   unfolding includeAt afterValue
   include-refused r h p = leaves (ap (afterValue w s u (valueBytes (valueAt s at))) (sym ae ∙ h)) d u (ap NoInclude (refusal-is h p), ee)

@@ -148,7 +148,8 @@ module _ (whole : Bool) (s : List ℕ) (z : Bool) (d t u : List ℕ) {r : Parsed
 
 -- ---- the function; d, t, u and p: what was lent, q: the page cleared, e, f and g: what the scan left
 
-module _ (whole : Bool) (s d t u p : List ℕ) {q : List ℕ} (qe : q ≡ zeros (length p)) (ql : length q ≡ length p) {short : Bool} (se : short ≡ pageShort (length s) (length q))
+module _ (whole : Bool) (s d t u p : List ℕ) {q : List ℕ} (qe : q ≡ zeros (length p)) (ql : length q ≡ length p) {short : Bool}
+    (se : short ≡ pageShort (length s) (length q))
     {r : Parsed} {e f g : List ℕ} (w : Extracts whole s short d t u r e f g) where
   left : Extracts whole s (pageShort (length s) (length p)) d t u r e f g
   left =

@@ -43,7 +43,7 @@ pub const CLOSE_BRACE: u16 = b'}' as u16;
 
 pub const END: u16 = 256;
 
-// From here on a byte is none of the scans'.
+// Bytes from 128 on are refused (3).
 const HIGH: u16 = 128;
 
 // The classes of bytes.

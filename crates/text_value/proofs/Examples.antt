@@ -14,7 +14,8 @@ use Rattle.text.specs.Turns.{turns}
 use Rattle.text_value.specs.Argument.{argumentOf, breaksOff, argumentAt, afterDue, afterArgument, lineAt}
 use Rattle.text_value.specs.Str.{escaped, escapes, strEnd, strBytes, closedBy, strAt}
 use Rattle.text_value.specs.Value.{isQuote, startsName, More, added, ends, broken, addedBy, afterPlus, afterGap, moreAt, addTo, joinTurn, joinedWith}
-use Rattle.text_value.specs.Value.{joined, ofString, valueHere, valueAt, Val, value, none, closedMore, closedTurn, closedFrom, closedString, closedHere, closedAt}
+use Rattle.text_value.specs.Value.{joined, ofString, valueHere, valueAt, Val, value, none, closedMore, closedTurn, closedFrom, closedString, closedHere}
+use Rattle.text_value.specs.Value.{closedAt}
 use Rattle.text_value.specs.declared.Argument.{Argument}
 use Rattle.text_value.specs.declared.Argument.the-variants.{Read, Refused}
 
@@ -103,6 +104,7 @@ examples =
 
 right : T (all examples)
 unfolding examples all holds sameVal sameMore isRead isRefused lineAt afterArgument afterDue argumentAt argumentOf dueAt dueHere dueNumber same valueAt
-    valueHere ofString joined joinedWith joinTurn addTo moreAt afterGap afterPlus addedBy isQuote startsName breaksOff closedAt closedHere closedString closedFrom closedTurn closedMore strAt closedBy strBytes strEnd escaped escapes
-    part gapEnd gapTurn afterWhite commentEnd blockEnd closing pairAt runEnd span inRun inIdent classOf turns
+    valueHere ofString joined joinedWith joinTurn addTo moreAt afterGap afterPlus addedBy isQuote startsName breaksOff closedAt closedHere closedString
+    closedFrom closedTurn closedMore strAt closedBy strBytes strEnd escaped escapes part gapEnd gapTurn afterWhite commentEnd blockEnd closing pairAt runEnd
+    span inRun inIdent classOf turns
 right = tt

@@ -76,7 +76,8 @@ module _ (whole : Bool) (s : List ℕ) (else : Bool) (d t u : List ℕ) {short :
 
 -- ---- the entry; d, t and u: what was lent, e, f and g: the same cleared, after the scan e′, f′ and g′
 
-module _ (whole : Bool) (s : List ℕ) (else : Bool) (d t u : List ℕ) {e f g : List ℕ} (ee : e ≡ zeros (length d)) (fe : f ≡ zeros (length t)) (ge : g ≡ zeros (length u))
+module _ (whole : Bool) (s : List ℕ) (else : Bool) (d t u : List ℕ) {e f g : List ℕ} (ee : e ≡ zeros (length d)) (fe : f ≡ zeros (length t))
+    (ge : g ≡ zeros (length u))
     (el : length e ≡ length d) (fl : length f ≡ length t) (gl : length g ≡ length u)
     {p : Parsed} {e′ f′ g′ : List ℕ} (w : Scans whole s else e f g p e′ f′ g′) where
   lent-is : lentScan whole s else e f g ≡ lentScan whole s else d t u

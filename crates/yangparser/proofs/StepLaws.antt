@@ -48,7 +48,8 @@ unless-full P rows k at x p q =
 import-only : (whole : Bool) (s : List ℕ) (far : Sofar) (at : ℕ) → importHere whole s far at .adds .includes ≡ []
 unfolding importHere importStep
 import-only whole s far at =
-    unless-full (λ d. d .includes ≡ []) (far .imports) 8 at (importStep far (importAt whole s at (far .used) .bytes) (importAt whole s at (far .used) .answer)) refl
+    unless-full (λ d. d .includes ≡ []) (far .imports) 8 at (importStep far (importAt whole s at (far .used) .bytes)
+    (importAt whole s at (far .used) .answer)) refl
     (only (importAt whole s at (far .used) .bytes) (importAt whole s at (far .used) .answer))
   where
     only : (bs : List ℕ) (x : ParsedImport) → importStep far bs x .adds .includes ≡ []
@@ -58,7 +59,8 @@ import-only whole s far at =
 include-only : (whole : Bool) (s : List ℕ) (far : Sofar) (at : ℕ) → includeHere whole s far at .adds .imports ≡ []
 unfolding includeHere includeStep
 include-only whole s far at =
-    unless-full (λ d. d .imports ≡ []) (far .includes) 9 at (includeStep far (includeAt whole s at (far .used) .bytes) (includeAt whole s at (far .used) .answer)) refl
+    unless-full (λ d. d .imports ≡ []) (far .includes) 9 at (includeStep far (includeAt whole s at (far .used) .bytes)
+    (includeAt whole s at (far .used) .answer)) refl
     (only (includeAt whole s at (far .used) .bytes) (includeAt whole s at (far .used) .answer))
   where
     only : (bs : List ℕ) (x : ParsedInclude) → includeStep far bs x .adds .imports ≡ []
@@ -100,7 +102,8 @@ module _ (whole : Bool) (s : List ℕ) (far : Sofar) {d t u : List ℕ} where
     steps-past h = steps-is (step-past whole s far ge h) (record { answer = refl; stored = refl; imports = refl; includes = refl })
 
     module _ (in-text : g < length s) {w : Head} (we : w ≡ headAt s g) where
-      pub steps-import : (c : Cursor) → w ≡ Import c → {r : Next} {e f : List ℕ} → AddsImport whole s far (c .at) d t r e f → Steps (stepAt whole s far) far d t u r e f u
+      pub steps-import : (c : Cursor) → w ≡ Import c → {r : Next} {e f : List ℕ} → AddsImport whole s far (c .at) d t r e f
+          → Steps (stepAt whole s far) far d t u r e f u
       unfolding headStep includeWordsOf includeTable table
       steps-import c q a =
           steps-is (step-head whole s far ge in-text we q)

@@ -24,7 +24,8 @@ returns : tie.Need-returns
 returns c =
     let scan = c .before .before .before .before .before .before in
     let a = scan .before .before .before .before .args in
-    described (a .whole) (a .text .now) _ (a .store .now) (scan .extract-yang-metadata .ensures) (c .before .record-words .ensures) (c .metadata-words .ensures) refl
+    described (a .whole) (a .text .now) _ (a .store .now) (scan .extract-yang-metadata .ensures) (c .before .record-words .ensures)
+    (c .metadata-words .ensures) refl
 
 pub metadata-answer-spec : {M : Type 1} → statement M
 metadata-answer-spec =

@@ -15,7 +15,8 @@ sub-size c =
     let at-read = at-line .before .before .before .before in
     let a = at-read .before .before .before .before .args in
     let k = at-line .line .given in
-    line-grows (a .whole) (a .s .now) (a .here .at) (a .body .used) (a .keyword) 59 (k .0 .0) (k .0 .1 .0) (omega arith) (at-read .read-argument .ensures .0) (k .1)
+    line-grows (a .whole) (a .s .now) (a .here .at) (a .body .used) (a .keyword) 59 (k .0 .0) (k .0 .1 .0) (omega arith) (at-read .read-argument .ensures .0)
+    (k .1)
 
 returns-2 : tie.Need-returns-2
 returns-2 c = (search value-read, search needs)

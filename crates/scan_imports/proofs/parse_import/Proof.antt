@@ -46,7 +46,8 @@ returns-2 c =
     let k = named .name .given in
     let v = at-read .read-argument .ensures in
     let b = opened .enum-told2 .given in
-    import-broken (a .whole) (a .s .now) (a .here .at) (a .used) (a .store .now) (v .0) (v .1) (k .0 .0) (k .0 .1 .0) (k .1) (at-block .parse-block .ensures) (b .0 .0)
+    import-broken (a .whole) (a .s .now) (a .here .at) (a .used) (a .store .now) (v .0) (v .1) (k .0 .0) (k .0 .1 .0) (k .1) (at-block .parse-block .ensures)
+    (b .0 .0)
     (b .1) (c .block-refusal .ensures)
 
 returns-3 : tie.Need-returns-3

@@ -24,7 +24,8 @@ returns-2 c =
     let v = at-read .read-value in
     let k = got .got .given in
     let d = told .enum-told2 .given in (
-      sym (line-other (a .whole) (a .s .now) (a .here .at) (a .used) (a .keyword) (a .b) (v .ensures .0) (k .0 .0) (k .0 .1 .0) (k .1) (at-due .expect-char .ensures)
+      sym (line-other (a .whole) (a .s .now) (a .here .at) (a .used) (a .keyword) (a .b) (v .ensures .0) (k .0 .0) (k .0 .1 .0) (k .1)
+          (at-due .expect-char .ensures)
           (d .0 .0) (d .1) (c .refusal-of .ensures)),
       v .ensures .1,
     )
@@ -39,7 +40,8 @@ returns-3 c =
     let v = at-read .read-value in
     let k = got .got .given in
     let d = due .due .given in (
-      sym (line-read (a .whole) (a .s .now) (a .here .at) (a .used) (a .keyword) (a .b) (v .ensures .0) (k .0 .0) (k .0 .1 .0) (k .1) (at-due .expect-char .ensures)
+      sym (line-read (a .whole) (a .s .now) (a .here .at) (a .used) (a .keyword) (a .b) (v .ensures .0) (k .0 .0) (k .0 .1 .0) (k .1)
+          (at-due .expect-char .ensures)
           (d .0 .0) (d .1)),
       v .ensures .1,
     )
