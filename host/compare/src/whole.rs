@@ -260,7 +260,7 @@ const READINGS: [(Of, &str, [u32; 3], [u32; 3]); 40] = [
     (Of::M, "module m{container \"cut", GOOD, GOOD),
     // 8: before a brace
     (Of::M, "module m{belongs-to p}", GOOD, GOOD),
-    (Of::M, "module m{prefix p;prefix}", GOOD, GOOD),
+    (Of::M, "module m{prefix p;prefix }", GOOD, GOOD),
     // 9: in reading order
     (Of::D, "import a{} \"x", [7, 8, 10], [7, 8, 10]),
     (Of::D, "import a b \"x", [5, 8, 9], [5, 8, 9]),

@@ -303,7 +303,7 @@ const BROKEN: [&str; 34] = [
     "include a{revision-date \"1",
     "import a{prefix \"p",
     "import a{prefix \"p\"+\"q",
-    "module m{prefix p;prefix}",
+    "module m{prefix p;prefix }",
     "module m{belongs-to p{prefix \"q\\\";}",
     "module m{yang-version \"1\"+\"1",
     "module m{x \"container c",
