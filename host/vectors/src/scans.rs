@@ -55,7 +55,7 @@ impl<T> Plain<T> {
     pub fn answer(self, whole: bool) -> Scan<T> {
         match self.refusal(whole) {
             Some(refusal) => Scan::Refused(refusal),
-            None => Scan::Good(self.old.ok().expect("no refusal")),
+            None => Scan::Good(self.old.expect("no refusal")),
         }
     }
 }
