@@ -1,4 +1,4 @@
-/* attack [--malloc] [--once] [--short | --full] SEED COUNT [FILE..]: all eleven calls over guarded buffers: every length around each limit, null
+/* attack [--malloc] [--once] [--short | --full] SEED COUNT [FILE..]: all fourteen calls over guarded buffers: every length around each limit, null
  * pointers, and COUNT times generated and damaged texts, images and bundles, with the files given (texts; or FILE.image with FILE.bundle) damaged
  * likewise. With --once it ends where something is wrong. */
 #include <stdio.h>
@@ -17,6 +17,12 @@
 static enum { LEVEL_SHORT, LEVEL_PAIRS, LEVEL_ALL } level = LEVEL_PAIRS;
 static struct choices random_;
 static const char *unexpected;
+
+/* What a call must answer. */
+static void due(uint32_t number, uint32_t wanted, const char *what) {
+    if (number != wanted)
+        unexpected = what;
+}
 
 /* ---- lengths */
 
@@ -65,7 +71,7 @@ static void scan_lengths(const uint8_t *text, size_t length) {
         lengths((struct given){.call = call, .read = {{text, length}}}, of);
 }
 
-/* Texts of each length around the limit: good ones, one value that is almost all of the text, and a high byte at the end. */
+/* Texts of each length around the limit: good ones, one value that is almost all of the text; such a value that breaks off, and a high byte at its end. */
 static void scans(void) {
     static const char *const starts[] = {"module m{import a{prefix p;}include s;", "module m{import \""};
     static const size_t most[] = {NUVALETA_TEXT_MOST - 1, NUVALETA_TEXT_MOST, NUVALETA_TEXT_MOST + 1};
@@ -84,9 +90,49 @@ static void scans(void) {
             scan_lengths(text, most[i]);
         }
     }
+    if (level == LEVEL_SHORT)
+        return;
+    memset(text, 'x', sizeof text);
+    memcpy(text, starts[1], strlen(starts[1]));
+    scan_lengths(text, sizeof text - 1);
     text[sizeof text - 2] = 0x80;
-    if (level != LEVEL_SHORT)
-        scan_lengths(text, sizeof text - 1);
+    scan_lengths(text, sizeof text - 1);
+}
+
+static uint32_t scanned(enum call call, const void *text, size_t length, size_t more) {
+    return call_made(&(struct given){
+        .call = call,
+        .read = {{text, length}},
+        .written = {length + more, NUVALETA_IMPORT_WORDS + more, NUVALETA_INCLUDE_WORDS + more, length + NUVALETA_PAGE_MORE + more}});
+}
+
+/* Texts that break off, and such that only seem to: the number of their dependencies, and of their metadata, in the whole-text mode. */
+static void broken(void) {
+    static const struct {
+        const char *text;
+        uint32_t dependencies, metadata;
+    } all[] = {
+        {"x \"abc", 11, 11},
+        {"'", 11, 11},
+        {"\"\\\"", 11, 11},
+        {"import \"a", 11, 11},
+        {"import \"a\"+\"b", 11, 11},
+        {"import a{x", 11, NUVALETA_NO_NAME},
+        {"include a{x/*c", 11, NUVALETA_NO_NAME},
+        {"module m{belongs-to p", 0, 11},
+        {"module m{belongs-to \"p\"+\"x", 11, 11},
+        {"module m{prefix p;prefix", 0, 11},
+        {"module m{revision 2020-01-01{", 0, 11},
+        {"yang-version \"1", 11, 11},
+        {"import a{/*c", NUVALETA_OPEN_ENDED, NUVALETA_NO_NAME},
+        {"import a{} \"x", NUVALETA_NO_PREFIX, 11},
+        {"module m{description \"x", 0, 11},
+        {"module m{container \"x", 11, 0},
+        {"module m{belongs-to p}/*c", 0, 0},
+    };
+    for (size_t i = 0; i < COUNT(all); i++)
+        for (enum call call = DEPENDENCIES_WHOLE; call <= METADATA_WHOLE; call++)
+            due(scanned(call, all[i].text, strlen(all[i].text), 0), call == METADATA_WHOLE ? all[i].metadata : all[i].dependencies, all[i].text);
 }
 
 /* As many imports or includes as the tables have rows, and one more or less. */
@@ -222,12 +268,6 @@ static void counts(struct bytes *image, struct bytes *bundle) {
         for (size_t less = 0; less < 2 && less <= form_find(TEXT, (struct read){bundle->at, bundle->length}, (struct read){"", 0}).longest; less++)
             graph(image, bundle, (of == OF_TEXT ? n : 0) - less, 0);
     }
-}
-
-/* What a call at a limit must answer. */
-static void due(uint32_t number, uint32_t wanted, const char *what) {
-    if (number != wanted)
-        unexpected = what;
 }
 
 /* Images and bundles around their longest, names around theirs. */
@@ -409,9 +449,13 @@ static void no_pointers(void) {
 static void scan(const struct bytes *text) {
     const size_t more = choose(&random_, 3) * choose(&random_, 40);
     for (enum call call = DEPENDENCIES; call <= METADATA; call++)
-        call_made(&(struct given){.call = call, .read = {{text->at, text->length}},
-                                  .written = {text->length + more, NUVALETA_IMPORT_WORDS + more, NUVALETA_INCLUDE_WORDS + more,
-                                              text->length + NUVALETA_PAGE_MORE + more}});
+        scanned(call, text->at, text->length, more);
+}
+
+/* The same of one of its beginnings. */
+static void scan_beginning(struct bytes *text) {
+    text->length = choose(&random_, text->length + 1);
+    scan(text);
 }
 
 static void library(const struct bytes *image, const struct bytes *bundle) {
@@ -435,6 +479,7 @@ static void random_calls(size_t count) {
         scan(&text);
         damage(&random_, &text);
         scan(&text);
+        scan_beginning(&text);
         make_library(&random_, &image, &bundle);
         library(&image, &bundle);
         damage(&random_, choose(&random_, 2) == 0 ? &image : &bundle);
@@ -480,10 +525,12 @@ static void attack_file(const char *path, size_t count) {
         put(&copy, one.at, one.length);
         if (i != 0)
             damage(&random_, &copy);
-        if (packed)
+        if (packed) {
             library(&copy, &other);
-        else
-            scan(&copy);
+            continue;
+        }
+        scan(&copy);
+        scan_beginning(&copy);
     }
     free(one.at);
     free(other.at);
@@ -507,6 +554,7 @@ int main(int count, char **words) {
     call_milliseconds *= by_malloc ? 60 : 1; /* valgrind takes its time */
     lent_start(by_malloc);
     scans();
+    broken();
     rows();
     forms();
     included();

@@ -6,6 +6,7 @@
 
 #include "judge.h"
 #include "lent.h"
+#include "make.h"
 #include "nuvaleta.h"
 #ifdef PLANTED
 #include "planted.h"
@@ -21,6 +22,9 @@ static const struct shape shapes[CALLS] = {
     {"nuvaleta_dependencies", 1, 3, 1, {1, 4, 4}},
     {"nuvaleta_printed", 1, 4, 1, {1, 4, 4, 1}},
     {"nuvaleta_metadata", 1, 1, 1, {1}},
+    {"nuvaleta_dependencies_whole", 1, 3, 1, {1, 4, 4}},
+    {"nuvaleta_printed_whole", 1, 4, 1, {1, 4, 4, 1}},
+    {"nuvaleta_metadata_whole", 1, 1, 1, {1}},
     {"nuvaleta_find_module", 2, 0, 1, {0}},
     {"nuvaleta_find_submodule", 2, 0, 1, {0}},
     {"nuvaleta_find_import_module", 2, 0, 1, {0}},
@@ -43,6 +47,10 @@ size_t call_reads(enum call call) { return shapes[call].reads; }
 size_t call_writes(enum call call) { return shapes[call].writes; }
 const char *call_name(enum call call) { return shapes[call].name; }
 int call_draws(enum call call) { return call == GRAPH || call == GRAPH_COMPLETE; }
+
+enum call call_old(enum call call) {
+    return call >= DEPENDENCIES_WHOLE && call <= METADATA_WHOLE ? call - DEPENDENCIES_WHOLE + DEPENDENCIES : call;
+}
 
 /* Says what is wrong of which call, with its lengths. */
 static void tell(enum wrong kind, const struct given *g, const char *what) {
@@ -70,6 +78,9 @@ static void ask(void *with) {
     case DEPENDENCIES: a->number = nuvaleta_dependencies(r[0], n[0], w[0], m[0], w[1], m[1], w[2], m[2], a->answer); break;
     case PRINTED: a->number = nuvaleta_printed(r[0], n[0], w[0], m[0], w[1], m[1], w[2], m[2], w[3], m[3], a->answer); break;
     case METADATA: a->number = nuvaleta_metadata(r[0], n[0], w[0], m[0], a->record, a->answer); break;
+    case DEPENDENCIES_WHOLE: a->number = nuvaleta_dependencies_whole(r[0], n[0], w[0], m[0], w[1], m[1], w[2], m[2], a->answer); break;
+    case PRINTED_WHOLE: a->number = nuvaleta_printed_whole(r[0], n[0], w[0], m[0], w[1], m[1], w[2], m[2], w[3], m[3], a->answer); break;
+    case METADATA_WHOLE: a->number = nuvaleta_metadata_whole(r[0], n[0], w[0], m[0], a->record, a->answer); break;
     case FIND_MODULE: a->number = nuvaleta_find_module(r[0], n[0], r[1], n[1], a->answer); break;
     case FIND_SUBMODULE: a->number = nuvaleta_find_submodule(r[0], n[0], r[1], n[1], a->answer); break;
     case FIND_IMPORT_MODULE: a->number = nuvaleta_find_import_module(r[0], n[0], r[1], n[1], a->answer); break;
@@ -111,7 +122,7 @@ static struct asked lend(const struct given *g, enum lent_way way) {
             a.written[i] = empty(g, s->reads + i, a.written[i], s->written_size[i]);
     }
     a.writes = s->writes;
-    if (g->call == METADATA)
+    if (call_old(g->call) == METADATA)
         a.record = lent_to_write(way, READ_MOST + WRITTEN_MOST, NUVALETA_RECORD_WORDS * sizeof *a.record);
     a.answer = lent_to_write(way, READ_MOST + WRITTEN_MOST + 1, judge_words(g->call) * sizeof *a.answer);
     return a;
@@ -193,6 +204,33 @@ static void order_graph(uint32_t n, uint32_t m) {
         tell(OTHERWISE, &check, "an order that breaks an edge is accepted");
 }
 
+/* What the last scan left: answer, record and all that was written. */
+static struct bytes left;
+
+static void leave(const struct asked *a) {
+    left.length = 0;
+    put(&left, a->answer, judge_words(a->given->call) * sizeof *a->answer);
+    if (a->record != NULL)
+        put(&left, a->record, NUVALETA_RECORD_WORDS * sizeof *a->record);
+    for (size_t i = 0; i < a->writes; i++)
+        put(&left, a->written[i], a->sizes[i]);
+}
+
+/* The same scan in the whole-text mode: 11 in the place of good, 4, 6, 8 and 9 alone, and else the same outcome. */
+static void whole_scan(const struct given *scan, uint32_t number) {
+    const uint64_t instead = 1u << 0 | 1u << 4 | 1u << 6 | 1u << 8 | 1u << 9;
+    const struct bytes old = left;
+    struct given whole = *scan;
+    left = (struct bytes){0};
+    whole.call = scan->call - DEPENDENCIES + DEPENDENCIES_WHOLE;
+    const uint32_t other = call_made(&whole);
+    if (other == NUVALETA_CUT_SHORT && (instead >> number & 1) == 0)
+        tell(OTHERWISE, &whole, "11 in the place of another number than 0, 4, 6, 8 and 9");
+    if (other != NUVALETA_CUT_SHORT && other != CALL_FAILED && (left.length != old.length || memcmp(left.at, old.at, left.length) != 0))
+        tell(OTHERWISE, &whole, "not 11, and another outcome than in the old mode");
+    free(old.at);
+}
+
 /* The same graph with complete nodes: but for 28 without them and 30 with them both have one number. */
 static void complete_graph(const struct given *graph, uint32_t number) {
     struct given complete = *graph;
@@ -234,15 +272,19 @@ uint32_t call_made(const struct given *given) {
     }
     if (number == 0)
         keep(&a);
-    const int built = call_draws(given->call) && number == 0;
+    const int built = call_draws(given->call) && number == 0, scanned = given->call <= METADATA_WHOLE && number != CALL_FAILED;
     if (built)
         memcpy(counts, a.answer + 6, sizeof counts);
+    if (scanned)
+        leave(&a);
     lent_back(LENT_AT_END);
     lent_back(LENT_AT_START);
     if (built)
         order_graph(counts[0], counts[1]);
     if (given->call == GRAPH)
         complete_graph(given, number);
+    if (scanned && given->call <= METADATA)
+        whole_scan(given, number);
     return number;
 }
 

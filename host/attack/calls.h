@@ -1,11 +1,27 @@
-/* The eleven calls of include/nuvaleta.h over lent buffers, each made in both ways, and all that must hold of what they answer and leave. */
+/* The fourteen calls of include/nuvaleta.h over lent buffers, each made in both ways, and all that must hold of what they answer and leave. */
 #ifndef CALLS_H
 #define CALLS_H
 
 #include <stddef.h>
 #include <stdint.h>
 
-enum call { DEPENDENCIES, PRINTED, METADATA, FIND_MODULE, FIND_SUBMODULE, FIND_IMPORT_MODULE, TEXT, GRAPH, GRAPH_COMPLETE, ORDER, ORDER_CHECK, CALLS };
+enum call {
+    DEPENDENCIES,
+    PRINTED,
+    METADATA,
+    DEPENDENCIES_WHOLE,
+    PRINTED_WHOLE,
+    METADATA_WHOLE,
+    FIND_MODULE,
+    FIND_SUBMODULE,
+    FIND_IMPORT_MODULE,
+    TEXT,
+    GRAPH,
+    GRAPH_COMPLETE,
+    ORDER,
+    ORDER_CHECK,
+    CALLS
+};
 
 /* What is read of a call, and what is written, in the order of its parameters; without the answer and without a record. */
 enum { READ_MOST = 3, WRITTEN_MOST = 6 };
@@ -37,9 +53,11 @@ size_t call_writes(enum call call);
 const char *call_name(enum call call);
 /* Whether it draws a graph. */
 int call_draws(enum call call);
+/* Of a scan in the whole-text mode the one in the old mode; any other call itself. */
+enum call call_old(enum call call);
 
-/* Makes the call in both ways and looks at everything. Of a graph also the one with complete nodes. Of one that is built also its order, and the check of
- * that. Answers the call's number, or CALL_FAILED where it has none: it was ended by a signal or by time. */
+/* Makes the call in both ways and looks at everything. Of a scan also the one in the whole-text mode. Of a graph also the one with complete nodes. Of one
+ * that is built also its order, and the check of that. Answers the call's number, or CALL_FAILED where it has none: it was ended by a signal or by time. */
 #define CALL_FAILED UINT32_MAX
 uint32_t call_made(const struct given *given);
 

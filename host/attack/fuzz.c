@@ -136,10 +136,12 @@ static void start(size_t count, const uint8_t *first) {
     put(&seed, first, count);
 }
 
-/* Some have one row more than there can be. */
+/* Some have one row more than there can be, some break off. */
 static void seed_scans(struct choices *from) {
     static struct bytes text;
     make_text(from, &text);
+    if (choose(from, 3) == 0)
+        text.length = choose(from, text.length + 1);
     start(1, (const uint8_t[]){0});
     for (size_t left = choose(from, 40) == 0 ? 257 : 0; left > 0; left--)
         put_words(&seed, "include s;");

@@ -16,6 +16,9 @@ static const struct rule {
     {6, TO(0, 8) | BIT(10), TO(3, 5), TO(1, 2)},
     {7, TO(0, 8) | BIT(10), TO(3, 6), TO(1, 2)},
     {4, TO(0, 6) | BIT(9), BIT(3), TO(1, 2)},
+    {6, TO(0, 8) | TO(10, 11), TO(3, 5), TO(1, 2)},
+    {7, TO(0, 8) | TO(10, 11), TO(3, 6), TO(1, 2)},
+    {4, TO(0, 6) | BIT(9) | BIT(11), BIT(3), TO(1, 2)},
     {5, BIT(0) | BIT(20), TO(2, 4), BIT(1)},
     {5, BIT(0) | BIT(20), TO(2, 4), BIT(1)},
     {5, BIT(0) | BIT(20), TO(2, 4), BIT(1)},
@@ -35,7 +38,7 @@ static int is_zero(const uint8_t *at, size_t size) { return size == 0 || (at[0] 
 /* How many bytes of a written buffer are used. */
 static size_t used(const struct asked *a, size_t i) {
     const uint32_t *answer = a->answer;
-    const enum call call = a->given->call;
+    const enum call call = call_old(a->given->call);
     if (call == ORDER)
         return a->number == 0 || a->number == NUVALETA_CYCLE ? answer[1] * sizeof(uint32_t) : 0;
     if (a->number != 0)
@@ -69,11 +72,12 @@ const char *judge_zeros(const struct asked *a) {
 
 static int is_short(const struct given *g) {
     const size_t text = g->read[0].length, *lent = g->written;
+    const enum call call = call_old(g->call);
     if (lent[0] < text)
         return 1;
-    if (g->call == METADATA)
+    if (call == METADATA)
         return 0;
-    return lent[1] < NUVALETA_IMPORT_WORDS || lent[2] < NUVALETA_INCLUDE_WORDS || (g->call == PRINTED && lent[3] < text + NUVALETA_PAGE_MORE);
+    return lent[1] < NUVALETA_IMPORT_WORDS || lent[2] < NUVALETA_INCLUDE_WORDS || (call == PRINTED && lent[3] < text + NUVALETA_PAGE_MORE);
 }
 
 static size_t first_high(const struct read *text) {
@@ -86,21 +90,24 @@ static size_t first_high(const struct read *text) {
 
 /* The keywords that may come with a number of 4 or more. */
 static uint64_t keywords(enum call call, uint32_t number) {
-    if (call == METADATA)
+    if (number == NUVALETA_CUT_SHORT)
+        return BIT(0);
+    if (call_old(call) == METADATA)
         return number == 9 ? BIT(0) : TO(1, 7) & ~(number == 4 ? BIT(6) : BIT(3));
     if (number == 7)
         return BIT(8);
     return number <= 6 ? BIT(5) | TO(8, 10) : TO(8, 9);
 }
 
-/* What the header says of the position at 5 to 8 and 10: another byte, the end, behind a brace, behind the keyword. */
+/* What the header says of the position at 5 to 8, 10 and 11: another byte, the end, behind a brace, behind the keyword. */
 static int is_placed(const struct read *text, uint32_t number, uint32_t keyword, size_t at) {
     const char *bytes = text->at, *word = keyword == NUVALETA_IMPORT ? "import" : "include";
     const size_t length = strlen(word);
     switch (number) {
     case NUVALETA_OTHER_BYTE: return at < text->length;
     case NUVALETA_END_OF_TEXT:
-    case NUVALETA_OPEN_ENDED: return at == text->length;
+    case NUVALETA_OPEN_ENDED:
+    case NUVALETA_CUT_SHORT: return at == text->length;
     case NUVALETA_NO_PREFIX: return at != 0 && bytes[at - 1] == '}';
     case NUVALETA_TOO_MANY: return at >= length && memcmp(bytes + at - length, word, length) == 0;
     default: return 1;
@@ -154,7 +161,7 @@ static const char *judge_scan(const struct asked *a) {
         return "too many rows";
     if (!are_spans(a->written[1], answer[3], NUVALETA_IMPORT_ROW, answer[5]) || !are_spans(a->written[2], answer[4], NUVALETA_INCLUDE_ROW, answer[5]))
         return "a span outside what is stored";
-    return a->given->call == PRINTED && answer[6] > a->given->read[0].length + NUVALETA_PAGE_MORE ? "a page that is too long" : NULL;
+    return call_old(a->given->call) == PRINTED && answer[6] > a->given->read[0].length + NUVALETA_PAGE_MORE ? "a page that is too long" : NULL;
 }
 
 static const char *judge_metadata(const struct asked *a) {
@@ -384,7 +391,7 @@ const char *judge(const struct asked *a) {
     for (size_t i = 0; i < a->writes; i++)
         if (used(a, i) > a->sizes[i])
             return "more used than lent";
-    switch (a->given->call) {
+    switch (call_old(a->given->call)) {
     case DEPENDENCIES:
     case PRINTED: return judge_scan(a);
     case METADATA: return judge_metadata(a);

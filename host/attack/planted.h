@@ -22,7 +22,14 @@ enum planted {
     NODES_TURNED,       /* the first two nodes of a graph exchanged */
     MEMORY_LEFT,        /* what is remembered of a text not zero: that one include lies below the second node's */
     MEMORY_TRUSTED,     /* a graph that takes the words it is lent for what it remembers: the text of its second node was read, so its edges are missing */
-    NEVER_ENDS          /* one graph that never ends */
+    NEVER_ENDS,         /* one graph that never ends */
+    CUT_PASSED,         /* the old mode in the place of the whole-text mode */
+    CUT_IN_OLD,         /* the whole-text mode in the place of the old mode */
+    CUT_BEFORE,         /* 11 in the place of 7 */
+    CUT_KEYWORD,        /* a keyword with 11 */
+    CUT_PLACE,          /* 11 at another place than the text's end */
+    CUT_LEFT,           /* the record not zero at 11 */
+    WHOLE_OTHERWISE     /* a name in the store that is another one in the whole-text mode */
 };
 
 static volatile uint8_t planted_sink;
@@ -30,7 +37,8 @@ static volatile uint8_t planted_sink;
 static uint32_t planted_dependencies(const uint8_t *text, size_t text_len, uint8_t *store, size_t store_len, uint32_t *imports, size_t imports_len,
                                      uint32_t *includes, size_t includes_len, uint32_t *answer) {
     const uint8_t was = store_len != 0 ? store[0] : 0;
-    uint32_t number = nuvaleta_dependencies(text, text_len, store, store_len, imports, imports_len, includes, includes_len, answer);
+    uint32_t number = (call_planted == CUT_IN_OLD ? nuvaleta_dependencies_whole : nuvaleta_dependencies)(text, text_len, store, store_len, imports, imports_len,
+                                                                                                         includes, includes_len, answer);
     if (call_planted == BEHIND_STORE)
         store[store_len] = 1;
     if (call_planted == BEFORE_TEXT || (call_planted == NULL_READ && text_len == 0))
@@ -46,6 +54,31 @@ static uint32_t planted_dependencies(const uint8_t *text, size_t text_len, uint8
     if (call_planted == OF_ANOTHER_CALL && number == 4)
         answer[0] = number = 9;
     return call_planted == OTHER_NUMBER && number == 4 ? 5 : number;
+}
+
+static uint32_t planted_dependencies_whole(const uint8_t *text, size_t text_len, uint8_t *store, size_t store_len, uint32_t *imports, size_t imports_len,
+                                           uint32_t *includes, size_t includes_len, uint32_t *answer) {
+    uint32_t number = (call_planted == CUT_PASSED ? nuvaleta_dependencies : nuvaleta_dependencies_whole)(text, text_len, store, store_len, imports, imports_len,
+                                                                                                         includes, includes_len, answer);
+    if (call_planted == CUT_BEFORE && number == NUVALETA_NO_PREFIX) {
+        answer[0] = number = NUVALETA_CUT_SHORT;
+        answer[1] = NUVALETA_NO_KEYWORD;
+        answer[2] = text_len;
+    }
+    if (call_planted == CUT_KEYWORD && number == NUVALETA_CUT_SHORT)
+        answer[1] = NUVALETA_IMPORT;
+    if (call_planted == CUT_PLACE && number == NUVALETA_CUT_SHORT)
+        answer[2]--;
+    if (call_planted == WHOLE_OTHERWISE && number == 0 && answer[5] != 0)
+        store[0] ^= 1;
+    return number;
+}
+
+static uint32_t planted_metadata_whole(const uint8_t *text, size_t text_len, uint8_t *store, size_t store_len, uint32_t *record, uint32_t *answer) {
+    const uint32_t number = nuvaleta_metadata_whole(text, text_len, store, store_len, record, answer);
+    if (call_planted == CUT_LEFT && number == NUVALETA_CUT_SHORT)
+        record[NUVALETA_RECORD_WORDS - 1] = 1;
+    return number;
 }
 
 typedef uint32_t graph_call(const uint8_t *, size_t, const uint8_t *, size_t, uint32_t *, size_t, uint32_t *, size_t, uint8_t *, size_t, uint32_t *, size_t,
@@ -100,6 +133,8 @@ static uint32_t planted_order_check(const uint32_t *nodes, size_t nodes_len, siz
 }
 
 #define nuvaleta_dependencies planted_dependencies
+#define nuvaleta_dependencies_whole planted_dependencies_whole
+#define nuvaleta_metadata_whole planted_metadata_whole
 #define nuvaleta_graph(...) planted_graph(nuvaleta_graph, __VA_ARGS__)
 #define nuvaleta_graph_complete(...) planted_graph(call_planted == PASSED_OVER ? nuvaleta_graph : nuvaleta_graph_complete, __VA_ARGS__)
 #define nuvaleta_order planted_order

@@ -70,6 +70,13 @@ noticed 17 "graph_complete: other nodes"
 noticed 18 "graph: a buffer behind what is used"
 noticed 19 "graph: two outcomes"
 noticed 20 "graph: over .* milliseconds"
+noticed 21 "^attack: module m{container"
+noticed 22 "dependencies: a number that this call does not give"
+noticed 23 "dependencies_whole: 11 in the place of another"
+noticed 24 "dependencies_whole: a keyword that does not come"
+noticed 25 "dependencies_whole: a position that does not come"
+noticed 26 "metadata_whole: the record on a refusal"
+noticed 27 "dependencies_whole: not 11, and another outcome"
 
 # valgrind's own status is 3, the harness's 1.
 watch() { valgrind -q --error-exitcode=3 --track-origins=yes "$build/watched" --malloc --short "$@" >"$said" 2>&1; }
@@ -79,4 +86,4 @@ for fault in "1 Invalid write of size 1" "9 left undefined"; do
     ! watch --once --planted="${fault%% *}" 1 0 && grep -q "${fault#* }" "$said" ||
         { echo "attack: valgrind does not notice planted fault $fault" >&2; exit 1; }
 done
-echo "$told; 20 planted faults noticed; under valgrind ${watched#attack: }"
+echo "$told; 27 planted faults noticed; under valgrind ${watched#attack: }"

@@ -1,4 +1,5 @@
-// Replays recorded answers of the Rust for whole texts: dependencies and their printed form, and metadata.
+// Replays recorded answers for whole texts: dependencies and their printed form, and metadata. In the old mode they are the Rust's; in the whole-text mode,
+// which the Rust does not have, those of a plain reading (host/vectors/src/scans.rs).
 use replay::Tally;
 use scan_page::Page;
 use scan_rows::Span;
@@ -120,14 +121,21 @@ fn read_agrees(
     check::same(page, replay::field(data, page_at))
 }
 
-// The dependencies of a text and their printed form; where the answer's number is 0, the values and the page stand behind it.
-fn dependencies_agree(s: &[u8], answer: &[u8], data: &[u8], values_at: usize) -> bool {
-    let mut store = [0u8; 65536];
+// The dependencies of a text and their printed form; where the answer's number is 0, the values and the page stand behind it. A text that is longer than the
+// store would be refused, and so be told as different.
+fn dependencies_agree(
+    whole: bool,
+    s: &[u8],
+    answer: &[u8],
+    data: &[u8],
+    values_at: usize,
+) -> bool {
+    let mut store = [0u8; 4096];
     let mut imports = [0u32; scan_rows::MOST_ROWS * scan_rows::IMPORT_SIZE];
     let mut includes = [0u32; scan_rows::MOST_ROWS * scan_rows::INCLUDE_SIZE];
-    let mut page = [0u8; 72480];
+    let mut page = [0u8; 11040];
     let printed = scan_page::print_yang_dependencies(
-        false,
+        whole,
         s,
         &mut store,
         &mut imports,
@@ -167,9 +175,9 @@ fn values_agree(store: &[u8], values: [Span; 6], data: &[u8], at: usize) -> bool
 }
 
 // The metadata of a text; where the answer's number is 0, the values stand behind it.
-fn metadata_agrees(s: &[u8], answer: &[u8], data: &[u8], values_at: usize) -> bool {
-    let mut store = [0u8; 65536];
-    let read = scan_metadata::extract_yang_metadata(false, s, &mut store);
+fn metadata_agrees(whole: bool, s: &[u8], answer: &[u8], data: &[u8], values_at: usize) -> bool {
+    let mut store = [0u8; 4096];
+    let read = scan_metadata::extract_yang_metadata(whole, s, &mut store);
     let r = read.answer;
     if r.number != text::NO_REFUSAL {
         return replay::refusal_agrees(answer, 0, r);
@@ -188,14 +196,14 @@ enum Kind {
 }
 
 // A record: text, answer, and what stands behind it.
-fn agrees(kind: Kind, data: &[u8], at: usize) -> bool {
+fn agrees(whole: bool, kind: Kind, data: &[u8], at: usize) -> bool {
     let answer_at = replay::after(data, at);
     let values_at = replay::after(data, answer_at);
     let s = replay::field(data, at);
     let answer = replay::field(data, answer_at);
     match kind {
-        Kind::Dependencies => dependencies_agree(s, answer, data, values_at),
-        Kind::Metadata => metadata_agrees(s, answer, data, values_at),
+        Kind::Dependencies => dependencies_agree(whole, s, answer, data, values_at),
+        Kind::Metadata => metadata_agrees(whole, s, answer, data, values_at),
     }
 }
 
@@ -222,31 +230,33 @@ fn behind(kind: Kind, data: &[u8], at: usize) -> usize {
 }
 
 // One record more, if there is one.
-fn step(kind: Kind, data: &[u8], run: Tally) -> Tally {
+fn step(whole: bool, kind: Kind, data: &[u8], run: Tally) -> Tally {
     let at = run.at;
     if data.len() <= at {
         return run;
     }
-    run.past(agrees(kind, data, at), behind(kind, data, at))
+    run.past(agrees(whole, kind, data, at), behind(kind, data, at))
 }
 
 // All records of a file. A record takes a byte at least.
-fn replay_all(kind: Kind, data: &[u8]) -> Tally {
+fn replay_all(whole: bool, kind: Kind, data: &[u8]) -> Tally {
     let mut run = replay::start();
     for _ in 0..data.len() {
-        run = step(kind, data, run);
+        run = step(whole, kind, data, run);
     }
     run
 }
 
-fn replay_file(kind: Kind, name: &[u8]) {
+fn replay_file(whole: bool, kind: Kind, name: &[u8]) {
     let mut space = [0u8; 524288];
     let n = replay::read_file(name, &mut space);
-    let run = replay_all(kind, &space[..n]);
+    let run = replay_all(whole, kind, &space[..n]);
     replay::say_file(name, run);
 }
 
 fn main() {
-    replay_file(Kind::Dependencies, b"dependencies.vec");
-    replay_file(Kind::Metadata, b"metadata.vec");
+    replay_file(false, Kind::Dependencies, b"dependencies.vec");
+    replay_file(false, Kind::Metadata, b"metadata.vec");
+    replay_file(true, Kind::Dependencies, b"dependencies-whole.vec");
+    replay_file(true, Kind::Metadata, b"metadata-whole.vec");
 }

@@ -50,6 +50,8 @@ fn main() {
     let mut groups = vec![
         Group { name: "dependencies of a text", rows: dependencies.iter().map(scans::dependencies).collect() },
         Group { name: "metadata of a text", rows: metadata.iter().map(scans::metadata).collect() },
+        Group { name: "dependencies in the whole-text mode (none in the Rust)", rows: dependencies.iter().map(scans::dependencies_whole).collect() },
+        Group { name: "metadata in the whole-text mode (none in the Rust)", rows: metadata.iter().map(scans::metadata_whole).collect() },
         Group { name: "graph", rows: graphs.iter().map(graph::whole).collect() },
         Group { name: "graph, beside `to_graph` without reading", rows: graphs.iter().map(graph::drawing).collect() },
         Group { name: "graph, made to be slow", rows: adverse.iter().map(graph::whole).collect() },
@@ -66,14 +68,14 @@ fn main() {
         return table::print_port(&groups);
     }
     // What the port does here is what it does in the group before.
-    groups.insert(11, Group { name: "order of registration, beside `toposort`", rows: orders.iter().map(order::sorting).collect() });
+    groups.insert(13, Group { name: "order of registration, beside `toposort`", rows: orders.iter().map(order::sorting).collect() });
     measure(groups.iter_mut().flat_map(|group| &mut group.rows), ROUNDS);
     // Behind the others, since they take up to seconds; and so they are not timed beside another build.
     (costly, deep) = (graph::one_bucket(), graph::deep_edges());
     for (name, input) in [("graph, names that are slow to find", &costly), ("graph, edges that are slow to find", &deep)] {
         let mut slow = Group { name, rows: vec![graph::whole(input)] };
         measure(slow.rows.iter_mut(), ROUNDS_OF_COSTLY);
-        groups.insert(7, slow);
+        groups.insert(9, slow);
     }
     // Only now, since an allocator may be slower with so much that comes and goes, and with threads; and of the two only the Rust needs one.
     fleet = routers::fleet();
@@ -83,7 +85,7 @@ fn main() {
     println!("Each row ran in {ROUNDS} rounds (many routers: {ROUNDS_OF_MANY}, edges and names that are slow to find: {ROUNDS_OF_COSTLY}), each with");
     println!("{}.\n{TIMES}\n", timing::told());
     table::print(&groups);
-    let [_, _, _, _, _, _, _, _, _, growing, growing_routers, .., many] = &groups[..] else { panic!("sixteen groups") };
+    let [_, _, _, _, _, _, _, _, _, _, _, growing, growing_routers, .., many] = &groups[..] else { panic!("eighteen groups") };
     println!("\n{}", grown("modules", graph::SIZES, &growing.rows));
     println!("{}\n", grown("modules of a router", graph::ROUTERS, &growing_routers.rows));
     println!("{}\n\n{INCLUDED}", many_told(&many.rows));

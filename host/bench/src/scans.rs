@@ -71,11 +71,30 @@ pub fn for_metadata(files: &[String]) -> Vec<Input> {
 
 // ---- scans
 
+/// The port's scans of all texts, one after the other. `whole`: in the whole-text mode.
+fn linking(input: &Input, whole: bool) -> impl FnMut() + '_ {
+    let mut lent = port::lent(input.longest(), port::IMPORT_WORDS, port::INCLUDE_WORDS, 0);
+    move || {
+        for t in &input.texts {
+            black_box(lent.dependencies_within(whole, black_box(t.as_bytes()), t.len()));
+        }
+    }
+}
+
+fn describing(input: &Input, whole: bool) -> impl FnMut() + '_ {
+    let mut lent = port::lent_store(input.longest());
+    move || {
+        for t in &input.texts {
+            black_box(lent.metadata_within(whole, black_box(t.as_bytes()), t.len()));
+        }
+    }
+}
+
 pub fn dependencies(input: &Input) -> Row<'_> {
     let mut lent = port::lent(input.longest(), port::IMPORT_WORDS, port::INCLUDE_WORDS, 0);
     for t in &input.texts {
         let rust = yangparser::extract_yang_dependencies(t).map(|d| [d.imports.len(), d.includes.len()]);
-        let number = lent.dependencies_within(t.as_bytes(), t.len());
+        let number = lent.dependencies_within(false, t.as_bytes(), t.len());
         let ours = (number == 0).then_some([lent.answer[3] as usize, lent.answer[4] as usize]);
         assert_eq!(rust.ok(), ours, "{}: two answers", input.what);
     }
@@ -84,31 +103,40 @@ pub fn dependencies(input: &Input) -> Row<'_> {
             black_box(yangparser::extract_yang_dependencies(black_box(t)).ok());
         }
     };
-    let port = move || {
-        for t in &input.texts {
-            black_box(lent.dependencies_within(black_box(t.as_bytes()), t.len()));
-        }
-    };
-    Row::new(&input.what, input.bytes(), rust, port)
+    Row::new(&input.what, input.bytes(), rust, linking(input, false))
 }
 
 pub fn metadata(input: &Input) -> Row<'_> {
     let mut lent = port::lent_store(input.longest());
     for t in &input.texts {
         let rust = yangparser::extract_yang_metadata(t);
-        assert_eq!(rust.is_ok(), lent.metadata_within(t.as_bytes(), t.len()) == 0, "{}: two answers", input.what);
+        assert_eq!(rust.is_ok(), lent.metadata_within(false, t.as_bytes(), t.len()) == 0, "{}: two answers", input.what);
     }
     let rust = || {
         for t in &input.texts {
             black_box(yangparser::extract_yang_metadata(black_box(t)).ok());
         }
     };
-    let port = move || {
-        for t in &input.texts {
-            black_box(lent.metadata_within(black_box(t.as_bytes()), t.len()));
-        }
-    };
-    Row::new(&input.what, input.bytes(), rust, port)
+    Row::new(&input.what, input.bytes(), rust, describing(input, false))
+}
+
+/// The same in the whole-text mode, which the Rust does not have. None of these texts breaks off, so the answer is the old mode's.
+pub fn dependencies_whole(input: &Input) -> Row<'_> {
+    let mut lent = port::lent(input.longest(), port::IMPORT_WORDS, port::INCLUDE_WORDS, 0);
+    for t in &input.texts {
+        let [old, whole] = [false, true].map(|whole| (lent.dependencies_within(whole, t.as_bytes(), t.len()), lent.answer));
+        assert_eq!(old, whole, "{}: two answers", input.what);
+    }
+    Row::alone(&input.what, input.bytes(), linking(input, true))
+}
+
+pub fn metadata_whole(input: &Input) -> Row<'_> {
+    let mut lent = port::lent_store(input.longest());
+    for t in &input.texts {
+        let [old, whole] = [false, true].map(|whole| (lent.metadata_within(whole, t.as_bytes(), t.len()), lent.answer));
+        assert_eq!(old, whole, "{}: two answers", input.what);
+    }
+    Row::alone(&input.what, input.bytes(), describing(input, true))
 }
 
 // ---- look-ups

@@ -14,7 +14,7 @@ use vectors::rng::Rng;
 
 fn scan(text: &[u8]) -> Result<Links, Refusal> {
     let mut lent = port::enough(text, 0);
-    if lent.dependencies(text) == 0 {
+    if lent.dependencies(false, text) == 0 {
         return Ok(Links::of(&lent.import_rows(), &lent.include_rows()));
     }
     let [number, keyword, position, ..] = lent.answer;

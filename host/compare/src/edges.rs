@@ -4,13 +4,19 @@ use crate::Run;
 use crate::port::{IMPORT_WORDS, INCLUDE_WORDS, PAGE_MORE, Scanned, lent};
 
 /// Asks with these lengths and expects an answer.
-fn expect(run: &mut Run, what: &str, text: &[u8], mut buffers: Scanned, answer: [u32; 6]) {
-    let number = buffers.printed(text);
+pub fn expect_in(whole: bool, run: &mut Run, what: &str, text: &[u8], mut buffers: Scanned, answer: [u32; 6]) {
+    let number = buffers.printed(whole, text);
     let same = number == answer[0] && buffers.answer[..6] == answer && buffers.is_clean();
-    run.count(same, || format!("{what}: {:?}, expected {answer:?}", buffers.answer));
+    run.count(same, || format!("{what}, whole {whole}: {:?}, expected {answer:?}", buffers.answer));
 }
 
-fn long(text: &[u8]) -> Scanned {
+/// Both modes must answer the same.
+fn expect(run: &mut Run, what: &str, text: &[u8], buffers: Scanned, answer: [u32; 6]) {
+    expect_in(false, run, what, text, buffers.clone(), answer);
+    expect_in(true, run, what, text, buffers, answer);
+}
+
+pub fn long(text: &[u8]) -> Scanned {
     lent(text.len(), IMPORT_WORDS, INCLUDE_WORDS, text.len() + PAGE_MORE)
 }
 

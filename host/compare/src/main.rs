@@ -3,6 +3,8 @@
 //! compare texts SEED COUNT: COUNT generated texts, and every short string over the generator's alphabet.
 //! compare files SEED COUNT FILE..: real modules, and COUNT damaged copies of each.
 //! compare changes SEED COUNT: COUNT small images and COUNT small bundles, with every beginning and every change of one byte.
+//! compare whole SEED COUNT [FILE..]: COUNT generated texts, and every beginning of each FILE, in the old mode and in the whole-text mode, beside a plain
+//! reading of request 2026-07. `whole-beside` for `whole`: where the answer is not 11, the original must say the same.
 //! compare finds SEED COUNT: COUNT generated libraries: the Rust's finds, and damaged copies.
 //! compare graphs SEED COUNT: COUNT generated libraries, every other one with texts that include each other: nodes, edges in order, which refusal.
 //! compare complete SEED COUNT: COUNT generated libraries, in most of which names come again: the graphs of both modes, beside a plain reading of
@@ -12,10 +14,10 @@
 //! compare sorts SEED COUNT: COUNT generated graphs: the Rust's own order is accepted, or both say that there is none.
 //! compare edges: lengths around each boundary and the limits of a graph and of an order, which the Rust does not have.
 //!
-//! Changes, complete, orders and edges ask the original nothing.
+//! Changes, whole, complete, orders and edges ask the original nothing.
 
 use std::path::Path;
-use vectors::answers::{self, Dependencies, FIVE_OR_SIX, Refusal, Scan};
+use vectors::answers::{self, Dependencies, Refusal, Scan};
 use vectors::oracle::Oracle;
 use vectors::rng::Rng;
 use vectors::texts;
@@ -31,6 +33,7 @@ mod once;
 mod order_limits;
 mod orders;
 mod port;
+mod whole;
 
 fn main() {
     let args: Vec<String> = std::env::args().collect();
@@ -45,14 +48,13 @@ fn main() {
         }
         ["files", seed, count, ref files @ ..] => {
             let mut r = Rng::new(number(seed));
-            for file in files {
-                let text = String::from_utf8(std::fs::read(file).expect("a file")).unwrap_or_default();
-                if text.is_ascii() {
-                    run.text(text.as_bytes());
-                    (0..number(count)).for_each(|_| run.text(texts::damaged(&mut r, &text).as_bytes()));
-                }
+            for text in ascii(files) {
+                run.text(text.as_bytes());
+                (0..number(count)).for_each(|_| run.text(texts::damaged(&mut r, &text).as_bytes()));
             }
         }
+        ["whole", seed, count, ref files @ ..] => whole::texts(&mut run, false, number(seed), number(count), files),
+        ["whole-beside", seed, count, ref files @ ..] => whole::texts(&mut run, true, number(seed), number(count), files),
         ["changes", seed, count] => library::changes(&mut run, number(seed), number(count) as usize),
         ["finds", seed, count] => library::finds(&mut run, number(seed), number(count)),
         ["graphs", seed, count] => graph::graphs(&mut run, number(seed), number(count)),
@@ -63,6 +65,7 @@ fn main() {
         ["edges"] => {
             edges::run(&mut run);
             metadata::edges(&mut run);
+            whole::edges(&mut run);
             library::edges(&mut run);
             limits::run(&mut run);
             complete_limits::run(&mut run);
@@ -70,12 +73,18 @@ fn main() {
             order_limits::run(&mut run);
         }
         _ => {
-            eprintln!("compare: texts|changes|finds|graphs|complete|orders|sorts SEED COUNT | files SEED COUNT FILE.. | graph-of IMAGE BUNDLE | edges");
+            eprintln!("compare: texts|changes|finds|graphs|complete|orders|sorts SEED COUNT | files|whole|whole-beside SEED COUNT FILE..");
+            eprintln!("         | graph-of IMAGE BUNDLE | edges");
             std::process::exit(2);
         }
     }
     println!("compare: {} inputs, {} different", run.inputs, run.different);
     std::process::exit(i32::from(run.different != 0));
+}
+
+/// The contents of these files, but for those with bytes of 128 or more.
+fn ascii<'a>(files: &'a [&str]) -> impl Iterator<Item = String> + 'a {
+    files.iter().filter_map(|file| String::from_utf8(std::fs::read(file).expect("a file")).ok().filter(|text| text.is_ascii()))
 }
 
 pub struct Run {
@@ -105,9 +114,9 @@ impl Run {
     fn text(&mut self, text: &[u8]) {
         let told = answers::dependencies(self.oracle(), text);
         let mut page = port::enough(text, self.inputs % 3);
-        let number = page.printed(text);
+        let number = page.printed(false, text);
         let mut plain = port::enough(text, self.inputs % 5);
-        let again = plain.dependencies(text);
+        let again = plain.dependencies(false, text);
         let same = agrees(text, &told, &page, number) && plain_agrees(&page, number, &plain, again);
         self.count(same, || format!("{:?}\n  the Rust {told:?}\n  the port {:?}", String::from_utf8_lossy(text), page.answer));
         metadata::text(self, text);
@@ -143,12 +152,8 @@ fn agrees(text: &[u8], told: &Scan<Dependencies>, port: &port::Scanned, number: 
     }
 }
 
-/// Number, keyword and position, and no counts behind them. Of 5 and 6 it is 6 at the text's end.
+/// Number, keyword and position, and no counts behind them.
 fn refused(text: &[u8], told: &Refusal, answer: &[u32]) -> bool {
-    let number = match told.number {
-        FIVE_OR_SIX if told.position as usize == text.len() => 6,
-        FIVE_OR_SIX => 5,
-        number => number,
-    };
-    answer[..3] == [number, told.keyword, told.position] && answer[3..].iter().all(|w| *w == 0)
+    let Refusal { number, keyword, position } = told.due(text);
+    answer[..3] == [number, keyword, position] && answer[3..].iter().all(|w| *w == 0)
 }

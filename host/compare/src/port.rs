@@ -4,7 +4,7 @@ use nuvaleta::raw::*;
 pub use nuvaleta::raw::{IMPORT_WORDS, INCLUDE_WORDS, PAGE_MORE};
 use vectors::graphs::Mode;
 
-#[derive(Debug, PartialEq)]
+#[derive(Clone, Debug, PartialEq)]
 pub struct Scanned {
     /// Number, keyword, position, import rows, include rows, stored bytes, page's length.
     pub answer: [u32; 7],
@@ -28,7 +28,7 @@ pub fn look_up(call: LookUp, form: &[u8], name: &[u8]) -> [u32; 5] {
     answer
 }
 
-#[derive(Debug, PartialEq)]
+#[derive(Clone, Debug, PartialEq)]
 pub struct Described {
     /// Number, keyword, position, stored bytes.
     pub answer: [u32; 4],
@@ -43,16 +43,16 @@ pub fn lent_store(store: usize) -> Described {
 }
 
 impl Described {
-    pub fn metadata(&mut self, text: &[u8]) -> u32 {
-        self.metadata_within(text, self.store.len())
+    /// `whole`: in the whole-text mode.
+    pub fn metadata(&mut self, whole: bool, text: &[u8]) -> u32 {
+        self.metadata_within(whole, text, self.store.len())
     }
 
     /// The same with only the first bytes of the store lent.
-    pub fn metadata_within(&mut self, text: &[u8], store: usize) -> u32 {
+    pub fn metadata_within(&mut self, whole: bool, text: &[u8], store: usize) -> u32 {
         assert!(store <= self.store.len());
-        unsafe {
-            nuvaleta_metadata(text.as_ptr(), text.len(), self.store.as_mut_ptr(), store, self.record.as_mut_ptr(), self.answer.as_mut_ptr())
-        }
+        let call = if whole { nuvaleta_metadata_whole } else { nuvaleta_metadata };
+        unsafe { call(text.as_ptr(), text.len(), self.store.as_mut_ptr(), store, self.record.as_mut_ptr(), self.answer.as_mut_ptr()) }
     }
 }
 
@@ -73,25 +73,27 @@ pub fn enough(text: &[u8], more: usize) -> Scanned {
 }
 
 impl Scanned {
-    /// Answers the call's result; the page stays as it is.
-    pub fn dependencies(&mut self, text: &[u8]) -> u32 {
-        self.dependencies_within(text, self.store.len())
+    /// Answers the call's result; the page stays as it is. `whole`: in the whole-text mode.
+    pub fn dependencies(&mut self, whole: bool, text: &[u8]) -> u32 {
+        self.dependencies_within(whole, text, self.store.len())
     }
 
     /// The same with only the first bytes of the store lent.
-    pub fn dependencies_within(&mut self, text: &[u8], store: usize) -> u32 {
+    pub fn dependencies_within(&mut self, whole: bool, text: &[u8], store: usize) -> u32 {
         assert!(store <= self.store.len());
+        let call = if whole { nuvaleta_dependencies_whole } else { nuvaleta_dependencies };
         unsafe {
-            nuvaleta_dependencies(
+            call(
                 text.as_ptr(), text.len(), self.store.as_mut_ptr(), store, self.imports.as_mut_ptr(), self.imports.len(),
                 self.includes.as_mut_ptr(), self.includes.len(), self.answer.as_mut_ptr(),
             )
         }
     }
 
-    pub fn printed(&mut self, text: &[u8]) -> u32 {
+    pub fn printed(&mut self, whole: bool, text: &[u8]) -> u32 {
+        let call = if whole { nuvaleta_printed_whole } else { nuvaleta_printed };
         unsafe {
-            nuvaleta_printed(
+            call(
                 text.as_ptr(), text.len(), self.store.as_mut_ptr(), self.store.len(), self.imports.as_mut_ptr(), self.imports.len(),
                 self.includes.as_mut_ptr(), self.includes.len(), self.page.as_mut_ptr(), self.page.len(), self.answer.as_mut_ptr(),
             )

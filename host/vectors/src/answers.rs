@@ -15,6 +15,18 @@ pub struct Refusal {
     pub position: u32,
 }
 
+impl Refusal {
+    /// The number that is due for it: of 5 and 6 it is 6 at the text's end.
+    pub fn due(&self, text: &[u8]) -> Refusal {
+        let number = match self.number {
+            FIVE_OR_SIX if self.position as usize == text.len() => 6,
+            FIVE_OR_SIX => 5,
+            number => number,
+        };
+        Refusal { number, ..*self }
+    }
+}
+
 /// A scan's answer: what was read, a refusal, or a line that says neither.
 #[derive(Debug, PartialEq)]
 pub enum Scan<T> {
@@ -23,7 +35,7 @@ pub enum Scan<T> {
     Silent(String),
 }
 
-type Value = Option<Vec<u8>>;
+pub type Value = Option<Vec<u8>>;
 
 #[derive(Debug, PartialEq)]
 pub struct Dependencies {

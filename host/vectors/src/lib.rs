@@ -9,4 +9,5 @@ pub mod orders;
 pub mod records;
 pub mod rng;
 pub mod routers;
+pub mod scans;
 pub mod texts;

@@ -10,7 +10,7 @@ use vectors::answers::{self, Graph, Scan};
 use vectors::graphs::{self, Links, Mode, Texts};
 use vectors::oracle::Oracle;
 use vectors::rng::Rng;
-use vectors::{form, libraries, orders, records, routers, texts};
+use vectors::{form, libraries, orders, records, routers, scans, texts};
 
 fn main() {
     let args: Vec<String> = std::env::args().collect();
@@ -185,7 +185,27 @@ fn all(oracle: &mut Oracle) -> Vec<File> {
         let (image, bundle) = (library.image(), library.bundle());
         graph.add(records::graph(&image, &bundle, &answers::graph(oracle, &image, &bundle)));
     }
-    vec![dependencies, metadata, values, skips, finds, graph, completed(oracle), ordered()]
+    let [dependencies_whole, metadata_whole] = whole(oracle);
+    vec![dependencies, metadata, dependencies_whole, metadata_whole, values, skips, finds, graph, completed(oracle), ordered()]
+}
+
+/// Scans in the whole-text mode, which the original does not have: the plain reading's. In the old mode it must have the original's answer to the same text.
+fn whole(oracle: &mut Oracle) -> [File; 2] {
+    let mut dependencies = File::new("yangparser_run/data/dependencies-whole.vec");
+    let mut metadata = File::new("yangparser_run/data/metadata-whole.vec");
+    let mut r = Rng::new(8);
+    let small = texts::SMALL.iter().flat_map(|t| texts::beginnings(t)).map(|t| t.to_string());
+    let short = (0..2).flat_map(texts::short_broken);
+    let generated = (0..600).map(|_| texts::any(&mut r));
+    for text in texts::broken().into_iter().chain(small).chain(short).chain(generated) {
+        let text = text.as_bytes();
+        let (linked, described) = (scans::dependencies(text), scans::metadata(text));
+        let alike = linked.is_told(text, &answers::dependencies(oracle, text)) && described.is_told(text, &answers::metadata(oracle, text));
+        assert!(alike, "the plain reading: {:?}", String::from_utf8_lossy(text));
+        dependencies.add(records::dependencies(text, &linked.answer(true)));
+        metadata.add(records::metadata(text, &described.answer(true)));
+    }
+    [dependencies, metadata]
 }
 
 /// Texts that include each other: the telling inputs of request 2026-10, and generated ones, none of them deeper than eight includes without a circle.

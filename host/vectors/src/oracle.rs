@@ -10,6 +10,8 @@ pub struct Oracle {
     answers: BufReader<ChildStdout>,
 }
 
+const DIGITS: &[u8; 16] = b"0123456789abcdef";
+
 impl Oracle {
     pub fn start(program: &Path) -> Oracle {
         let mut child = Command::new(program)
@@ -27,9 +29,7 @@ impl Oracle {
         let mut line = request.to_string();
         for bytes in with {
             line.push_str(" =");
-            for b in *bytes {
-                line.push_str(&format!("{b:02x}"));
-            }
+            line.extend(bytes.iter().flat_map(|b| [b / 16, b % 16]).map(|digit| DIGITS[digit as usize] as char));
         }
         line.push('\n');
         self.requests.write_all(line.as_bytes()).expect("the oracle");

@@ -249,9 +249,97 @@ pub const EXAMPLES: [&str; 34] = [
     "import a{prefix/**/p;}",
 ];
 
-/// Each of these behind each beginning.
+/// Each of these behind each of these beginnings.
+fn behind(fronts: &'static [&str], length: u32) -> impl Iterator<Item = String> {
+    fronts.iter().flat_map(move |front| words(length).map(move |w| format!("{front}{w}")))
+}
+
 pub fn short(length: u32) -> impl Iterator<Item = String> {
-    FRONTS.iter().flat_map(move |front| words(length).map(move |w| format!("{front}{w}")))
+    behind(&FRONTS, length)
+}
+
+// ---- texts that break off
+
+/// What else a text may break off in: a value that goes on, yang-version's, and each statement that is skipped.
+const BROKEN_FRONTS: [&str; 9] = [
+    "import \"a\"", "import a{x", "include a{", "yang-version ", "module m{prefix p;prefix", "module m{belongs-to ", "module m{belongs-to p{",
+    "module m{revision 1", "module m{namespace 'a'+",
+];
+
+pub fn short_broken(length: u32) -> impl Iterator<Item = String> {
+    behind(&BROKEN_FRONTS, length)
+}
+
+/// The telling inputs of request 2026-07.
+const BROKEN: [&str; 34] = [
+    "module m{belongs-to p",
+    "module m{prefix p;prefix",
+    "module m{revision 2020-01-01{",
+    "import a{x",
+    "import a{x/*c",
+    "x \"abc",
+    "\"",
+    "\"\\\"",
+    "import \"a",
+    "import \"a\"+\"b",
+    "module m{belongs-to \"p\"+\"x",
+    "yang-version \"1",
+    "import a{",
+    "import a{x;",
+    "import a{/*c",
+    "import a{prefix",
+    "include a",
+    "module m{revision 2020-01-01",
+    "module m{/*cut",
+    "module m{ description cut",
+    "//cut",
+    "description \"cut",
+    "module m{belongs-to p}",
+    "import a{} \"x",
+    "import a b \"x",
+    // the same ends elsewhere
+    "include a{x",
+    "include a{",
+    "include a{revision-date \"1",
+    "import a{prefix \"p",
+    "import a{prefix \"p\"+\"q",
+    "module m{prefix p;prefix }",
+    "module m{belongs-to p{prefix \"q\\\";}",
+    "module m{yang-version \"1\"+\"1",
+    "module m{x \"container c",
+];
+
+/// These, and those that have quotes again in single ones.
+pub fn broken() -> Vec<String> {
+    let single = BROKEN.iter().filter(|t| t.contains('"')).map(|t| t.replace('"', "'"));
+    BROKEN.iter().map(|t| t.to_string()).chain(single).collect()
+}
+
+/// Small good modules in which every statement that a scan reads or skips stands.
+pub const SMALL: [&str; 3] = [
+    r#"module m {
+ yang-version "1" + '.1';
+ namespace "urn:" + "m";
+ prefix m;
+ import a { description "x;"; prefix 'a'; revision-date 2024-05-01; }
+ include s;
+ include t { /*c*/ revision-date "2024"+"-05-02"; x { y 'z'; } }
+ organization "o";
+ revision 2024-05-03 {
+  description "d \" }";
+ }
+ revision '2024-05-01';
+ container c;
+}
+"#,
+    r#"submodule s{belongs-to m{prefix 'p';}import a{prefix b;}prefix c;include t{x;}x "y" 'z';}"#,
+    r#"//m
+module "m"{prefix "p";prefix q{r "}";}import a{x{y{z;}}prefix "a\n";}belongs-to 'n' ;list l;}"#,
+];
+
+/// Every beginning of a text, itself too.
+pub fn beginnings(text: &str) -> impl Iterator<Item = &str> {
+    (0..=text.len()).map(move |n| &text[..n])
 }
 
 // ---- one value, one statement, some tokens: what the text layer is asked alone

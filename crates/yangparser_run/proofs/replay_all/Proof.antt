@@ -6,10 +6,10 @@ use Rattle.yangparser_run.proofs.replay_all.Statement.{statement}
 use Rattle.yangparser_run.proofs.replay_all.Tie as tie
 
 abbrev Inv-loop : tie.InvT-loop
-Inv-loop kind «data» run₀ counter₀ end run counter = Unit {0}
+Inv-loop whole kind «data» run₀ counter₀ end run counter = Unit {0}
 
 abbrev μ-loop : tie.MeasureT-loop
-μ-loop kind «data» run₀ counter₀ end run counter = end - counter
+μ-loop whole kind «data» run₀ counter₀ end run counter = end - counter
 
 pub replay-all-spec : {M : Type 1} → statement M
 replay-all-spec =
