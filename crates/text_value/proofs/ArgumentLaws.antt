@@ -72,11 +72,24 @@ module _ (whole : Bool) (s : List ℕ) (at u k : ℕ) {v : Value} (ve : v ≡ va
         argument-on ∙ ap (argumentOf u k) (missing-of u (closedAt s at) (valueAt s at) c z (sym ve ∙ m))
         ∙ ap (λ i. Refused (record { number = 4; keyword = k; at = i })) p
 
-    pub argument-read : (c : Cursor) (i : ℕ) (z : Bool) → v ≡ ReadValue c i z → argumentAt whole s at u k ≡ Read c i
+    argument-told : (c : Cursor) (i : ℕ) (z : Bool) → v ≡ ReadValue c i z → argumentAt whole s at u k ≡ Read c i
     unfolding argumentOf
-    argument-read c i z m =
+    argument-told c i z m =
         let w = read-of u (closedAt s at) (valueAt s at) c i z (sym ve ∙ m) in
         argument-on ∙ ap (argumentOf u k) (w .0) ∙ ap (Read c) (sym (w .1))
+
+-- the value was read, and y says whether each string of it closes
+module _ (whole : Bool) (s : List ℕ) (at u k : ℕ) {v : Value} (ve : v ≡ valueAnswer u (closedAt s at) (valueAt s at)) (c : Cursor) (i : ℕ) (y : Bool)
+    (m : v ≡ ReadValue c i y) {o : Bool} (oe : o ≡ breaksOff whole y) where
+  closed-told : y ≡ valueClosed v
+  unfolding valueClosed
+  closed-told = sym (ap valueClosed m)
+
+  pub argument-read-cut : o ≡ true → {r : Refusal} → r ≡ cutAt (length s) → argumentAt whole s at u k ≡ Refused r
+  argument-read-cut n e = argument-cut whole s at u k ve closed-told oe n e
+
+  pub argument-read : o ≡ false → argumentAt whole s at u k ≡ Read c i
+  argument-read n = argument-told whole s at u k ve closed-told oe n c i y m
 
 -- ---- the value and the byte
 

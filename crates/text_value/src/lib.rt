@@ -89,16 +89,15 @@ pub fn read_value(
         × (now (store .exit) ≡ sets (now (store .entry)) used (valueBytes (valueAt (now (s .entry)) (here .at)))) ⌝ }
 {
     let got = read_string_or_identifier(here, classes, s, store, used);
-    let closed = value_closed(got);
-    if breaks_off(whole, closed) {
-        return Argument::Refused(text::cut_short(s.len()));
-    }
     let Value::Read {
         next,
         used: n,
-        closed: _,
+        closed,
     } = got
     else {
+        if breaks_off(whole, value_closed(got)) {
+            return Argument::Refused(text::cut_short(s.len()));
+        }
         let c = value_end(got);
         return Argument::Refused(Refusal {
             number: text::NO_VALUE,
@@ -106,6 +105,9 @@ pub fn read_value(
             at: c.at,
         });
     };
+    if breaks_off(whole, closed) {
+        return Argument::Refused(text::cut_short(s.len()));
+    }
     Argument::Read { next, used: n }
 }
 

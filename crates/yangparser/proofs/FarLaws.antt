@@ -128,7 +128,8 @@ token-went whole s far g from in-text (After c) e =
     let f = past-token-far whole s g in-text c e in (omega (arith, f .0), f .1, omega arith, omega arith, omega arith)
 token-went whole s far g from in-text (Not r) e = λ i. omega (arith, ap (λ q. q .at) (past-token-not whole s g r e))
 
-head-said : (whole : Bool) (s : List ℕ) (far : Sofar) (g : ℕ) → far .at ≤ g → g < length s → (w : Head) → headAt s g ≡ w → Said s far (headStep whole s far g w)
+head-said : (whole : Bool) (s : List ℕ) (far : Sofar) (g : ℕ) → far .at ≤ g → g < length s → (w : Head) → headAt s g ≡ w
+    → Said s far (headStep whole s far g w)
 unfolding headStep
 head-said whole s far g from in-text (Import c) h =
     let f = head-import-far s g c h in import-here s far (c .at) (omega (arith, f .0)) (f .1) whole
@@ -145,7 +146,3 @@ step-said whole s far =
     (λ t. subst (Said s far) (sym (step-past whole s far refl (leb-true (length s) g t))) (said-none s far Done refl))
     (λ t. let h = leb-false (length s) g t in
     subst (Said s far) (sym (step-head whole s far refl h refl refl)) (head-said whole s far g (gap-from s (far .at)) h (headAt s g) refl))
-
--- a scan that ends here read nothing more
-pub step-ends : (whole : Bool) (s : List ℕ) (far : Sofar) → stepAt whole s far .answer ≡ Done → stepAt whole s far .adds ≡ none
-step-ends whole s far h = subst (Went s far (stepAt whole s far .adds)) h (step-said whole s far .went)

@@ -11,16 +11,17 @@ use Rattle.text.specs.declared.Refusal.{Refusal}
 use Rattle.text_value.proofs.JoinLaws.{sets-twice}
 use Rattle.scan_rows.specs.Rows.{importSize, includeSize, table, importTable, includeTable, importWords, includeWords}
 use Rattle.scan_rows.proofs.Laws.{imports-length, includes-length}
-use Rattle.yangparser.specs.Dependencies.{Dependencies, none, joined, importWordsOf, includeWordsOf, stepAt, Scanning, Scan, good, bad, scanFrom, start}
+use Rattle.yangparser.specs.Dependencies.{Dependencies, none, joined, importWordsOf, includeWordsOf, Scanning, Scan, good, bad, scanFrom, start}
 use Rattle.yangparser.specs.Dependencies.{scanned, parsedOf, readOf}
 use Rattle.yangparser.specs.Promises.{Steps, Holds, Parses}
+use Rattle.yangparser.specs.Seek.{stepFrom}
 use Rattle.yangparser.specs.declared.Next.{Next}
 use Rattle.yangparser.specs.declared.Next.the-variants.{On, Done, Stop}
 use Rattle.yangparser.specs.declared.Parsed.{Parsed}
 use Rattle.yangparser.specs.declared.Parsed.the-variants.{Good, Refused}
 use Rattle.yangparser.specs.declared.Sofar.{Sofar}
-use Rattle.yangparser.proofs.FarLaws.{step-said, step-ends}
-use Rattle.yangparser.proofs.ScanLaws.{Stands, stands-first, step-on, stands-step, scan-on, scan-done, scan-stop}
+use Rattle.yangparser.proofs.ScanLaws.{Stands, stands-first, step-on, stands-step}
+use Rattle.yangparser.proofs.SeekLaws.{from-said, from-ends, from-on, from-done, from-stop}
 
 -- ---- tables of what is joined
 
@@ -77,12 +78,12 @@ module _ {whole : Bool} {s d t u : List ℕ} where
     read-room = j .stands .room
 
     -- r: what the step answered; e′, f′ and g′ then
-    module _ {r : Next} {e′ f′ g′ : List ℕ} (w : Steps (stepAt whole s far) far e f g r e′ f′ g′) where
-      read-holds : Holds (joined (j .read) (stepAt whole s far .adds)) d t u e′ f′ g′
+    module _ {r : Next} {e′ f′ g′ : List ℕ} (w : Steps (stepFrom whole s far) far e f g r e′ f′ g′) where
+      read-holds : Holds (joined (j .read) (stepFrom whole s far .adds)) d t u e′ f′ g′
       unfolding joined
       read-holds =
           let x = j .read in
-          let y = stepAt whole s far .adds in
+          let y = stepFrom whole s far .adds in
           let h = j .holds in
           let c = j .stands in
           record {
@@ -99,7 +100,7 @@ module _ {whole : Bool} {s d t u : List ℕ} where
 
       pub read-nearer : (n : Sofar) → r ≡ On n → length s - n .at < length s - far .at
       read-nearer n h =
-          let z = step-on s (record { far = far; read = j .read }) (j .stands) (stepAt whole s far) (step-said whole s far) n (sym (w .answer) ∙ h) in
+          let z = step-on s (record { far = far; read = j .read }) (j .stands) (stepFrom whole s far) (from-said whole s far) n (sym (w .answer) ∙ h) in
           omega (arith, z .0, z .1)
 
       pub read-more : (n : Sofar) → r ≡ On n → Reading whole s d t u e′ f′ g′ n
@@ -107,9 +108,9 @@ module _ {whole : Bool} {s d t u : List ℕ} where
           let k = sym (w .answer) ∙ h in
           let a : Scanning = record { far = far; read = j .read } in
           record {
-            read = joined (j .read) (stepAt whole s far .adds);
-            same = sym (scan-on whole s a n k) ∙ j .same;
-            stands = stands-step s a (j .stands) (stepAt whole s far) (step-said whole s far) n k;
+            read = joined (j .read) (stepFrom whole s far .adds);
+            same = sym (from-on whole s a n k) ∙ j .same;
+            stands = stands-step s a (j .stands) (stepFrom whole s far) (from-said whole s far) n k;
             holds = read-holds;
           }
 
@@ -125,18 +126,18 @@ module _ {whole : Bool} {s d t u : List ℕ} where
       read-done h =
           let k = sym (w .answer) ∙ h in
           let x = j .read in
-          let y = stepAt whole s far .adds in
+          let y = stepFrom whole s far .adds in
           let c = j .stands in
-          let n : y ≡ none = step-ends whole s far k in
+          let n : y ≡ none = from-ends whole s far k in
           let i : far .imports ≡ length (x .imports ++ y .imports) = omega
           (arith, c .imports, length-append (x .imports) (y .imports), ap (λ z. length (z .imports)) n) in
           let l : far .includes ≡ length (x .includes ++ y .includes) = omega
           (arith, c .includes, length-append (x .includes) (y .includes), ap (λ z. length (z .includes)) n) in
           let b : far .used ≡ length (x .bytes ++ y .bytes) = omega (arith, c .used, length-append (x .bytes) (y .bytes), ap (λ z. length (z .bytes)) n) in
-          read-ends (good (joined x y)) (scan-done whole s (record { far = far; read = x }) k) (good-is i l b) read-holds
+          read-ends (good (joined x y)) (from-done whole s (record { far = far; read = x }) k) (good-is i l b) read-holds
 
       pub read-refused : (q : Refusal) → r ≡ Stop q → Parses (scanned whole s) d t u (Refused q) e′ f′ g′
       unfolding parsedOf readOf
       read-refused q h =
           let k = sym (w .answer) ∙ h in
-          read-ends (bad q (joined (j .read) (stepAt whole s far .adds))) (scan-stop whole s (record { far = far; read = j .read }) q k) refl read-holds
+          read-ends (bad q (joined (j .read) (stepFrom whole s far .adds))) (from-stop whole s (record { far = far; read = j .read }) q k) refl read-holds

@@ -1,2 +1,3 @@
 pub mod Dependencies
 pub mod Promises
+pub mod Seek

@@ -11,10 +11,10 @@ ghost use mathlib.Core.Bool.{false};
 ghost use Prim.Native.Nat.{_+_, _-_, _*_, _≤_, _<_};
 ghost use lib.ListN.{length};
 ghost use Rattle.text.specs.Class.{classTable};
-ghost use Rattle.text_skip.specs.Skip.{pastToken};
 ghost use Rattle.scan_rows.specs.Rows.{importSize, includeSize, mostRows};
-ghost use Rattle.yangparser.specs.Dependencies.{full, afterToken, stepAt, scanned};
+ghost use Rattle.yangparser.specs.Dependencies.{full, scanned};
 ghost use Rattle.yangparser.specs.Promises.{AddsImport, AddsInclude, Steps, Parses, Scans, Extracts};
+ghost use Rattle.yangparser.specs.Seek.{lookPast, lookAt, soughtAt, stepFrom};
 
 // The refusal of this layer.
 pub const TOO_MANY: u32 = 10;
@@ -104,7 +104,7 @@ pub struct Sofar {
     pub includes: usize,
 }
 
-// After a statement or a token; or nothing more is read; or a refusal.
+// After a statement; or nothing more is read; or a refusal.
 pub enum Next {
     On(Sofar),
     Done,
@@ -150,7 +150,7 @@ fn parse(
     }
 }
 
-// Reads the statement, or skips the token, that stands after a gap.
+// Reads the next import or include, past all tokens before it.
 fn parse_next(
     far: Sofar,
     classes: &[u8; 128],
@@ -163,39 +163,78 @@ fn parse_next(
     requires { ⌜ (now classes ≡ classTable) × (far .used + (length (now s) - far .at) ≤ length (now s))
         × (length (now s) ≤ length (now store)) × (length (now s) < 4294967296) × (mostRows * importSize ≤ length (now imports))
         × (mostRows * includeSize ≤ length (now includes)) ⌝ }
-    ensures { λ r. ⌜ Steps (stepAt whole (now (s .entry)) far) far (now (store .entry)) (now (imports .entry)) (now (includes .entry)) r
+    ensures { λ r. ⌜ Steps (stepFrom whole (now (s .entry)) far) far (now (store .entry)) (now (imports .entry)) (now (includes .entry)) r
         (now (store .exit)) (now (imports .exit)) (now (includes .exit)) ⌝ }
 {
     let from = Cursor { at: far.at };
-    let here = from.skip_whitespace_and_comments(classes, s);
-    let at = here.at;
-    if s.len() <= at {
-        return Next::Done;
-    }
-    let head = scan_head::read_head(here, classes, s);
-    match head {
-        Head::Import(c) => add_import(far, c, classes, whole, s, store, imports),
-        Head::Include(c) => add_include(far, c, classes, whole, s, store, includes),
-        Head::Last(_) => Next::Done,
-        Head::Other => skip_token(far, here, classes, whole, s),
+    match seek(from, classes, whole, s) {
+        Sought::Import(c) => add_import(far, c, classes, whole, s, store, imports),
+        Sought::Include(c) => add_include(far, c, classes, whole, s, store, includes),
+        Sought::End => Next::Done,
+        Sought::Refused(r) => Next::Stop(r),
     }
 }
 
-// Skips the token that stands here.
-fn skip_token(far: Sofar, here: Cursor, classes: &[u8; 128], whole: bool, s: &[u8]) -> Next
+// What ends a search: an import or include, and the cursor behind its keyword; nothing more is read; or a refusal.
+pub enum Sought {
+    Import(Cursor),
+    Include(Cursor),
+    End,
+    Refused(Refusal),
+}
+
+// Skips tokens until something ends the search. It is a loop of its own: at each token only the place moves.
+fn seek(from: Cursor, classes: &[u8; 128], whole: bool, s: &[u8]) -> Sought
     requires { ⌜ now classes ≡ classTable ⌝ }
-    ensures { λ r. ⌜ r ≡ afterToken far (pastToken whole (now (s .entry)) (here .at)) ⌝ }
+    ensures { λ r. ⌜ r ≡ soughtAt whole (now (s .entry)) (from .at) ⌝ }
 {
-    let token = text_skip::past_token(here, classes, whole, s);
+    let mut at = from.at;
+    loop {
+        let here = Cursor { at };
+        match look_at(here, classes, whole, s) {
+            Look::Past(next) => {
+                at = next.at;
+            }
+            Look::Met(x) => {
+                return x;
+            }
+        }
+    }
+}
+
+// A token was passed, and the cursor behind it; or what ends the search.
+pub enum Look {
+    Past(Cursor),
+    Met(Sought),
+}
+
+// What stands after a gap.
+fn look_at(from: Cursor, classes: &[u8; 128], whole: bool, s: &[u8]) -> Look
+    requires { ⌜ now classes ≡ classTable ⌝ }
+    ensures { λ r. ⌜ r ≡ lookAt whole (now (s .entry)) (from .at) ⌝ }
+{
+    let here = from.skip_whitespace_and_comments(classes, s);
+    let at = here.at;
+    if s.len() <= at {
+        return Look::Met(Sought::End);
+    }
+    let head = scan_head::read_head(here, classes, s);
+    match head {
+        Head::Import(c) => Look::Met(Sought::Import(c)),
+        Head::Include(c) => Look::Met(Sought::Include(c)),
+        Head::Last(_) => Look::Met(Sought::End),
+        Head::Other => passed(text_skip::past_token(here, classes, whole, s)),
+    }
+}
+
+// Past a token, or the refusal.
+fn passed(token: Due) -> Look
+    ensures { λ r. ⌜ r ≡ lookPast token ⌝ }
+{
     let Due::After(next) = token else {
-        return Next::Stop(text::refusal_of(token));
+        return Look::Met(Sought::Refused(text::refusal_of(token)));
     };
-    Next::On(Sofar {
-        at: next.at,
-        used: far.used,
-        imports: far.imports,
-        includes: far.includes,
-    })
+    Look::Past(next)
 }
 
 // The answer to a row too many: a refusal behind its keyword.

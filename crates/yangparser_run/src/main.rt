@@ -123,13 +123,7 @@ fn read_agrees(
 
 // The dependencies of a text and their printed form; where the answer's number is 0, the values and the page stand behind it. A text that is longer than the
 // store would be refused, and so be told as different.
-fn dependencies_agree(
-    whole: bool,
-    s: &[u8],
-    answer: &[u8],
-    data: &[u8],
-    values_at: usize,
-) -> bool {
+fn dependencies_agree(whole: bool, s: &[u8], answer: &[u8], data: &[u8], values_at: usize) -> bool {
     let mut store = [0u8; 4096];
     let mut imports = [0u32; scan_rows::MOST_ROWS * scan_rows::IMPORT_SIZE];
     let mut includes = [0u32; scan_rows::MOST_ROWS * scan_rows::INCLUDE_SIZE];

@@ -3,7 +3,7 @@
 -- Assumes nothing.
 use mathlib.Core.Path.{sym}
 use borrow.Author.Needs.{needs}
-use Rattle.text_value.proofs.ArgumentLaws.{argument-cut, argument-missing, argument-read}
+use Rattle.text_value.proofs.ArgumentLaws.{argument-cut, argument-missing, argument-read-cut, argument-read}
 use Rattle.text_value.proofs.read_value.Statement.{statement}
 use Rattle.text_value.proofs.read_value.Tie as tie
 
@@ -11,7 +11,7 @@ returns : tie.Need-returns
 returns c =
     let off = c .before .before in
     let closed = off .before in
-    let at-read = closed .before .before .before in
+    let at-read = closed .before .before .before .before .before in
     let a = at-read .before .before .before .before .args in
     let v = at-read .read-string-or-identifier in (
       sym (argument-cut (a .whole) (a .s .now) (a .here .at) (a .used) (a .keyword) (v .ensures .0) (closed .value-closed .ensures)
@@ -21,31 +21,41 @@ returns c =
 
 returns-2 : tie.Need-returns-2
 returns-2 c =
-    let told = c .before in
-    let if1 = told .before .before in
-    let off = if1 .before in
+    let off = c .before .before in
     let closed = off .before in
-    let at-read = closed .before .before .before in
+    let told = closed .before in
+    let at-read = told .before .before .before .before in
     let a = at-read .before .before .before .before .args in
     let v = at-read .read-string-or-identifier in
     let k = told .enum-told .given in (
       sym (argument-missing (a .whole) (a .s .now) (a .here .at) (a .used) (a .keyword) (v .ensures .0) (closed .value-closed .ensures)
-          (off .breaks-off .ensures) (if1 .if1 .left) (k .0 .0) (k .0 .1 .0) (k .1) (c .value-end .ensures)),
+          (off .breaks-off .ensures) (c .before .if1 .left) (k .0 .0) (k .0 .1 .0) (k .1) (c .value-end .ensures)),
       v .ensures .1,
     )
 
 returns-3 : tie.Need-returns-3
 returns-3 c =
-    let got = c .before in
-    let if1 = got .before .before in
-    let off = if1 .before in
-    let closed = off .before in
-    let at-read = closed .before .before .before in
+    let off = c .before .before in
+    let got = off .before .before in
+    let at-read = got .before .before .before .before in
     let a = at-read .before .before .before .before .args in
     let v = at-read .read-string-or-identifier in
     let k = got .got .given in (
-      sym (argument-read (a .whole) (a .s .now) (a .here .at) (a .used) (a .keyword) (v .ensures .0) (closed .value-closed .ensures)
-          (off .breaks-off .ensures) (if1 .if1 .left) (k .0 .0) (k .0 .1 .0) (k .0 .1 .1 .0) (k .1)),
+      sym (argument-read-cut (a .whole) (a .s .now) (a .here .at) (a .used) (a .keyword) (v .ensures .0) (k .0 .0) (k .0 .1 .0) (k .0 .1 .1 .0) (k .1)
+          (off .breaks-off2 .ensures) (c .before .if2 .taken) (c .cut-short2 .ensures)),
+      v .ensures .1,
+    )
+
+returns-4 : tie.Need-returns-4
+returns-4 c =
+    let off = c .before in
+    let got = off .before .before in
+    let at-read = got .before .before .before .before in
+    let a = at-read .before .before .before .before .args in
+    let v = at-read .read-string-or-identifier in
+    let k = got .got .given in (
+      sym (argument-read (a .whole) (a .s .now) (a .here .at) (a .used) (a .keyword) (v .ensures .0) (k .0 .0) (k .0 .1 .0) (k .0 .1 .1 .0) (k .1)
+          (off .breaks-off2 .ensures) (c .if2 .left)),
       v .ensures .1,
     )
 
@@ -54,15 +64,19 @@ read-value-spec =
     tie.close
     (tie.spec
     (λ c κs. search needs)
+    (λ c. search needs)
+    (λ c. search needs)
     (λ c κs. search needs)
     (λ c κs. search needs)
     (λ c κs. search needs)
     (λ c. search needs)
     returns
-    (λ c. search needs)
-    (λ c. search needs)
     (λ c κs. search needs)
     (λ c. search needs)
     returns-2
+    (λ c κs. search needs)
+    (λ c κs. search needs)
     (λ c. search needs)
-    returns-3)
+    returns-3
+    (λ c. search needs)
+    returns-4)

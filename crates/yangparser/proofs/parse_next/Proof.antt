@@ -1,12 +1,9 @@
--- `yangparser::parse_next`. After the gap the keyword decides what the step is.
+-- `yangparser::parse_next`. What ends the search decides what the step is.
 -- Assumes nothing.
-use Rattle.yangparser.proofs.StepLaws.{steps-past, steps-import, steps-include, steps-last, steps-token, import-step-room, include-step-room}
 use borrow.Author.Needs.{needs}
+use Rattle.yangparser.proofs.SeekLaws.{steps-import, steps-include, steps-end, steps-refused, import-step-room, include-step-room}
 use Rattle.yangparser.proofs.parse_next.Statement.{statement}
 use Rattle.yangparser.proofs.parse_next.Tie as tie
-
-returns : tie.Need-returns
-returns c = search steps-past
 
 add-import-requires : tie.Need-add-import-requires
 add-import-requires c κs = (search needs, search import-step-room, search needs, search needs, search needs)
@@ -14,24 +11,22 @@ add-import-requires c κs = (search needs, search import-step-room, search needs
 add-include-requires : tie.Need-add-include-requires
 add-include-requires c κs = (search needs, search include-step-room, search needs, search needs, search needs)
 
+returns : tie.Need-returns
+returns c = search steps-import
+
 returns-2 : tie.Need-returns-2
-returns-2 c = search steps-import
+returns-2 c = search steps-include
 
 returns-3 : tie.Need-returns-3
-returns-3 c = search steps-include
+returns-3 c = search steps-end
 
 returns-4 : tie.Need-returns-4
-returns-4 c = search steps-last
-
-returns-5 : tie.Need-returns-5
-returns-5 c = search steps-token
+returns-4 c = search steps-refused
 
 pub parse-next-spec : {M : Type 1} → statement M
 parse-next-spec =
     tie.close
     (tie.spec
-    (λ c κs. search needs)
-    returns
     (λ c κs. search needs)
     (λ c. search needs)
     add-import-requires
@@ -39,12 +34,11 @@ parse-next-spec =
     add-include-requires
     (λ c. search needs)
     (λ c. search needs)
-    (λ c κs. search needs)
+    (λ c. search needs)
+    (λ c. search needs)
+    returns
     (λ c. search needs)
     (λ c. search needs)
     returns-2
-    (λ c. search needs)
-    (λ c. search needs)
     returns-3
-    returns-4
-    returns-5)
+    returns-4)
