@@ -87,13 +87,20 @@ module _ (whole : Bool) (s : List ℕ) (at : ℕ) {g : ℕ} (ge : g ≡ gapEnd s
 
 -- ---- past all tokens
 
--- what a look tells of its place
+-- behind the start and within the text
+abbrev Ahead : List ℕ → ℕ → Cursor → Type 0
+Ahead s at c = (at < c .at) × (c .at ≤ length s)
+
+-- so is what was sought, and what a look passes
+abbrev Found : List ℕ → ℕ → Sought → Type 0
+Found s at (Import c) = Ahead s at c
+Found s at (Include c) = Ahead s at c
+Found s at End = Unit {0}
+Found s at (Refused r) = Unit {0}
+
 abbrev Tells : List ℕ → ℕ → Look → Type 0
-Tells s at (Past c) = (at < c .at) × (c .at ≤ length s)
-Tells s at (Met (Import c)) = (at < c .at) × (c .at ≤ length s)
-Tells s at (Met (Include c)) = (at < c .at) × (c .at ≤ length s)
-Tells s at (Met End) = Unit {0}
-Tells s at (Met (Refused r)) = Unit {0}
+Tells s at (Past c) = Ahead s at c
+Tells s at (Met x) = Found s at x
 
 token-tells : (whole : Bool) (s : List ℕ) (at g : ℕ) → at ≤ g → g < length s → (k : Due) → pastToken whole s g ≡ k → Tells s at (lookPast k)
 unfolding lookPast
@@ -153,19 +160,6 @@ module _ (whole : Bool) (s : List ℕ) (at : ℕ) {x : Look} (xe : x ≡ lookAt 
   sought-met y h e =
       sym (turns-stop (seekTurn whole s) End (λ i. length s - i) (seek-falls whole s) (suc (length s)) at y (omega arith) (turn-is ∙ ap ofLook h)) ∙ e
 
--- what was sought is behind its start and within the text
-abbrev Found : List ℕ → ℕ → Sought → Type 0
-Found s at (Import c) = (at < c .at) × (c .at ≤ length s)
-Found s at (Include c) = (at < c .at) × (c .at ≤ length s)
-Found s at End = Unit {0}
-Found s at (Refused r) = Unit {0}
-
-met-found : (s : List ℕ) (at : ℕ) (x : Sought) → Tells s at (Met x) → Found s at x
-met-found s at (Import c) h = h
-met-found s at (Include c) h = h
-met-found s at End h = tt
-met-found s at (Refused r) h = tt
-
 found-on : (s : List ℕ) (at b : ℕ) (x : Sought) → at < b → Found s b x → Found s at x
 found-on s at b (Import c) l h = (omega (arith, h .0), h .1)
 found-on s at b (Include c) l h = (omega (arith, h .0), h .1)
@@ -176,19 +170,22 @@ sought-found : (whole : Bool) (s : List ℕ) (at : ℕ) → Found s at (soughtAt
 unfolding soughtAt seekTurn
 sought-found whole s at =
     turns-rule (seekTurn whole s) End (λ i. length s - i) (seek-falls whole s) (λ a x. Found s a x)
-    (λ a x h. met-found s a x (subst (Tells s a) (of-stop (lookAt whole s a) x h) (look-tells whole s a)))
+    (λ a x h. subst (Tells s a) (of-stop (lookAt whole s a) x h) (look-tells whole s a))
     (λ a b x h k. let q = of-on (lookAt whole s a) b h in
     let f = subst (Tells s a) (q .1) (look-tells whole s a) in
     found-on s a b x (omega (arith, f .0, q .2)) k)
     (suc (length s)) at (omega arith)
 
 -- room in the store behind the keyword
+room-behind : (s : List ℕ) (at used : ℕ) (c : Cursor) → used + (length s - at) ≤ length s → Ahead s at c → used + (length s - c .at) ≤ length s
+room-behind s at used c room f = omega (arith, f .0)
+
 module _ (whole : Bool) (s : List ℕ) (at used : ℕ) {x : Sought} (xe : x ≡ soughtAt whole s at) (c : Cursor) (room : used + (length s - at) ≤ length s) where
   pub import-step-room : x ≡ Import c → used + (length s - c .at) ≤ length s
-  import-step-room q = let f = subst (Found s at) (sym xe ∙ q) (sought-found whole s at) in omega (arith, f .0)
+  import-step-room q = room-behind s at used c room (subst (Found s at) (sym xe ∙ q) (sought-found whole s at))
 
   pub include-step-room : x ≡ Include c → used + (length s - c .at) ≤ length s
-  include-step-room q = let f = subst (Found s at) (sym xe ∙ q) (sought-found whole s at) in omega (arith, f .0)
+  include-step-room q = room-behind s at used c room (subst (Found s at) (sym xe ∙ q) (sought-found whole s at))
 
 -- ---- the contract of the code's step; x: what was sought
 
