@@ -27,7 +27,8 @@ use Rattle.text.specs.Keyword.{startsIdent, endsKeyword, same, part, keywordAt,
 use Rattle.text.specs.Scan.{inIdent, inRun, span, runEnd, pairAt, closing, blockEnd, commentEnd, afterWhite, gapTurn, gapEnd}
 use Rattle.text.specs.Turns.{turns}
 use Rattle.text_value.specs.Argument.{argumentOf, breaksOff, argumentAt, afterDue}
-use Rattle.text_value.specs.Value.{isQuote, startsName, addedBy, afterPlus, joinedWith, joined as joinedValue, ofString, valueHere, valueAt, valueBytes}
+use Rattle.text_string.specs.Str.{isQuote}
+use Rattle.text_value.specs.Value.{startsName, addedBy, afterPlus, joinedWith, joined as joinedValue, ofString, valueHere, valueAt, valueBytes}
 use Rattle.text_skip.specs.Skip.{closedToken, tokenHere}
 use Rattle.text_statement.specs.Statement.{statementAt}
 use Rattle.text_lent.specs.Lent.{lentAt}

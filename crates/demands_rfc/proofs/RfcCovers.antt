@@ -19,11 +19,10 @@ use Rattle.text.specs.Turns.{stop, on, after}
 use Rattle.text.specs.declared.Run.the-variants.{White, Line}
 use Rattle.text.proofs.Here.{by-test, never, both}
 use Rattle.text.proofs.Laws.{run-from, block-from, comment-line, comment-block, gap-stop, gap-more, gap-on}
-use Rattle.text_value.specs.Str.{escapes, strEnd, strBytes, whole, closedBy, strAt}
-use Rattle.text_value.specs.Value.{isQuote}
-use Rattle.text_value.proofs.JoinLaws.{at-is, closed-end, str-size}
-use Rattle.text_value.specs.declared.Close.{Close}
-use Rattle.text_value.specs.declared.Close.the-variants.{At, Open}
+use Rattle.text_string.specs.Str.{isQuote, escapes, strEnd, strBytes, whole, closedBy, strAt}
+use Rattle.text_string.proofs.StrLaws.{at-is, closed-end, str-size}
+use Rattle.text_string.specs.declared.Close.{Close}
+use Rattle.text_string.specs.declared.Close.the-variants.{At, Open}
 use Rattle.demands_rfc.specs.Rfc.{isBlank, areAt, toLineEnd, commentClose, pastComment, separator, pastGap, Read, reads, with, first, Piece, double}
 use Rattle.demands_rfc.specs.Rfc.{single, gap, singleBody, doubleBody, columnOf, stringAt, gapTo, gapAt, gapAndString, plusAndString, moreStrings}
 use Rattle.demands_rfc.specs.Rfc.{piecesAt}

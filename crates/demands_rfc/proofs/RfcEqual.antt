@@ -11,8 +11,8 @@ use lib.Dec.{eqb}
 use borrow.Author.Tests.{not-true, eqb-true, eqb-false}
 use Rattle.text.specs.Scan.{gapEnd}
 use Rattle.text.proofs.Here.{by-test, never, both}
-use Rattle.text_value.specs.Str.{whole, strAt}
-use Rattle.text_value.specs.Value.{isQuote, added, ends, addedBy, moreAt, joinedWith, joined, Bytes, value, valueAt}
+use Rattle.text_string.specs.Str.{isQuote, whole, strAt}
+use Rattle.text_value.specs.Value.{added, ends, addedBy, moreAt, joinedWith, joined, Bytes, value, valueAt}
 use Rattle.text_value.proofs.ValueLaws.{more-plain, more-string}
 use Rattle.text_value.proofs.JoinLaws.{join-on, join-stop, value-string}
 use Rattle.demands_rfc.specs.Rfc.{Read, reads, nothing, first, Piece, double, single, gap, pastGap, stringAt, gapTo, gapAt, gapAndString, plusAndString}

@@ -11,9 +11,8 @@ use lib.ListN.{getD, drop}
 use lib.Dec.{eqb}
 use borrow.Author.Tests.{eqb-true}
 use Rattle.text.proofs.Here.{by-test}
-use Rattle.text_value.specs.Str.{escaped, escapes, strEnd, strBytes, whole, closedBy, strAt}
-use Rattle.text_value.specs.Value.{isQuote}
-use Rattle.text_value.specs.declared.Close.the-variants.{At}
+use Rattle.text_string.specs.Str.{isQuote, escaped, escapes, strEnd, strBytes, whole, closedBy, strAt}
+use Rattle.text_string.specs.declared.Close.the-variants.{At}
 use Rattle.demands_rfc.specs.Rfc.{Read, reads, nothing, with, Piece, double, single, singleBody, doubleBody, columnOf, stringAt, escape, joining}
 use Rattle.demands_rfc.specs.Rfc.{unescaped, meaning}
 use Rattle.demands_rfc.specs.RfcDomain.{plain}

@@ -11,8 +11,7 @@ use lib.Dec.{eqb}
 use Rattle.text.specs.Bytes.{tab, newline, space, quote, star, plus, slash, look}
 use Rattle.text.specs.Keyword.{part}
 use Rattle.text.specs.Scan.{gapEnd}
-use Rattle.text_value.specs.Str.{whole, strAt}
-use Rattle.text_value.specs.Value.{isQuote}
+use Rattle.text_string.specs.Str.{isQuote, whole, strAt}
 use Rattle.demands_rfc.specs.Rfc.{areAt, toLineEnd, commentClose}
 use Rattle.demands_rfc.specs.RfcDomain.{oneLine, legal}
 

@@ -23,8 +23,8 @@ use Rattle.text.specs.declared.Match.the-variants.{After, Not}
 use Rattle.text.proofs.Here.{by-test}
 use Rattle.text.proofs.Laws.{gap-from}
 use Rattle.text_value.specs.Argument.{argumentOf, breaksOff, argumentAt, afterDue, afterArgument, lineAt}
-use Rattle.text_value.specs.Str.{escaped, escapes, strEnd, strBytes, closedBy, strAt}
-use Rattle.text_value.specs.Value.{isQuote, startsName, addedBy, afterPlus, afterGap, moreAt, addTo, joinTurn, joinedWith, joined as joinedValue, ofString}
+use Rattle.text_string.specs.Str.{isQuote, escaped, escapes, strEnd, strBytes, closedBy, strAt}
+use Rattle.text_value.specs.Value.{startsName, addedBy, afterPlus, afterGap, moreAt, addTo, joinTurn, joinedWith, joined as joinedValue, ofString}
 use Rattle.text_value.specs.Value.{value, valueHere, valueAt, valueBytes}
 use Rattle.text_skip.specs.Skip.{pastOf, closedToken, tokenHere, tokenAt, pastToken}
 use Rattle.text_statement.specs.Statement.{closes, quotedLen, quotedEnd, atSemicolon, atClose, partOf, partAt, ofPart, statementTurn, statementFrom}

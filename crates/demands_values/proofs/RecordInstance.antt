@@ -20,7 +20,8 @@ use Rattle.text.specs.declared.Cursor.{Cursor}
 use Rattle.text.specs.declared.Match.the-variants.{After}
 use Rattle.text.proofs.Here.{never}
 use Rattle.text_value.specs.Argument.{argumentOf, breaksOff, argumentAt}
-use Rattle.text_value.specs.Value.{value, isQuote, startsName, valueHere, valueAt, valueBytes}
+use Rattle.text_string.specs.Str.{isQuote}
+use Rattle.text_value.specs.Value.{value, startsName, valueHere, valueAt, valueBytes}
 use Rattle.text_skip.specs.Skip.{pastOf, closedToken, tokenHere, tokenAt, pastToken}
 use Rattle.text_statement.specs.Statement.{closes, quotedLen, quotedEnd, atSemicolon, atClose, partOf, partAt, ofPart, statementTurn, statementFrom}
 use Rattle.text_statement.specs.Statement.{statementAt, pastStatement}

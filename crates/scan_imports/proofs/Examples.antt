@@ -13,8 +13,8 @@ use Rattle.text.specs.Turns.{turns}
 use Rattle.text.specs.Words.{prefixKeyword, importKeyword, includeKeyword, revisionDateKeyword}
 use Rattle.text.specs.declared.Refusal.{Refusal}
 use Rattle.text_value.specs.Argument.{argumentOf, breaksOff, argumentAt, afterDue, afterArgument, lineAt}
-use Rattle.text_value.specs.Str.{escaped, escapes, strEnd, strBytes, closedBy, strAt}
-use Rattle.text_value.specs.Value.{isQuote, startsName, addedBy, afterPlus, afterGap, moreAt, addTo, joinTurn, joinedWith, joined, ofString, valueHere, valueAt}
+use Rattle.text_string.specs.Str.{isQuote, escaped, escapes, strEnd, strBytes, closedBy, strAt}
+use Rattle.text_value.specs.Value.{startsName, addedBy, afterPlus, afterGap, moreAt, addTo, joinTurn, joinedWith, joined, ofString, valueHere, valueAt}
 use Rattle.text_value.specs.Value.{valueBytes, closedMore, closedTurn, closedFrom, closedString, closedHere, closedAt}
 use Rattle.text_skip.specs.Skip.{brokeOff, pastOf}
 use Rattle.text_statement.specs.Statement.{closes, quotedLen, quotedEnd, atSemicolon, atClose, partOf, partAt, ofPart, statementTurn, statementFrom}

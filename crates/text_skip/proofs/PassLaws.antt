@@ -13,10 +13,10 @@ use Rattle.text.specs.declared.Cursor.{Cursor}
 use Rattle.text.specs.declared.Refusal.{Refusal}
 use Rattle.text.specs.declared.Run.the-variants.{Name}
 use Rattle.text.proofs.Here.{here, never}
-use Rattle.text_value.specs.Str.{Str, whole, cut, closedBy, strAt, bytesOf}
-use Rattle.text_value.specs.Value.{isQuote, startsName, More, added, ends, broken, addedBy, moreAt, moreBytes, valueAt, placeOf}
-use Rattle.text_value.specs.declared.Close.{Close}
-use Rattle.text_value.specs.declared.Close.the-variants.{At, Open}
+use Rattle.text_string.specs.Str.{isQuote, Str, whole, cut, closedBy, strAt, bytesOf}
+use Rattle.text_value.specs.Value.{startsName, More, added, ends, broken, addedBy, moreAt, moreBytes, valueAt, placeOf}
+use Rattle.text_string.specs.declared.Close.{Close}
+use Rattle.text_string.specs.declared.Close.the-variants.{At, Open}
 use Rattle.text_value.proofs.JoinLaws.{more-size, joined-on, joined-stop, joined-broken, value-string, value-cut, value-name, value-none, place-size, closed-on}
 use Rattle.text_value.proofs.JoinLaws.{closed-stop, closed-broken, closed-string, closed-cut, closed-name}
 use Rattle.text_value.proofs.ValueLaws.{more-plain, more-bare, more-string}

@@ -17,11 +17,10 @@ use Rattle.text.specs.declared.Run.the-variants.{Name}
 use Rattle.text.proofs.Here.{by-test, inside, never}
 use Rattle.text.proofs.KeywordLaws.{starts-in}
 use Rattle.text.proofs.Laws.{in-name, run-more, run-from, run-within}
-use Rattle.text_value.specs.Str.{strEnd}
-use Rattle.text_value.specs.Value.{isQuote}
-use Rattle.text_value.specs.declared.Close.{Close}
-use Rattle.text_value.specs.declared.Close.the-variants.{At, Open}
-use Rattle.text_value.proofs.JoinLaws.{str-size}
+use Rattle.text_string.specs.Str.{isQuote, strEnd}
+use Rattle.text_string.specs.declared.Close.{Close}
+use Rattle.text_string.specs.declared.Close.the-variants.{At, Open}
+use Rattle.text_string.proofs.StrLaws.{str-size}
 use Rattle.text_skip.specs.Skip.{brokeOff, skipRefusal, pastWhole, pastText, closedToken, tokenHere, tokenAt}
 use Rattle.text_skip.specs.declared.How.{How}
 use Rattle.text_skip.specs.declared.Skipped.{Skipped}

@@ -17,10 +17,10 @@ use Rattle.text.specs.declared.Due.{Due}
 use Rattle.text.specs.declared.Due.the-variants.{After, Not}
 use Rattle.text.specs.declared.Refusal.{Refusal}
 use Rattle.text.specs.declared.Run.the-variants.{Name}
-use Rattle.text_value.specs.Str.{strEnd}
-use Rattle.text_value.specs.Value.{isQuote, More, added, ends, broken, joined, valueAt, placeOf, closedFrom, closedAt}
-use Rattle.text_value.specs.declared.Close.{Close}
-use Rattle.text_value.specs.declared.Close.the-variants.{At, Open}
+use Rattle.text_string.specs.Str.{isQuote, strEnd}
+use Rattle.text_value.specs.Value.{More, added, ends, broken, joined, valueAt, placeOf, closedFrom, closedAt}
+use Rattle.text_string.specs.declared.Close.{Close}
+use Rattle.text_string.specs.declared.Close.the-variants.{At, Open}
 use Rattle.text_skip.specs.declared.How.{How}
 use Rattle.text_skip.specs.declared.How.the-variants.{Whole, Semicolon, Block, Before, Text}
 use Rattle.text_skip.specs.declared.Skipped.{Skipped}

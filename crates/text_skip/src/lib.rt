@@ -3,7 +3,7 @@ use text::Cursor;
 use text::Due;
 use text::Refusal;
 use text::Run;
-use text_value::Close;
+use text_string::Close;
 ghost use mathlib.Core.Path.{_≡_};
 ghost use Rattle.text.specs.Class.{classTable};
 ghost use Rattle.text_value.specs.Value.{moreAt};
@@ -88,9 +88,9 @@ pub fn skip_one_token(here: Cursor, classes: &[u8; 128], s: &[u8]) -> Skipped
         let end = text::run_end(classes, Run::Name, s, at);
         return Skipped::Past(Cursor { at: end }, How::Whole);
     }
-    if text_value::is_quote(b) {
+    if text_string::is_quote(b) {
         let q = s[at];
-        let Close::At(end) = text_value::close_of(s, after, q) else {
+        let Close::At(end) = text_string::close_of(s, after, q) else {
             return Skipped::Past(Cursor { at: s.len() }, How::Text);
         };
         return Skipped::Past(Cursor { at: end }, How::Whole);
@@ -107,7 +107,7 @@ pub fn skip_value(here: Cursor, classes: &[u8; 128], s: &[u8]) -> Skipped
     let first = here.skip_whitespace_and_comments(classes, s);
     let at = first.at;
     let b = text::peek_char(s, at);
-    if text_value::is_quote(b) {
+    if text_string::is_quote(b) {
         let string = skip_one_token(first, classes, s);
         let Skipped::Past(next, how) = string else {
             return string;
@@ -172,7 +172,7 @@ fn skip_string(here: Cursor, classes: &[u8; 128], s: &[u8]) -> Tail
     let after = Cursor { at: next };
     let quote = after.skip_whitespace_and_comments(classes, s);
     let q = quote.at;
-    if text_value::is_quote(text::peek_char(s, q)) {
+    if text_string::is_quote(text::peek_char(s, q)) {
         let string = skip_one_token(quote, classes, s);
         let Skipped::Past(next, how) = string else {
             return Tail::Last(string);

@@ -9,8 +9,8 @@ use Rattle.text.specs.Class.{classOf}
 use Rattle.text.specs.Keyword.{startsIdent}
 use Rattle.text.specs.Scan.{inIdent, inRun, span, runEnd, pairAt, closing, blockEnd, commentEnd, afterWhite, gapTurn, gapEnd}
 use Rattle.text.specs.Turns.{turns}
-use Rattle.text_value.specs.Str.{escapes, strEnd, strBytes, closedBy, strAt}
-use Rattle.text_value.specs.Value.{isQuote, startsName, addedBy, afterPlus, afterGap, moreAt, addTo, joinTurn, joinedWith, joined, ofString, valueHere, valueAt}
+use Rattle.text_string.specs.Str.{isQuote, escapes, strEnd, strBytes, closedBy, strAt}
+use Rattle.text_value.specs.Value.{startsName, addedBy, afterPlus, afterGap, moreAt, addTo, joinTurn, joinedWith, joined, ofString, valueHere, valueAt}
 use Rattle.text_value.specs.Value.{placeOf, closedMore, closedTurn, closedFrom, closedString, closedHere, closedAt}
 use Rattle.text_skip.specs.Skip.{pastWhole, pastText, closedToken, tokenHere, tokenAt, skippedAt}
 use Rattle.text_statement.specs.Statement.{closes, quotedLen, quotedEnd, atSemicolon, atClose, partOf, partAt, ofPart, statementTurn, statementFrom}

@@ -17,7 +17,7 @@ use Rattle.text.specs.declared.Refusal.{Refusal}
 use Rattle.text.proofs.Here.{by-test, inside, rest}
 use Rattle.text.proofs.Laws.{gap-from, gap-within}
 use Rattle.text.proofs.Turns.{turns-stop, turns-on, turns-rule}
-use Rattle.text_value.specs.Value.{isQuote}
+use Rattle.text_string.specs.Str.{isQuote}
 use Rattle.text_statement.specs.Statement.{closes, quotedLen, quotedEnd, atSemicolon, atClose, partOf, partAt, Inside, ofPart, statementTurn}
 use Rattle.text_statement.specs.Statement.{statementFrom, statementAt}
 use Rattle.text_skip.specs.declared.How.{How}

@@ -10,7 +10,7 @@ use Rattle.text.specs.Bytes.{backslash, semicolon, openBrace, closeBrace, look}
 use Rattle.text.specs.Scan.{gapEnd}
 use Rattle.text.specs.Turns.{Turn, stop, on, turns}
 use Rattle.text.specs.declared.Due.{Due}
-use Rattle.text_value.specs.Value.{isQuote}
+use Rattle.text_string.specs.Str.{isQuote}
 use Rattle.text_skip.specs.Skip.{pastOf}
 use Rattle.text_skip.specs.declared.How.the-variants.{Semicolon, Block, Before, Text}
 use Rattle.text_statement.specs.declared.Part.{Part}

@@ -12,8 +12,8 @@ use Rattle.text.specs.Keyword.{same, part}
 use Rattle.text.specs.Scan.{inIdent, inRun, span, runEnd, pairAt, closing, blockEnd, commentEnd, afterWhite, gapTurn, gapEnd}
 use Rattle.text.specs.Turns.{turns}
 use Rattle.text_value.specs.Argument.{argumentOf, breaksOff, argumentAt, afterDue, afterArgument, lineAt}
-use Rattle.text_value.specs.Str.{escaped, escapes, strEnd, strBytes, closedBy, strAt}
-use Rattle.text_value.specs.Value.{isQuote, startsName, More, added, ends, broken, addedBy, afterPlus, afterGap, moreAt, addTo, joinTurn, joinedWith}
+use Rattle.text_string.specs.Str.{isQuote, escaped, escapes, strEnd, strBytes, closedBy, strAt}
+use Rattle.text_value.specs.Value.{startsName, More, added, ends, broken, addedBy, afterPlus, afterGap, moreAt, addTo, joinTurn, joinedWith}
 use Rattle.text_value.specs.Value.{joined, ofString, valueHere, valueAt, Val, value, none, closedMore, closedTurn, closedFrom, closedString, closedHere}
 use Rattle.text_value.specs.Value.{closedAt}
 use Rattle.text_value.specs.declared.Argument.{Argument}

@@ -3,10 +3,10 @@
 -- Assumes nothing.
 use mathlib.Core.Path.{_≡_, refl, sym, ap, ap₂, _∙_}
 use mathlib.Core.Bool.{Bool, true, false, cond}
-use mathlib.Core.List.{List, [], _∷_, _++_}
+use mathlib.Core.List.{List, [], _++_}
 use Prim.Native.Nat.{ℕ, suc, _+_, _-_, _<_, _≤_}
 use native.Mathlib.Omega.{arith}
-use lib.ListN.{length, getD, drop, length-drop, length-append}
+use lib.ListN.{length, getD, length-append}
 use lib.Seq.{sets, length-sets}
 use lib.Dec.{eqb}
 use borrow.Author.Tests.{eqb-true, eqb-false}
@@ -18,56 +18,20 @@ use Rattle.text.specs.Turns.{stop, on}
 use Rattle.text.proofs.Turns.{turns-stop, turns-on, turns-rule}
 use Rattle.text.proofs.Here.{by-test, here, never}
 use Rattle.text.proofs.Laws.{in-name, gap-from, gap-within, run-more, run-from, run-within}
-use Rattle.text_value.specs.Str.{Str, whole, cut, strEnd, strBytes, strAt, closedBy, escapes, answerOf, bytesOf}
-use Rattle.text_value.specs.Value.{isQuote, More, added, ends, broken, addedBy, moreAt, Bytes, addTo, joinTurn, joinedWith, joined, moreAnswer, moreBytes}
+use Rattle.text_string.specs.Str.{isQuote, Str, whole, cut, strAt}
+use Rattle.text_value.specs.Value.{More, added, ends, broken, addedBy, moreAt, Bytes, addTo, joinTurn, joinedWith, joined, moreAnswer, moreBytes}
 use Rattle.text_value.specs.Value.{joinAnswer, Val, value, none, ofString, nameAt, valueHere, valueAt, startsName, closedMore, closedTurn, closedFrom}
 use Rattle.text_value.specs.Value.{closedString, closedHere, closedAt, valueAnswer, valueBytes, valueEnd, valueClosed, placeOf}
 use Rattle.text.specs.declared.Cursor.{Cursor}
 use Rattle.text.proofs.Writing.{sets-append}
 use Rattle.text_value.specs.declared.Joined.{Joined}
-use Rattle.text_value.specs.declared.Quoted.the-variants.{Closed, Unclosed}
+use Rattle.text_string.proofs.StrLaws.{whole-size}
 use Rattle.text_value.specs.declared.Value.the-variants.{Read}
 use Rattle.text_value.specs.declared.Addition.{Addition}
 use Rattle.text_value.specs.declared.Addition.the-variants.{Added, Last, Cut}
-use Rattle.text_value.specs.declared.Close.{Close}
-use Rattle.text_value.specs.declared.Close.the-variants.{At, Open}
 use Rattle.text_value.proofs.ValueLaws.{part-length, more-plain, more-bare, more-string}
 
--- ---- how much a string takes
-
-abbrev pub Size : List ℕ → ℕ → ℕ → ℕ → Type 0
-Size bs at e n = (at + length bs < e) × (e ≤ at + n)
-
-pub at-is : {k : Close} (a b : ℕ) → k ≡ At a → k ≡ At b → a ≡ b
-at-is a b e f = cc
-
-open-not : {k : Close} (a : ℕ) → k ≡ Open → k ≡ At a → ⊥
-open-not a e f = let z : _≡_ {A = ℕ} 0 1 = cc in omega arith
-
-pub str-size : (q : ℕ) (esc : Bool) (xs : List ℕ) (at e : ℕ) → strEnd q esc xs at ≡ At e → Size (strBytes q esc xs) at e (length xs)
-unfolding strEnd strBytes
-str-size q esc [] at e h = absurd (open-not e refl h)
-str-size q true (b ∷ xs) at e h = omega (arith, str-size q false xs (at + 1) e h)
-str-size q false (b ∷ xs) at e h =
-    by-test (eqb b q)
-    (λ t. let k = at-is (at + 1) e refl (rw t at h) in rw t (omega arith))
-    (λ t. let k = rw t at h in
-    by-test (escapes q b)
-    (λ u. let m = str-size q true xs (at + 1) e (rw u at k) in rw t (rw u (omega arith)))
-    (λ u. let m = str-size q false xs (at + 1) e (rw u at k) in rw t (rw u (omega arith))))
-
-pub closed-end : (bs : List ℕ) (k : Close) (cs : List ℕ) (e : ℕ) → closedBy bs k ≡ whole cs e → (k ≡ At e) × (bs ≡ cs)
-unfolding closedBy
-closed-end bs (At a) cs e h = (cc, cc)
-closed-end bs Open cs e h = (cc, cc)
-
-pub whole-size : (s : List ℕ) (at : ℕ) (cs : List ℕ) (e : ℕ) → strAt s at ≡ whole cs e → (at + 1 + length cs < e) × (e ≤ length s)
-unfolding strAt
-whole-size s at cs e h =
-    let q = getD s at 256 in
-    let xs = drop (at + 1) s in
-    let k = closed-end (strBytes q false xs) (strEnd q false xs (at + 1)) cs e h in
-    omega (arith, str-size q false xs (at + 1) e (k .0), length-drop (at + 1) s, ap length (k .1))
+-- ---- how much an addition takes
 
 added-is : (s : List ℕ) (t : Str) (cs : List ℕ) (e : ℕ) → addedBy s t ≡ added cs e → t ≡ whole cs e
 unfolding addedBy
@@ -248,17 +212,6 @@ module _ {s d : List ℕ} {u from : ℕ} where
           join-ended end false (join-broken s (j .bytes) at (end .at) (m .0)) (closed-broken s at (end .at) (m .0)) (m .1)
 
 -- ---- a value
-
--- what reading its first string answered
-pub closed-answer : (u : ℕ) (t : Str) (c : Cursor) (n : ℕ) → answerOf u t ≡ Closed c n → (t ≡ whole (bytesOf t) (c .at)) × (n ≡ u + length (bytesOf t))
-unfolding answerOf bytesOf
-closed-answer u (whole bs e) c n h = (cc, cc)
-closed-answer u cut c n h = (cc, cc)
-
-pub cut-answer : (u : ℕ) (t : Str) → answerOf u t ≡ Unclosed → (t ≡ cut) × (bytesOf t ≡ [])
-unfolding answerOf bytesOf
-cut-answer u (whole bs e) h = (cc, cc)
-cut-answer u cut h = (refl, refl)
 
 -- b stands here, n whether a name begins so
 module _ (s : List ℕ) (g : ℕ) {b : ℕ} {n : Bool} (be : b ≡ getD s g 256) (ne : n ≡ startsName b) where

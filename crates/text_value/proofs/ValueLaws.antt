@@ -1,7 +1,6 @@
 -- What a proof uses of what follows a string, and of the bytes that are copied: one law for each way out of `read_part`.
 -- Assumes nothing.
 use mathlib.Core.Path.{_≡_, refl, sym, ap, _∙_}
-use mathlib.Core.Logic.{_⊎_, inl, inr, ⊎-elim}
 use mathlib.Core.Bool.{Bool, true, false}
 use mathlib.Core.List.{List, [], _∷_}
 use Prim.Native.Nat.{ℕ, suc, _+_, _-_, _<_, _≤_}
@@ -13,21 +12,11 @@ use borrow.Author.Tests.{eq-eqb, ne-eqb}
 use Rattle.text.specs.Keyword.{part}
 use Rattle.text.specs.Scan.{gapEnd}
 use Rattle.text.specs.declared.Cursor.{Cursor}
-use Rattle.text_value.specs.Str.{Str, whole, cut, strAt, answerOf, bytesOf}
-use Rattle.text_value.specs.Value.{isQuote, ends, addedBy, afterPlus, afterGap, moreAt, moreAnswer, moreBytes}
-use Rattle.text_value.specs.declared.Quoted.{Quoted}
-use Rattle.text_value.specs.declared.Quoted.the-variants.{Closed, Unclosed}
+use Rattle.text_string.specs.Str.{isQuote, Str, whole, cut, strAt, answerOf, bytesOf}
+use Rattle.text_value.specs.Value.{ends, addedBy, afterPlus, afterGap, moreAt, moreAnswer, moreBytes}
+use Rattle.text_string.specs.declared.Quoted.{Quoted}
+use Rattle.text_string.specs.declared.Quoted.the-variants.{Closed, Unclosed}
 use Rattle.text_value.specs.declared.Addition.the-variants.{Added, Cut}
-
--- ---- bytes
-
-pub quote-yes : (b : ℕ) → (b ≡ 34) ⊎ (b ≡ 39) → isQuote b ≡ true
-unfolding isQuote
-quote-yes b m = ⊎-elim (ap isQuote) (ap isQuote) m
-
-pub quote-no : (b : ℕ) → ((b ≡ 34) ⊎ (b ≡ 39) → ⊥) → isQuote b ≡ false
-unfolding isQuote
-quote-no b m = simp (ne-eqb b 34 (λ e. m (inl e)), ne-eqb b 39 (λ e. m (inr e)))
 
 -- ---- a part
 

@@ -1,3 +1,2 @@
 pub mod Argument
-pub mod Str
 pub mod Value

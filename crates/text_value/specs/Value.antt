@@ -7,22 +7,18 @@ use mathlib.Core.Bool.{Bool, true, false, cond, _||_}
 use mathlib.Core.List.{List, [], _++_}
 use lib.ListN.{length}
 use lib.Dec.{eqb}
-use Rattle.text.specs.Bytes.{quote, apostrophe, plus, underscore, look}
+use Rattle.text.specs.Bytes.{plus, underscore, look}
 use Rattle.text.specs.Class.{classOf, letterClass, digitClass}
 use Rattle.text.specs.Keyword.{part}
 use Rattle.text.specs.Scan.{runEnd, gapEnd}
 use Rattle.text.specs.Turns.{Turn, stop, on, turns}
 use Rattle.text.specs.declared.Run.the-variants.{Name}
-use Rattle.text_value.specs.Str.{Str, whole, cut, strAt}
+use Rattle.text_string.specs.Str.{isQuote, Str, whole, cut, strAt}
 use Rattle.text_value.specs.declared.Addition.{Addition}
 use Rattle.text_value.specs.declared.Addition.the-variants.{Added, Last, Cut}
 use Rattle.text_value.specs.declared.Joined.{Joined}
 use Rattle.text_value.specs.declared.Value.{Value}
 use Rattle.text_value.specs.declared.Value.the-variants.{Read, Missing}
-
--- " or '
-unfoldable pub isQuote : ℕ → Bool
-isQuote b = eqb b quote || eqb b apostrophe
 
 -- a letter, a digit or _
 unfoldable pub startsName : ℕ → Bool

@@ -6,9 +6,10 @@ use lib.Seq.{sets}
 use native.Mathlib.Omega.{arith}
 use borrow.Author.Needs.{needs}
 use Rattle.text.proofs.Laws.{gap-from}
-use Rattle.text_value.specs.Str.{strAt, bytesOf}
+use Rattle.text_string.specs.Str.{strAt, bytesOf}
 use Rattle.text_value.specs.Value.{joined, closedFrom, valueAnswer, valueBytes}
-use Rattle.text_value.proofs.JoinLaws.{whole-size, closed-answer, cut-answer, value-string, value-cut, value-other, read-joined, sets-twice}
+use Rattle.text_string.proofs.StrLaws.{whole-size, closed-answer, cut-answer}
+use Rattle.text_value.proofs.JoinLaws.{value-string, value-cut, value-other, read-joined, sets-twice}
 use Rattle.text_value.proofs.JoinLaws.{closed-string, closed-cut, closed-name}
 use Rattle.text_value.proofs.read_string_or_identifier.Statement.{statement}
 use Rattle.text_value.proofs.read_string_or_identifier.Tie as tie

@@ -1,4 +1,4 @@
--- `text_value::plain_end`. The loop keeps where the string closes: eight bytes that neither close nor escape leave that as it was.
+-- `text_string::plain_end`. The loop keeps where the string closes: eight bytes that neither close nor escape leave that as it was.
 -- Assumes nothing.
 use mathlib.Core.Path.{_≡_, refl, sym, _∙_}
 use mathlib.Core.Bool.{false}
@@ -6,13 +6,13 @@ use Prim.Native.Nat.{_-_, _≤_}
 use lib.ListN.{length, drop}
 use native.Mathlib.Omega.{arith}
 use borrow.Author.Needs.{needs}
-use Rattle.text_value.specs.Str.{strEnd}
-use Rattle.text_value.proofs.StrLaws.{end-plain}
-use Rattle.text_value.proofs.plain_end.Statement.{statement}
-use Rattle.text_value.proofs.plain_end.Tie as tie
-use Rattle.text_value.proofs.plain_end.Reads as reads
-use Rattle.text_value.proofs.plain_end.Lts as lts
-use Rattle.text_value.proofs.among.Reads as among-reads
+use Rattle.text_string.specs.Str.{strEnd}
+use Rattle.text_string.proofs.StrLaws.{end-plain}
+use Rattle.text_string.proofs.plain_end.Statement.{statement}
+use Rattle.text_string.proofs.plain_end.Tie as tie
+use Rattle.text_string.proofs.plain_end.Reads as reads
+use Rattle.text_string.proofs.plain_end.Lts as lts
+use Rattle.text_string.proofs.among.Reads as among-reads
 
 abbrev Inv-loop : tie.InvT-loop
 Inv-loop s at q last i₀ i = (at ≤ i) × (strEnd q false (drop i s) i ≡ strEnd q false (drop at s) at)

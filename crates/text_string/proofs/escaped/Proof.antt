@@ -1,10 +1,10 @@
--- `text_value::escaped`. Each arm of the `match` is its case of the definition.
+-- `text_string::escaped`. Each arm of the `match` is its case of the definition.
 -- Assumes nothing.
 use mathlib.Core.Path.{sym, ap}
 use borrow.Author.Tests.{ne-eqb}
-use Rattle.text_value.specs.Str.{escaped}
-use Rattle.text_value.proofs.escaped.Statement.{statement}
-use Rattle.text_value.proofs.escaped.Tie as tie
+use Rattle.text_string.specs.Str.{escaped}
+use Rattle.text_string.proofs.escaped.Statement.{statement}
+use Rattle.text_string.proofs.escaped.Tie as tie
 
 returns : tie.Need-returns
 unfolding escaped

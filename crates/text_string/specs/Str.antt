@@ -6,11 +6,15 @@ use mathlib.Core.Bool.{Bool, true, false, cond, _&&_, _||_}
 use mathlib.Core.List.{List, [], _∷_}
 use lib.ListN.{length, drop}
 use lib.Dec.{eqb}
-use Rattle.text.specs.Bytes.{tab, newline, quote, backslash, smallN, smallT, look}
-use Rattle.text_value.specs.declared.Close.{Close}
-use Rattle.text_value.specs.declared.Close.the-variants.{At, Open}
-use Rattle.text_value.specs.declared.Quoted.{Quoted}
-use Rattle.text_value.specs.declared.Quoted.the-variants.{Closed, Unclosed}
+use Rattle.text.specs.Bytes.{tab, newline, quote, apostrophe, backslash, smallN, smallT, look}
+use Rattle.text_string.specs.declared.Close.{Close}
+use Rattle.text_string.specs.declared.Close.the-variants.{At, Open}
+use Rattle.text_string.specs.declared.Quoted.{Quoted}
+use Rattle.text_string.specs.declared.Quoted.the-variants.{Closed, Unclosed}
+
+-- a string opens by " or '
+unfoldable pub isQuote : ℕ → Bool
+isQuote b = eqb b quote || eqb b apostrophe
 
 -- n stands for byte 10, t for 9, any other for itself
 unfoldable pub escaped : ℕ → ℕ

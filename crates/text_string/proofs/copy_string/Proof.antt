@@ -1,4 +1,4 @@
--- `text_value::copy_string`. The loop keeps what is left to be written, what the string gives from here on: a byte written is its first, a
+-- `text_string::copy_string`. The loop keeps what is left to be written, what the string gives from here on: a byte written is its first, a
 -- backslash gives none.
 -- Assumes nothing.
 use mathlib.Core.Bool.{false}
@@ -6,10 +6,10 @@ use Prim.Native.Nat.{_+_, _-_, _≤_}
 use lib.ListN.{length, drop, length-set}
 use native.Mathlib.Omega.{arith}
 use Rattle.text.proofs.Writing.{Writing, begun, said, put, written, counted}
-use Rattle.text_value.specs.Str.{strBytes}
-use Rattle.text_value.proofs.StrLaws.{bytes-past, bytes-skip, bytes-quote, bytes-escape, bytes-more}
-use Rattle.text_value.proofs.copy_string.Statement.{statement}
-use Rattle.text_value.proofs.copy_string.Tie as tie
+use Rattle.text_string.specs.Str.{strBytes}
+use Rattle.text_string.proofs.StrLaws.{bytes-past, bytes-skip, bytes-quote, bytes-escape, bytes-more}
+use Rattle.text_string.proofs.copy_string.Statement.{statement}
+use Rattle.text_string.proofs.copy_string.Tie as tie
 
 abbrev Inv-loop : tie.InvT-loop
 Inv-loop s at q store₀ used i₀ esc₀ n₀ store i esc n =

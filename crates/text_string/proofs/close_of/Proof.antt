@@ -1,14 +1,14 @@
--- `text_value::close_of`. The loop keeps where the string closes: bytes that are passed leave that as it was, the quote closes it here.
+-- `text_string::close_of`. The loop keeps where the string closes: bytes that are passed leave that as it was, the quote closes it here.
 -- Assumes nothing.
 use mathlib.Core.Path.{_≡_, refl, sym, _∙_}
 use mathlib.Core.Bool.{false}
 use Prim.Native.Nat.{_-_}
 use lib.ListN.{length, drop}
 use native.Mathlib.Omega.{arith}
-use Rattle.text_value.specs.Str.{strEnd}
-use Rattle.text_value.proofs.StrLaws.{end-past, end-escape, end-quote, end-more}
-use Rattle.text_value.proofs.close_of.Statement.{statement}
-use Rattle.text_value.proofs.close_of.Tie as tie
+use Rattle.text_string.specs.Str.{strEnd}
+use Rattle.text_string.proofs.StrLaws.{end-past, end-escape, end-quote, end-more}
+use Rattle.text_string.proofs.close_of.Statement.{statement}
+use Rattle.text_string.proofs.close_of.Tie as tie
 
 abbrev Inv-loop : tie.InvT-loop
 Inv-loop s at q i₀ i = strEnd q false (drop i s) i ≡ strEnd q false (drop at s) at

@@ -1,14 +1,14 @@
--- `text_value::read_quoted_string`. The first pass finds where the string closes and the second copies it, so one that never closes stores
+-- `text_string::read_quoted_string`. The first pass finds where the string closes and the second copies it, so one that never closes stores
 -- nothing.
 -- Assumes nothing.
 use mathlib.Core.Path.{sym, ap, _∙_}
 use lib.Seq.{sets}
-use Rattle.text_value.specs.Str.{answerOf, bytesOf}
-use Rattle.text_value.specs.declared.Quoted.the-variants.{Closed}
-use Rattle.text_value.proofs.StrLaws.{str-whole, str-cut, str-past}
+use Rattle.text_string.specs.Str.{answerOf, bytesOf}
+use Rattle.text_string.specs.declared.Quoted.the-variants.{Closed}
+use Rattle.text_string.proofs.StrLaws.{str-whole, str-cut, str-past}
 use borrow.Author.Needs.{needs}
-use Rattle.text_value.proofs.read_quoted_string.Statement.{statement}
-use Rattle.text_value.proofs.read_quoted_string.Tie as tie
+use Rattle.text_string.proofs.read_quoted_string.Statement.{statement}
+use Rattle.text_string.proofs.read_quoted_string.Tie as tie
 
 returns : tie.Need-returns
 unfolding answerOf bytesOf

@@ -1,12 +1,12 @@
--- `text_value::among`. The eight tests joined are the definition's own, one byte after the other.
+-- `text_string::among`. The eight tests joined are the definition's own, one byte after the other.
 -- Assumes nothing.
 use native.Mathlib.Omega.{arith}
-use Rattle.text_value.proofs.StrLaws.{among-eight}
+use Rattle.text_string.proofs.StrLaws.{among-eight}
 use borrow.Author.Needs.{needs}
-use Rattle.text_value.proofs.among.Statement.{statement}
-use Rattle.text_value.proofs.among.Tie as tie
-use Rattle.text_value.proofs.among.Reads as reads
-use Rattle.text_value.proofs.among.Lts as lts
+use Rattle.text_string.proofs.among.Statement.{statement}
+use Rattle.text_string.proofs.among.Tie as tie
+use Rattle.text_string.proofs.among.Reads as reads
+use Rattle.text_string.proofs.among.Lts as lts
 
 -- src/lib.rt:283:1
 returns : tie.Need-returns

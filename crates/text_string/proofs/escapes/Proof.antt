@@ -1,9 +1,9 @@
--- `text_value::escapes`. The two tests are the definition's.
+-- `text_string::escapes`. The two tests are the definition's.
 -- Assumes nothing.
 use borrow.Author.Tests.{eq-eqb, ne-eqb}
-use Rattle.text_value.specs.Str.{escapes}
-use Rattle.text_value.proofs.escapes.Statement.{statement}
-use Rattle.text_value.proofs.escapes.Tie as tie
+use Rattle.text_string.specs.Str.{escapes}
+use Rattle.text_string.proofs.escapes.Statement.{statement}
+use Rattle.text_string.proofs.escapes.Tie as tie
 
 returns : tie.Need-returns
 unfolding escapes

@@ -1,19 +1,34 @@
--- What a proof uses of the definitions of `specs/Str.antt`: a step of a string at a place of a text.
+-- What a proof uses of the definitions of `specs/Str.antt`: a step of a string at a place of a text, how much a string takes, and what
+-- reading it answered.
 -- Assumes nothing.
-use mathlib.Core.Path.{_≡_, refl, sym, _∙_}
+use mathlib.Core.Path.{_≡_, refl, sym, ap, _∙_}
+use mathlib.Core.Logic.{_⊎_, inl, inr, ⊎-elim}
 use mathlib.Core.Bool.{Bool, true, false, _&&_, _||_}
 use mathlib.Core.List.{List, [], _∷_}
 use Prim.Native.Nat.{ℕ, zero, suc, _+_, _<_, _≤_}
 use native.Mathlib.Nat.{lt-of-not-le}
 use native.Mathlib.Decide.{decLe}
 use native.Mathlib.Omega.{arith}
-use lib.ListN.{length, getD, drop, take, drop-of-length-le}
+use lib.ListN.{length, getD, drop, take, drop-of-length-le, length-drop}
 use lib.Dec.{eqb}
 use borrow.Author.Tests.{eqb-false, eq-eqb, ne-eqb}
-use Rattle.text_value.specs.Str.{among, escaped, escapes, strEnd, strBytes, whole, cut, closedBy, strAt}
+use Rattle.text_string.specs.Str.{isQuote, among, escaped, escapes, strEnd, strBytes, Str, whole, cut, closedBy, strAt, answerOf, bytesOf}
 use Rattle.text.specs.Bytes.{quote, backslash}
-use Rattle.text.proofs.Here.{inside, rest-or, neither, or-none}
-use Rattle.text_value.specs.declared.Close.the-variants.{At, Open}
+use Rattle.text.specs.declared.Cursor.{Cursor}
+use Rattle.text.proofs.Here.{by-test, inside, rest-or, neither, or-none}
+use Rattle.text_string.specs.declared.Close.{Close}
+use Rattle.text_string.specs.declared.Close.the-variants.{At, Open}
+use Rattle.text_string.specs.declared.Quoted.the-variants.{Closed, Unclosed}
+
+-- ---- quotes
+
+pub quote-yes : (b : ℕ) → (b ≡ 34) ⊎ (b ≡ 39) → isQuote b ≡ true
+unfolding isQuote
+quote-yes b m = ⊎-elim (ap isQuote) (ap isQuote) m
+
+pub quote-no : (b : ℕ) → ((b ≡ 34) ⊎ (b ≡ 39) → ⊥) → isQuote b ≡ false
+unfolding isQuote
+quote-no b m = simp (ne-eqb b 34 (λ e. m (inl e)), ne-eqb b 39 (λ e. m (inr e)))
 
 -- ---- eight bytes at a time
 
@@ -136,3 +151,51 @@ str-cut s at h e = rw (inside s at 256 0 h) (rw e)
 pub str-past : (s : List ℕ) (at : ℕ) → length s ≤ at → strAt s at ≡ cut
 unfolding strAt closedBy
 str-past s at h = rw (end-past (getD s at 256) s (at + 1) false (omega arith))
+
+-- ---- how much a string takes
+
+abbrev pub Size : List ℕ → ℕ → ℕ → ℕ → Type 0
+Size bs at e n = (at + length bs < e) × (e ≤ at + n)
+
+pub at-is : {k : Close} (a b : ℕ) → k ≡ At a → k ≡ At b → a ≡ b
+at-is a b e f = cc
+
+open-not : {k : Close} (a : ℕ) → k ≡ Open → k ≡ At a → ⊥
+open-not a e f = let z : _≡_ {A = ℕ} 0 1 = cc in omega arith
+
+pub str-size : (q : ℕ) (esc : Bool) (xs : List ℕ) (at e : ℕ) → strEnd q esc xs at ≡ At e → Size (strBytes q esc xs) at e (length xs)
+unfolding strEnd strBytes
+str-size q esc [] at e h = absurd (open-not e refl h)
+str-size q true (b ∷ xs) at e h = omega (arith, str-size q false xs (at + 1) e h)
+str-size q false (b ∷ xs) at e h =
+    by-test (eqb b q)
+    (λ t. let k = at-is (at + 1) e refl (rw t at h) in rw t (omega arith))
+    (λ t. let k = rw t at h in
+    by-test (escapes q b)
+    (λ u. let m = str-size q true xs (at + 1) e (rw u at k) in rw t (rw u (omega arith)))
+    (λ u. let m = str-size q false xs (at + 1) e (rw u at k) in rw t (rw u (omega arith))))
+
+pub closed-end : (bs : List ℕ) (k : Close) (cs : List ℕ) (e : ℕ) → closedBy bs k ≡ whole cs e → (k ≡ At e) × (bs ≡ cs)
+unfolding closedBy
+closed-end bs (At a) cs e h = (cc, cc)
+closed-end bs Open cs e h = (cc, cc)
+
+pub whole-size : (s : List ℕ) (at : ℕ) (cs : List ℕ) (e : ℕ) → strAt s at ≡ whole cs e → (at + 1 + length cs < e) × (e ≤ length s)
+unfolding strAt
+whole-size s at cs e h =
+    let q = getD s at 256 in
+    let xs = drop (at + 1) s in
+    let k = closed-end (strBytes q false xs) (strEnd q false xs (at + 1)) cs e h in
+    omega (arith, str-size q false xs (at + 1) e (k .0), length-drop (at + 1) s, ap length (k .1))
+
+-- ---- what reading it answered
+
+pub closed-answer : (u : ℕ) (t : Str) (c : Cursor) (n : ℕ) → answerOf u t ≡ Closed c n → (t ≡ whole (bytesOf t) (c .at)) × (n ≡ u + length (bytesOf t))
+unfolding answerOf bytesOf
+closed-answer u (whole bs e) c n h = (cc, cc)
+closed-answer u cut c n h = (cc, cc)
+
+pub cut-answer : (u : ℕ) (t : Str) → answerOf u t ≡ Unclosed → (t ≡ cut) × (bytesOf t ≡ [])
+unfolding answerOf bytesOf
+cut-answer u (whole bs e) h = (cc, cc)
+cut-answer u cut h = (refl, refl)

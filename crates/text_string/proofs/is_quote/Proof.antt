@@ -1,9 +1,9 @@
--- `text_value::is_quote`. The two keys of the `match` are the two quotes of the definition.
+-- `text_string::is_quote`. The two keys of the `match` are the two quotes of the definition.
 -- Assumes nothing.
 use mathlib.Core.Path.{sym}
-use Rattle.text_value.proofs.ValueLaws.{quote-yes, quote-no}
-use Rattle.text_value.proofs.is_quote.Statement.{statement}
-use Rattle.text_value.proofs.is_quote.Tie as tie
+use Rattle.text_string.proofs.StrLaws.{quote-yes, quote-no}
+use Rattle.text_string.proofs.is_quote.Statement.{statement}
+use Rattle.text_string.proofs.is_quote.Tie as tie
 
 returns : tie.Need-returns
 returns c = sym (quote-yes (c .before .args .b) (c .match .keys1))
