@@ -11,6 +11,7 @@ ghost use lib.ListN.{length};
 ghost use lib.Seq.{sets};
 ghost use Rattle.text.specs.Bytes.{semicolon};
 ghost use Rattle.text.specs.Class.{classTable};
+ghost use Rattle.text.specs.Scan.{gapEnd};
 ghost use Rattle.text_statement.specs.Statement.{pastStatement};
 ghost use Rattle.text_value.specs.Argument.{lineAt};
 ghost use Rattle.text_value.specs.Value.{valueAt, valueBytes};
@@ -158,10 +159,10 @@ fn parse_inside(
 
 // Skips a statement of which nothing is read.
 fn skip_other(body: Body, here: Cursor, classes: &[u8; 128], whole: bool, s: &[u8]) -> Inside
-    requires { ⌜ now classes ≡ classTable ⌝ }
+    requires { ⌜ (now classes ≡ classTable) × (gapEnd (now s) (here .at) ≡ here .at) ⌝ }
     ensures { λ r. ⌜ r ≡ withSkipped body (pastStatement whole (now (s .entry)) (here .at)) ⌝ }
 {
-    let skipped = text_statement::past_statement(here, classes, whole, s);
+    let skipped = text_statement::past_statement_here(here, classes, whole, s);
     let Due::After(next) = skipped else {
         return Inside::Refused(text::refusal_of(skipped));
     };

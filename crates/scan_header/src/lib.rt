@@ -10,6 +10,7 @@ ghost use Prim.Native.Nat.{_+_, _-_, _≤_};
 ghost use lib.ListN.{length};
 ghost use lib.Seq.{sets};
 ghost use Rattle.text.specs.Class.{classTable};
+ghost use Rattle.text.specs.Scan.{gapEnd};
 ghost use Rattle.text_skip.specs.Skip.{pastValue};
 ghost use Rattle.scan_header.specs.Header.{dueFor, afterRevision, afterValue, passed, afterSkipped, fieldAt, laterPrefix};
 ghost use Rattle.scan_header.specs.Header.{statementSaid, saidAt, heardRefusal};
@@ -188,12 +189,12 @@ fn after_value(here: Cursor, classes: &[u8; 128], whole: bool, s: &[u8], keyword
 
 // A revision's block, or a semicolon.
 fn after_revision(here: Cursor, classes: &[u8; 128], whole: bool, s: &[u8]) -> Due
-    requires { ⌜ now classes ≡ classTable ⌝ }
+    requires { ⌜ (now classes ≡ classTable) × (gapEnd (now s) (here .at) ≡ here .at) ⌝ }
     ensures { λ r. ⌜ r ≡ afterRevision whole (now (s .entry)) (here .at) ⌝ }
 {
     let at = here.at;
     if text::peek_char(s, at) == text::OPEN_BRACE {
-        return text_statement::past_statement(here, classes, whole, s);
+        return text_statement::past_statement_here(here, classes, whole, s);
     }
     here.expect_char(classes, s, text::SEMICOLON, text::REVISION)
 }

@@ -14,7 +14,7 @@ use Rattle.text.specs.declared.Cursor.{Cursor}
 use Rattle.text.specs.declared.Due.{Due}
 use Rattle.text.specs.declared.Due.the-variants.{After, Not}
 use Rattle.text.specs.declared.Refusal.{Refusal}
-use Rattle.text.proofs.Laws.{gap-from, gap-twice}
+use Rattle.text.proofs.Laws.{gap-from, gap-done}
 use Rattle.text_value.specs.Argument.{argumentAt, lineAt, argumentRefusal}
 use Rattle.text_value.specs.Value.{valueAt, valueBytes}
 use Rattle.text_value.specs.declared.Argument.{Argument}
@@ -130,7 +130,7 @@ module _ (w : Bool) (s : List ℕ) (at u : ℕ) (d : List ℕ) {a : Argument} {e
       include-due : includeAt w s at u ≡ record { answer = plainOf x n t; bytes = valueBytes (valueAt s at) }
       unfolding openOrPlain dueAt
       include-due =
-          let twice : gapEnd s g ≡ g = ap (gapEnd s) ge ∙ gap-twice s (c .at) ∙ sym ge in
+          let twice : gapEnd s g ≡ g = gap-done s (c .at) ge in
           let q : dueHere s g 59 9 ≡ t = sym (te ∙ ap (λ i. dueHere s i 59 9) twice) in
           include-named ∙ rw (ne-eqb (getD s g 256) 123 (λ z. m (pe ∙ z))) (ap (λ z. record { answer = plainOf x n z; bytes = valueBytes (valueAt s at) }) q)
 

@@ -311,6 +311,10 @@ gap-twice s i =
     (omega arith) in
     ap (gapEnd s) (gap-is s i) ∙ all ∙ sym (gap-is s i)
 
+-- g: where a gap ended
+pub gap-done : (s : List ℕ) (i : ℕ) {g : ℕ} → g ≡ gapEnd s i → gapEnd s g ≡ g
+gap-done s i e = ap (gapEnd s) e ∙ gap-twice s i ∙ sym e
+
 -- at the end there is none
 pub gap-past : (s : List ℕ) (i : ℕ) → length s ≤ i → gapEnd s i ≡ i
 gap-past s i h = gap-stop s i (sym (run-past White s i h)) (sym (comment-past s i h)) refl

@@ -1,6 +1,7 @@
 // Replays recorded answers of the Rust for single values, statements and tokens, and runs the traps of document 01.
 use replay::Tally;
 use text::Cursor;
+use text::Due;
 use text::Match;
 use text_skip::Skipped;
 use text_value::Argument;
@@ -104,8 +105,8 @@ fn tokens_from(classes: &[u8; 128], s: &[u8]) -> Cursor
     match belongs {
         Match::After(_) => {
             let rest = Cursor { at: 21 };
-            let skipped = text_statement::skip_statement(rest, classes, s);
-            let Skipped::Past(next, _) = skipped else {
+            let skipped = text_statement::past_statement(rest, classes, false, s);
+            let Due::After(next) = skipped else {
                 return opened;
             };
             next
@@ -179,8 +180,8 @@ fn replay_file(name: &[u8], values: bool) {
 fn statement_ends(s: &[u8], at: usize) -> bool {
     let classes = text::classes();
     let start = Cursor { at: 0 };
-    let skipped = text_statement::skip_statement(start, &classes, s);
-    let Skipped::Past(next, _) = skipped else {
+    let skipped = text_statement::past_statement(start, &classes, false, s);
+    let Due::After(next) = skipped else {
         return false;
     };
     next.at == at

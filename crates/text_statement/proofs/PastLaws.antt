@@ -19,13 +19,17 @@ use Rattle.text_skip.specs.declared.Skipped.{Skipped}
 use Rattle.text_skip.specs.declared.Skipped.the-variants.{Past}
 use Rattle.text_skip.proofs.PastLaws.{SameOrCut, past-after, past-not, past-modes}
 use Rattle.text_statement.specs.Statement.{statementAt, pastStatement}
-use Rattle.text_statement.proofs.StatementLaws.{Tells, statement-tells, statement-far, statement-moves, statement-refused}
+use Rattle.text_statement.proofs.StatementLaws.{Tells, statement-gap, statement-tells, statement-far, statement-moves, statement-refused}
 
 module _ (w : Bool) (s : List ℕ) (at : ℕ) where
   -- k: what was skipped, d: what is past it
   pub statement-is-past : {k : Skipped} {d : Due} → d ≡ pastOf w (length s) k → k ≡ statementAt s at → d ≡ pastStatement w s at
   unfolding pastStatement
   statement-is-past de e = de ∙ ap (pastOf w (length s)) e
+
+  pub past-gap : {g : ℕ} → g ≡ gapEnd s at → pastStatement w s g ≡ pastStatement w s at
+  unfolding pastStatement statementAt
+  past-gap e = ap (pastOf w (length s)) (statement-gap s at 0 e)
 
   pub past-statement-far : at ≤ length s → (c : Cursor) → pastStatement w s at ≡ After c → (at ≤ c .at) × (c .at ≤ length s)
   unfolding pastStatement

@@ -11,11 +11,11 @@ use lib.ListN.{length, getD, drop, drop-of-length-le, length-drop}
 use lib.Dec.{eqb, leb}
 use borrow.Author.Tests.{ne-eqb, eqb-true, le-leb, lt-leb, leb-true, leb-false}
 use Rattle.text.specs.Scan.{gapEnd}
-use Rattle.text.specs.Turns.{stop, on}
+use Rattle.text.specs.Turns.{stop, on, after, turns}
 use Rattle.text.specs.declared.Cursor.{Cursor}
 use Rattle.text.specs.declared.Refusal.{Refusal}
 use Rattle.text.proofs.Here.{by-test, inside, rest}
-use Rattle.text.proofs.Laws.{gap-from, gap-within}
+use Rattle.text.proofs.Laws.{gap-from, gap-within, gap-twice}
 use Rattle.text.proofs.Turns.{turns-stop, turns-on, turns-rule}
 use Rattle.text_string.specs.Str.{isQuote}
 use Rattle.text_statement.specs.Statement.{closes, quotedLen, quotedEnd, atSemicolon, atClose, partOf, partAt, Inside, ofPart, statementTurn}
@@ -256,6 +256,13 @@ module _ (s : List ℕ) (at d : ℕ) {g : ℕ} {p : Part} (ge : g ≡ gapEnd s a
     -- each brace that opened took a byte
     pub statement-room : d ≤ at → e ≤ c .at
     statement-room r = omega (arith, far, gap-from s at)
+
+-- a gap before a statement is a part of it
+pub statement-gap : (s : List ℕ) (at d : ℕ) {g : ℕ} → g ≡ gapEnd s at → statementFrom s g d ≡ statementFrom s at d
+unfolding statementFrom turns statementTurn
+statement-gap s at d e =
+    ap (λ i. after (λ j. turns (statementTurn s) (Past (record { at = 0 }) Text) (length s) j) (ofPart (partAt s i d)))
+    (ap (gapEnd s) e ∙ gap-twice s at)
 
 -- ---- how far a statement goes
 

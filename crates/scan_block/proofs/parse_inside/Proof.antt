@@ -3,7 +3,7 @@
 use mathlib.Core.Path.{refl, sym, ap, _∙_}
 use native.Mathlib.Omega.{arith}
 use Rattle.text.proofs.Here.{here}
-use Rattle.text.proofs.Laws.{gap-from}
+use Rattle.text.proofs.Laws.{gap-from, gap-done}
 use Rattle.scan_block.specs.declared.Inside.the-variants.{Closed}
 use Rattle.scan_block.proofs.FarLaws.{kind-value-far}
 use Rattle.scan_block.proofs.InsideLaws.{leaves, inside-end, inside-close, inside-value, inside-other}
@@ -89,7 +89,7 @@ parse-inside-spec =
     (λ c. search needs)
     read-inside-requires
     (λ c. search needs)
-    (λ c κs. search needs)
+    (λ c κs. search (gap-done, needs))
     (λ c. search needs)
     returns-3
     returns-4)

@@ -1,6 +1,7 @@
 -- `scan_header::after_value`. The keyword decides.
 -- Assumes nothing.
 use borrow.Author.Needs.{needs}
+use Rattle.text.proofs.Laws.{gap-done}
 use Rattle.scan_header.proofs.ReadLaws.{due-byte, value-parent, value-revision, value-due}
 use Rattle.scan_header.proofs.after_value.Statement.{statement}
 use Rattle.scan_header.proofs.after_value.Tie as tie
@@ -24,7 +25,7 @@ after-value-spec =
     (λ c κs. search needs)
     returns
     (λ c κs. search needs)
-    (λ c κs. search needs)
+    (λ c κs. search (gap-done, needs))
     returns-2
     (λ c κs. search needs)
     expect-char-requires
