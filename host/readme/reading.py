@@ -9,7 +9,7 @@ from pathlib import Path
 CRATES = Path(__file__).resolve().parents[2] / "crates"
 # In reading order; a definition belongs to the first topic that has its crate or reaches it.
 TOPICS = [
-    ("bytes, gaps, keywords, values, skipping", {"text", "text_string", "text_value", "text_skip", "text_statement"}, []),
+    ("bytes, gaps, keywords, values, skipping", {"text", "text_past", "text_string", "text_value", "text_skip", "text_statement"}, []),
     ("imports and includes of a text, their printed form", set(), ["nuvaleta/Host"]),
     ("the metadata of a text", set(), ["nuvaleta/Record"]),
     ("image and bundle, the finds", {"library_form", "library_image", "library_index", "library_find", "library_bundle"}, ["nuvaleta/Finds"]),

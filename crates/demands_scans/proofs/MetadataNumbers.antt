@@ -22,10 +22,11 @@ use Rattle.text.proofs.Here.{by-test, never}
 use Rattle.text_value.specs.Argument.{argumentAt}
 use Rattle.text_value.specs.declared.Argument.{Argument}
 use Rattle.text_value.specs.declared.Argument.the-variants.{Read, Refused as NoArgument}
-use Rattle.text_skip.specs.Skip.{pastOf, tokenAt, pastToken, skippedAt, pastValue}
+use Rattle.text_past.specs.Past.{pastOf}
+use Rattle.text_skip.specs.Skip.{tokenAt, pastToken, skippedAt, pastValue}
 use Rattle.text_statement.specs.Statement.{statementAt, pastStatement}
-use Rattle.text_skip.specs.declared.Skipped.{Skipped}
-use Rattle.text_skip.specs.declared.Skipped.the-variants.{Past, Refused as NoSkip}
+use Rattle.text_past.specs.declared.Skipped.{Skipped}
+use Rattle.text_past.specs.declared.Skipped.the-variants.{Past, Refused as NoSkip}
 use Rattle.text_skip.proofs.PassLaws.{skipped-refused}
 use Rattle.text_skip.proofs.SkipLaws.{token-refused}
 use Rattle.text_statement.proofs.StatementLaws.{statement-refused}

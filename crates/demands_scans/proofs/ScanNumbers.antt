@@ -27,10 +27,11 @@ use Rattle.text_value.specs.Argument.{argumentOf, breaksOff, argumentAt, afterD
 use Rattle.text_value.specs.Value.{Val, value, none, valueAt}
 use Rattle.text_value.specs.declared.Argument.{Argument}
 use Rattle.text_value.specs.declared.Argument.the-variants.{Read, Refused as NoArgument}
-use Rattle.text_skip.specs.Skip.{pastOf, tokenAt, pastToken}
+use Rattle.text_past.specs.Past.{pastOf}
+use Rattle.text_skip.specs.Skip.{tokenAt, pastToken}
 use Rattle.text_statement.specs.Statement.{statementAt, pastStatement}
-use Rattle.text_skip.specs.declared.Skipped.{Skipped}
-use Rattle.text_skip.specs.declared.Skipped.the-variants.{Past, Refused as NoSkip}
+use Rattle.text_past.specs.declared.Skipped.{Skipped}
+use Rattle.text_past.specs.declared.Skipped.the-variants.{Past, Refused as NoSkip}
 use Rattle.text_skip.proofs.SkipLaws.{token-refused}
 use Rattle.text_statement.proofs.StatementLaws.{statement-refused}
 use Rattle.text_lent.specs.Lent.{lentAt}

@@ -25,7 +25,8 @@ use Rattle.text_value.specs.declared.Argument.{Argument}
 use Rattle.text_value.specs.declared.Argument.the-variants.{Read, Refused as NoArgument}
 use Rattle.text_value.proofs.ArgumentLaws.{FourOrSix, argument-modes, argument-open, line-modes, due-past}
 use Rattle.text_skip.specs.Skip.{pastToken}
-use Rattle.text_skip.proofs.PastLaws.{SameOrCut, token-modes}
+use Rattle.text_past.proofs.PastLaws.{SameOrCut}
+use Rattle.text_skip.proofs.PastLaws.{token-modes}
 use Rattle.text_statement.specs.Statement.{pastStatement}
 use Rattle.text_statement.proofs.PastLaws.{statement-modes}
 use Rattle.text_lent.specs.Lent.{lentAt}

@@ -23,10 +23,12 @@ use Rattle.text_value.specs.Value.{valueAt, valueBytes}
 use Rattle.text_value.specs.declared.Argument.{Argument}
 use Rattle.text_value.specs.declared.Argument.the-variants.{Read, Refused as NoArgument}
 use Rattle.text_value.proofs.ArgumentLaws.{FourOrSix, argument-far, argument-modes, argument-open, due-past}
-use Rattle.text_skip.specs.Skip.{pastOf, pastToken, pastValue}
-use Rattle.text_skip.specs.declared.Skipped.{Skipped}
-use Rattle.text_skip.specs.declared.Skipped.the-variants.{Past, Refused as NoSkip}
-use Rattle.text_skip.proofs.PastLaws.{SameOrCut, past-value-far, token-modes, value-modes}
+use Rattle.text_past.specs.Past.{pastOf}
+use Rattle.text_skip.specs.Skip.{pastToken, pastValue}
+use Rattle.text_past.specs.declared.Skipped.{Skipped}
+use Rattle.text_past.specs.declared.Skipped.the-variants.{Past, Refused as NoSkip}
+use Rattle.text_past.proofs.PastLaws.{SameOrCut}
+use Rattle.text_skip.proofs.PastLaws.{past-value-far, token-modes, value-modes}
 use Rattle.text_statement.specs.Statement.{statementAt, pastStatement}
 use Rattle.text_statement.proofs.PastLaws.{statement-modes}
 use Rattle.text_statement.proofs.StatementLaws.{statement-far, statement-refused}

@@ -10,7 +10,7 @@ use lib.ListN.{length}
 use Rattle.text.specs.Refusal.{cutAt}
 use Rattle.text.specs.declared.Refusal.{Refusal}
 use Rattle.text_value.specs.Argument.{breaksOff, argumentAt}
-use Rattle.text_skip.specs.Skip.{pastOf}
+use Rattle.text_past.specs.Past.{pastOf}
 use Rattle.text_lent.specs.Lent.{lentAt}
 use Rattle.text_lent.specs.declared.Lent.{Lent}
 use Rattle.text_lent.specs.declared.Lent.the-variants.{Fit, Unfit}

@@ -12,9 +12,9 @@ use Rattle.text.specs.declared.Due.the-variants.{After}
 use Rattle.text.specs.declared.Refusal.{Refusal}
 use Rattle.text_value.specs.Argument.{argumentOf, argumentAt}
 use Rattle.text_value.specs.Value.{valueAt}
-use Rattle.text_skip.specs.Skip.{pastOf}
-use Rattle.text_skip.specs.declared.How.{How}
-use Rattle.text_skip.specs.declared.Skipped.the-variants.{Past}
+use Rattle.text_past.specs.Past.{pastOf}
+use Rattle.text_past.specs.declared.How.{How}
+use Rattle.text_past.specs.declared.Skipped.the-variants.{Past}
 use Rattle.yangparser.specs.Dependencies as Deps
 use Rattle.scan_metadata.specs.Metadata as Meta
 

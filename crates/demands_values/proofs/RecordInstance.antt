@@ -22,7 +22,8 @@ use Rattle.text.proofs.Here.{never}
 use Rattle.text_value.specs.Argument.{argumentOf, breaksOff, argumentAt}
 use Rattle.text_string.specs.Str.{isQuote}
 use Rattle.text_value.specs.Value.{value, startsName, valueHere, valueAt, valueBytes}
-use Rattle.text_skip.specs.Skip.{pastOf, closedToken, tokenHere, tokenAt, pastToken}
+use Rattle.text_past.specs.Past.{pastOf}
+use Rattle.text_skip.specs.Skip.{closedToken, tokenHere, tokenAt, pastToken}
 use Rattle.text_statement.specs.Statement.{closes, quotedLen, quotedEnd, atSemicolon, atClose, partOf, partAt, ofPart, statementTurn, statementFrom}
 use Rattle.text_statement.specs.Statement.{statementAt, pastStatement}
 use Rattle.text_lent.specs.Lent.{lentAt}

@@ -16,7 +16,7 @@ use Rattle.text_value.specs.Argument.{argumentOf, breaksOff, argumentAt, afterD
 use Rattle.text_string.specs.Str.{isQuote, escaped, escapes, strEnd, strBytes, closedBy, strAt}
 use Rattle.text_value.specs.Value.{startsName, addedBy, afterPlus, afterGap, moreAt, addTo, joinTurn, joinedWith, joined, ofString, valueHere, valueAt}
 use Rattle.text_value.specs.Value.{valueBytes, closedMore, closedTurn, closedFrom, closedString, closedHere, closedAt}
-use Rattle.text_skip.specs.Skip.{brokeOff, pastOf}
+use Rattle.text_past.specs.Past.{brokeOff, pastOf}
 use Rattle.text_statement.specs.Statement.{closes, quotedLen, quotedEnd, atSemicolon, atClose, partOf, partAt, ofPart, statementTurn, statementFrom}
 use Rattle.text_statement.specs.Statement.{statementAt, pastStatement}
 use Rattle.scan_rows.specs.Rows.{importWords, includeWords}

@@ -3,7 +3,7 @@ use replay::Tally;
 use text::Cursor;
 use text::Due;
 use text::Match;
-use text_skip::Skipped;
+use text_past::Skipped;
 use text_value::Argument;
 use text_value::Value;
 ghost use mathlib.Core.Path.{_≡_};

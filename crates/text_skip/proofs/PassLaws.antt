@@ -20,11 +20,12 @@ use Rattle.text_string.specs.declared.Close.the-variants.{At, Open}
 use Rattle.text_value.proofs.JoinLaws.{more-size, joined-on, joined-stop, joined-broken, value-string, value-cut, value-name, value-none, place-size, closed-on}
 use Rattle.text_value.proofs.JoinLaws.{closed-stop, closed-broken, closed-string, closed-cut, closed-name}
 use Rattle.text_value.proofs.ValueLaws.{more-plain, more-bare, more-string}
-use Rattle.text_skip.specs.Skip.{brokeOff, pastWhole, pastText, howClosed, closedToken, tokenHere, tokenAt, tailOf, addedAt, skippedAt}
-use Rattle.text_skip.specs.declared.How.{How}
-use Rattle.text_skip.specs.declared.How.the-variants.{Whole, Text}
-use Rattle.text_skip.specs.declared.Skipped.{Skipped}
-use Rattle.text_skip.specs.declared.Skipped.the-variants.{Past, Refused}
+use Rattle.text_past.specs.Past.{brokeOff}
+use Rattle.text_skip.specs.Skip.{pastWhole, pastText, howClosed, closedToken, tokenHere, tokenAt, tailOf, addedAt, skippedAt}
+use Rattle.text_past.specs.declared.How.{How}
+use Rattle.text_past.specs.declared.How.the-variants.{Whole, Text}
+use Rattle.text_past.specs.declared.Skipped.{Skipped}
+use Rattle.text_past.specs.declared.Skipped.the-variants.{Past, Refused}
 use Rattle.text_skip.specs.declared.Tail.{Tail}
 use Rattle.text_skip.specs.declared.Tail.the-variants.{More as MoreTail, Last}
 

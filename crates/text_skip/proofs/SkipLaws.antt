@@ -21,15 +21,11 @@ use Rattle.text_string.specs.Str.{isQuote, strEnd}
 use Rattle.text_string.specs.declared.Close.{Close}
 use Rattle.text_string.specs.declared.Close.the-variants.{At, Open}
 use Rattle.text_string.proofs.StrLaws.{str-size}
-use Rattle.text_skip.specs.Skip.{brokeOff, skipRefusal, pastWhole, pastText, closedToken, tokenHere, tokenAt}
-use Rattle.text_skip.specs.declared.How.{How}
-use Rattle.text_skip.specs.declared.Skipped.{Skipped}
-use Rattle.text_skip.specs.declared.Skipped.the-variants.{Past, Refused}
-
--- what a refused skip sends up
-pub skip-refusal-is : {k : Skipped} {r q : Refusal} → k ≡ Refused r → q ≡ skipRefusal k → q ≡ r
-unfolding skipRefusal
-skip-refusal-is h p = p ∙ ap skipRefusal h
+use Rattle.text_past.specs.Past.{brokeOff}
+use Rattle.text_skip.specs.Skip.{pastWhole, pastText, closedToken, tokenHere, tokenAt}
+use Rattle.text_past.specs.declared.How.{How}
+use Rattle.text_past.specs.declared.Skipped.{Skipped}
+use Rattle.text_past.specs.declared.Skipped.the-variants.{Past, Refused}
 
 -- ---- a token
 

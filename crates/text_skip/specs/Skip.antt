@@ -1,52 +1,28 @@
 -- Skipping a token: a whole quoted string, a whole name if it starts with letter or `_`, else one byte.
 -- The string closes by the rules of a value.
 -- `yang-version`, value if there is one: that value is skipped by the rules of a value too, and nothing of it is stored.
--- Every skip answers where and how what it skipped ended, or a refusal; none refuses anything by itself.
--- 2026-07: in the whole-text mode what the text's end ended is refused by 11, keyword 0, position at the text's end.
 -- Assumes nothing.
 use Prim.Native.Nat.{ℕ, _+_}
-use mathlib.Core.Bool.{Bool, true, false, cond, _&&_}
+use mathlib.Core.Bool.{Bool, false, cond}
 use mathlib.Core.List.{List}
 use lib.ListN.{length, drop}
 use lib.Dec.{leb}
 use Rattle.text.specs.Bytes.{look}
 use Rattle.text.specs.Keyword.{startsIdent}
-use Rattle.text.specs.Refusal.{noRefusal, cutAt}
 use Rattle.text.specs.Scan.{runEnd}
 use Rattle.text.specs.declared.Due.{Due}
-use Rattle.text.specs.declared.Due.the-variants.{After, Not}
-use Rattle.text.specs.declared.Refusal.{Refusal}
 use Rattle.text.specs.declared.Run.the-variants.{Name}
 use Rattle.text_string.specs.Str.{isQuote, strEnd}
 use Rattle.text_value.specs.Value.{More, added, ends, broken, joined, valueAt, placeOf, closedFrom, closedAt}
 use Rattle.text_string.specs.declared.Close.{Close}
 use Rattle.text_string.specs.declared.Close.the-variants.{At, Open}
-use Rattle.text_skip.specs.declared.How.{How}
-use Rattle.text_skip.specs.declared.How.the-variants.{Whole, Semicolon, Block, Before, Text}
-use Rattle.text_skip.specs.declared.Skipped.{Skipped}
-use Rattle.text_skip.specs.declared.Skipped.the-variants.{Past, Refused}
+use Rattle.text_past.specs.Past.{pastOf}
+use Rattle.text_past.specs.declared.How.{How}
+use Rattle.text_past.specs.declared.How.the-variants.{Whole, Text}
+use Rattle.text_past.specs.declared.Skipped.{Skipped}
+use Rattle.text_past.specs.declared.Skipped.the-variants.{Past}
 use Rattle.text_skip.specs.declared.Tail.{Tail}
 use Rattle.text_skip.specs.declared.Tail.the-variants.{More as MoreTail, Last}
-
--- ---- the answer of a skip
-
--- whether the text's end ended what was skipped
-unfoldable pub brokeOff : How → Bool
-brokeOff Whole = false
-brokeOff Semicolon = false
-brokeOff Block = false
-brokeOff Before = false
-brokeOff Text = true
-
--- its refusal, or none
-unfoldable pub skipRefusal : Skipped → Refusal
-skipRefusal (Past c h) = noRefusal
-skipRefusal (Refused r) = r
-
--- past what was skipped, or a refusal; whole: the whole-text mode, n: the text's length
-unfoldable pub pastOf : Bool → ℕ → Skipped → Due
-pastOf whole n (Past c h) = cond (whole && brokeOff h) (Not (cutAt n)) (After c)
-pastOf whole n (Refused r) = Not r
 
 -- past a whole token or value; past one that the text's end ended
 abbrev pub pastWhole : ℕ → Skipped

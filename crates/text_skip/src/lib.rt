@@ -1,67 +1,14 @@
-// What every skip answers, and skipping a token and a value. A token's string closes by the rules of a value.
+// Skipping a token and a value. A token's string closes by the rules of a value.
 use text::Cursor;
 use text::Due;
-use text::Refusal;
 use text::Run;
+use text_past::How;
+use text_past::Skipped;
 use text_string::Close;
 ghost use mathlib.Core.Path.{_≡_};
 ghost use Rattle.text.specs.Class.{classTable};
 ghost use Rattle.text_value.specs.Value.{moreAt};
-ghost use Rattle.text_skip.specs.Skip.{brokeOff, skipRefusal, pastOf, tokenAt, pastToken, tailOf, addedAt, skippedAt, pastValue};
-
-// How what was skipped ended. A token or a value: whole. A statement: by its semicolon, by its block, or before a closing brace that is not
-// its own. Or the text's end ended it: a string never closed, or the statement went on.
-pub enum How {
-    Whole,
-    Semicolon,
-    Block,
-    Before,
-    Text,
-}
-
-// Whether the text's end ended it.
-pub fn broke_off(how: How) -> bool
-    ensures { λ r. ⌜ r ≡ brokeOff how ⌝ }
-{
-    match how {
-        How::Whole => false,
-        How::Semicolon => false,
-        How::Block => false,
-        How::Before => false,
-        How::Text => true,
-    }
-}
-
-// What every skip answers: the place after what was skipped and how that ended, or a refusal. No skip refuses anything today.
-pub enum Skipped {
-    Past(Cursor, How),
-    Refused(Refusal),
-}
-
-// The refusal of a skip, or none.
-pub fn skip_refusal(k: Skipped) -> Refusal
-    ensures { λ r. ⌜ r ≡ skipRefusal k ⌝ }
-{
-    match k {
-        Skipped::Past(_, _) => text::no_refusal(),
-        Skipped::Refused(r) => r,
-    }
-}
-
-// Past what was skipped, or a refusal. `whole`: what the text's end ended is refused (11), at that end.
-pub fn past(k: Skipped, whole: bool, end: usize) -> Due
-    ensures { λ r. ⌜ r ≡ pastOf whole end k ⌝ }
-{
-    let Skipped::Past(next, how) = k else {
-        return Due::Not(skip_refusal(k));
-    };
-    if whole {
-        if broke_off(how) {
-            return Due::Not(text::cut_short(end));
-        }
-    }
-    Due::After(next)
-}
+ghost use Rattle.text_skip.specs.Skip.{tokenAt, pastToken, tailOf, addedAt, skippedAt, pastValue};
 
 // Past the token that stands here.
 pub fn past_token(here: Cursor, classes: &[u8; 128], whole: bool, s: &[u8]) -> Due
@@ -69,7 +16,7 @@ pub fn past_token(here: Cursor, classes: &[u8; 128], whole: bool, s: &[u8]) -> D
     ensures { λ r. ⌜ r ≡ pastToken whole (now (s .entry)) (here .at) ⌝ }
 {
     let token = skip_one_token(here, classes, s);
-    past(token, whole, s.len())
+    text_past::past(token, whole, s.len())
 }
 
 // Skips a token: a whole string, a whole name that begins with a letter or _, or one byte. At the end nothing is skipped. The name is tried first: a scan has
@@ -112,7 +59,7 @@ pub fn skip_value(here: Cursor, classes: &[u8; 128], s: &[u8]) -> Skipped
         let Skipped::Past(next, how) = string else {
             return string;
         };
-        if broke_off(how) {
+        if text_past::broke_off(how) {
             return Skipped::Past(next, how);
         }
         return skip_added(next, classes, s);
@@ -130,7 +77,7 @@ pub fn past_value(here: Cursor, classes: &[u8; 128], whole: bool, s: &[u8]) -> D
     ensures { λ r. ⌜ r ≡ pastValue whole (now (s .entry)) (here .at) ⌝ }
 {
     let value = skip_value(here, classes, s);
-    past(value, whole, s.len())
+    text_past::past(value, whole, s.len())
 }
 
 // Skips all that is added to a string.
@@ -177,7 +124,7 @@ fn skip_string(here: Cursor, classes: &[u8; 128], s: &[u8]) -> Tail
         let Skipped::Past(next, how) = string else {
             return Tail::Last(string);
         };
-        if broke_off(how) {
+        if text_past::broke_off(how) {
             return Tail::Last(Skipped::Past(next, how));
         }
         return Tail::More(next);

@@ -15,10 +15,10 @@ use Rattle.text_value.specs.Value.{placeOf, closedMore, closedTurn, closedFrom,
 use Rattle.text_skip.specs.Skip.{pastWhole, pastText, closedToken, tokenHere, tokenAt, skippedAt}
 use Rattle.text_statement.specs.Statement.{closes, quotedLen, quotedEnd, atSemicolon, atClose, partOf, partAt, ofPart, statementTurn, statementFrom}
 use Rattle.text_statement.specs.Statement.{statementAt}
-use Rattle.text_skip.specs.declared.How.{How}
-use Rattle.text_skip.specs.declared.How.the-variants.{Whole, Semicolon, Block, Before, Text}
-use Rattle.text_skip.specs.declared.Skipped.{Skipped}
-use Rattle.text_skip.specs.declared.Skipped.the-variants.{Past, Refused}
+use Rattle.text_past.specs.declared.How.{How}
+use Rattle.text_past.specs.declared.How.the-variants.{Whole, Semicolon, Block, Before, Text}
+use Rattle.text_past.specs.declared.Skipped.{Skipped}
+use Rattle.text_past.specs.declared.Skipped.the-variants.{Past, Refused}
 
 data Example : Type 0 where
   token : List ℕ → Skipped → Example

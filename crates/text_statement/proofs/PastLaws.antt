@@ -12,12 +12,12 @@ use Rattle.text.specs.declared.Due.{Due}
 use Rattle.text.specs.declared.Due.the-variants.{After, Not}
 use Rattle.text.specs.declared.Refusal.{Refusal}
 use Rattle.text.proofs.Here.{never}
-use Rattle.text_skip.specs.Skip.{brokeOff, pastOf}
-use Rattle.text_skip.specs.declared.How.{How}
-use Rattle.text_skip.specs.declared.How.the-variants.{Whole, Semicolon, Block, Before, Text}
-use Rattle.text_skip.specs.declared.Skipped.{Skipped}
-use Rattle.text_skip.specs.declared.Skipped.the-variants.{Past}
-use Rattle.text_skip.proofs.PastLaws.{SameOrCut, past-after, past-not, past-modes}
+use Rattle.text_past.specs.Past.{brokeOff, pastOf}
+use Rattle.text_past.specs.declared.How.{How}
+use Rattle.text_past.specs.declared.How.the-variants.{Whole, Semicolon, Block, Before, Text}
+use Rattle.text_past.specs.declared.Skipped.{Skipped}
+use Rattle.text_past.specs.declared.Skipped.the-variants.{Past}
+use Rattle.text_past.proofs.PastLaws.{SameOrCut, past-after, past-not, past-modes}
 use Rattle.text_statement.specs.Statement.{statementAt, pastStatement}
 use Rattle.text_statement.proofs.StatementLaws.{Tells, statement-gap, statement-tells, statement-far, statement-moves, statement-refused}
 

@@ -20,12 +20,12 @@ use Rattle.text.proofs.Turns.{turns-stop, turns-on, turns-rule}
 use Rattle.text_string.specs.Str.{isQuote}
 use Rattle.text_statement.specs.Statement.{closes, quotedLen, quotedEnd, atSemicolon, atClose, partOf, partAt, Inside, ofPart, statementTurn}
 use Rattle.text_statement.specs.Statement.{statementFrom, statementAt}
-use Rattle.text_skip.specs.declared.How.{How}
-use Rattle.text_skip.specs.declared.How.the-variants.{Whole, Semicolon, Block, Before, Text}
+use Rattle.text_past.specs.declared.How.{How}
+use Rattle.text_past.specs.declared.How.the-variants.{Whole, Semicolon, Block, Before, Text}
 use Rattle.text_statement.specs.declared.Part.{Part}
 use Rattle.text_statement.specs.declared.Part.the-variants.{On, Stop}
-use Rattle.text_skip.specs.declared.Skipped.{Skipped}
-use Rattle.text_skip.specs.declared.Skipped.the-variants.{Past, Refused}
+use Rattle.text_past.specs.declared.Skipped.{Skipped}
+use Rattle.text_past.specs.declared.Skipped.the-variants.{Past, Refused}
 
 -- ---- a string
 

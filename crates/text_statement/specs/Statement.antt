@@ -11,12 +11,12 @@ use Rattle.text.specs.Scan.{gapEnd}
 use Rattle.text.specs.Turns.{Turn, stop, on, turns}
 use Rattle.text.specs.declared.Due.{Due}
 use Rattle.text_string.specs.Str.{isQuote}
-use Rattle.text_skip.specs.Skip.{pastOf}
-use Rattle.text_skip.specs.declared.How.the-variants.{Semicolon, Block, Before, Text}
+use Rattle.text_past.specs.Past.{pastOf}
+use Rattle.text_past.specs.declared.How.the-variants.{Semicolon, Block, Before, Text}
 use Rattle.text_statement.specs.declared.Part.{Part}
 use Rattle.text_statement.specs.declared.Part.the-variants.{On, Stop}
-use Rattle.text_skip.specs.declared.Skipped.{Skipped}
-use Rattle.text_skip.specs.declared.Skipped.the-variants.{Past}
+use Rattle.text_past.specs.declared.Skipped.{Skipped}
+use Rattle.text_past.specs.declared.Skipped.the-variants.{Past}
 
 -- ---- a string
 

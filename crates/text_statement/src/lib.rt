@@ -1,8 +1,8 @@
 // Skipping a statement. A string in it has a rule of its own: it ends at its quote unless the byte before is a backslash.
 use text::Cursor;
 use text::Due;
-use text_skip::How;
-use text_skip::Skipped;
+use text_past::How;
+use text_past::Skipped;
 ghost use mathlib.Core.Path.{_≡_};
 ghost use Prim.Native.Nat.{_≤_};
 ghost use Rattle.text.specs.Class.{classTable};
@@ -24,7 +24,7 @@ pub fn past_statement_here(here: Cursor, classes: &[u8; 128], whole: bool, s: &[
     ensures { λ r. ⌜ r ≡ pastStatement whole (now (s .entry)) (here .at) ⌝ }
 {
     let statement = skip_statement(here, classes, s);
-    text_skip::past(statement, whole, s.len())
+    text_past::past(statement, whole, s.len())
 }
 
 // Skips a statement. The gap before it was passed: so each turn is a part and the gap after it, which is faster than the gap first.

@@ -1,9 +1,9 @@
--- `text_skip::past`. The skip's own refusal; 11 where the text must be whole and its end ended the skip; else the place after it.
+-- `text_past::past`. The skip's own refusal; 11 where the text must be whole and its end ended the skip; else the place after it.
 -- Assumes nothing.
 use borrow.Author.Needs.{needs}
-use Rattle.text_skip.proofs.PastLaws.{past-refused, past-cut, past-on, past-old}
-use Rattle.text_skip.proofs.past.Statement.{statement}
-use Rattle.text_skip.proofs.past.Tie as tie
+use Rattle.text_past.proofs.PastLaws.{past-refused, past-cut, past-on, past-old}
+use Rattle.text_past.proofs.past.Statement.{statement}
+use Rattle.text_past.proofs.past.Tie as tie
 
 returns : tie.Need-returns
 returns c = search past-refused

@@ -1,9 +1,9 @@
--- `text_skip::broke_off`. Each arm of the `match` is its clause of the definition.
+-- `text_past::broke_off`. Each arm of the `match` is its clause of the definition.
 -- Assumes nothing.
 use borrow.Author.Needs.{needs}
-use Rattle.text_skip.specs.Skip.{brokeOff}
-use Rattle.text_skip.proofs.broke_off.Statement.{statement}
-use Rattle.text_skip.proofs.broke_off.Tie as tie
+use Rattle.text_past.specs.Past.{brokeOff}
+use Rattle.text_past.proofs.broke_off.Statement.{statement}
+use Rattle.text_past.proofs.broke_off.Tie as tie
 
 returns : tie.Need-returns
 unfolding brokeOff

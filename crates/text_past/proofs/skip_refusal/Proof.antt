@@ -1,10 +1,10 @@
--- `text_skip::skip_refusal`. Each arm of the `match` is its clause of the definition.
+-- `text_past::skip_refusal`. Each arm of the `match` is its clause of the definition.
 -- Assumes nothing.
 use mathlib.Core.Path.{sym, ap, _∙_}
 use borrow.Author.Needs.{needs}
-use Rattle.text_skip.specs.Skip.{skipRefusal}
-use Rattle.text_skip.proofs.skip_refusal.Statement.{statement}
-use Rattle.text_skip.proofs.skip_refusal.Tie as tie
+use Rattle.text_past.specs.Past.{skipRefusal}
+use Rattle.text_past.proofs.skip_refusal.Statement.{statement}
+use Rattle.text_past.proofs.skip_refusal.Tie as tie
 
 returns : tie.Need-returns
 unfolding skipRefusal
