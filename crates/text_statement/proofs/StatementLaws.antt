@@ -352,6 +352,9 @@ statement-far s at l c h e = let f = tells-far s at c h (subst (Tells s at) e (s
 pub statement-refused : (s : List ℕ) (at : ℕ) (r : Refusal) → statementAt s at ≡ Refused r → MetHigh s r
 statement-refused s at r e = subst (Tells s at) e (statement-tells s at) .1
 
+pub statement-refused-from : (s : List ℕ) (at : ℕ) (r : Refusal) → statementAt s at ≡ Refused r → at ≤ r .at
+statement-refused-from s at r e = subst (Tells s at) e (statement-tells s at) .0
+
 -- a statement before which no closing brace stands takes a byte at least
 abbrev Moves : ℕ → Skipped → Type 0
 Moves at (Past c h) = at < c .at
