@@ -3,7 +3,7 @@
 
 use crate::limits::{self, refused, scan};
 use crate::port::{Scanned, enough};
-use crate::whole::{GOOD, Of, Whole, read_by_hand};
+use crate::whole::{Asked, GOOD, Of, Whole, read_by_hand};
 use crate::{Run, edges};
 use vectors::libraries::{module, of};
 use vectors::rng::Rng;
@@ -30,17 +30,17 @@ pub fn texts(run: &mut Run, beside: bool, seed: u64, count: u64) {
     if !beside {
         utf8(run);
     }
-    let mut whole = Whole::new(run, beside);
+    let mut whole = Whole::new(run, if beside { Asked::Always } else { Asked::Never });
     texts::telling_accents().iter().for_each(|t| whole.text(t));
     let small = texts::SMALL_ACCENTED.as_bytes();
     (0..=small.len()).for_each(|n| whole.text(&small[..n]));
     let longest = if beside { 2 } else { 3 }; // as for `whole`
     (1..=longest).flat_map(texts::short_accented).for_each(|t| whole.text(t.as_bytes()));
     generated(&mut whole, seed, count);
-    let Whole { texts, high, not_utf8, panics, .. } = whole;
+    let Whole { texts, high, not_utf8, panics, told, .. } = whole;
     println!("compare: {texts} texts, each scanned for dependencies and for metadata in both modes; in the old one {high} scans are 3 and {not_utf8} are 12");
     if beside {
-        println!("compare: at {panics} scans the original panicked, each time where that is due");
+        println!("compare: of the others the original is to answer {told} and to panic at {panics}");
     }
 }
 
@@ -190,7 +190,7 @@ fn rows(run: &mut Run) {
     }
 }
 
-/// 9: a graph carries 3 and 12, and no image has a name with an accent.
+/// 9: a graph carries 3, as it does 12 (limits.rs), and no image has a name with an accent.
 fn graphs(run: &mut Run) {
     let cases = [
         ("x é", scan(1, [3, 0, 2])),
@@ -204,9 +204,4 @@ fn graphs(run: &mut Run) {
         let library = of(&[(&[module("m", ""), module("b", "")], &[])], &[("m", text), ("b", "")]);
         limits::apart(run, text, &library, [expected; 2]);
     }
-    let library = of(&[(&[module("m", "")], &[])], &[("m", "//é")]);
-    let (image, mut bundle) = (library.image(), library.bundle());
-    bundle.pop(); // and its last byte
-    bundle.push(b'"');
-    limits::ask(run, "a text that is no UTF-8", &image, &bundle, limits::enough(&bundle, 0), &scan(1, [12, 0, 2]));
 }

@@ -12,17 +12,26 @@ use vectors::texts;
 /// What 11 may stand in the place of.
 const INSTEAD: [u32; 5] = [0, 4, 6, 8, 9];
 
+/// When the original is asked. It has the old mode alone, and where the answer is 11 that mode may be one at which it never ends.
+#[derive(Clone, Copy, PartialEq)]
+pub enum Asked {
+    Never,
+    NotAt11,
+    Always,
+}
+
 pub struct Whole<'r> {
     run: &'r mut Run,
-    /// Whether the original is asked.
-    beside: bool,
+    asked: Asked,
     pub texts: usize,
     /// How often 11 came in the place of each.
     instead: [usize; 5],
-    /// How many scans the old mode refuses with 3, and with 12; and at how many the original panicked.
+    /// How many scans the old mode refuses with 3, and with 12.
     pub high: usize,
     pub not_utf8: usize,
+    /// Of those of which the original was asked and which are not 3: at how many it is to panic, and how many it is to answer.
     pub panics: usize,
+    pub told: usize,
 }
 
 /// What a mode refuses: before it reads, or as the plain reading does.
@@ -87,8 +96,8 @@ fn described_by(mut lent: Described, whole: bool, text: &[u8]) -> Described {
 }
 
 impl<'r> Whole<'r> {
-    pub fn new(run: &'r mut Run, beside: bool) -> Whole<'r> {
-        Whole { run, beside, texts: 0, instead: [0; 5], high: 0, not_utf8: 0, panics: 0 }
+    pub fn new(run: &'r mut Run, asked: Asked) -> Whole<'r> {
+        Whole { run, asked, texts: 0, instead: [0; 5], high: 0, not_utf8: 0, panics: 0, told: 0 }
     }
 
     fn dependencies(&mut self, text: &[u8], lent: &Scanned) {
@@ -124,11 +133,12 @@ impl<'r> Whole<'r> {
         self.count("M", text, same, &plain, [&old.answer, &whole.answer]);
     }
 
-    /// What the original says, where it is asked and the answer is not 11.
+    /// What the original says, where it is asked. Of a text that is refused with 3 it may say anything.
     fn is_told<T: PartialEq>(&mut self, text: &[u8], whole: u32, plain: &Option<Plain<T>>, told: fn(&mut Oracle, &[u8]) -> Scan<T>) -> bool {
+        let asked = self.asked == Asked::Always || (self.asked == Asked::NotAt11 && whole != CUT_SHORT);
         match plain {
-            Some(plain) if self.beside && whole != CUT_SHORT => {
-                self.panics += usize::from(plain.panics);
+            Some(plain) if asked && whole != HIGH_BYTE => {
+                *(if plain.panics { &mut self.panics } else { &mut self.told }) += 1;
                 plain.is_told(text, &told(self.run.oracle(), text))
             }
             _ => true,
@@ -203,7 +213,7 @@ fn generated(whole: &mut Whole, seed: u64, count: u64) {
 }
 
 pub fn texts(run: &mut Run, beside: bool, seed: u64, count: u64, files: &[&str]) {
-    let mut whole = Whole::new(run, beside);
+    let mut whole = Whole::new(run, if beside { Asked::NotAt11 } else { Asked::Never });
     texts::EXAMPLES.iter().for_each(|t| whole.text(t.as_bytes()));
     texts::broken().iter().for_each(|t| whole.text(t.as_bytes()));
     texts::SMALL.iter().flat_map(|t| texts::beginnings(t)).for_each(|t| whole.text(t.as_bytes()));
