@@ -92,7 +92,8 @@ fn high(text: &[u8], at: usize) -> String {
     let some = &text[at..text.len().min(at + 4)];
     let good = std::str::from_utf8(some).map_or_else(|e| e.valid_up_to(), str::len);
     let first = std::str::from_utf8(&some[..good]).ok().and_then(|good| good.chars().next());
-    format!("{}byte 0x{:02x}", first.map_or_else(String::new, |c| format!("{}, ", c.escape_debug())), text[at])
+    let named = |c: char| if c == '\u{feff}' { "a byte order mark, ".to_string() } else { format!("{}, ", c.escape_debug()) };
+    format!("{}byte 0x{:02x}", first.map_or_else(String::new, named), text[at])
 }
 
 /// What ended the metadata scan: the end, or the word before the place.

@@ -168,7 +168,7 @@ fn expected_and_found() {
     assert_eq!(deps("import a{}"), "expected prefix NAME; before the end of the block, found }");
     assert_eq!(deps("import a{prefix b;"), "expected } at the end of the block of the import, found the end of the text");
     assert_eq!(deps("leaf \u{2019}x"), "expected ASCII outside of strings and comments, found \u{2019}, byte 0xe2");
-    assert_eq!(deps("\u{feff}module m {}"), "expected ASCII outside of strings and comments, found \\u{feff}, byte 0xef");
+    assert_eq!(deps("\u{feff}module m {}"), "expected ASCII outside of strings and comments, found a byte order mark, byte 0xef");
     assert_eq!(of(dependencies(b"a\xff").expect_err("a refusal"), b"a\xff"), "expected UTF-8, found byte 0xff");
     assert_eq!(of(dependencies(b"'\xc3'").expect_err("a refusal"), b"'\xc3'"), "expected UTF-8, found byte 0xc3");
     assert_eq!(deps("import \"Zo\u{eb}\" ;"), "expected { after import \"Zo\u{eb}\", found ;");
