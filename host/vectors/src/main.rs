@@ -228,7 +228,7 @@ fn accented(oracle: &mut Oracle) -> [File; 4] {
 fn accented_parts(oracle: &mut Oracle) -> [File; 2] {
     let mut values = File::new("text_run/data/values-accents.vec");
     let mut skips = File::new("text_run/data/skips-accents.vec");
-    let mut r = Rng::new(10);
+    let (mut r, mut accents) = (Rng::new(10), Rng::new(11));
     let mut add = |file: &mut File, text: String, which| {
         let answer = scans::metadata(text.as_bytes()).answer(false);
         if is_at_value(&text, &answer) {
@@ -237,22 +237,23 @@ fn accented_parts(oracle: &mut Oracle) -> [File; 2] {
         }
     };
     (1..4).flat_map(texts::short_accented_values).for_each(|text| add(&mut values, text, NAMESPACE));
+    // What is asked begins behind these.
+    let mut accented = |front: &str, text: String| front.to_string() + &texts::accented(&mut accents, &text[front.len()..]);
     for i in 0..500 {
-        let value = texts::one_value(&mut r);
-        add(&mut values, texts::accented(&mut r, &value), NAMESPACE);
-        let skipped = if i % 2 == 0 { texts::one_statement(&mut r) } else { texts::some_tokens(&mut r) };
-        add(&mut skips, texts::accented(&mut r, &skipped), PREFIX);
+        add(&mut values, accented(texts::NAMESPACE, texts::one_value(&mut r)), NAMESPACE);
+        let skipped = if i % 2 == 0 { accented(texts::BELONGS, texts::one_statement(&mut r)) } else { accented(texts::OPENED, texts::some_tokens(&mut r)) };
+        add(&mut skips, skipped, PREFIX);
     }
     [values, skips]
 }
 
-/// Whether a byte that is refused with 3 is met where the value or the semicolon behind it is due: without that byte these are missing. Elsewhere it is met by
-/// the scan alone, and not by what the text layer is asked.
+/// Whether a byte that is refused with 3 is met where the value or the semicolon behind it is due: a letter and the end in its place are 5 or 6. Elsewhere it is
+/// met by the scan alone, and not by what the text layer is asked.
 fn is_at_value(text: &str, answer: &Scan<Vec<answers::Value>>) -> bool {
     match answer {
         Scan::Refused(r) if r.number == scans::HIGH_BYTE => {
-            let before = scans::metadata(&text.as_bytes()[..r.position as usize]);
-            before.refusal(false).map_or(false, |r| matches!(r.number, 4 | 6))
+            let letter = format!("{}x", &text[..r.position as usize]);
+            scans::metadata(letter.as_bytes()).refusal(false).map_or(false, |r| matches!(r.number, 5 | 6))
         }
         _ => true,
     }
