@@ -312,7 +312,13 @@ expect 1 meta --whole latin.yang
 clash='"expected":"UTF-8","found":"byte 0xeb"'
 echo "{\"refused\":{\"number\":12,\"words\":\"the text is not UTF-8\",\"position\":24,\"line\":2,\"column\":14,$clash,\"advice\":\"$advice\"}}" >due
 expect 1 deps --json latin.yang
-printf 'scan refusal 12, at byte 24 of a text: the text is not UTF-8\nlatin.yang, line 2, column 14:\n      contact "Zo?";\n%17s^\nTo do: %s\n' '' "$advice" >due
+cat >due <<X1
+scan refusal 12, at byte 24 of a text: the text is not UTF-8
+latin.yang, line 2, column 14:
+      contact "Zo?";
+                 ^
+To do: $advice
+X1
 expect 0 explain 12 --at 24 latin.yang
 
 # A text that is cut off: it may be read as if it were whole, and is refused with --whole where that is seen.

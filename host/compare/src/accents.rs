@@ -1,5 +1,5 @@
-//! Request 2026-01: texts with bytes above 127, in both modes, beside a plain reading (`../../vectors/src/scans.rs`) and, if that is asked, beside the original;
-//! and what is UTF-8, beside that reading and Rust's own check.
+//! Request 2026-01: texts with bytes above 127, in both modes, beside a plain reading (`../../vectors/src/scans.rs`) and, if that is asked, beside the
+//! original; and what is UTF-8, beside that reading and Rust's own check.
 
 use crate::limits::{self, refused, scan};
 use crate::port::{Scanned, enough};

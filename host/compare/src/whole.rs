@@ -297,12 +297,12 @@ pub fn read_by_hand(run: &mut Run, of: Of, bytes: &[u8], due: [[u32; 3]; 2]) {
         let refusal = Some(Refusal { number: due[0], keyword: due[1], position: due[2] }).filter(|_| due != GOOD);
         let (plain, port, clean) = match of {
             Of::D => {
-                let got = linked(&port::enough(bytes, 1), whole, true, bytes);
-                (scans::answered(bytes, whole, scans::dependencies).refusal(), got.answer[..3].to_vec(), refusal.is_none_or(|r| is_refused(&r, &got)))
+                let (due, got) = (scans::answered(bytes, whole, scans::dependencies), linked(&port::enough(bytes, 1), whole, true, bytes));
+                (due.refusal(), got.answer[..3].to_vec(), refusal.is_none_or(|r| is_refused(&r, &got)))
             }
             Of::M => {
-                let got = described_by(lent_store(bytes.len() + 1), whole, bytes);
-                (scans::answered(bytes, whole, scans::metadata).refusal(), got.answer[..3].to_vec(), refusal.is_none_or(|r| metadata::is_refused(bytes, &r, &got)))
+                let (due, got) = (scans::answered(bytes, whole, scans::metadata), described_by(lent_store(bytes.len() + 1), whole, bytes));
+                (due.refusal(), got.answer[..3].to_vec(), refusal.is_none_or(|r| metadata::is_refused(bytes, &r, &got)))
             }
         };
         let same = port == due && clean && plain == refusal;

@@ -247,8 +247,8 @@ fn accented_parts(oracle: &mut Oracle) -> [File; 2] {
     [values, skips]
 }
 
-/// Whether a byte that is refused with 3 is met where the value or the semicolon behind it is due: a letter and the end in its place are 5 or 6. Elsewhere it is
-/// met by the scan alone, and not by what the text layer is asked.
+/// Whether a byte that is refused with 3 is met where the value or the semicolon behind it is due: a letter and the end in its place are 5 or 6. Elsewhere it
+/// is met by the scan alone, and not by what the text layer is asked.
 fn is_at_value(text: &str, answer: &Scan<Vec<answers::Value>>) -> bool {
     match answer {
         Scan::Refused(r) if r.number == scans::HIGH_BYTE => {
