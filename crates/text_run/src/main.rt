@@ -1,4 +1,5 @@
-// Replays recorded answers of the Rust for single values, statements and tokens, and runs the traps of document 01.
+// Replays recorded answers for single values, statements and tokens, of the Rust, and with accents of a plain reading (host/vectors/src/scans.rs), and runs the
+// traps of document 01.
 use replay::Tally;
 use text::Cursor;
 use text::Due;
@@ -236,5 +237,7 @@ fn traps() {
 fn main() {
     replay_file(b"values.vec", true);
     replay_file(b"skips.vec", false);
+    replay_file(b"values-accents.vec", true);
+    replay_file(b"skips-accents.vec", false);
     traps();
 }

@@ -1,5 +1,5 @@
 // Replays recorded answers for whole texts: dependencies and their printed form, and metadata. In the old mode they are the Rust's; in the whole-text mode,
-// which the Rust does not have, those of a plain reading (host/vectors/src/scans.rs).
+// which the Rust does not have, and of texts with accents, those of a plain reading (host/vectors/src/scans.rs).
 use replay::Tally;
 use scan_page::Page;
 use scan_rows::Span;
@@ -253,4 +253,8 @@ fn main() {
     replay_file(false, Kind::Metadata, b"metadata.vec");
     replay_file(true, Kind::Dependencies, b"dependencies-whole.vec");
     replay_file(true, Kind::Metadata, b"metadata-whole.vec");
+    replay_file(false, Kind::Dependencies, b"dependencies-accents.vec");
+    replay_file(false, Kind::Metadata, b"metadata-accents.vec");
+    replay_file(true, Kind::Dependencies, b"dependencies-whole-accents.vec");
+    replay_file(true, Kind::Metadata, b"metadata-whole-accents.vec");
 }
