@@ -1,2 +1,6 @@
 pub mod Chars
+pub mod Instance
+pub mod Kept
+pub mod Rows
 pub mod Values
+pub mod ValuesValid

@@ -20,10 +20,11 @@ use Rattle.text.proofs.ClassLaws.{class-high}
 use Rattle.text.proofs.Here.{by-test, never}
 use Rattle.text_string.specs.Str.{isQuote, escaped, escapes, strEnd, strBytes, Str, whole, cut, strAt}
 use Rattle.text_string.proofs.StrLaws.{closed-end}
-use Rattle.text_value.specs.Value.{More, added, ends, broken, addedBy, moreAt, joinedWith, joined, Val, value, none, startsName, valueAt, valueBytes}
-use Rattle.text_value.proofs.JoinLaws.{more-size, join-on, join-stop, join-broken, value-string, value-cut, value-name, value-none}
+use Rattle.text_value.specs.Value.{More, added, ends, broken, addedBy, moreAt, Bytes, addTo, joinTurn, joinedWith, joined, startsName, valueAt, valueBytes}
+use Rattle.text_value.proofs.JoinLaws.{value-string, value-cut, value-name, value-none}
 use Rattle.text_value.proofs.ValueLaws.{more-plain, more-bare, more-string}
 use Rattle.demands_accents.proofs.Chars as C
+use Rattle.demands_accents.proofs.Kept.{Keeps, turns-kept}
 use Rattle.demands_accents.proofs.Chars.{Chars, char1, char2, char3, char4, High, one-low, low-one, two-high, three-high, four-high}
 
 -- ---- lists of characters
@@ -162,6 +163,9 @@ name-chars s at =
 
 -- ---- the strings and values of a text of characters
 
+abbrev AllChars : Bytes → Type 0
+AllChars b = Chars (b .bytes)
+
 module _ {s : List ℕ} (c : Chars s) where
   -- the string at a place with a quote
   string-chars : (at : ℕ) → isQuote (look s at) ≡ true → (bs : List ℕ) (e : ℕ) → strAt s at ≡ whole bs e → Chars bs
@@ -184,23 +188,18 @@ module _ {s : List ℕ} (c : Chars s) where
       (λ y. absurd (ends-not (more-bare s at refl refl (eqb-true _ _ p) refl refl refl y) h)))
       (λ p. absurd (ends-not (more-plain s at refl refl (eqb-false _ _ p)) h))
 
-  -- all that is added, if what follows the next string is; m: what follows here
-  more-chars : (bs : List ℕ) (at : ℕ) → Chars bs → (m : More) → moreAt s at ≡ m
-      → ((cs : List ℕ) (e : ℕ) → at < e → e ≤ length s → Chars (bs ++ cs) → Chars (joinedWith s (bs ++ cs) e .bytes)) → Chars (joinedWith s bs at .bytes)
-  more-chars bs at k (added cs e) h go =
-      let z = more-size s at cs e h in
-      subst (λ b. Chars (b .bytes)) (sym (join-on s bs at cs e h)) (go cs e (omega arith) (omega arith) (append-chars k (added-chars at cs e h)))
-  more-chars bs at k (ends e) h go = subst (λ b. Chars (b .bytes)) (sym (join-stop s bs at e h)) k
-  more-chars bs at k (broken e) h go = subst (λ b. Chars (b .bytes)) (sym (join-broken s bs at e h)) k
-
-  -- n: more than is left of the text
-  with-chars : (n : ℕ) (bs : List ℕ) (at : ℕ) → length s - at < n → Chars bs → Chars (joinedWith s bs at .bytes)
-  with-chars zero bs at l k = absurd (not-suc-le-zero l)
-  with-chars (suc n) bs at l k = more-chars bs at k (moreAt s at) refl (λ cs e p q j. with-chars n (bs ++ cs) e (omega arith) j)
+  -- all that is added; m: what follows a string
+  to-chars : (bs : List ℕ) (at : ℕ) → Chars bs → (m : More) → moreAt s at ≡ m → Keeps AllChars AllChars (addTo bs m)
+  unfolding addTo
+  to-chars bs at k (added cs e) h = append-chars k (added-chars at cs e h)
+  to-chars bs at k (ends e) h = k
+  to-chars bs at k (broken e) h = k
 
   joined-chars : (at : ℕ) → Chars (joined s at .bytes)
-  unfolding joined
-  joined-chars at = with-chars (suc (length s)) [] at (omega arith) C.none
+  unfolding joined joinedWith joinTurn
+  joined-chars at =
+      turns-kept AllChars AllChars (joinTurn s) _ C.none (λ b k. to-chars (b .bytes) (b .end) k (moreAt s (b .end)) refl)
+      (suc (length s)) (record { bytes = []; end = at }) C.none
 
   -- a value
   pub value-chars : (at : ℕ) → Chars (valueBytes (valueAt s at))
