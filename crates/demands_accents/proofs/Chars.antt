@@ -7,7 +7,7 @@ use Prim.Native.Nat.{ℕ, suc, _+_, _-_, _<_, _≤_}
 use native.Mathlib.Nat.{add-zero}
 use native.Mathlib.Omega.{arith}
 use lib.Dec.{eqb, leb}
-use lib.ListN.{length, getD, drop, drop-of-length-le, length-drop}
+use lib.ListN.{length, drop, drop-of-length-le, length-drop}
 use lib.Seq.{getD-drop, drop-drop}
 use borrow.Author.Tests.{eq-eqb, ne-eqb, eqb-true, eqb-false, le-leb, lt-leb, leb-true}
 use Rattle.text.specs.Bytes.{look}
@@ -181,24 +181,22 @@ char-falls s a b e = omega (arith, turn-ons s a b e)
 
 -- ---- characters from a place on
 
-drop-same : (s : List ℕ) (i j : ℕ) → i ≡ j → drop i s ≡ drop j s
-drop-same s i j e = ap (λ k. drop k s) e
-
 module _ (s : List ℕ) (at : ℕ) where
+  -- k bytes behind the place
+  front : (k : ℕ) → at + k < length s → drop (at + k) s ≡ look s (at + k) ∷ drop (at + suc k) s
+  front k h = let e : at + k + 1 ≡ at + suc k = omega arith in rest s (at + k) h ∙ ap (λ n. look s (at + k) ∷ drop n s) e
+
   front1 : at < length s → drop at s ≡ look s at ∷ drop (at + 1) s
   front1 h = rest s at h
 
   front2 : at + 1 < length s → drop at s ≡ look s at ∷ look s (at + 1) ∷ drop (at + 2) s
-  front2 h = rest s at (omega arith) ∙ ap (λ l. look s at ∷ l) (rest s (at + 1) h ∙ ap (λ l. look s (at + 1) ∷ l) (drop-same s (at + 1 + 1) (at + 2) (omega arith)))
+  front2 h = front1 (omega arith) ∙ ap (λ l. look s at ∷ l) (front 1 h)
 
   front3 : at + 2 < length s → drop at s ≡ look s at ∷ look s (at + 1) ∷ look s (at + 2) ∷ drop (at + 3) s
-  front3 h =
-      front2 (omega arith) ∙ ap (λ l. look s at ∷ look s (at + 1) ∷ l) (rest s (at + 2) h ∙ ap (λ l. look s (at + 2) ∷ l) (drop-same s (at + 2 + 1) (at + 3) (omega arith)))
+  front3 h = front2 (omega arith) ∙ ap (λ l. look s at ∷ look s (at + 1) ∷ l) (front 2 h)
 
   front4 : at + 3 < length s → drop at s ≡ look s at ∷ look s (at + 1) ∷ look s (at + 2) ∷ look s (at + 3) ∷ drop (at + 4) s
-  front4 h =
-      front3 (omega arith)
-      ∙ ap (λ l. look s at ∷ look s (at + 1) ∷ look s (at + 2) ∷ l) (rest s (at + 3) h ∙ ap (λ l. look s (at + 3) ∷ l) (drop-same s (at + 3 + 1) (at + 4) (omega arith)))
+  front4 h = front3 (omega arith) ∙ ap (λ l. look s at ∷ look s (at + 1) ∷ look s (at + 2) ∷ l) (front 3 h)
 
   -- a character here, and characters behind it
   char-here : (n : ℕ) → n ≡ at + seqLen s at → 0 < seqLen s at → (n ≤ length s → Chars (drop n s)) → Chars (drop at s)

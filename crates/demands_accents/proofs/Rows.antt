@@ -1,14 +1,13 @@
 -- The values of rows and records that demand 2 tells of, and the printed form of the rows: fixed pieces and digits, all below 128, and values.
 -- Assumes nothing.
-use mathlib.Core.Path.{_≡_, refl, sym, ap, subst, _∙_}
+use mathlib.Core.Path.{_≡_, refl, sym, subst}
 use mathlib.Core.Logic.{⊎-elim}
-use mathlib.Core.Bool.{Bool, true, false}
+use mathlib.Core.Bool.{false}
 use mathlib.Core.List.{List, [], _∷_, _++_, map, flatten}
 use Prim.Native.Nat.{ℕ, zero, suc, _+_, _*_, _/_, _%_, _<_}
 use native.Mathlib.Nat.{suc-mul, zero-mul}
 use native.Mathlib.Omega.{arith}
 use lib.Dec.{ltb}
-use lib.ListN.{length, getD}
 use borrow.Author.Tests.{ltb-true}
 use Rattle.text.proofs.Here.{by-test}
 use Rattle.text.specs.Words.{revisionDateWord, importKeyword, includeKeyword, prefixWord, namespaceWord, revisionWord, belongsToWord}

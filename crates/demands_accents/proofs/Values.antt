@@ -4,15 +4,14 @@ use mathlib.Core.Path.{_≡_, refl, sym, ap, subst, _∙_}
 use mathlib.Core.Bool.{Bool, true, false, _&&_, _||_}
 use mathlib.Core.List.{List, [], _∷_, _++_}
 use Prim.Native.Nat.{ℕ, zero, suc, _+_, _-_, _<_, _≤_}
-use native.Mathlib.Nat.{not-suc-le-zero, lt-of-not-le}
+use native.Mathlib.Nat.{lt-of-not-le}
 use native.Mathlib.Decide.{decLe}
 use native.Mathlib.Numerals.{add-one}
 use native.Mathlib.Omega.{arith}
 use lib.Dec.{eqb, ltb}
-use lib.ListN.{length, getD, take, drop}
+use lib.ListN.{length, take, drop}
 use borrow.Author.Tests.{ne-eqb, eqb-true, eqb-false, ltb-true}
 use Rattle.text.specs.Bytes.{look}
-use Rattle.text.specs.Class.{classOf}
 use Rattle.text.specs.Keyword.{part}
 use Rattle.text.specs.Scan.{inIdent, inRun, span, runEnd, gapEnd}
 use Rattle.text.specs.declared.Run.the-variants.{Name}
@@ -25,7 +24,7 @@ use Rattle.text_value.proofs.JoinLaws.{value-string, value-cut, value-name, val
 use Rattle.text_value.proofs.ValueLaws.{more-plain, more-bare, more-string}
 use Rattle.demands_accents.proofs.Chars as C
 use Rattle.demands_accents.proofs.Kept.{Keeps, turns-kept}
-use Rattle.demands_accents.proofs.Chars.{Chars, char1, char2, char3, char4, High, one-low, low-one, two-high, three-high, four-high}
+use Rattle.demands_accents.proofs.Chars.{Chars, char1, char2, char3, char4, one-low, low-one, two-high, three-high, four-high}
 
 -- ---- lists of characters
 

@@ -29,7 +29,7 @@ used : (n k : ℕ) (xs : List ℕ) {q : List ℕ} → q ≡ padded n xs → k �
 unfolding padded
 used n k xs {q} e h = ap (λ m. take m q) h ∙ ap (take (length xs)) e ∙ take-append-seam xs _
 
-used-valid : (n k : ℕ) (xs : List ℕ) {q : List ℕ} → q ≡ padded n xs → k ≡ length xs → Chars xs → Valid (take k q)
+pub used-valid : (n k : ℕ) (xs : List ℕ) {q : List ℕ} → q ≡ padded n xs → k ≡ length xs → Chars xs → Valid (take k q)
 used-valid n k xs e h c = valid (subst Chars (sym (used n k xs e h)) c)
 
 -- of a scan whose rows are valid where it is good

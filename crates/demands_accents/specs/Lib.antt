@@ -1,2 +1,3 @@
+pub mod StoreValid
 pub mod Valid
 pub mod ValuesValid
