@@ -47,7 +47,7 @@ use Rattle.library_bundle.specs.Reading.{longestOf, longestText}
 use Rattle.scan_rows.specs.Span.{valueIn}
 use Rattle.graph_texts.specs.Texts.{importNames, includeNames, scanText, textOf}
 use Rattle.graph.specs.Nodes.{passOver, complete, addGroups, nodesBy}
-use Rattle.text.specs.Refusal.{noRefusal}
+use Rattle.text.specs.Refusal.{noRefusal, isHigh, refusedAt}
 use Rattle.graph.specs.Graph.{textSteps, memE, addBy, run, walkFrom, graphOf}
 use Rattle.graph.specs.Numbers.{numberOf, codesAt, eachO, memR}
 use Rattle.graph_nodes.specs.Adding.{plainAt, wordsAt}
@@ -115,7 +115,7 @@ unfolding with-s with-t textsRead entriesRead walkRead includesRead walkOnce inc
     scanTurn scanFrom scanned lentAt ifFit dependencies orMatch lastAt orHead headAt orLine plainOf blockOf openOrPlain afterValue includeAt argumentOf
     breaksOff argumentAt afterDue isQuote startsName addedBy afterPlus joinedWith joinedValue ofString valueHere valueAt valueBytes closedToken tokenHere
     statementAt dueNumber dueHere dueAt startsIdent endsKeyword same part keywordAt matchAt gapEnd gapTurn afterWhite commentEnd blockEnd closing pairAt runEnd
-    span inRun inIdent classOf turns
+    span inRun inIdent classOf turns refusedAt isHigh
 computed = record {
   empty = refl;
   full = refl;

@@ -1,6 +1,7 @@
 -- The starred examples are right: both sides are computed.
 -- Assumes nothing.
 use mathlib.Core.List.{flatMap}
+use Rattle.text.specs.Refusal.{isHigh, refusedAt}
 use Rattle.text.specs.Class.{classOf}
 use Rattle.text.specs.Due.{dueNumber, dueHere, dueAt}
 use Rattle.text.specs.Keyword.{startsIdent, endsKeyword, same, part, keywordAt, matchAt, orMatch}
@@ -12,7 +13,7 @@ use Rattle.text_value.specs.Value.{startsName, addedBy, afterPlus, afterGap, mo
 use Rattle.text_value.specs.Value.{valueHere, valueAt, valueBytes}
 use Rattle.text_past.specs.Past.{pastOf}
 use Rattle.text_skip.specs.Skip.{closedToken, tokenHere, tokenAt, pastToken}
-use Rattle.text_statement.specs.Statement.{closes, quotedLen, quotedEnd, atSemicolon, atClose, partOf, partAt, ofPart, statementTurn, statementFrom}
+use Rattle.text_statement.specs.Statement.{closes, quotedLen, quotedEnd, atSemicolon, atClose, partOf, partAt, ofPart, statementTurn, statementFrom, atOther}
 use Rattle.text_statement.specs.Statement.{statementAt, pastStatement}
 use Rattle.text_lent.specs.Lent.{lentAt}
 use Rattle.scan_newest.specs.Newest.{newer, newestFrom, newest, less}
@@ -59,5 +60,5 @@ unfolding starred all holds enough drawn graphed tooShort nodeWords rowWords gra
     includeAt argumentOf argumentAt afterDue afterArgument lineAt escaped escapes strEnd strBytes closedBy strAt isQuote startsName addedBy afterPlus afterGap
     moreAt addTo joinTurn joinedWith joinedValue ofString valueHere valueAt valueBytes closedToken tokenHere tokenAt closes quotedLen quotedEnd atSemicolon
     atClose partOf partAt ofPart statementTurn statementFrom statementAt dueNumber dueHere dueAt startsIdent endsKeyword same part keywordAt matchAt gapEnd
-    gapTurn afterWhite commentEnd blockEnd closing pairAt runEnd span inRun inIdent classOf turns
+    gapTurn afterWhite commentEnd blockEnd closing pairAt runEnd span inRun inIdent classOf turns refusedAt isHigh atOther
 right = tt

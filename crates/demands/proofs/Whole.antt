@@ -11,7 +11,7 @@ use lib.ListN.{length}
 use Rattle.text.specs.Class.{classOf}
 use Rattle.text.specs.Due.{dueNumber, dueHere, dueAt}
 use Rattle.text.specs.Keyword.{startsIdent, endsKeyword, same, part, keywordAt, matchAt, orMatch}
-use Rattle.text.specs.Refusal.{cutAt}
+use Rattle.text.specs.Refusal.{cutAt, isHigh, refusedAt}
 use Rattle.text.specs.Scan.{inIdent, inRun, span, runEnd, pairAt, closing, blockEnd, commentEnd, afterWhite, gapTurn, gapEnd}
 use Rattle.text.specs.Turns.{turns}
 use Rattle.text.specs.declared.Refusal.{Refusal}
@@ -21,7 +21,7 @@ use Rattle.text_value.specs.Value.{startsName, addedBy, afterPlus, afterGap, mo
 use Rattle.text_value.specs.Value.{valueHere, valueAt, valueBytes, placeOf, closedMore, closedTurn, closedFrom, closedString, closedHere, closedAt}
 use Rattle.text_past.specs.Past.{brokeOff, pastOf}
 use Rattle.text_skip.specs.Skip.{closedToken, tokenHere, tokenAt, pastToken, skippedAt, pastValue}
-use Rattle.text_statement.specs.Statement.{closes, quotedLen, quotedEnd, atSemicolon, atClose, partOf, partAt, ofPart, statementTurn, statementFrom}
+use Rattle.text_statement.specs.Statement.{closes, quotedLen, quotedEnd, atSemicolon, atClose, partOf, partAt, ofPart, statementTurn, statementFrom, atOther}
 use Rattle.text_statement.specs.Statement.{statementAt, pastStatement}
 use Rattle.text_lent.specs.Lent.{lentAt}
 use Rattle.scan_newest.specs.Newest.{newer, newestFrom, newest, less}
@@ -141,7 +141,7 @@ unfolding readings all holds answer metadata Metadata.ifFit Metadata.scanned Met
     afterArgument lineAt escaped escapes strEnd strBytes closedBy strAt isQuote startsName addedBy afterPlus afterGap moreAt addTo joinTurn joinedWith
     joinedValue ofString valueHere valueAt valueBytes closedToken tokenHere tokenAt closes quotedLen quotedEnd atSemicolon atClose partOf partAt ofPart
     statementTurn statementFrom statementAt dueNumber dueHere dueAt startsIdent endsKeyword same part keywordAt matchAt gapEnd gapTurn afterWhite commentEnd
-    blockEnd closing pairAt runEnd span inRun inIdent classOf turns
+    blockEnd closing pairAt runEnd span inRun inIdent classOf turns refusedAt isHigh atOther
 computed = tt
 
 pub whole-mode : WholeMode

@@ -1,4 +1,5 @@
 pub mod Chars
+pub mod Good
 pub mod Instance
 pub mod Kept
 pub mod Rows

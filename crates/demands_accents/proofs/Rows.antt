@@ -5,7 +5,7 @@ use mathlib.Core.Logic.{⊎-elim}
 use mathlib.Core.Bool.{false}
 use mathlib.Core.List.{List, [], _∷_, _++_, map, flatten}
 use Prim.Native.Nat.{ℕ, zero, suc, _+_, _*_, _/_, _%_, _<_}
-use native.Mathlib.Nat.{suc-mul, zero-mul}
+use native.Mathlib.Nat.{not-suc-le-zero, suc-mul, zero-mul}
 use native.Mathlib.Omega.{arith}
 use lib.Dec.{ltb}
 use borrow.Author.Tests.{ltb-true}
@@ -20,12 +20,13 @@ use Rattle.scan_rows.specs.declared.YangImport.{YangImport}
 use Rattle.scan_rows.specs.declared.YangInclude.{YangInclude}
 use Rattle.scan_printed.specs.Pieces.{importsHead, includesHead, headEnd, bullet, prefixOpen, prefixClose, revisionSign}
 use Rattle.scan_printed.specs.Printed.{heading, revision, importLine, includeLine, importLines, includeLines, printed, printedRows}
-use Rattle.scan_metadata.specs.Metadata.{metadataTurn}
+use Rattle.scan_metadata.specs.Metadata.{noValues, metadataTurn}
 use Rattle.demands_values.specs.Behind.{Behind, Either, Met, InBlock, ImportRead, IncludeRead, begin, HeaderFirst, HeaderLast, RecordRead}
 use Rattle.demands_values.specs.Demand2.{RowsRead}
 use Rattle.demands_accents.specs.Valid.{Valid}
 use Rattle.demands_accents.specs.ValuesValid.{ImportValid, IncludeValid, RowsValid, RecordValid}
-use Rattle.demands_accents.proofs.Chars.{Chars, none, char1, low-one, chars, valid}
+use Rattle.text_utf8.proofs.Utf8Laws.{one-low}
+use Rattle.demands_accents.proofs.Chars.{Chars, none, char1, chars, valid}
 use Rattle.demands_accents.proofs.Values.{append-chars, low-chars, value-chars}
 
 -- ---- the values of a valid text
@@ -33,6 +34,20 @@ use Rattle.demands_accents.proofs.Values.{append-chars, low-chars, valu
 missing-valid : (store : List ℕ) → Valid (valueIn store missing)
 unfolding valueIn
 missing-valid store = valid none
+
+-- no rows, and six values that are missing
+pub no-rows : (store f g : List ℕ) → RowsValid store f 0 g 0
+no-rows store f g = record { imports = λ k l. absurd (not-suc-le-zero l); includes = λ k l. absurd (not-suc-le-zero l) }
+
+pub no-values : (store : List ℕ) → RecordValid store noValues
+no-values store = record {
+  name = missing-valid store;
+  namespace = missing-valid store;
+  prefix = missing-valid store;
+  first-revision = missing-valid store;
+  parent = missing-valid store;
+  newest = missing-valid store;
+}
 
 module _ (s : List ℕ) (v : Valid s) where
   pub read-valid : (at : ℕ) → Valid (valueBytes (valueAt s at))
@@ -84,7 +99,7 @@ module _ (s : List ℕ) (v : Valid s) where
 -- ---- the printed form
 
 digit-chars : (n : ℕ) → n < 10 → Chars (digit n ∷ [])
-digit-chars n h = char1 (low-one (digit n) (omega arith)) none
+digit-chars n h = char1 (one-low (digit n) (omega arith)) none
 
 last-chars : (k n : ℕ) → Chars (lastDigits k n)
 unfolding lastDigits

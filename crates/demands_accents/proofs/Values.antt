@@ -19,12 +19,13 @@ use Rattle.text.proofs.ClassLaws.{class-high}
 use Rattle.text.proofs.Here.{by-test, never}
 use Rattle.text_string.specs.Str.{isQuote, escaped, escapes, strEnd, strBytes, Str, whole, cut, strAt}
 use Rattle.text_string.proofs.StrLaws.{closed-end}
+use Rattle.text_utf8.proofs.Utf8Laws.{one-low, one-is}
 use Rattle.text_value.specs.Value.{More, added, ends, broken, addedBy, moreAt, Bytes, addTo, joinTurn, joinedWith, joined, startsName, valueAt, valueBytes}
 use Rattle.text_value.proofs.JoinLaws.{value-string, value-cut, value-name, value-none}
 use Rattle.text_value.proofs.ValueLaws.{more-plain, more-bare, more-string}
 use Rattle.demands_accents.proofs.Chars as C
 use Rattle.demands_accents.proofs.Kept.{Keeps, turns-kept}
-use Rattle.demands_accents.proofs.Chars.{Chars, char1, char2, char3, char4, one-low, low-one, two-high, three-high, four-high}
+use Rattle.demands_accents.proofs.Chars.{Chars, char1, char2, char3, char4, two-high, three-high, four-high}
 
 -- ---- lists of characters
 
@@ -44,7 +45,7 @@ pub low-chars : (xs : List ℕ) → allLow xs ≡ true → Chars xs
 low-chars [] h = C.none
 low-chars (b ∷ xs) h =
     by-test (ltb b 128)
-    (λ t. char1 (low-one b (ltb-true b 128 t)) (low-chars xs (ap (λ z. z && allLow xs) (sym t) ∙ h)))
+    (λ t. char1 (one-low b (ltb-true b 128 t)) (low-chars xs (ap (λ z. z && allLow xs) (sym t) ∙ h)))
     (λ t. absurd (never (ap (λ z. z && allLow xs) t) h))
 
 -- a byte below 128 is a character: others begin behind it
@@ -98,11 +99,11 @@ module _ (q : ℕ) (low : q < 128) where
   -- a character of one byte
   plain : (a : ℕ) (xs : List ℕ) → a < 128 → ((e : Bool) → Chars (strBytes q e xs)) → (e : Bool) → Chars (strBytes q e (a ∷ xs))
   unfolding strBytes
-  plain a xs h k true = char1 (low-one (escaped a) (escaped-low a h)) (k false)
+  plain a xs h k true = char1 (one-low (escaped a) (escaped-low a h)) (k false)
   plain a xs h k false =
       by-test (eqb a q)
       (λ t. rw t C.none)
-      (λ t. by-test (escapes q a) (λ u. rw t (rw u (k true))) (λ u. rw t (rw u (char1 (low-one a h) (k false)))))
+      (λ t. by-test (escapes q a) (λ u. rw t (rw u (k true))) (λ u. rw t (rw u (char1 (one-low a h) (k false)))))
 
   nothing : (e : Bool) → Chars (strBytes q e [])
   unfolding strBytes
@@ -111,7 +112,7 @@ module _ (q : ℕ) (low : q < 128) where
 
   pub str-chars : {xs : List ℕ} → Chars xs → (e : Bool) → Chars (strBytes q e xs)
   str-chars C.none e = nothing e
-  str-chars (char1 {a} {xs} t c) e = plain a xs (one-low a t) (λ f. str-chars c f) e
+  str-chars (char1 {a} {xs} t c) e = plain a xs (one-is a t) (λ f. str-chars c f) e
   str-chars (char2 {a} {b} {xs} t c) e =
       let h = two-high a b t in
       subst Chars (sym (copied e a (b ∷ xs) (omega arith) ∙ ap (λ l. a ∷ l) (copied false b xs (omega arith)))) (char2 t (str-chars c false))
@@ -151,7 +152,7 @@ name-high b h =
 span-chars : (p : ℕ → Bool) → ((b : ℕ) → p b ≡ true → b < 128) → (xs : List ℕ) → Chars (take (span p xs) xs)
 unfolding span
 span-chars p low [] = C.none
-span-chars p low (b ∷ xs) = by-test (p b) (λ t. rw t (char1 (low-one b (low b t)) (span-chars p low xs))) (λ t. rw t C.none)
+span-chars p low (b ∷ xs) = by-test (p b) (λ t. rw t (char1 (one-low b (low b t)) (span-chars p low xs))) (λ t. rw t C.none)
 
 name-chars : (s : List ℕ) (at : ℕ) → Chars (part s at (runEnd Name s at))
 unfolding part runEnd

@@ -1,5 +1,5 @@
--- 2026-01: values-valid. Of every good call of a scan over valid UTF-8: each value of a row or record is valid UTF-8 as it stands in the store at exit, and so
--- are the bytes of the page that are used. A value that is missing is empty, and no bytes are valid too.
+-- 2026-01: values-valid. Of every good call of a scan: each value of a row or record is valid UTF-8 as it stands in the store at exit, and so are the bytes of
+-- the page that are used. A value that is missing is empty, and no bytes are valid too; a refusal leaves no row, no value and no page.
 -- Assumes nothing.
 use Prim.Native.Nat.{ℕ, _*_, _<_}
 use mathlib.Core.Path.{_≡_}
@@ -55,7 +55,7 @@ pub record RecordValid (store : List ℕ) (values : List Span) : Type 0 where
 
 -- s: the text; d, t, u, p: store, tables and page at entry; e, f, g, q: at exit
 pub record ValuesValid : Type 0 where
-  -- the value at any place of a text, and any value that demand 2 tells of
+  -- the value at any place of a valid text, and any value that demand 2 tells of
   pub read : (s : List ℕ) (at : ℕ) → Valid s → Valid (valueBytes (valueAt s at))
   pub value : (s word : List ℕ) (p : ℕ) (store : List ℕ) (x : Span) → Behind s word p store x → Valid s → Valid (valueIn store x)
   pub rows : (s store f : List ℕ) (i : ℕ) (g : List ℕ) (j : ℕ) → RowsRead s store f i g j → Valid s → RowsValid store f i g j
@@ -64,24 +64,22 @@ pub record ValuesValid : Type 0 where
   pub lines : (store f : List ℕ) (i : ℕ) (g : List ℕ) (j : ℕ) → RowsValid store f i g j → Valid (printedRows store f i g j)
   -- scan_lent, and with nothing else too short extract_yang_dependencies
   pub dependencies : (mode : Bool) (s : List ℕ) (short : Bool) (d t u : List ℕ) {r : Parsed} {e f g : List ℕ}
-      → Dependencies.Extracts mode s short d t u r e f g → (i j n : ℕ) → r ≡ Good i j n → Valid s → RowsValid e f i g j
+      → Dependencies.Extracts mode s short d t u r e f g → (i j n : ℕ) → r ≡ Good i j n → RowsValid e f i g j
   -- scan_over
   pub over : (mode : Bool) (s : List ℕ) (short : Bool) (d t u : List ℕ) {r : Parsed} {e f g : List ℕ} → Dependencies.Scans mode s short d t u r e f g
-      → (i j n : ℕ) → r ≡ Good i j n → Valid s → RowsValid e f i g j
-  -- print_yang_dependencies; and what is used of its page at every call, since a refusal leaves none
+      → (i j n : ℕ) → r ≡ Good i j n → RowsValid e f i g j
+  -- print_yang_dependencies, and what is used of its page
   pub printed : (mode : Bool) (s d t u p : List ℕ) {r : Page} {e f g q : List ℕ} → Prints mode s d t u p r e f g q
-      → (i j n : ℕ) → r .parsed ≡ Good i j n → Valid s → RowsValid e f i g j
-  pub page : (mode : Bool) (s d t u p : List ℕ) {r : Page} {e f g q : List ℕ} → Prints mode s d t u p r e f g q → Valid s → Valid (take (r .length) q)
+      → (i j n : ℕ) → r .parsed ≡ Good i j n → RowsValid e f i g j
+  pub page : (mode : Bool) (s d t u p : List ℕ) {r : Page} {e f g q : List ℕ} → Prints mode s d t u p r e f g q → Valid (take (r .length) q)
   -- extract_yang_metadata
-  pub metadata : (mode : Bool) (s d : List ℕ) {r : YangModuleMetadata} {e : List ℕ} → Metadata.Extracts mode s d r e → r .answer .number ≡ 0
-      → Valid s → RecordValid e (r .values)
-  -- nuvaleta_dependencies, nuvaleta_printed, nuvaleta_metadata, and in the whole-text mode the same with _whole; n: the number returned, a: the answer, w: the
-  -- record; the seventh word of the answer is the length of the page
-  pub host-dependencies : (mode : Bool) (s d t u : List ℕ) {n : ℕ} {e f g a : List ℕ} → DependenciesAnswered mode s d t u n e f g a → n ≡ 0
-      → Valid s → RowsValid e f (getD a 3 0) g (getD a 4 0)
-  pub host-printed : (mode : Bool) (s d t u p : List ℕ) {n : ℕ} {e f g q a : List ℕ} → PrintedAnswered mode s d t u p n e f g q a → n ≡ 0
-      → Valid s → RowsValid e f (getD a 3 0) g (getD a 4 0)
+  pub metadata : (mode : Bool) (s d : List ℕ) {r : YangModuleMetadata} {e : List ℕ} → Metadata.Extracts mode s d r e → RecordValid e (r .values)
+  -- nuvaleta_dependencies, nuvaleta_printed, nuvaleta_metadata, and in the whole-text mode the same with _whole; n: the number returned, a: the answer, whose
+  -- seventh word is the length of the page, w: the record
+  pub host-dependencies : (mode : Bool) (s d t u : List ℕ) {n : ℕ} {e f g a : List ℕ} → DependenciesAnswered mode s d t u n e f g a
+      → RowsValid e f (getD a 3 0) g (getD a 4 0)
+  pub host-printed : (mode : Bool) (s d t u p : List ℕ) {n : ℕ} {e f g q a : List ℕ} → PrintedAnswered mode s d t u p n e f g q a
+      → RowsValid e f (getD a 3 0) g (getD a 4 0)
   pub host-page : (mode : Bool) (s d t u p : List ℕ) {n : ℕ} {e f g q a : List ℕ} → PrintedAnswered mode s d t u p n e f g q a
-      → Valid s → Valid (take (getD a 6 0) q)
-  pub host-metadata : (mode : Bool) (s d : List ℕ) {n : ℕ} {e w a : List ℕ} → MetadataAnswered mode s d n e w a → n ≡ 0
-      → Valid s → RecordValid e (recordIn w)
+      → Valid (take (getD a 6 0) q)
+  pub host-metadata : (mode : Bool) (s d : List ℕ) {n : ℕ} {e w a : List ℕ} → MetadataAnswered mode s d n e w a → RecordValid e (recordIn w)

@@ -17,6 +17,7 @@ use Rattle.text.specs.declared.Due.{Due}
 use Rattle.text.specs.declared.Due.the-variants.{After, Not}
 use Rattle.text.specs.declared.Refusal.{Refusal}
 use Rattle.text.proofs.Here.{by-test, past}
+use Rattle.text.proofs.HighLaws.{met-within}
 use Rattle.text.proofs.Laws.{gap-from, gap-within}
 use Rattle.text_value.specs.Argument.{argumentAt}
 use Rattle.text_value.specs.Value.{valueAt, valueBytes}
@@ -31,7 +32,7 @@ use Rattle.text_past.proofs.PastLaws.{SameOrCut}
 use Rattle.text_skip.proofs.PastLaws.{past-value-far, token-modes, value-modes}
 use Rattle.text_statement.specs.Statement.{statementAt, pastStatement}
 use Rattle.text_statement.proofs.PastLaws.{statement-modes}
-use Rattle.text_statement.proofs.StatementLaws.{statement-far, statement-refused}
+use Rattle.text_statement.proofs.StatementLaws.{statement-far, statement-refused, statement-refused-from}
 use Rattle.text_lent.specs.Lent.{lentAt}
 use Rattle.text_lent.specs.declared.Lent.{Lent}
 use Rattle.text_lent.specs.declared.Lent.the-variants.{Fit, Unfit}
@@ -73,7 +74,7 @@ statement-past s at e = of (statementAt s at) refl
   where
     of : (k : Skipped) → statementAt s at ≡ k → OldDue s (pastOf false (length s) k)
     of (Past c h) q = omega (arith, e, statement-far s at (omega arith) c h q)
-    of (NoSkip r) q = absurd (statement-refused s at r q)
+    of (NoSkip r) q = absurd (omega (arith, e, statement-refused-from s at r q, met-within s r (statement-refused s at r q)))
 
 due-small : (k : ℕ) → dueFor k < 256
 unfolding dueFor

@@ -1,34 +1,34 @@
--- Which refusals a scan can give, by number and keyword. 1 to 3 are given exactly when they are due. Of 4 to 10 it is shown that no other number or keyword
--- comes: when they come is in the definitions of the scans alone. 11 comes in the whole-text mode only (2026-07).
+-- Which refusals a scan can give, by number and keyword. 1, 2 and 12 are given exactly when they are due. Of 3 it is shown that such a byte stands there. Of 4
+-- to 10 it is shown that no other number or keyword comes: when they come is in the definitions of the scans alone. 11 comes in the whole-text mode only
+-- (2026-07).
 -- Assumes nothing.
 use Prim.Native.Nat.{ℕ, _≤_, _<_}
 use mathlib.Core.Path.{_≡_}
 use mathlib.Core.Bool.{Bool, true, false}
 use mathlib.Core.List.{List, [], _∷_, List·Memᴰ}
 use lib.ListN.{length}
-use Rattle.text.specs.Refusal.{cutAt}
-use Rattle.text.specs.Scan.{runEnd}
+use Rattle.text.specs.Refusal.{cutAt, MetHigh}
 use Rattle.text.specs.declared.Refusal.{Refusal}
-use Rattle.text.specs.declared.Run.the-variants.{Low}
+use Rattle.text_utf8.specs.Utf8.{wrongFrom}
 
 -- one of these numbers with one of these keywords
 pub record OneOf (numbers keywords : List ℕ) (r : Refusal) : Type 0 where
   pub number : List·Memᴰ (r .number) numbers
   pub keyword : List·Memᴰ (r .keyword) keywords
 
--- what is checked first; short: whether something lent is too short, which the promises find from the lengths; `runEnd Low s 0`: the place of the first
--- byte of 128 or more, or the end
+-- what is checked first; short: whether something lent is too short, which the promises find from the lengths; `wrongFrom s 0`: where the first sequence starts
+-- that is no UTF-8, or the end
 pub data FirstRefusal (s : List ℕ) (short : Bool) (r : Refusal) : Type 0 where
   too-long : 1048576 < length s → r ≡ record { number = 1; keyword = 0; at = 0 } → FirstRefusal s short r
   too-little : length s ≤ 1048576 → short ≡ true → r ≡ record { number = 2; keyword = 0; at = 0 } → FirstRefusal s short r
-  high : length s ≤ 1048576 → short ≡ false → runEnd Low s 0 < length s → r ≡ record { number = 3; keyword = 0; at = runEnd Low s 0 }
+  not-utf8 : length s ≤ 1048576 → short ≡ false → wrongFrom s 0 < length s → r ≡ record { number = 12; keyword = 0; at = wrongFrom s 0 }
       → FirstRefusal s short r
 
 -- then the text is read
 pub record Fits (s : List ℕ) (short : Bool) : Type 0 where
   pub few : length s ≤ 1048576
   pub enough : short ≡ false
-  pub low : length s ≤ runEnd Low s 0
+  pub utf8 : wrongFrom s 0 ≡ length s
 
 pub data RefusedAs (Read : Refusal → Type 0) (s : List ℕ) (short : Bool) (r : Refusal) : Type 0 where
   first : FirstRefusal s short r → RefusedAs Read s short r
@@ -60,6 +60,11 @@ pub data MetadataRefusal (r : Refusal) : Type 0 where
   header : HeaderRefusal r → MetadataRefusal r
   no-name : OneOf (9 ∷ []) (0 ∷ []) r → MetadataRefusal r
 
+-- A byte above 127 that is met outside strings and comments (2026-01): 3, keyword 0, at that byte. Or one of the others.
+pub data MetRefusal (Read : Refusal → Type 0) (s : List ℕ) (r : Refusal) : Type 0 where
+  high : MetHigh s r → MetRefusal Read s r
+  other : Read r → MetRefusal Read s r
+
 -- In the whole-text mode: 11 at the text's end, or a refusal of the old mode
 pub data WholeRefusal (Read : Refusal → Type 0) (s : List ℕ) (r : Refusal) : Type 0 where
   cut-short : r ≡ cutAt (length s) → WholeRefusal Read s r
@@ -67,5 +72,5 @@ pub data WholeRefusal (Read : Refusal → Type 0) (s : List ℕ) (r : Refusal) :
 
 -- by the mode
 abbrev pub ModeRefusal : Bool → (Refusal → Type 0) → List ℕ → Refusal → Type 0
-ModeRefusal true Read s r = WholeRefusal Read s r
-ModeRefusal false Read s r = Read r
+ModeRefusal true Read s r = WholeRefusal (MetRefusal Read s) s r
+ModeRefusal false Read s r = MetRefusal Read s r

@@ -22,7 +22,7 @@ use Rattle.scan_metadata.specs.Metadata as Meta
 
 pub record OldMode : Type 0 where
   pub skipped : (n : ℕ) (c : Cursor) (h : How) → pastOf false n (Past c h) ≡ After c
-  pub value : (s : List ℕ) (at u k : ℕ) → argumentAt false s at u k ≡ argumentOf u k (valueAt s at)
+  pub value : (s : List ℕ) (at u k : ℕ) → argumentAt false s at u k ≡ argumentOf s u k (valueAt s at)
 
 -- ---- the whole-text mode
 

@@ -8,6 +8,7 @@ use mathlib.Core.List.{List, _++_}
 use native.Mathlib.Omega.{arith}
 use lib.ListN.{length, drop, length-append, length-drop}
 use lib.Seq.{length-take-le}
+use Rattle.text.specs.Refusal.{isHigh, refusedAt}
 use Rattle.text.specs.Due.{dueAt}
 use Rattle.text.specs.Keyword.{matchAt}
 use Rattle.text.specs.Turns.{Turn, after}
@@ -29,8 +30,8 @@ use Rattle.demands_values.specs.Behind.{Behind, Either, Met, MetFirst, M
 -- ---- a keyword's value, and the byte that is due behind it
 
 module _ (s : List ℕ) (at u k : ℕ) where
-  value-of : (w : Val) (c : Cursor) (n : ℕ) → argumentOf u k w ≡ Read c n → w ≡ value (valueBytes w) (c .at)
-  unfolding argumentOf valueBytes
+  value-of : (w : Val) (c : Cursor) (n : ℕ) → argumentOf s u k w ≡ Read c n → w ≡ value (valueBytes w) (c .at)
+  unfolding argumentOf valueBytes refusedAt isHigh
   value-of (value bs e) c n h = let q : e ≡ c .at = cc in ap (value bs) q
   value-of (none e) c n h = let z : _≡_ {A = ℕ} 0 1 = cc in absurd (omega arith)
 
@@ -44,8 +45,8 @@ module _ (s : List ℕ) (at u k : ℕ) where
     due-of m (Stands e) h = let q : e ≡ c = cc in ap Stands q
     due-of m (NotDue r) h = let z : _≡_ {A = ℕ} 0 1 = cc in absurd (omega arith)
 
-    line-of : (w : Val) → afterArgument s k b (argumentOf u k w) ≡ Read c n → (e : ℕ) × (w ≡ value (valueBytes w) e) × (dueAt s e b k ≡ Stands c)
-    unfolding argumentOf afterArgument valueBytes
+    line-of : (w : Val) → afterArgument s k b (argumentOf s u k w) ≡ Read c n → (e : ℕ) × (w ≡ value (valueBytes w) e) × (dueAt s e b k ≡ Stands c)
+    unfolding argumentOf afterArgument valueBytes refusedAt isHigh
     line-of (value bs e) h = (e, refl, due-of (u + length bs) (dueAt s e b k) h)
     line-of (none e) h = let z : _≡_ {A = ℕ} 0 1 = cc in absurd (omega arith)
 

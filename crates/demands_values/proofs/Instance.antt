@@ -11,6 +11,7 @@ use native.Mathlib.Omega.{arith}
 use lib.Dec.{eqb}
 use lib.ListN.{length, getD}
 use borrow.Author.Tests.{eqb-true}
+use Rattle.text.specs.Refusal.{isHigh, refusedAt}
 use Rattle.text.specs.Class.{classOf}
 use Rattle.text.specs.Due.{dueNumber, dueHere, dueAt}
 use Rattle.text.specs.Keyword.{startsIdent, endsKeyword, same, part, keywordAt, matchAt, orMatch}
@@ -28,8 +29,9 @@ use Rattle.text_value.specs.Value.{startsName, addedBy, afterPlus, afterGap, mo
 use Rattle.text_value.specs.Value.{value, valueHere, valueAt, valueBytes}
 use Rattle.text_past.specs.Past.{pastOf}
 use Rattle.text_skip.specs.Skip.{closedToken, tokenHere, tokenAt, pastToken}
-use Rattle.text_statement.specs.Statement.{closes, quotedLen, quotedEnd, atSemicolon, atClose, partOf, partAt, ofPart, statementTurn, statementFrom}
+use Rattle.text_statement.specs.Statement.{closes, quotedLen, quotedEnd, atSemicolon, atClose, partOf, partAt, ofPart, statementTurn, statementFrom, atOther}
 use Rattle.text_statement.specs.Statement.{statementAt, pastStatement}
+use Rattle.text_utf8.specs.Utf8.{wrongFrom, charTurn, seqLen, charLen, one, two, three, second3, four, second4, tail}
 use Rattle.text_lent.specs.Lent.{lentAt}
 use Rattle.text_lent.specs.Padded.{padded}
 use Rattle.scan_rows.specs.Rows.{importWords, includeWords, table, importTable, includeTable, spanAt, markedAt, importAt as importIn, includeAt as includeIn}
@@ -85,7 +87,8 @@ unfolding joined importStep includeStep unlessFull importHere includeHere movedT
     breaksOff argumentAt afterDue afterArgument lineAt escaped escapes strEnd strBytes closedBy strAt isQuote startsName addedBy afterPlus afterGap moreAt addTo
     joinTurn joinedWith joinedValue ofString valueHere valueAt valueBytes closedToken tokenHere tokenAt closes quotedLen quotedEnd atSemicolon atClose partOf
     partAt ofPart statementTurn statementFrom statementAt dueNumber dueHere dueAt startsIdent endsKeyword same part keywordAt matchAt gapEnd gapTurn afterWhite
-    commentEnd blockEnd closing pairAt runEnd span inRun inIdent classOf turns
+    commentEnd blockEnd closing pairAt runEnd span inRun inIdent classOf turns refusedAt isHigh atOther
+    wrongFrom charTurn seqLen charLen one two three second3 four second4 tail
 scan = refl
 
 -- what the call answers and leaves
@@ -166,13 +169,13 @@ abbrev second : ℕ → Stored
 second u = record { body = record { at = 24; used = u + 1; prefix = held u (u + 1 - u); revision = missing }; bytes = 111 ∷ [] }
 
 block-opens : {end : ℕ} {c : Cursor} → end ≡ 14 → dueAt text end 123 8 ≡ Stands c → c .at ≡ 15
-unfolding dueAt dueHere gapEnd gapTurn afterWhite commentEnd blockEnd closing pairAt runEnd span inRun inIdent classOf turns
+unfolding dueAt dueHere gapEnd gapTurn afterWhite commentEnd blockEnd closing pairAt runEnd span inRun inIdent classOf turns refusedAt isHigh
 block-opens {c = c} e h = let q : Stands (record { at = 15 }) ≡ Stands c = ap (λ z. dueAt text z 123 8) (sym e) ∙ h in cc
 
 block-turn : (u : ℕ) → blockTurn false text 8 (record { body = begun 15 u; bytes = [] }) ≡ on (second u)
 unfolding orLine lineKind withValue kept afterKind insideHere insideAt afterInside blockTurn argumentOf breaksOff argumentAt afterDue afterArgument lineAt
     isQuote startsName valueHere valueAt valueBytes dueNumber dueHere dueAt startsIdent endsKeyword same part keywordAt matchAt gapEnd gapTurn afterWhite
-    commentEnd blockEnd closing pairAt runEnd span inRun inIdent classOf turns
+    commentEnd blockEnd closing pairAt runEnd span inRun inIdent classOf turns refusedAt isHigh
 block-turn u = refl
 
 second-met : matchAt text (gapEnd text 24) prefixWord ≡ After (record { at = 30 })

@@ -10,6 +10,7 @@ use native.Mathlib.Omega.{arith}
 use lib.Dec.{eqb, ltb}
 use lib.ListN.{length}
 use borrow.Author.Tests.{eqb-true}
+use Rattle.text.specs.Refusal.{isHigh, refusedAt}
 use Rattle.text.specs.Class.{classOf}
 use Rattle.text.specs.Due.{dueNumber, dueHere, dueAt}
 use Rattle.text.specs.Keyword.{startsIdent, endsKeyword, same, part, keywordAt, matchAt, orMatch}
@@ -24,8 +25,9 @@ use Rattle.text_string.specs.Str.{isQuote}
 use Rattle.text_value.specs.Value.{value, startsName, valueHere, valueAt, valueBytes}
 use Rattle.text_past.specs.Past.{pastOf}
 use Rattle.text_skip.specs.Skip.{closedToken, tokenHere, tokenAt, pastToken}
-use Rattle.text_statement.specs.Statement.{closes, quotedLen, quotedEnd, atSemicolon, atClose, partOf, partAt, ofPart, statementTurn, statementFrom}
+use Rattle.text_statement.specs.Statement.{closes, quotedLen, quotedEnd, atSemicolon, atClose, partOf, partAt, ofPart, statementTurn, statementFrom, atOther}
 use Rattle.text_statement.specs.Statement.{statementAt, pastStatement}
+use Rattle.text_utf8.specs.Utf8.{wrongFrom, charTurn, seqLen, charLen, one, two, three, second3, four, second4, tail}
 use Rattle.text_lent.specs.Lent.{lentAt}
 use Rattle.text_lent.specs.Padded.{padded}
 use Rattle.scan_rows.specs.Rows.{spanAt, markedAt, rowsOf}
@@ -76,7 +78,8 @@ unfolding metadata ifFit scanned scanFrom metadataTurn afterHeard ended told pas
     fieldAt laterPrefix statementSaid tagSaid saidHere saidAt dataAt lastTag orTag tagAt lentAt orMatch argumentOf breaksOff argumentAt isQuote startsName
     valueHere valueAt valueBytes closedToken tokenHere tokenAt closes quotedLen quotedEnd atSemicolon atClose partOf partAt ofPart statementTurn statementFrom
     statementAt dueNumber dueHere dueAt startsIdent endsKeyword same part keywordAt matchAt gapEnd gapTurn afterWhite commentEnd blockEnd closing pairAt runEnd
-    span inRun inIdent classOf turns
+    span inRun inIdent classOf turns refusedAt isHigh atOther
+    wrongFrom charTurn seqLen charLen one two three second3 four second4 tail
 scan = refl
 
 -- what the call answers and leaves

@@ -10,7 +10,7 @@ use lib.ListN.{length, getD, take, drop}
 use lib.Dec.{ltb, leb}
 use lib.Seq.{take-add, drop-cons}
 use borrow.Author.Tests.{ltb-true, ltb-false, lt-ltb, le-ltb, le-leb, lt-leb, leb-true, leb-false}
-use Rattle.text.specs.High.{larger, largest}
+use Rattle.text_utf8.specs.Largest.{larger, largest}
 use Rattle.text.proofs.Here.{by-test, both}
 use Rattle.graph.specs.Numbers.{Row}
 use Rattle.graph_edges.specs.Edges.{rowAt, rowsIn}

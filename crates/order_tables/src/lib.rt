@@ -2,7 +2,7 @@
 ghost use mathlib.Core.Path.{_≡_};
 ghost use Prim.Native.Nat.{_-_, _*_, _≤_};
 ghost use lib.ListN.{length};
-ghost use Rattle.text.specs.High.{larger, largest};
+ghost use Rattle.text_utf8.specs.Largest.{larger, largest};
 ghost use Rattle.graph_edges.specs.Edges.{rowsIn};
 ghost use Rattle.order_tables.specs.Tables.{allWithin, fits};
 ghost use Rattle.order_tables.specs.Free.{lowestFrom, zeroAt};

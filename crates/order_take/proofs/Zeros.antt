@@ -15,7 +15,7 @@ use lib.Dec.{ltb}
 use borrow.Author.Tests.{eq-eqb, ne-eqb, lt-ltb, ltb-true, ltb-false}
 use Rattle.text.proofs.Here.{by-test}
 use Rattle.text_lent.proofs.Numbers.{decide}
-use Rattle.text.specs.High.{larger}
+use Rattle.text_utf8.specs.Largest.{larger}
 use Rattle.order_tables.specs.Free.{lowestFrom, zeroAt}
 use Rattle.order_tables.proofs.Lowest.{lowest-is, lowest-not, none-before, zero-there}
 use Rattle.order_tables.proofs.Within.{larger-below}

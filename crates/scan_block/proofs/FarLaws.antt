@@ -26,6 +26,7 @@ use Rattle.text_value.specs.declared.Argument.the-variants.{Read, Refused as Re
 use Rattle.text_value.proofs.ArgumentLaws.{line-far, line-refusal}
 use Rattle.text_value.proofs.JoinLaws.{bytes-fit}
 use Rattle.text_statement.specs.Statement.{pastStatement}
+use Rattle.text_past.proofs.PastLaws.{refused-within}
 use Rattle.text_statement.proofs.PastLaws.{past-statement-far, past-statement-moves, past-statement-not}
 use Rattle.scan_rows.specs.Span.{held}
 use Rattle.scan_block.specs.Left.{Left}
@@ -89,7 +90,7 @@ module _ (w : Bool) (s : List ℕ) (b : Body) (g k : ℕ) (l : b .at ≤ g) (in-
       let moves = past-statement-moves w s g in-text (λ z. n (ap (λ i. getD s i 256) (sym e) ∙ z)) c m in
       let far = past-statement-far w s g (omega arith) c m in
       (omega (arith, moves), far .1, omega arith, λ u d. sound-moved u b (c .at) d)
-  other-went (NotPast r) m = (omega arith, λ i. omega (arith, ap (λ q. q .at) (past-statement-not w s g r m)))
+  other-went (NotPast r) m = (omega arith, λ i. refused-within s r (past-statement-not w s g r m))
 
   kind-went : (x : Line) → lineKind s g k ≡ x → Went s b (afterKind w s g b x .bytes) (afterKind w s g b x .answer)
   unfolding afterKind

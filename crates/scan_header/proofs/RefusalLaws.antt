@@ -1,5 +1,5 @@
--- A refusal of the scan's step has a number above 0: it is that of a value that is missing, of a byte that is due or of what broke off, and each of
--- these has one. w: the whole-text mode.
+-- A refusal of the scan's step has a number above 0: it is that of a value that is missing, of a byte that is due or is 128 or more, or of what broke off,
+-- and each of these has one. w: the whole-text mode.
 -- Assumes nothing.
 use mathlib.Core.Path.{_≡_, refl, ap, subst}
 use mathlib.Core.Bool.{Bool}
@@ -9,12 +9,13 @@ use native.Mathlib.Omega.{arith}
 use lib.Dec.{eqb, leb}
 use lib.ListN.{length, getD}
 use Rattle.text.specs.Due.{dueNumber, dueHere, dueAt}
-use Rattle.text.specs.Refusal.{cutAt}
 use Rattle.text.specs.Scan.{gapEnd}
 use Rattle.text.specs.declared.Due.{Due}
 use Rattle.text.specs.declared.Due.the-variants.{After, Not}
 use Rattle.text.specs.declared.Refusal.{Refusal}
 use Rattle.text.proofs.Here.{by-test}
+use Rattle.text.proofs.HighLaws.{refused-numbered}
+use Rattle.text_past.proofs.PastLaws.{SkipRefused, refused-number}
 use Rattle.text_value.specs.Argument.{argumentOf, breaksOff, argumentAt}
 use Rattle.text_value.specs.Value.{Val, value, none, valueAt, closedAt}
 use Rattle.text_skip.specs.Skip.{pastToken, pastValue}
@@ -39,15 +40,18 @@ due-numbered : (s : List ℕ) (at b k : ℕ) → DueNumbered (dueAt s at b k)
 unfolding dueAt dueHere dueNumber
 due-numbered s at b k =
     let c = getD s (gapEnd s at) 256 in
-    by-test (eqb c b) (λ t. rw t tt) (λ t. rw t (by-test (eqb c 256) (λ u. rw u (omega arith)) (λ u. rw u (omega arith))))
+    by-test (eqb c b) (λ t. rw t tt)
+    (λ t. rw t (by-test (eqb c 256)
+    (λ u. rw u (refused-numbered c 6 k (gapEnd s at) (omega arith)))
+    (λ u. rw u (refused-numbered c 5 k (gapEnd s at) (omega arith)))))
 
--- d: what is past a skip; only what broke off is refused
-past-numbered : (n : ℕ) (d : Due) → ((r : Refusal) → d ≡ Not r → r ≡ cutAt n) → DueNumbered d
-past-numbered n (After c) h = tt
-past-numbered n (Not r) h = omega (arith, ap (λ q. q .number) (h r refl))
+-- d: what is past a skip
+past-numbered : (s : List ℕ) (d : Due) → ((r : Refusal) → d ≡ Not r → SkipRefused s r) → DueNumbered d
+past-numbered s (After c) h = tt
+past-numbered s (Not r) h = refused-number s r (h r refl)
 
 ended-numbered : (w : Bool) (s : List ℕ) (at : ℕ) → DueNumbered (pastStatement w s at)
-ended-numbered w s at = past-numbered (length s) (pastStatement w s at) (past-statement-not w s at)
+ended-numbered w s at = past-numbered s (pastStatement w s at) (past-statement-not w s at)
 
 revision-numbered : (w : Bool) (s : List ℕ) (at : ℕ) → DueNumbered (afterRevision w s at)
 unfolding afterRevision
@@ -77,10 +81,10 @@ unfolding kept
 kept-numbered k u n (After c) h = tt
 kept-numbered k u n (Not r) h = h
 
-rest-numbered : (w : Bool) (s : List ℕ) (k u : ℕ) (v : Val) → Numbered (withRest w s k u (argumentOf u k v))
+rest-numbered : (w : Bool) (s : List ℕ) (k u : ℕ) (v : Val) → Numbered (withRest w s k u (argumentOf s u k v))
 unfolding withRest argumentOf
 rest-numbered w s k u (value bs end) = kept-numbered k u _ (afterValue w s end k) (value-numbered w s end k)
-rest-numbered w s k u (none at) = omega arith
+rest-numbered w s k u (none at) = refused-numbered (getD s at 256) 4 k at (omega arith)
 
 field-numbered : (w : Bool) (s : List ℕ) (at k u : ℕ) → Numbered (fieldAt w s at k u .answer)
 unfolding fieldAt withRest argumentAt
@@ -96,7 +100,7 @@ statement-numbered : (w : Bool) (s : List ℕ) (at k u : ℕ) (p : Bool) → Num
 unfolding statementSaid
 statement-numbered w s at k u p =
     by-test (eqb k 6)
-    (λ t. rw t (skipped-numbered w s k (pastValue w s at) (past-numbered (length s) (pastValue w s at) (past-value-not w s at))))
+    (λ t. rw t (skipped-numbered w s k (pastValue w s at) (past-numbered s (pastValue w s at) (past-value-not w s at))))
     (λ t. rw t (by-test (laterPrefix k p)
     (λ v. rw v (passed-numbered (pastStatement w s at) (ended-numbered w s at)))
     (λ v. rw v (field-numbered w s at k u))))
@@ -105,7 +109,7 @@ tag-numbered : (w : Bool) (s : List ℕ) (at u : ℕ) (p : Bool) (t : Tag) → N
 unfolding tagSaid
 tag-numbered w s at u p (Statement k c) = statement-numbered w s (c .at) k u p
 tag-numbered w s at u p (Last c) = tt
-tag-numbered w s at u p Other = passed-numbered (pastToken w s at) (past-numbered (length s) (pastToken w s at) (past-token-not w s at))
+tag-numbered w s at u p Other = passed-numbered (pastToken w s at) (past-numbered s (pastToken w s at) (past-token-not w s at))
 
 said-numbered : (w : Bool) (s : List ℕ) (at u : ℕ) (p : Bool) → Numbered (saidAt w s at u p .answer)
 unfolding saidAt saidHere

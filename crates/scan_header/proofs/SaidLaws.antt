@@ -11,7 +11,6 @@ use lib.Dec.{eqb, leb}
 use lib.ListN.{length, getD}
 use borrow.Author.Tests.{leb-false}
 use Rattle.text.specs.Due.{dueAt}
-use Rattle.text.specs.Refusal.{cutAt}
 use Rattle.text.specs.Scan.{gapEnd}
 use Rattle.text.specs.declared.Cursor.{Cursor}
 use Rattle.text.specs.declared.Due.{Due}
@@ -26,6 +25,7 @@ use Rattle.text_value.specs.declared.Argument.the-variants.{Read, Refused as No
 use Rattle.text_value.proofs.ArgumentLaws.{argument-far, argument-refused}
 use Rattle.text_value.proofs.JoinLaws.{bytes-fit}
 use Rattle.text_skip.specs.Skip.{pastToken, pastValue}
+use Rattle.text_past.proofs.PastLaws.{refused-within}
 use Rattle.text_skip.proofs.PastLaws.{past-token-far, past-token-not, past-value-far, past-value-not}
 use Rattle.text_statement.specs.Statement.{pastStatement}
 use Rattle.text_statement.proofs.PastLaws.{past-statement-far, past-statement-not}
@@ -58,16 +58,12 @@ due-ends s at b k l small = of (dueAt s at b k) refl
     of (After c) h = omega (arith, due-far s at b k c small h)
     of (Not r) h = due-refused-within s at b k r l h .1
 
--- what broke off is refused at the text's end
-cut-within : (n : ℕ) {r : Refusal} → r ≡ cutAt n → r .at ≤ n
-cut-within n e = omega (arith, ap (λ q. q .at) e)
-
 past-ends : (w : Bool) (s : List ℕ) (at : ℕ) → at ≤ length s → Ends s at (pastStatement w s at)
 past-ends w s at l = of (pastStatement w s at) refl
   where
     of : (d : Due) → pastStatement w s at ≡ d → Ends s at d
     of (After c) e = past-statement-far w s at l c e
-    of (Not r) e = cut-within (length s) (past-statement-not w s at r e)
+    of (Not r) e = refused-within s r (past-statement-not w s at r e)
 
 due-small : (k : ℕ) → dueFor k < 256
 unfolding dueFor
@@ -134,7 +130,7 @@ module _ (w : Bool) (s : List ℕ) (at i u : ℕ) (behind : at < i) (in-text : i
   skipped-went k (After c) e =
       let f = past-value-far w s i in-text c e in
       passed-went (c .at) (afterValue w s (c .at) k) (f .0) (value-ends w s (c .at) k (f .1))
-  skipped-went k (Not r) e = (cut-within (length s) (past-value-not w s i r e), omega arith)
+  skipped-went k (Not r) e = (refused-within s r (past-value-not w s i r e), omega arith)
 
   statement-goes : (k : ℕ) (p : Bool) → Goes s at u (statementSaid w s i k u p)
   unfolding statementSaid
@@ -151,7 +147,7 @@ module _ (w : Bool) (s : List ℕ) (at i u : ℕ) (behind : at < i) (in-text : i
 token-went : (w : Bool) (s : List ℕ) (at g u : ℕ) → at ≤ g → g < length s → (d : Due) → pastToken w s g ≡ d → Went s at u [] (passed d)
 unfolding passed
 token-went w s at g u from in-text (After c) e = let f = past-token-far w s g in-text c e in (omega (arith, f .0), f .1, refl)
-token-went w s at g u from in-text (Not r) e = (cut-within (length s) (past-token-not w s g r e), omega arith)
+token-went w s at g u from in-text (Not r) e = (refused-within s r (past-token-not w s g r e), omega arith)
 
 tag-goes : (w : Bool) (s : List ℕ) (at g u : ℕ) (p : Bool) → at ≤ g → g < length s → (t : Tag) → tagAt s g ≡ t → Goes s at u (tagSaid w s g u p t)
 unfolding tagSaid

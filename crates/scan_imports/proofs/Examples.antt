@@ -6,7 +6,7 @@ use Prim.Native.Nat.{ℕ}
 use lib.Dec.{eqb, T}
 use Rattle.text.specs.Class.{classOf}
 use Rattle.text.specs.Due.{dueNumber, dueHere, dueAt}
-use Rattle.text.specs.Refusal.{noValue, otherByte, endOfText, cutShort}
+use Rattle.text.specs.Refusal.{noValue, otherByte, endOfText, cutShort, isHigh, refusedAt}
 use Rattle.text.specs.Keyword.{startsIdent, endsKeyword, same, part, keywordAt, matchAt}
 use Rattle.text.specs.Scan.{inIdent, inRun, span, runEnd, pairAt, closing, blockEnd, commentEnd, afterWhite, gapTurn, gapEnd}
 use Rattle.text.specs.Turns.{turns}
@@ -17,7 +17,7 @@ use Rattle.text_string.specs.Str.{isQuote, escaped, escapes, strEnd, strBytes, 
 use Rattle.text_value.specs.Value.{startsName, addedBy, afterPlus, afterGap, moreAt, addTo, joinTurn, joinedWith, joined, ofString, valueHere, valueAt}
 use Rattle.text_value.specs.Value.{valueBytes, closedMore, closedTurn, closedFrom, closedString, closedHere, closedAt}
 use Rattle.text_past.specs.Past.{brokeOff, pastOf}
-use Rattle.text_statement.specs.Statement.{closes, quotedLen, quotedEnd, atSemicolon, atClose, partOf, partAt, ofPart, statementTurn, statementFrom}
+use Rattle.text_statement.specs.Statement.{closes, quotedLen, quotedEnd, atSemicolon, atClose, partOf, partAt, ofPart, statementTurn, statementFrom, atOther}
 use Rattle.text_statement.specs.Statement.{statementAt, pastStatement}
 use Rattle.scan_rows.specs.Rows.{importWords, includeWords}
 use Rattle.scan_block.specs.Block.{openEnded, orLine, lineKind, kept, withValue, withSkipped, afterKind, insideHere, insideAt, afterInside, blockTurn}
@@ -141,5 +141,5 @@ unfolding examples all holds isRefusal isImport isNoImport isInclude isNoInclude
     matchAt keywordAt startsIdent endsKeyword lineAt afterArgument afterDue argumentAt breaksOff argumentOf dueAt dueHere dueNumber same valueAt valueBytes
     valueHere ofString closedAt closedHere closedString closedFrom closedTurn closedMore joined joinedWith joinTurn addTo moreAt afterGap afterPlus addedBy
     isQuote startsName strAt closedBy strBytes strEnd escaped escapes part gapEnd gapTurn afterWhite commentEnd blockEnd closing pairAt runEnd span inRun
-    inIdent classOf turns
+    inIdent classOf turns refusedAt isHigh atOther
 right = tt

@@ -43,7 +43,7 @@ pub fn extract_yang_metadata(whole: bool, s: &[u8], store: &mut [u8]) -> YangMod
     text_lent::clear_bytes(store);
     let classes = text::classes();
     let short = store.len() < s.len();
-    let lent = text_lent::check_lent(&classes, s, short);
+    let lent = text_lent::check_lent(s, short);
     let Lent::Fit = lent else {
         return refused(text_lent::lent_refusal(lent));
     };

@@ -1,6 +1,8 @@
--- What a proof uses of the definitions of `specs/Due.antt`: one law for each of the three things that stand after the gap.
+-- What a proof uses of the definitions of `specs/Due.antt`: one law for each of the three things that stand after the gap. What is
+-- refused there is told for each.
 -- Assumes nothing.
-use mathlib.Core.Path.{_≡_, refl, sym, _∙_}
+use mathlib.Core.Path.{_≡_, refl, sym, ap, _∙_}
+use mathlib.Core.Logic.{⊎-elim}
 use mathlib.Core.List.{List}
 use Prim.Native.Nat.{ℕ, _+_, _<_, _≤_}
 use native.Mathlib.Omega.{arith}
@@ -9,11 +11,13 @@ use lib.Dec.{eqb}
 use borrow.Author.Tests.{eq-eqb, ne-eqb, eqb-true, eqb-false}
 use Rattle.text.specs.Scan.{gapEnd}
 use Rattle.text.specs.Due.{dueNumber, dueHere, dueAt}
+use Rattle.text.specs.Refusal.{MetHigh, refusedAt}
 use Rattle.text.specs.declared.Cursor.{Cursor}
 use Rattle.text.specs.declared.Due.{Due}
 use Rattle.text.specs.declared.Due.the-variants.{After, Not}
 use Rattle.text.specs.declared.Refusal.{Refusal}
 use Rattle.text.proofs.Here.{here, by-test}
+use Rattle.text.proofs.HighLaws.{high-end, refused-other, refused-place, refused-met}
 use Rattle.text.proofs.Laws.{gap-from, gap-within}
 
 -- g after the gap, c what stands there
@@ -25,11 +29,18 @@ module _ (s : List ℕ) (at b k : ℕ) {g c : ℕ} (ge : g ≡ gapEnd s at) (ce 
   module _ (n : c ≡ b → ⊥) where
     pub due-end : c ≡ 256 → dueAt s at b k ≡ Not (record { number = 6; keyword = k; at = g })
     unfolding dueAt dueHere dueNumber
-    due-end e = rw (← ge) (rw (ne-eqb (getD s g 256) b (λ h. n (ce ∙ h))) (rw (eq-eqb (getD s g 256) 256 (sym ce ∙ e))))
+    due-end e =
+        let z : getD s g 256 ≡ 256 = sym ce ∙ e in
+        rw (← ge)
+        (rw (ne-eqb (getD s g 256) b (λ h. n (ce ∙ h)))
+        (rw (eq-eqb (getD s g 256) 256 z) (ap Not (sym (refused-other (getD s g 256) 6 k g refl (high-end z))))))
 
-    pub due-other : (c ≡ 256 → ⊥) → dueAt s at b k ≡ Not (record { number = 5; keyword = k; at = g })
+    pub due-other : (c ≡ 256 → ⊥) → {r : Refusal} → r ≡ refusedAt c 5 k g → dueAt s at b k ≡ Not r
     unfolding dueAt dueHere dueNumber
-    due-other e = rw (← ge) (rw (ne-eqb (getD s g 256) b (λ h. n (ce ∙ h))) (rw (ne-eqb (getD s g 256) 256 (λ h. e (ce ∙ h)))))
+    due-other e q =
+        rw (← ge)
+        (rw (ne-eqb (getD s g 256) b (λ h. n (ce ∙ h)))
+        (rw (ne-eqb (getD s g 256) 256 (λ h. e (ce ∙ h))) (ap Not (sym (q ∙ ap (λ i. refusedAt i 5 k g) ce)))))
 
 -- ---- how far it goes
 
@@ -39,8 +50,8 @@ after-is a b e f = cc
 not-after : {d : Due} {r : Refusal} {c : Cursor} → d ≡ Not r → d ≡ After c → ⊥
 not-after e f = let z : _≡_ {A = ℕ} 0 1 = cc in omega arith
 
-not-is : {d : Due} (q r : Refusal) → d ≡ Not q → d ≡ Not r → (q .at ≡ r .at) × (q .keyword ≡ r .keyword)
-not-is q r e f = (cc, cc)
+not-is : {d : Due} (q r : Refusal) → d ≡ Not q → d ≡ Not r → q ≡ r
+not-is q r e f = cc
 
 -- the byte takes a byte at least and stands within the text
 pub due-far : (s : List ℕ) (at b k : ℕ) (c : Cursor) → b < 256 → dueAt s at b k ≡ After c → (at < c .at) × (c .at ≤ length s)
@@ -52,19 +63,28 @@ due-far s at b k c small h =
     (λ t. let q : (getD s g 256 ≡ b → ⊥) = eqb-false _ _ t in
     by-test (eqb (getD s g 256) 256)
     (λ u. absurd (not-after (due-end s at b k refl refl q (eqb-true _ _ u)) h))
-    (λ u. absurd (not-after (due-other s at b k refl refl q (eqb-false _ _ u)) h)))
+    (λ u. absurd (not-after (due-other s at b k refl refl q (eqb-false _ _ u) refl) h)))
 
--- a refusal stands after the gap, and has the keyword
-pub due-refused : (s : List ℕ) (at b k : ℕ) (r : Refusal) → dueAt s at b k ≡ Not r → (r .at ≡ gapEnd s at) × (r .keyword ≡ k)
+-- what is refused after the gap: a byte of 128 or more (3), the end (6) or another byte (5)
+pub data DueRefused (s : List ℕ) (k : ℕ) (r : Refusal) : Type 0 where
+  high : MetHigh s r → DueRefused s k r
+  at-end : r .number ≡ 6 → r .keyword ≡ k → DueRefused s k r
+  other : r .number ≡ 5 → r .keyword ≡ k → DueRefused s k r
+
+pub due-refused : (s : List ℕ) (at b k : ℕ) (r : Refusal) → dueAt s at b k ≡ Not r → (r .at ≡ gapEnd s at) × DueRefused s k r
 due-refused s at b k r h =
     let g = gapEnd s at in
     by-test (eqb (getD s g 256) b)
     (λ t. absurd (not-after h (due-after s at b k refl refl (eqb-true (getD s g 256) b t))))
     (λ t. let q : (getD s g 256 ≡ b → ⊥) = eqb-false _ _ t in
     by-test (eqb (getD s g 256) 256)
-    (λ u. not-is r (record { number = 6; keyword = k; at = g }) h (due-end s at b k refl refl q (eqb-true _ _ u)))
-    (λ u. not-is r (record { number = 5; keyword = k; at = g }) h (due-other s at b k refl refl q (eqb-false _ _ u))))
+    (λ u. let e = not-is r (record { number = 6; keyword = k; at = g }) h (due-end s at b k refl refl q (eqb-true _ _ u)) in
+    (ap (λ x. x .at) e, at-end (ap (λ x. x .number) e) (ap (λ x. x .keyword) e)))
+    (λ u. let e = not-is r (refusedAt (getD s g 256) 5 k g) h (due-other s at b k refl refl q (eqb-false _ _ u) refl) in (
+      ap (λ x. x .at) e ∙ refused-place (getD s g 256) 5 k g,
+      ⊎-elim high (λ f. other (ap (λ x. x .number) f) (ap (λ x. x .keyword) f)) (refused-met s 5 k g r e),
+    )))
 
 -- and within the text, where the scan stands within it
 pub due-refused-within : (s : List ℕ) (at b k : ℕ) (r : Refusal) → at ≤ length s → dueAt s at b k ≡ Not r → (at ≤ r .at) × (r .at ≤ length s)
-due-refused-within s at b k r l h = omega (arith, due-refused s at b k r h, gap-from s at, gap-within s at l)
+due-refused-within s at b k r l h = omega (arith, due-refused s at b k r h .0, gap-from s at, gap-within s at l)

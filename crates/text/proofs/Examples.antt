@@ -6,7 +6,7 @@ use Prim.Native.Nat.{ℕ}
 use lib.Dec.{eqb, T}
 use Rattle.text.specs.Class.{classOf}
 use Rattle.text.specs.Due.{dueNumber, dueHere, dueAt}
-use Rattle.text.specs.Refusal.{otherByte, endOfText}
+use Rattle.text.specs.Refusal.{highByteMet, otherByte, endOfText, isHigh, refusedAt}
 use Rattle.text.specs.Keyword.{startsIdent, endsKeyword, same, part, keywordAt}
 use Rattle.text.specs.Scan.{inIdent, inRun, span, runEnd, pairAt, closing, blockEnd, commentEnd, afterWhite, gapTurn, gapEnd}
 use Rattle.text.specs.Turns.{turns}
@@ -44,8 +44,9 @@ all [] = true
 all (x ∷ xs) = holds x && all xs
 
 -- bytes 9 to 13 and 32 | byte 28 | //, a newline and x | /*/ alone | /*/ */x | /**/x | /x | // at the end
--- the keyword ab: ab{ | ab at the end | ab} | ab/**/ | ab:c | abc with a blank | a with a blank
--- ; after a gap | { instead of it | the end instead of it
+-- //é, a newline and x | /*é | U+00A0 | U+0085 | U+2028
+-- the keyword ab: ab{ | ab at the end | ab} | ab/**/ | ab:c | abc with a blank | a with a blank | abé | ab before U+00A0
+-- ; after a gap | { instead of it | the end instead of it | é instead of it
 examples : List Example
 examples =
     gap (9 ∷ 10 ∷ 11 ∷ 12 ∷ 13 ∷ 32 ∷ 120 ∷ []) 6
@@ -56,6 +57,11 @@ examples =
     ∷ gap (47 ∷ 42 ∷ 42 ∷ 47 ∷ 120 ∷ []) 4
     ∷ gap (47 ∷ 120 ∷ []) 0
     ∷ gap (47 ∷ 47 ∷ []) 2
+    ∷ gap (47 ∷ 47 ∷ 195 ∷ 169 ∷ 10 ∷ 120 ∷ []) 5
+    ∷ gap (47 ∷ 42 ∷ 195 ∷ 169 ∷ []) 4
+    ∷ gap (194 ∷ 160 ∷ []) 0
+    ∷ gap (194 ∷ 133 ∷ []) 0
+    ∷ gap (226 ∷ 128 ∷ 168 ∷ []) 0
     ∷ keyword (97 ∷ 98 ∷ 123 ∷ []) (97 ∷ 98 ∷ []) true
     ∷ keyword (97 ∷ 98 ∷ []) (97 ∷ 98 ∷ []) true
     ∷ keyword (97 ∷ 98 ∷ 125 ∷ []) (97 ∷ 98 ∷ []) false
@@ -63,12 +69,15 @@ examples =
     ∷ keyword (97 ∷ 98 ∷ 58 ∷ 99 ∷ []) (97 ∷ 98 ∷ []) false
     ∷ keyword (97 ∷ 98 ∷ 99 ∷ 32 ∷ []) (97 ∷ 98 ∷ []) false
     ∷ keyword (97 ∷ 32 ∷ []) (97 ∷ 98 ∷ []) false
+    ∷ keyword (97 ∷ 98 ∷ 195 ∷ 169 ∷ []) (97 ∷ 98 ∷ []) false
+    ∷ keyword (97 ∷ 98 ∷ 194 ∷ 160 ∷ []) (97 ∷ 98 ∷ []) false
     ∷ past (32 ∷ 59 ∷ []) 59 2
     ∷ refused (32 ∷ 123 ∷ []) 59 otherByte 1
     ∷ refused (32 ∷ []) 59 endOfText 1
+    ∷ refused (32 ∷ 195 ∷ 169 ∷ []) 59 highByteMet 1
     ∷ []
 
 right : T (all examples)
-unfolding examples all holds sameBool isPast isRefused dueAt dueHere dueNumber keywordAt startsIdent endsKeyword same part gapEnd gapTurn afterWhite commentEnd
-    blockEnd closing pairAt runEnd span inRun inIdent classOf turns
+unfolding examples all holds sameBool isPast isRefused dueAt dueHere dueNumber refusedAt isHigh keywordAt startsIdent endsKeyword same part gapEnd gapTurn
+    afterWhite commentEnd blockEnd closing pairAt runEnd span inRun inIdent classOf turns
 right = tt

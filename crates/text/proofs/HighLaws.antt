@@ -1,47 +1,77 @@
--- The largest byte of a text: below 128 it leaves no place for another.
+-- What a proof uses of a byte of 128 or more: what its test says, and what is refused in its place.
 -- Assumes nothing.
-use mathlib.Core.Path.{_≡_, refl, sym, ap, _∙_}
-use mathlib.Core.List.{List, [], _∷_}
-use Prim.Native.Nat.{ℕ, _+_, _<_, _≤_}
+use mathlib.Core.Path.{_≡_, refl, sym, ap, ap₂, _∙_}
+use mathlib.Core.Bool.{Bool, true, false, cond, not, _&&_}
+use mathlib.Core.Logic.{_⊎_, inl, inr}
+use mathlib.Core.List.{List}
+use Prim.Native.Nat.{ℕ, _<_, _≤_}
 use native.Mathlib.Omega.{arith}
-use lib.Dec.{leb}
-use lib.ListN.{length, getD, drop, drop-of-length-le}
-use borrow.Author.Tests.{lt-ltb, leb-true, leb-false}
-use Rattle.text.specs.High.{larger, largest}
-use Rattle.text.specs.Scan.{inRun, span, runEnd}
-use Rattle.text.specs.declared.Run.the-variants.{Low}
-use Rattle.text.proofs.Here.{rest, inside, by-test}
-use Rattle.text.proofs.Laws.{in-low}
+use lib.Dec.{eqb, leb}
+use lib.ListN.{length, getD}
+use borrow.Author.Tests.{le-leb, lt-leb, leb-true, eq-eqb, eqb-false}
+use Rattle.text.specs.Refusal.{isHigh, highAt, MetHigh, refusedAt}
+use Rattle.text.specs.declared.Refusal.{Refusal}
+use Rattle.text.proofs.Here.{here, never, both, by-test}
 
--- r: the larger of the largest so far and the byte here
-pub largest-more : (s : List ℕ) (i most : ℕ) → i < length s → {r : ℕ} → r ≡ larger most (getD s i 0) → largest r (drop (i + 1) s) ≡ largest most (drop i s)
-unfolding largest
-largest-more s i most h {r} e = rw (rest s i h) (ap (λ x. largest x (drop (i + 1) s)) (e ∙ ap (larger most) (inside s i 0 256 h)))
+-- ---- the test
 
-pub largest-past : (s : List ℕ) (i most : ℕ) → length s ≤ i → largest most (drop i s) ≡ most
-unfolding largest
-largest-past s i most h = rw (drop-of-length-le s h) refl
+pub high-low : (b : ℕ) → b < 128 → isHigh b ≡ false
+unfolding isHigh
+high-low b h = rw (lt-leb 128 b h) refl
 
-larger-both : (a b : ℕ) → (a ≤ larger a b) × (b ≤ larger a b)
-unfolding larger
-larger-both a b =
-    by-test (leb b a)
-    (λ t. rw t (omega arith, leb-true b a t))
-    (λ t. let h = leb-false b a t in rw t (omega arith, omega arith))
+pub high-from : (b : ℕ) → 128 ≤ b → isHigh b ≡ not (eqb b 256)
+unfolding isHigh
+high-from b h = rw (le-leb 128 b h) refl
 
-largest-over : (most : ℕ) (xs : List ℕ) → most ≤ largest most xs
-unfolding largest
-largest-over most [] = omega arith
-largest-over most (b ∷ xs) = omega (arith, larger-both most b, largest-over (larger most b) xs)
+pub high-end : {b : ℕ} → b ≡ 256 → isHigh b ≡ false
+unfolding isHigh
+high-end e = ap isHigh e
 
-all-low : (most : ℕ) (xs : List ℕ) → largest most xs < 128 → span (inRun Low) xs ≡ length xs
-unfolding largest span
-all-low most [] h = refl
-all-low most (b ∷ xs) h =
-    let e = in-low b ∙ lt-ltb b 128 (omega (arith, larger-both most b, largest-over (larger most b) xs)) in
-    rw e (omega (arith, all-low (larger most b) xs h))
+not-false : (b : Bool) → not b ≡ true → b ≡ false
+not-false true h = sym h
+not-false false h = refl
 
--- a text whose largest byte is below 128 has no other
-pub low-all : (s : List ℕ) {r : ℕ} → r ≡ largest 0 s → r < 128 → runEnd Low s 0 ≡ length s
-unfolding runEnd
-low-all s e h = omega (arith, all-low 0 s (omega arith))
+-- it is 128 or more, and no end
+pub high-said : (b : ℕ) → isHigh b ≡ true → (128 ≤ b) × (b ≡ 256 → ⊥)
+unfolding isHigh
+high-said b h =
+    let k = both (leb 128 b) (not (eqb b 256)) h in
+    (leb-true 128 b (k .0), eqb-false b 256 (not-false (eqb b 256) (k .1)))
+
+-- so it stands within the text
+pub high-here : (s : List ℕ) (at : ℕ) → isHigh (getD s at 256) ≡ true → at < length s
+high-here s at h = here s at (high-said (getD s at 256) h .1)
+
+pub met-within : (s : List ℕ) (r : Refusal) → MetHigh s r → r .at < length s
+met-within s r m = high-here s (r .at) (m .1)
+
+-- ---- what is refused; b: what stands there, t: whether it is such a byte
+
+module _ (b number k at : ℕ) {t : Bool} (te : t ≡ isHigh b) where
+  pub refused-high : t ≡ true → {r : Refusal} → r ≡ highAt at → r ≡ refusedAt b number k at
+  unfolding refusedAt
+  refused-high y e = let q : isHigh b ≡ true = sym te ∙ y in rw q e
+
+  pub refused-other : t ≡ false → record { number = number; keyword = k; at = at } ≡ refusedAt b number k at
+  unfolding refusedAt
+  refused-other n = let q : isHigh b ≡ false = sym te ∙ n in rw q refl
+
+-- it stands at the place
+pub refused-place : (b number k at : ℕ) → refusedAt b number k at .at ≡ at
+unfolding refusedAt
+refused-place b number k at = by-test (isHigh b) (λ t. rw t refl) (λ t. rw t refl)
+
+-- it has a number
+pub refused-numbered : (b number k at : ℕ) → 0 < number → 0 < refusedAt b number k at .number
+unfolding refusedAt
+refused-numbered b number k at h = by-test (isHigh b) (λ t. rw t (omega arith)) (λ t. rw t h)
+
+-- it is 3 of such a byte, or else as it says
+pub refused-met : (s : List ℕ) (number k at : ℕ) (r : Refusal) → r ≡ refusedAt (getD s at 256) number k at
+    → MetHigh s r ⊎ (r ≡ record { number = number; keyword = k; at = at })
+refused-met s number k at r e =
+    by-test (isHigh (getD s at 256))
+    (λ t. let q : r ≡ highAt at = e ∙ sym (refused-high (getD s at 256) number k at refl t refl) in
+    let i : r .at ≡ at = ap (λ x. x .at) q in
+    inl (q ∙ ap highAt (sym i), ap (λ j. isHigh (getD s j 256)) i ∙ t))
+    (λ t. inr (e ∙ sym (refused-other (getD s at 256) number k at refl t)))

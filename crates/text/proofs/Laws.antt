@@ -9,12 +9,12 @@ use native.Mathlib.Nat.{add-zero}
 use native.Mathlib.Omega.{arith}
 use lib.ListN.{length, getD, drop, drop-of-length-le, length-drop}
 use lib.Seq.{getD-drop, drop-drop}
-use lib.Dec.{eqb, ltb}
+use lib.Dec.{eqb}
 use borrow.Author.Tests.{eq-eqb, ne-eqb, eqb-true, eqb-false}
 use Rattle.text.specs.Scan.{inIdent, inRun, span, runEnd, pairAt, closing, blockEnd, commentEnd, afterWhite, gapTurn, gapEnd}
 use Rattle.text.specs.Class.{classOf}
 use Rattle.text.specs.declared.Run.{Run}
-use Rattle.text.specs.declared.Run.the-variants.{White, Line, Ident, Name, Low}
+use Rattle.text.specs.declared.Run.the-variants.{White, Line, Ident, Name}
 use Rattle.text.specs.Turns.{Turn, stop, on, turns}
 use Rattle.text.proofs.Turns.{turns-stop, turns-on, turns-rule}
 use Rattle.text.proofs.Here.{rest, here, by-test}
@@ -37,10 +37,6 @@ pub in-name : (b : ℕ) → inIdent b ≡ true → inRun Name b ≡ true
 unfolding inRun
 in-name b h = simp h
 
-pub in-low : (b : ℕ) → inRun Low b ≡ ltb b 128
-unfolding inRun
-in-low b = refl
-
 pub in-name-too : (b : ℕ) → inIdent b ≡ false → inRun Name b ≡ eqb b 58
 unfolding inRun
 in-name-too b h = simp h
@@ -52,9 +48,6 @@ module _ {k : Run} (b : ℕ) where
 
   pub run-line : k ≡ Line → not (eqb b 10) ≡ inRun k b
   run-line h = sym (ap (λ r. inRun r b) h ∙ in-line b)
-
-  pub run-low : k ≡ Low → ltb b 128 ≡ inRun k b
-  run-low h = sym (ap (λ r. inRun r b) h ∙ in-low b)
 
   pub run-ident : k ≡ Ident → {i : Bool} → i ≡ inIdent b → i ≡ inRun k b
   run-ident h e = e ∙ sym (ap (λ r. inRun r b) h ∙ in-ident b)

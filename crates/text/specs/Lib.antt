@@ -1,7 +1,6 @@
 pub mod Bytes
 pub mod Class
 pub mod Due
-pub mod High
 pub mod Keyword
 pub mod Refusal
 pub mod Scan

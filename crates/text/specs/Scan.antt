@@ -7,12 +7,12 @@ use Prim.Native.Nat.{ℕ, suc, _+_}
 use mathlib.Core.Bool.{Bool, cond, not, _&&_, _||_}
 use mathlib.Core.List.{List, [], _∷_}
 use lib.ListN.{length, drop}
-use lib.Dec.{eqb, ltb}
-use Rattle.text.specs.Bytes.{newline, star, hyphen, dot, slash, colon, underscore, highByte, look}
+use lib.Dec.{eqb}
+use Rattle.text.specs.Bytes.{newline, star, hyphen, dot, slash, colon, underscore, look}
 use Rattle.text.specs.Class.{classOf, whiteClass, letterClass, digitClass}
 use Rattle.text.specs.Turns.{Turn, stop, on, turns}
 use Rattle.text.specs.declared.Run.{Run}
-use Rattle.text.specs.declared.Run.the-variants.{White, Line, Ident, Name, Low}
+use Rattle.text.specs.declared.Run.the-variants.{White, Line, Ident, Name}
 
 -- an identifier goes on with letters, digits, _ - .
 unfoldable pub inIdent : ℕ → Bool
@@ -24,7 +24,6 @@ inRun White b = eqb (classOf b) whiteClass
 inRun Line b = not (eqb b newline)
 inRun Ident b = inIdent b
 inRun Name b = inIdent b || eqb b colon
-inRun Low b = ltb b highByte
 
 -- how many bytes xs begins with that all pass p
 unfoldable pub span : (ℕ → Bool) → List ℕ → ℕ

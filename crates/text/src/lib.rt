@@ -8,11 +8,9 @@ ghost use lib.ListN.{drop};
 ghost use Rattle.text.specs.Bytes.{look, theEnd};
 ghost use Rattle.text.specs.Class.{classOf, classTable};
 ghost use Rattle.text.specs.Scan.{inIdent, inRun, runEnd, blockEnd, pairAt, commentEnd, gapEnd};
-ghost use Rattle.text.specs.High.{larger, largest};
-ghost use Rattle.text.specs.declared.Run.the-variants.{Low};
 ghost use Rattle.text.specs.Keyword.{startsIdent, endsKeyword, wordly, begins, matchAt, orMatch};
 ghost use Rattle.text.specs.Due.{dueAt, refusalOf};
-ghost use Rattle.text.specs.Refusal.{noRefusal, cutAt};
+ghost use Rattle.text.specs.Refusal.{noRefusal, cutAt, isHigh, highAt, refusedAt};
 
 // What stands at a place: a byte, or the end.
 pub const NEWLINE: u16 = b'\n' as u16;
@@ -43,7 +41,7 @@ pub const CLOSE_BRACE: u16 = b'}' as u16;
 
 pub const END: u16 = 256;
 
-// Bytes from 128 on are refused (3).
+// Bytes from 128 on are refused (3) outside strings and comments.
 const HIGH: u16 = 128;
 
 // The classes of bytes.
@@ -228,8 +226,8 @@ pub struct Refusal {
     pub at: usize,
 }
 
-// No refusal, and document 01's numbers 1 to 6: a text too long, a slice lent too short, a byte of 128 or more, no value after the keyword,
-// another byte than the one required, the end instead of it.
+// No refusal, and document 01's numbers 1 to 6: a text too long, a slice lent too short, a byte of 128 or more outside strings and comments, no
+// value after the keyword, another byte than the one required, the end instead of it. 11: the text breaks off. 12: it is not UTF-8.
 pub const NO_REFUSAL: u32 = 0;
 
 pub const TEXT_TOO_LONG: u32 = 1;
@@ -245,6 +243,8 @@ pub const OTHER_BYTE: u32 = 5;
 pub const END_OF_TEXT: u32 = 6;
 
 pub const CUT_SHORT: u32 = 11;
+
+pub const NOT_UTF8: u32 = 12;
 
 // Document 01's numbers of the keywords.
 pub const MODULE: u32 = 1;
@@ -295,6 +295,41 @@ pub fn cut_short(end: usize) -> Refusal
     }
 }
 
+// Whether a byte of 128 or more stands at a place. The end is none.
+pub fn is_high(b: u16) -> bool
+    ensures { λ r. ⌜ r ≡ isHigh b ⌝ }
+{
+    if b < HIGH {
+        return false;
+    }
+    b != END
+}
+
+// The refusal of such a byte: keyword 0, at the byte.
+pub fn high_byte(at: usize) -> Refusal
+    ensures { λ r. ⌜ r ≡ highAt at ⌝ }
+{
+    Refusal {
+        number: HIGH_BYTE,
+        keyword: 0,
+        at,
+    }
+}
+
+// The refusal of what stands at a place: of a byte of 128 or more (3), else with this number and keyword.
+pub fn refused_at(b: u16, number: u32, keyword: u32, at: usize) -> Refusal
+    ensures { λ r. ⌜ r ≡ refusedAt b number keyword at ⌝ }
+{
+    if is_high(b) {
+        return high_byte(at);
+    }
+    Refusal {
+        number,
+        keyword,
+        at,
+    }
+}
+
 // The refusal of a byte that was due, or none.
 pub fn refusal_of(d: Due) -> Refusal
     ensures { λ r. ⌜ r ≡ refusalOf d ⌝ }
@@ -336,7 +371,7 @@ impl Cursor {
         }
         Match::Not
     }
-    // Past the byte b after a gap. The refusal has the keyword that b is due for, and stands after the gap.
+    // Past the byte b after a gap. The refusal has the keyword that b is due for, and stands after the gap; a byte of 128 or more is 3.
     pub fn expect_char(self, classes: &[u8; 128], s: &[u8], b: u16, keyword: u32) -> Due
         requires { ⌜ (now classes ≡ classTable) × (b < theEnd) ⌝ }
         ensures { λ r. ⌜ r ≡ dueAt (now (s .entry)) (self .at) b keyword ⌝ }
@@ -355,11 +390,7 @@ impl Cursor {
                 at,
             });
         }
-        Due::Not(Refusal {
-            number: OTHER_BYTE,
-            keyword,
-            at,
-        })
+        Due::Not(refused_at(c, OTHER_BYTE, keyword, at))
     }
 }
 
@@ -375,13 +406,12 @@ pub fn or_word(here: Cursor, classes: &[u8; 128], s: &[u8], word: &[u8], m: Matc
     }
 }
 
-// The kinds of runs: white bytes, the rest of a line, an identifier's bytes, a name's bytes, bytes below 128.
+// The kinds of runs: white bytes, the rest of a line, an identifier's bytes, a name's bytes.
 pub enum Run {
     White,
     Line,
     Ident,
     Name,
-    Low,
 }
 
 // The place after the run that stands at a place.
@@ -416,7 +446,6 @@ fn in_run(classes: &[u8; 128], k: Run, b: u16) -> bool
             }
             b == COLON
         }
-        Run::Low => b < HIGH,
     }
 }
 
@@ -540,33 +569,4 @@ fn pair_at(s: &[u8], at: usize, b: u16, c: u16) -> bool
         }
     }
     false
-}
-
-fn larger(a: u8, b: u8) -> u8
-    ensures { λ r. ⌜ r ≡ larger a b ⌝ }
-{
-    if a < b { b } else { a }
-}
-
-fn largest(s: &[u8]) -> u8
-    ensures { λ r. ⌜ r ≡ largest 0 (now (s .entry)) ⌝ }
-{
-    let mut most: u8 = 0;
-    let mut i: usize = 0;
-    while i < s.len() {
-        most = larger(most, s[i]);
-        i += 1;
-    }
-    most
-}
-
-// The first place of a byte of 128 or more, or the end. The largest byte is found with no early exit, many bytes at a time.
-pub fn first_high(classes: &[u8; 128], s: &[u8]) -> usize
-    requires { ⌜ now classes ≡ classTable ⌝ }
-    ensures { λ r. ⌜ r ≡ runEnd Low (now (s .entry)) 0 ⌝ }
-{
-    if largest(s) < 128 {
-        return s.len();
-    }
-    run_end(classes, Run::Low, s, 0)
 }

@@ -8,10 +8,9 @@ use native.Mathlib.Omega.{arith}
 use lib.Dec.{ltb}
 use lib.ListN.{length}
 use borrow.Author.Tests.{lt-ltb, le-ltb, ltb-true, ltb-false}
-use Rattle.text.specs.Scan.{runEnd}
 use Rattle.text.specs.declared.Refusal.{Refusal}
-use Rattle.text.specs.declared.Run.the-variants.{Low}
 use Rattle.text.proofs.Here.{by-test}
+use Rattle.text_utf8.specs.Utf8.{wrongFrom}
 use Rattle.text_lent.specs.Lent.{lentAt, lentRefusal}
 use Rattle.text_lent.specs.declared.Lent.{Lent}
 use Rattle.text_lent.specs.declared.Lent.the-variants.{Fit, Unfit}
@@ -26,11 +25,11 @@ module _ (s : List ℕ) (short : Bool) where
     unfolding lentAt
     lent-short h = rw (le-ltb 1048576 (length s) fits) (rw h refl)
 
-    -- at: the first byte of 128 or more, or the text's end
-    module _ (enough : short ≡ false) {at : ℕ} (e : at ≡ runEnd Low s 0) where
-      pub lent-high : at < length s → Unfit (record { number = 3; keyword = 0; at = at }) ≡ lentAt s short
+    -- at: where the first wrong sequence starts, or the text's end
+    module _ (enough : short ≡ false) {at : ℕ} (e : at ≡ wrongFrom s 0) where
+      pub lent-wrong : at < length s → Unfit (record { number = 12; keyword = 0; at = at }) ≡ lentAt s short
       unfolding lentAt
-      lent-high h = rw (le-ltb 1048576 (length s) fits) (rw enough (rw (← e) (rw (lt-ltb at (length s) h) refl)))
+      lent-wrong h = rw (le-ltb 1048576 (length s) fits) (rw enough (rw (← e) (rw (lt-ltb at (length s) h) refl)))
 
       pub lent-fit : length s ≤ at → Fit ≡ lentAt s short
       unfolding lentAt
@@ -58,7 +57,7 @@ unfit-at x r q e f = cc
 pub lent-within : (s : List ℕ) (short : Bool) (q : Refusal) → lentAt s short ≡ Unfit q → q .at ≤ length s
 lent-within s short q h =
     let x = lentAt s short in
-    let at = runEnd Low s 0 in
+    let at = wrongFrom s 0 in
     by-test (ltb 1048576 (length s))
     (λ t. omega (arith, unfit-at x (record { number = 1; keyword = 0; at = 0 }) q (sym (lent-long s short (ltb-true 1048576 (length s) t))) h))
     (λ t. let fits = ltb-false 1048576 (length s) t in
@@ -66,5 +65,5 @@ lent-within s short q h =
     (λ b. omega (arith, unfit-at x (record { number = 2; keyword = 0; at = 0 }) q (sym (lent-short s short fits b)) h))
     (λ b. by-test (ltb at (length s))
     (λ v. let l = ltb-true at (length s) v in
-    omega (arith, unfit-at x (record { number = 3; keyword = 0; at = at }) q (sym (lent-high s short fits b refl l)) h))
+    omega (arith, unfit-at x (record { number = 12; keyword = 0; at = at }) q (sym (lent-wrong s short fits b refl l)) h))
     (λ v. absurd (unfit-not h (sym (lent-fit s short fits b refl (ltb-false at (length s) v)))))))

@@ -2,7 +2,6 @@
 use text::Refusal;
 ghost use mathlib.Core.Path.{_≡_};
 ghost use lib.ListN.{length, take};
-ghost use Rattle.text.specs.Class.{classTable};
 ghost use Rattle.text_lent.specs.Lent.{lentAt, lentRefusal};
 ghost use Rattle.text_lent.specs.Padded.{zeros};
 
@@ -53,9 +52,8 @@ pub enum Lent {
     Unfit(Refusal),
 }
 
-// 1, then 2, then 3. short: whether something lent is too short.
-pub fn check_lent(classes: &[u8; 128], s: &[u8], short: bool) -> Lent
-    requires { ⌜ now classes ≡ classTable ⌝ }
+// 1, then 2, then 12. short: whether something lent is too short.
+pub fn check_lent(s: &[u8], short: bool) -> Lent
     ensures { λ r. ⌜ r ≡ lentAt (now (s .entry)) short ⌝ }
 {
     if MOST_TEXT < s.len() {
@@ -72,10 +70,10 @@ pub fn check_lent(classes: &[u8; 128], s: &[u8], short: bool) -> Lent
             at: 0,
         });
     }
-    let at = text::first_high(classes, s);
+    let at = text_utf8::utf8_end(s);
     if at < s.len() {
         return Lent::Unfit(Refusal {
-            number: text::HIGH_BYTE,
+            number: text::NOT_UTF8,
             keyword: 0,
             at,
         });

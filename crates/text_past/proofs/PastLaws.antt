@@ -1,17 +1,20 @@
--- What a proof uses of what is past a skip: one law for each way out of `past`, and what its answer says. Nothing is refused but what the text's end ended, in
--- the whole-text mode.
+-- What a proof uses of what is past a skip: one law for each way out of `past`, and what its answer says. Nothing is refused but what the skip refuses and, in
+-- the whole-text mode, what the text's end ended.
 -- Assumes nothing.
-use mathlib.Core.Path.{_≡_, refl, sym, ap, ap₂, _∙_}
+use mathlib.Core.Path.{_≡_, refl, sym, ap, ap₂, subst, _∙_}
 use mathlib.Core.Bool.{Bool, true, false, cond, _&&_}
 use mathlib.Core.Logic.{_⊎_, inl, inr}
-use Prim.Native.Nat.{ℕ}
+use mathlib.Core.List.{List}
+use Prim.Native.Nat.{ℕ, _<_, _≤_}
 use native.Mathlib.Omega.{arith}
-use Rattle.text.specs.Refusal.{cutAt}
+use lib.ListN.{length}
+use Rattle.text.specs.Refusal.{cutAt, MetHigh}
 use Rattle.text.specs.declared.Cursor.{Cursor}
 use Rattle.text.specs.declared.Due.{Due}
 use Rattle.text.specs.declared.Due.the-variants.{After, Not}
 use Rattle.text.specs.declared.Refusal.{Refusal}
 use Rattle.text.proofs.Here.{by-test}
+use Rattle.text.proofs.HighLaws.{met-within}
 use Rattle.text_past.specs.Past.{brokeOff, skipRefusal, pastOf}
 use Rattle.text_past.specs.declared.How.{How}
 use Rattle.text_past.specs.declared.Skipped.{Skipped}
@@ -63,11 +66,25 @@ unfolding pastOf
 past-after w n (Past d h) c e = (h, ap (λ x. Past x h) (after-by (w && brokeOff h) n d c e))
 past-after w n (Refused r) c e = let z : _≡_ {A = ℕ} 0 1 = cc in absurd (omega arith)
 
--- where the skip refuses nothing, the refusal is 11 at the text's end
-pub past-not : (w : Bool) (n : ℕ) (k : Skipped) (r : Refusal) → ((q : Refusal) → k ≡ Refused q → ⊥) → pastOf w n k ≡ Not r → r ≡ cutAt n
+-- what is refused is 11 at the text's end, or a byte of 128 or more
+abbrev pub SkipRefused : List ℕ → Refusal → Type 0
+SkipRefused s r = (r ≡ cutAt (length s)) ⊎ MetHigh s r
+
+-- own: what the skip itself refuses
+pub past-not : (w : Bool) (s : List ℕ) (k : Skipped) (r : Refusal) → ((q : Refusal) → k ≡ Refused q → MetHigh s q) → pastOf w (length s) k ≡ Not r
+    → SkipRefused s r
 unfolding pastOf
-past-not w n (Past d h) r none e = not-by (w && brokeOff h) n d r e
-past-not w n (Refused q) r none e = absurd (none q refl)
+past-not w s (Past d h) r own e = inl (not-by (w && brokeOff h) (length s) d r e)
+past-not w s (Refused q) r own e = let z : q ≡ r = cc in inr (subst (MetHigh s) z (own q refl))
+
+-- it stands within the text, and has a number
+pub refused-within : (s : List ℕ) (r : Refusal) → SkipRefused s r → r .at ≤ length s
+refused-within s r (inl e) = omega (arith, ap (λ q. q .at) e)
+refused-within s r (inr m) = omega (arith, met-within s r m)
+
+pub refused-number : (s : List ℕ) (r : Refusal) → SkipRefused s r → 0 < r .number
+refused-number s r (inl e) = omega (arith, ap (λ q. q .number) e)
+refused-number s r (inr m) = omega (arith, ap (λ q. q .number) (m .0))
 
 -- ---- the whole-text mode beside the old one
 

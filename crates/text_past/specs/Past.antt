@@ -1,4 +1,4 @@
--- Every skip answers where and how what it skipped ended, or a refusal; none refuses anything by itself.
+-- Every skip answers where and how what it skipped ended, or a refusal: 3 of a byte above 127 that it meets outside strings and comments (2026-01).
 -- 2026-07: in the whole-text mode what the text's end ended is refused by 11, keyword 0, position at the text's end.
 -- Assumes nothing.
 use Prim.Native.Nat.{ℕ}

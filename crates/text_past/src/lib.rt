@@ -28,7 +28,7 @@ pub fn broke_off(how: How) -> bool
     }
 }
 
-// What every skip answers: the place after what was skipped and how that ended, or a refusal. No skip refuses anything today.
+// What every skip answers: the place after what was skipped and how that ended, or a refusal: a byte of 128 or more outside strings and comments (3).
 pub enum Skipped {
     Past(Cursor, How),
     Refused(Refusal),

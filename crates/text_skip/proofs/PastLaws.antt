@@ -5,7 +5,6 @@ use mathlib.Core.Bool.{Bool, true, false}
 use mathlib.Core.List.{List}
 use Prim.Native.Nat.{ℕ, _<_, _≤_}
 use lib.ListN.{length}
-use Rattle.text.specs.Refusal.{cutAt}
 use Rattle.text.specs.declared.Cursor.{Cursor}
 use Rattle.text.specs.declared.Due.{Due}
 use Rattle.text.specs.declared.Due.the-variants.{After, Not}
@@ -14,7 +13,7 @@ use Rattle.text.proofs.Here.{never}
 use Rattle.text_past.specs.Past.{brokeOff, pastOf}
 use Rattle.text_past.specs.declared.How.{How}
 use Rattle.text_past.specs.declared.Skipped.{Skipped}
-use Rattle.text_past.proofs.PastLaws.{SameOrCut, past-after, past-not, past-modes}
+use Rattle.text_past.proofs.PastLaws.{SkipRefused, SameOrCut, past-after, past-not, past-modes}
 use Rattle.text_value.specs.Value.{valueAt, placeOf, closedAt}
 use Rattle.text_value.proofs.JoinLaws.{open-place}
 use Rattle.text_skip.specs.Skip.{tokenAt, pastToken, howClosed, skippedAt, pastValue}
@@ -26,17 +25,17 @@ module _ (w : Bool) (s : List ℕ) (at : ℕ) where
   unfolding pastToken
   past-token-far l c e = let k = past-after w (length s) (tokenAt s at) c e in token-far s at l c (k .0) (k .1)
 
-  pub past-token-not : (r : Refusal) → pastToken w s at ≡ Not r → r ≡ cutAt (length s)
+  pub past-token-not : (r : Refusal) → pastToken w s at ≡ Not r → SkipRefused s r
   unfolding pastToken
-  past-token-not r e = past-not w (length s) (tokenAt s at) r (token-refused s at) e
+  past-token-not r e = past-not w s (tokenAt s at) r (token-refused s at) e
 
   pub past-value-far : at ≤ length s → (c : Cursor) → pastValue w s at ≡ After c → (at ≤ c .at) × (c .at ≤ length s)
   unfolding pastValue
   past-value-far l c e = let k = past-after w (length s) (skippedAt s at) c e in skipped-far s at l c (k .0) (k .1)
 
-  pub past-value-not : (r : Refusal) → pastValue w s at ≡ Not r → r ≡ cutAt (length s)
+  pub past-value-not : (r : Refusal) → pastValue w s at ≡ Not r → SkipRefused s r
   unfolding pastValue
-  past-value-not r e = past-not w (length s) (skippedAt s at) r (skipped-refused s at) e
+  past-value-not r e = past-not w s (skippedAt s at) r (λ q h. absurd (skipped-refused s at q h)) e
 
 -- ---- past a token and past a value; k: what was skipped, d: what is past it
 

@@ -1,7 +1,7 @@
 -- What a proof uses of the definitions of `specs/Skip.antt`: one law for each way out of `skip_one_token`, and how far a token goes.
 -- Assumes nothing.
 use mathlib.Core.Path.{_≡_, refl, sym, ap, subst, _∙_}
-use mathlib.Core.Bool.{Bool, true, false}
+use mathlib.Core.Bool.{Bool, true, false, cond}
 use mathlib.Core.List.{List}
 use Prim.Native.Nat.{ℕ, _+_, _<_, _≤_}
 use native.Mathlib.Omega.{arith}
@@ -10,6 +10,7 @@ use lib.Dec.{eqb, leb}
 use borrow.Author.Tests.{le-leb, lt-leb, leb-true, leb-false, eqb-true}
 use Rattle.text.specs.Class.{classOf}
 use Rattle.text.specs.Keyword.{startsIdent}
+use Rattle.text.specs.Refusal.{isHigh, highAt, MetHigh}
 use Rattle.text.specs.Scan.{runEnd}
 use Rattle.text.specs.declared.Cursor.{Cursor}
 use Rattle.text.specs.declared.Refusal.{Refusal}
@@ -66,19 +67,28 @@ module _ (s : List ℕ) (at : ℕ) (h : at < length s) {b : ℕ} (be : b ≡ get
         let r : startsIdent (getD s at 256) ≡ true = cc in
         rw (lt-leb (length s) at h) (rw (no-quote (getD s at 256) r) (rw r (rw (← ee))))
 
-    pub token-byte : n ≡ false → {t : Bool} → t ≡ isQuote b → t ≡ false → tokenAt s at ≡ pastWhole (at + 1)
-    unfolding tokenAt tokenHere
-    token-byte m te f =
-        let q : isQuote (getD s at 256) ≡ false = cc in
-        let r : startsIdent (getD s at 256) ≡ false = cc in
-        rw (lt-leb (length s) at h) (rw q (rw r))
+    -- o: whether it is a byte of 128 or more
+    module _ (m : n ≡ false) {t : Bool} (te : t ≡ isQuote b) (f : t ≡ false) {o : Bool} (oe : o ≡ isHigh b) where
+      token-one : tokenAt s at ≡ cond (isHigh (getD s at 256)) (Refused (highAt at)) (pastWhole (at + 1))
+      unfolding tokenAt tokenHere
+      token-one =
+          let q : isQuote (getD s at 256) ≡ false = cc in
+          let r : startsIdent (getD s at 256) ≡ false = cc in
+          rw (lt-leb (length s) at h) (rw q (rw r))
+
+      pub token-high : o ≡ true → {r : Refusal} → r ≡ highAt at → tokenAt s at ≡ Refused r
+      token-high y e = let q : isHigh (getD s at 256) ≡ true = cc in token-one ∙ rw q (ap Refused (sym e))
+
+      pub token-byte : o ≡ false → tokenAt s at ≡ pastWhole (at + 1)
+      token-byte z = let q : isHigh (getD s at 256) ≡ false = cc in token-one ∙ rw q refl
 
 -- ---- how far a token goes
 
--- within the text it takes a byte at least and ends within it, and one that the text's end ended takes all the rest; none is refused
+-- within the text it takes a byte at least and ends within it, and one that the text's end ended takes all the rest; what is refused is a byte of 128 or more,
+-- which stands here
 abbrev pub TokenTells : List ℕ → ℕ → Skipped → Type 0
 TokenTells s at (Past c h) = at < length s → (at < c .at) × (c .at ≤ length s) × (brokeOff h ≡ true → c .at ≡ length s)
-TokenTells s at (Refused r) = ⊥
+TokenTells s at (Refused r) = MetHigh s r
 
 whole-tells : (s : List ℕ) (at e : ℕ) → (at < length s → (at < e) × (e ≤ length s)) → TokenTells s at (pastWhole e)
 unfolding brokeOff
@@ -107,7 +117,9 @@ token-tells s at =
         rw (token-name s at h refl refl n refl)
         (whole-tells s at (runEnd Name s at)
         (λ l. omega (arith, run-more Name s at h refl (sym e) refl, run-from Name s (at + 1), run-within Name s at (omega arith)))))
-        (λ n. rw (token-byte s at h refl refl n refl q) (whole-tells s at (at + 1) (λ l. omega arith))))
+        (λ n. by-test (isHigh (getD s at 256))
+        (λ o. rw (token-high s at h refl refl n refl q refl o refl) (refl, o))
+        (λ o. rw (token-byte s at h refl refl n refl q refl o) (whole-tells s at (at + 1) (λ l. omega arith)))))
 
 pub token-far : (s : List ℕ) (at : ℕ) → at < length s → (c : Cursor) (h : How) → tokenAt s at ≡ Past c h → (at < c .at) × (c .at ≤ length s)
 token-far s at l c h e = let f = subst (TokenTells s at) e (token-tells s at) l in (f .0, f .1)
@@ -116,5 +128,5 @@ token-far s at l c h e = let f = subst (TokenTells s at) e (token-tells s at) l 
 pub token-end : (s : List ℕ) (at : ℕ) → at < length s → (c : Cursor) (h : How) → tokenAt s at ≡ Past c h → brokeOff h ≡ true → c .at ≡ length s
 token-end s at l c h e b = subst (TokenTells s at) e (token-tells s at) l .2 b
 
-pub token-refused : (s : List ℕ) (at : ℕ) (r : Refusal) → tokenAt s at ≡ Refused r → ⊥
+pub token-refused : (s : List ℕ) (at : ℕ) (r : Refusal) → tokenAt s at ≡ Refused r → MetHigh s r
 token-refused s at r e = subst (TokenTells s at) e (token-tells s at)

@@ -1,5 +1,5 @@
 -- Skipping a token: a whole quoted string, a whole name if it starts with letter or `_`, else one byte.
--- The string closes by the rules of a value.
+-- The string closes by the rules of a value. 2026-01: a byte above 127 that is met as a token is refused (3).
 -- `yang-version`, value if there is one: that value is skipped by the rules of a value too, and nothing of it is stored.
 -- Assumes nothing.
 use Prim.Native.Nat.{ℕ, _+_}
@@ -9,6 +9,7 @@ use lib.ListN.{length, drop}
 use lib.Dec.{leb}
 use Rattle.text.specs.Bytes.{look}
 use Rattle.text.specs.Keyword.{startsIdent}
+use Rattle.text.specs.Refusal.{isHigh, highAt}
 use Rattle.text.specs.Scan.{runEnd}
 use Rattle.text.specs.declared.Due.{Due}
 use Rattle.text.specs.declared.Run.the-variants.{Name}
@@ -20,7 +21,7 @@ use Rattle.text_past.specs.Past.{pastOf}
 use Rattle.text_past.specs.declared.How.{How}
 use Rattle.text_past.specs.declared.How.the-variants.{Whole, Text}
 use Rattle.text_past.specs.declared.Skipped.{Skipped}
-use Rattle.text_past.specs.declared.Skipped.the-variants.{Past}
+use Rattle.text_past.specs.declared.Skipped.the-variants.{Past, Refused}
 use Rattle.text_skip.specs.declared.Tail.{Tail}
 use Rattle.text_skip.specs.declared.Tail.the-variants.{More as MoreTail, Last}
 
@@ -42,7 +43,8 @@ closedToken s Open = pastText (length s)
 unfoldable pub tokenHere : List ℕ → ℕ → Skipped
 tokenHere s at =
     cond (isQuote (look s at)) (closedToken s (strEnd (look s at) false (drop (at + 1) s) (at + 1)))
-    (cond (startsIdent (look s at)) (pastWhole (runEnd Name s at)) (pastWhole (at + 1)))
+    (cond (startsIdent (look s at)) (pastWhole (runEnd Name s at))
+    (cond (isHigh (look s at)) (Refused (highAt at)) (pastWhole (at + 1))))
 
 -- at the end nothing is skipped
 unfoldable pub tokenAt : List ℕ → ℕ → Skipped

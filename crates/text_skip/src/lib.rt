@@ -19,8 +19,8 @@ pub fn past_token(here: Cursor, classes: &[u8; 128], whole: bool, s: &[u8]) -> D
     text_past::past(token, whole, s.len())
 }
 
-// Skips a token: a whole string, a whole name that begins with a letter or _, or one byte. At the end nothing is skipped. The name is tried first: a scan has
-// just looked for an identifier here, and so that test is made once.
+// Skips a token: a whole string, a whole name that begins with a letter or _, or one byte, which is refused from 128 on (3). At the end nothing is skipped.
+// The name is tried first: a scan has just looked for an identifier here, and so that test is made once.
 pub fn skip_one_token(here: Cursor, classes: &[u8; 128], s: &[u8]) -> Skipped
     requires { ⌜ now classes ≡ classTable ⌝ }
     ensures { λ r. ⌜ r ≡ tokenAt (now (s .entry)) (here .at) ⌝ }
@@ -41,6 +41,9 @@ pub fn skip_one_token(here: Cursor, classes: &[u8; 128], s: &[u8]) -> Skipped
             return Skipped::Past(Cursor { at: s.len() }, How::Text);
         };
         return Skipped::Past(Cursor { at: end }, How::Whole);
+    }
+    if text::is_high(b) {
+        return Skipped::Refused(text::high_byte(at));
     }
     Skipped::Past(Cursor { at: after }, How::Whole)
 }

@@ -1,11 +1,10 @@
--- What a proof uses of what is past a statement: nothing is refused but what the text's end ended, in the whole-text mode.
+-- What a proof uses of what is past a statement: nothing is refused but a byte of 128 or more and, in the whole-text mode, what the text's end ended.
 -- Assumes nothing.
 use mathlib.Core.Path.{_≡_, refl, ap, subst, _∙_}
 use mathlib.Core.Bool.{Bool, true, false}
 use mathlib.Core.List.{List}
 use Prim.Native.Nat.{ℕ, _<_, _≤_}
 use lib.ListN.{length, getD}
-use Rattle.text.specs.Refusal.{cutAt}
 use Rattle.text.specs.Scan.{gapEnd}
 use Rattle.text.specs.declared.Cursor.{Cursor}
 use Rattle.text.specs.declared.Due.{Due}
@@ -17,7 +16,7 @@ use Rattle.text_past.specs.declared.How.{How}
 use Rattle.text_past.specs.declared.How.the-variants.{Whole, Semicolon, Block, Before, Text}
 use Rattle.text_past.specs.declared.Skipped.{Skipped}
 use Rattle.text_past.specs.declared.Skipped.the-variants.{Past}
-use Rattle.text_past.proofs.PastLaws.{SameOrCut, past-after, past-not, past-modes}
+use Rattle.text_past.proofs.PastLaws.{SkipRefused, SameOrCut, past-after, past-not, past-modes}
 use Rattle.text_statement.specs.Statement.{statementAt, pastStatement}
 use Rattle.text_statement.proofs.StatementLaws.{Tells, statement-gap, statement-tells, statement-far, statement-moves, statement-refused}
 
@@ -39,9 +38,9 @@ module _ (w : Bool) (s : List ℕ) (at : ℕ) where
   unfolding pastStatement
   past-statement-moves l n c e = let k = past-after w (length s) (statementAt s at) c e in statement-moves s at l n c (k .0) (k .1)
 
-  pub past-statement-not : (r : Refusal) → pastStatement w s at ≡ Not r → r ≡ cutAt (length s)
+  pub past-statement-not : (r : Refusal) → pastStatement w s at ≡ Not r → SkipRefused s r
   unfolding pastStatement
-  past-statement-not r e = past-not w (length s) (statementAt s at) r (statement-refused s at) e
+  past-statement-not r e = past-not w s (statementAt s at) r (statement-refused s at) e
 
 -- ---- the whole-text mode beside the old one
 

@@ -10,6 +10,7 @@ use native.Mathlib.Omega.{arith}
 use lib.ListN.{length, getD, drop, drop-of-length-le, length-drop}
 use lib.Dec.{eqb, leb}
 use borrow.Author.Tests.{ne-eqb, eqb-true, le-leb, lt-leb, leb-true, leb-false}
+use Rattle.text.specs.Refusal.{isHigh, highAt, MetHigh}
 use Rattle.text.specs.Scan.{gapEnd}
 use Rattle.text.specs.Turns.{stop, on, after, turns}
 use Rattle.text.specs.declared.Cursor.{Cursor}
@@ -18,8 +19,8 @@ use Rattle.text.proofs.Here.{by-test, inside, rest}
 use Rattle.text.proofs.Laws.{gap-from, gap-within, gap-twice}
 use Rattle.text.proofs.Turns.{turns-stop, turns-on, turns-rule}
 use Rattle.text_string.specs.Str.{isQuote}
-use Rattle.text_statement.specs.Statement.{closes, quotedLen, quotedEnd, atSemicolon, atClose, partOf, partAt, Inside, ofPart, statementTurn}
-use Rattle.text_statement.specs.Statement.{statementFrom, statementAt}
+use Rattle.text_statement.specs.Statement.{closes, quotedLen, quotedEnd, atSemicolon, atClose, atOther, partOf, partAt, Inside, ofPart}
+use Rattle.text_statement.specs.Statement.{statementTurn, statementFrom, statementAt}
 use Rattle.text_past.specs.declared.How.{How}
 use Rattle.text_past.specs.declared.How.the-variants.{Whole, Semicolon, Block, Before, Text}
 use Rattle.text_statement.specs.declared.Part.{Part}
@@ -70,7 +71,7 @@ quoted-within s at q h = omega (arith, quoted-most q q (drop at s), length-drop 
 
 -- ---- a part
 
-pub part-past : (s : List ℕ) (at d : ℕ) → length s ≤ at → partAt s at d ≡ Stop (record { at = at }) Text
+pub part-past : (s : List ℕ) (at d : ℕ) → length s ≤ at → partAt s at d ≡ Stop (Past (record { at = at }) Text)
 unfolding partAt
 part-past s at d h = rw (le-leb (length s) at h) refl
 
@@ -100,19 +101,30 @@ module _ (s : List ℕ) (at d : ℕ) (h : at < length s) where
   part-close e = part-here e
 
   pub part-other : ((getD s at 0 ≡ 34) ⊎ (getD s at 0 ≡ 39) → ⊥) → (getD s at 0 ≡ 59 → ⊥) → (getD s at 0 ≡ 123 → ⊥) → (getD s at 0 ≡ 125 → ⊥)
-      → partAt s at d ≡ On (record { at = at + 1 }) d
+      → {b : ℕ} → b ≡ getD s at 256 → partAt s at d ≡ atOther at (at + 1) d b
   unfolding partOf isQuote
-  part-other q m o k =
-      part-here refl
-      ∙ simp (
+  part-other q m o k be =
+      let others : partOf s at d (getD s at 0) ≡ atOther at (at + 1) d (getD s at 0) =
+      simp (
         ne-eqb (getD s at 0) 34 (λ e. q (inl e)),
         ne-eqb (getD s at 0) 39 (λ e. q (inr e)),
         ne-eqb (getD s at 0) 59 m,
         ne-eqb (getD s at 0) 123 o,
         ne-eqb (getD s at 0) 125 k,
-      )
+      ) in
+      part-here refl ∙ others ∙ ap (atOther at (at + 1) d) (sym (be ∙ inside s at 256 0 h))
 
-stop-not : {e c : Cursor} {w : How} {d : ℕ} {p : Part} → p ≡ Stop e w → p ≡ On c d → ⊥
+-- b: any other byte, t: whether it is 128 or more
+module _ (at next d b : ℕ) {t : Bool} (te : t ≡ isHigh b) where
+  pub other-high : t ≡ true → {r : Refusal} → r ≡ highAt at → Stop (Refused r) ≡ atOther at next d b
+  unfolding atOther
+  other-high y e = let q : isHigh b ≡ true = sym te ∙ y in rw q (ap (λ r. Stop (Refused r)) e)
+
+  pub other-on : t ≡ false → On (record { at = next }) d ≡ atOther at next d b
+  unfolding atOther
+  other-on n = let q : isHigh b ≡ false = sym te ∙ n in rw q refl
+
+stop-not : {e : Skipped} {c : Cursor} {d : ℕ} {p : Part} → p ≡ Stop e → p ≡ On c d → ⊥
 stop-not e f = let z : _≡_ {A = ℕ} 0 1 = cc in omega arith
 
 on-is : {b c : Cursor} {d e : ℕ} {p : Part} → p ≡ On b d → p ≡ On c e → (b .at ≡ c .at) × (d ≡ e)
@@ -138,6 +150,13 @@ close-far s at d e c l h =
     (λ u. absurd (stop-not refl (rw u at (rw t at h))))
     (λ u. let k = on-is refl (rw u at (rw t at h)) in omega (arith, k .0, k .1)))
 
+other-far : (s : List ℕ) (at d b e : ℕ) (c : Cursor) → at < length s → atOther at (at + 1) d b ≡ On c e → Far s at d c e
+unfolding atOther
+other-far s at d b e c l h =
+    by-test (isHigh b)
+    (λ t. absurd (stop-not refl (rw t at h)))
+    (λ t. let k = on-is refl (rw t at h) in omega (arith, k .0, k .1))
+
 of-far : (s : List ℕ) (at d b e : ℕ) (c : Cursor) → at < length s → partOf s at d b ≡ On c e → Far s at d c e
 unfolding partOf
 of-far s at d b e c l h =
@@ -149,7 +168,7 @@ of-far s at d b e c l h =
     (λ v. let k = on-is refl (rw v at (rw u at (rw t at h))) in omega (arith, k .0, k .1))
     (λ v. by-test (eqb b 125)
     (λ w. close-far s at d e c l (rw w at (rw v at (rw u at (rw t at h)))))
-    (λ w. let k = on-is refl (rw w at (rw v at (rw u at (rw t at h)))) in omega (arith, k .0, k .1)))))
+    (λ w. other-far s at d b e c l (rw w at (rw v at (rw u at (rw t at h))))))))
 
 pub part-far : (s : List ℕ) (at d e : ℕ) (c : Cursor) → partAt s at d ≡ On c e → (at < length s) × Far s at d c e
 unfolding partAt
@@ -158,65 +177,71 @@ part-far s at d e c h =
     (λ t. absurd (stop-not refl (rw t at h)))
     (λ t. let l : at < length s = leb-false (length s) at t in (l, of-far s at d (getD s at 256) e c l (rw t at h)))
 
--- how a part that ends the statement ends it: past its byte, before its brace, or at the text's end; no part refuses
+-- how a part that ends the statement ends it: past its byte, before its brace, or at the text's end; or it refuses a byte of 128 or more, which stands here
 abbrev pub Stops : List ℕ → ℕ → Skipped → Type 0
 Stops s at (Past c Whole) = ⊥
 Stops s at (Past c Semicolon) = (at < length s) × (c .at ≡ at + 1)
 Stops s at (Past c Block) = (at < length s) × (c .at ≡ at + 1)
 Stops s at (Past c Before) = (at < length s) × (c .at ≡ at) × (getD s at 256 ≡ 125)
 Stops s at (Past c Text) = (length s ≤ at) × (c .at ≡ at)
-Stops s at (Refused r) = ⊥
+Stops s at (Refused r) = (r .at ≡ at) × MetHigh s r
 
-on-not : {e c : Cursor} {w : How} {d : ℕ} {p : Part} → p ≡ On c d → p ≡ Stop e w → ⊥
+on-not : {e : Skipped} {c : Cursor} {d : ℕ} {p : Part} → p ≡ On c d → p ≡ Stop e → ⊥
 on-not e f = stop-not f e
 
 -- the answer is the one of which it is known
-stops-is : (s : List ℕ) (at : ℕ) (b e : Cursor) (v w : How) → _≡_ {A = Part} (Stop b v) (Stop e w) → Stops s at (Past b v) → Stops s at (Past e w)
-stops-is s at b e v w k t = let z : Past b v ≡ Past e w = cc in subst (Stops s at) z t
+stops-is : (s : List ℕ) (at : ℕ) (b e : Skipped) → _≡_ {A = Part} (Stop b) (Stop e) → Stops s at b → Stops s at e
+stops-is s at b e k t = let z : b ≡ e = cc in subst (Stops s at) z t
 
-semicolon-stops : (s : List ℕ) (at d : ℕ) (e : Cursor) (w : How) → at < length s → atSemicolon (at + 1) d ≡ Stop e w → Stops s at (Past e w)
+semicolon-stops : (s : List ℕ) (at d : ℕ) (e : Skipped) → at < length s → atSemicolon (at + 1) d ≡ Stop e → Stops s at e
 unfolding atSemicolon
-semicolon-stops s at d e w l h =
+semicolon-stops s at d e l h =
     by-test (eqb d 0)
-    (λ t. stops-is s at (record { at = at + 1 }) e Semicolon w (rw t at h) (l, refl))
+    (λ t. stops-is s at (Past (record { at = at + 1 }) Semicolon) e (rw t at h) (l, refl))
     (λ t. absurd (on-not refl (rw t at h)))
 
-close-stops : (s : List ℕ) (at d : ℕ) (e : Cursor) (w : How) → at < length s → getD s at 256 ≡ 125 → atClose at (at + 1) d ≡ Stop e w
-    → Stops s at (Past e w)
+close-stops : (s : List ℕ) (at d : ℕ) (e : Skipped) → at < length s → getD s at 256 ≡ 125 → atClose at (at + 1) d ≡ Stop e → Stops s at e
 unfolding atClose
-close-stops s at d e w l b h =
+close-stops s at d e l b h =
     by-test (eqb d 0)
-    (λ t. stops-is s at (record { at = at }) e Before w (rw t at h) (l, refl, b))
+    (λ t. stops-is s at (Past (record { at = at }) Before) e (rw t at h) (l, refl, b))
     (λ t. by-test (eqb d 1)
-    (λ u. stops-is s at (record { at = at + 1 }) e Block w (rw u at (rw t at h)) (l, refl))
+    (λ u. stops-is s at (Past (record { at = at + 1 }) Block) e (rw u at (rw t at h)) (l, refl))
     (λ u. absurd (on-not refl (rw u at (rw t at h)))))
 
-of-stops : (s : List ℕ) (at d b : ℕ) (e : Cursor) (w : How) → at < length s → getD s at 256 ≡ b → partOf s at d b ≡ Stop e w → Stops s at (Past e w)
+other-stops : (s : List ℕ) (at d b : ℕ) (e : Skipped) → getD s at 256 ≡ b → atOther at (at + 1) d b ≡ Stop e → Stops s at e
+unfolding atOther
+other-stops s at d b e k h =
+    by-test (isHigh b)
+    (λ t. stops-is s at (Refused (highAt at)) e (rw t at h) (refl, (refl, ap isHigh k ∙ t)))
+    (λ t. absurd (on-not refl (rw t at h)))
+
+of-stops : (s : List ℕ) (at d b : ℕ) (e : Skipped) → at < length s → getD s at 256 ≡ b → partOf s at d b ≡ Stop e → Stops s at e
 unfolding partOf
-of-stops s at d b e w l k h =
+of-stops s at d b e l k h =
     by-test (isQuote b)
     (λ t. absurd (on-not refl (rw t at h)))
     (λ t. by-test (eqb b 59)
-    (λ u. semicolon-stops s at d e w l (rw u at (rw t at h)))
+    (λ u. semicolon-stops s at d e l (rw u at (rw t at h)))
     (λ u. by-test (eqb b 123)
     (λ v. absurd (on-not refl (rw v at (rw u at (rw t at h)))))
     (λ v. by-test (eqb b 125)
-    (λ x. close-stops s at d e w l (k ∙ eqb-true b 125 x) (rw x at (rw v at (rw u at (rw t at h)))))
-    (λ x. absurd (on-not refl (rw x at (rw v at (rw u at (rw t at h)))))))))
+    (λ x. close-stops s at d e l (k ∙ eqb-true b 125 x) (rw x at (rw v at (rw u at (rw t at h)))))
+    (λ x. other-stops s at d b e k (rw x at (rw v at (rw u at (rw t at h))))))))
 
-pub part-stops : (s : List ℕ) (at d : ℕ) (e : Cursor) (w : How) → partAt s at d ≡ Stop e w → Stops s at (Past e w)
+pub part-stops : (s : List ℕ) (at d : ℕ) (e : Skipped) → partAt s at d ≡ Stop e → Stops s at e
 unfolding partAt
-part-stops s at d e w h =
+part-stops s at d e h =
     by-test (leb (length s) at)
-    (λ t. stops-is s at (record { at = at }) e Text w (rw t at h) (leb-true (length s) at t, refl))
-    (λ t. of-stops s at d (getD s at 256) e w (leb-false (length s) at t) refl (rw t at h))
+    (λ t. stops-is s at (Past (record { at = at }) Text) e (rw t at h) (leb-true (length s) at t, refl))
+    (λ t. of-stops s at d (getD s at 256) e (leb-false (length s) at t) refl (rw t at h))
 
 -- ---- a statement
 
 of-on : (s : List ℕ) (g d : ℕ) (p : Part) (i : Inside) → partAt s g d ≡ p → ofPart p ≡ on i → (g < length s) × (g < i .at) × (i .at ≤ length s)
 unfolding ofPart
 of-on s g d (On c e) i q h = let k : c .at ≡ i .at = cc in omega (arith, part-far s g d e c q)
-of-on s g d (Stop e w) i q h = let z : _≡_ {A = ℕ} 0 1 = cc in omega arith
+of-on s g d (Stop e) i q h = let z : _≡_ {A = ℕ} 0 1 = cc in omega arith
 
 statement-falls : (s : List ℕ) (i j : Inside) → statementTurn s i ≡ on j → length s - j .at < length s - i .at
 unfolding statementTurn
@@ -234,11 +259,11 @@ module _ (s : List ℕ) (at d : ℕ) {g : ℕ} {p : Part} (ge : g ≡ gapEnd s a
   unfolding statementTurn
   turn-is = ap (λ i. ofPart (partAt s i d)) (sym ge) ∙ ap ofPart (sym pe)
 
-  pub statement-stop : (e : Cursor) (w : How) → p ≡ Stop e w → statementFrom s at d ≡ Past e w
+  pub statement-stop : (e : Skipped) → p ≡ Stop e → statementFrom s at d ≡ e
   unfolding statementFrom ofPart
-  statement-stop e w h =
+  statement-stop e h =
       turns-stop (statementTurn s) (Past (record { at = 0 }) Text) (λ i. length s - i .at) (statement-falls s)
-      (suc (length s)) (record { at = at; depth = d }) (Past e w) (omega arith) (turn-is ∙ ap ofPart h)
+      (suc (length s)) (record { at = at; depth = d }) e (omega arith) (turn-is ∙ ap ofPart h)
 
   module _ (c : Cursor) (e : ℕ) (h : p ≡ On c e) where
     far : (g < length s) × Far s g d c e
@@ -266,15 +291,15 @@ statement-gap s at d e =
 
 -- ---- how far a statement goes
 
--- what the end of a statement says of its place: behind its start by a byte of its own, before a closing brace, or at the text's end; none is
--- refused
+-- what the end of a statement says of its place: behind its start by a byte of its own, before a closing brace, or at the text's end; what is refused is a
+-- byte of 128 or more
 abbrev pub Tells : List ℕ → ℕ → Skipped → Type 0
 Tells s at (Past c Whole) = ⊥
 Tells s at (Past c Semicolon) = (at < c .at) × (c .at ≤ length s)
 Tells s at (Past c Block) = (at < c .at) × (c .at ≤ length s)
 Tells s at (Past c Before) = (at ≤ c .at) × (c .at < length s) × (getD s (c .at) 256 ≡ 125)
 Tells s at (Past c Text) = (at ≤ c .at) × (length s ≤ c .at) × (at ≤ length s → c .at ≡ length s)
-Tells s at (Refused r) = ⊥
+Tells s at (Refused r) = (at ≤ r .at) × MetHigh s r
 
 -- said of a place, it holds of one before
 tells-on : (s : List ℕ) (at b : ℕ) (e : Skipped) → at ≤ b → (at ≤ length s → b ≤ length s) → Tells s b e → Tells s at e
@@ -283,7 +308,7 @@ tells-on s at b (Past c Semicolon) h l t = (omega (arith, t .0), t .1)
 tells-on s at b (Past c Block) h l t = (omega (arith, t .0), t .1)
 tells-on s at b (Past c Before) h l t = (omega (arith, t .0), t .1, t .2)
 tells-on s at b (Past c Text) h l t = (omega (arith, t .0), t .1, λ k. t .2 (l k))
-tells-on s at b (Refused r) h l t = t
+tells-on s at b (Refused r) h l t = (omega (arith, t .0), t .1)
 
 stops-tell : (s : List ℕ) (at : ℕ) (e : Skipped) → Stops s at e → Tells s at e
 stops-tell s at (Past c Whole) t = t
@@ -291,12 +316,12 @@ stops-tell s at (Past c Semicolon) t = (omega (arith, t .1), omega (arith, t .0,
 stops-tell s at (Past c Block) t = (omega (arith, t .1), omega (arith, t .0, t .1))
 stops-tell s at (Past c Before) t = (omega (arith, t .1), omega (arith, t .0, t .1), ap (λ i. getD s i 256) (t .1) ∙ t .2)
 stops-tell s at (Past c Text) t = (omega (arith, t .1), omega (arith, t .0, t .1), λ k. omega (arith, t .0, t .1))
-stops-tell s at (Refused r) t = t
+stops-tell s at (Refused r) t = (omega (arith, t .0), t .1)
 
 of-stop : (s : List ℕ) (g d : ℕ) (p : Part) (e : Skipped) → partAt s g d ≡ p → ofPart p ≡ stop e → Tells s g e
 unfolding ofPart
 of-stop s g d (On c f) e q h = let z : _≡_ {A = ℕ} 0 1 = cc in absurd (omega arith)
-of-stop s g d (Stop f w) e q h = let k : Past f w ≡ e = cc in subst (Tells s g) k (stops-tell s g (Past f w) (part-stops s g d f w q))
+of-stop s g d (Stop f) e q h = let k : f ≡ e = cc in subst (Tells s g) k (stops-tell s g f (part-stops s g d f q))
 
 from-tells : (s : List ℕ) (at d : ℕ) → Tells s at (statementFrom s at d)
 unfolding statementFrom statementTurn
@@ -324,24 +349,27 @@ tells-far s at c Text t = (t .0, λ l. omega (arith, t .2 l))
 pub statement-far : (s : List ℕ) (at : ℕ) → at ≤ length s → (c : Cursor) (h : How) → statementAt s at ≡ Past c h → (at ≤ c .at) × (c .at ≤ length s)
 statement-far s at l c h e = let f = tells-far s at c h (subst (Tells s at) e (statement-tells s at)) in (f .0, f .1 l)
 
-pub statement-refused : (s : List ℕ) (at : ℕ) (r : Refusal) → statementAt s at ≡ Refused r → ⊥
-statement-refused s at r e = subst (Tells s at) e (statement-tells s at)
+pub statement-refused : (s : List ℕ) (at : ℕ) (r : Refusal) → statementAt s at ≡ Refused r → MetHigh s r
+statement-refused s at r e = subst (Tells s at) e (statement-tells s at) .1
+
+pub statement-refused-from : (s : List ℕ) (at : ℕ) (r : Refusal) → statementAt s at ≡ Refused r → at ≤ r .at
+statement-refused-from s at r e = subst (Tells s at) e (statement-tells s at) .0
 
 -- a statement before which no closing brace stands takes a byte at least
 abbrev Moves : ℕ → Skipped → Type 0
 Moves at (Past c h) = at < c .at
-Moves at (Refused r) = ⊥
+Moves at (Refused r) = Unit {0}
 
 tells-moves : (s : List ℕ) (at b : ℕ) (e : Skipped) → at < b → Tells s b e → Moves at e
 tells-moves s at b (Past c h) l t = omega (arith, tells-far s b c h t .0)
-tells-moves s at b (Refused r) l t = t
+tells-moves s at b (Refused r) l t = tt
 
 from-moves : (s : List ℕ) (at : ℕ) (p : Part) → at < length s → (getD s (gapEnd s at) 256 ≡ 125 → ⊥) → partAt s (gapEnd s at) 0 ≡ p
     → Moves at (statementFrom s at 0)
 from-moves s at (On c d) l n h =
     rw (statement-more s at 0 refl refl c d h)
     (tells-moves s at (c .at) (statementFrom s (c .at) d) (omega (arith, part-far s (gapEnd s at) 0 d c h, gap-from s at)) (from-tells s (c .at) d))
-from-moves s at (Stop e w) l n h = rw (statement-stop s at 0 refl refl e w h) (stopped (Past e w) (part-stops s (gapEnd s at) 0 e w h))
+from-moves s at (Stop e) l n h = rw (statement-stop s at 0 refl refl e h) (stopped e (part-stops s (gapEnd s at) 0 e h))
   where
     stopped : (e : Skipped) → Stops s (gapEnd s at) e → Moves at e
     stopped (Past c Whole) t = absurd t
@@ -349,7 +377,7 @@ from-moves s at (Stop e w) l n h = rw (statement-stop s at 0 refl refl e w h) (s
     stopped (Past c Block) t = omega (arith, t .1, gap-from s at)
     stopped (Past c Before) t = absurd (n (t .2))
     stopped (Past c Text) t = omega (arith, t .0, t .1, l)
-    stopped (Refused r) t = t
+    stopped (Refused r) t = tt
 
 pub statement-moves : (s : List ℕ) (at : ℕ) → at < length s → (getD s (gapEnd s at) 256 ≡ 125 → ⊥) → (c : Cursor) (h : How) → statementAt s at ≡ Past c h
     → at < c .at

@@ -1,5 +1,6 @@
 -- Skipping a statement: gaps outside strings; `;` at depth 0 ends it, so does the `}` that returns to depth 0; `}` at depth 0 ends it
 -- unconsumed. A string here ends at its own quote unless the byte before is a backslash, in single quotes too.
+-- 2026-01: a byte above 127 outside strings and comments is refused (3).
 -- Assumes nothing.
 use Prim.Native.Nat.{ℕ, suc, _+_, _-_}
 use mathlib.Core.Bool.{Bool, cond, not, _&&_}
@@ -7,6 +8,7 @@ use mathlib.Core.List.{List, [], _∷_}
 use lib.ListN.{length, drop}
 use lib.Dec.{eqb, leb}
 use Rattle.text.specs.Bytes.{backslash, semicolon, openBrace, closeBrace, look}
+use Rattle.text.specs.Refusal.{isHigh, highAt}
 use Rattle.text.specs.Scan.{gapEnd}
 use Rattle.text.specs.Turns.{Turn, stop, on, turns}
 use Rattle.text.specs.declared.Due.{Due}
@@ -16,7 +18,7 @@ use Rattle.text_past.specs.declared.How.the-variants.{Semicolon, Block, Before,
 use Rattle.text_statement.specs.declared.Part.{Part}
 use Rattle.text_statement.specs.declared.Part.the-variants.{On, Stop}
 use Rattle.text_past.specs.declared.Skipped.{Skipped}
-use Rattle.text_past.specs.declared.Skipped.the-variants.{Past}
+use Rattle.text_past.specs.declared.Skipped.the-variants.{Past, Refused}
 
 -- ---- a string
 
@@ -37,13 +39,17 @@ quotedEnd s at q = at + quotedLen q q (drop at s)
 
 -- after a semicolon
 unfoldable pub atSemicolon : ℕ → ℕ → Part
-atSemicolon next d = cond (eqb d 0) (Stop (record { at = next }) Semicolon) (On (record { at = next }) d)
+atSemicolon next d = cond (eqb d 0) (Stop (Past (record { at = next }) Semicolon)) (On (record { at = next }) d)
 
 -- at a closing brace, and after it
 unfoldable pub atClose : ℕ → ℕ → ℕ → Part
 atClose at next d =
-    cond (eqb d 0) (Stop (record { at = at }) Before)
-    (cond (eqb d 1) (Stop (record { at = next }) Block) (On (record { at = next }) (d - 1)))
+    cond (eqb d 0) (Stop (Past (record { at = at }) Before))
+    (cond (eqb d 1) (Stop (Past (record { at = next }) Block)) (On (record { at = next }) (d - 1)))
+
+-- at any other byte b, and after it
+unfoldable pub atOther : ℕ → ℕ → ℕ → ℕ → Part
+atOther at next d b = cond (isHigh b) (Stop (Refused (highAt at))) (On (record { at = next }) d)
 
 -- b: what stands at the place
 unfoldable pub partOf : List ℕ → ℕ → ℕ → ℕ → Part
@@ -51,10 +57,10 @@ partOf s at d b =
     cond (isQuote b) (On (record { at = quotedEnd s (at + 1) b }) d)
     (cond (eqb b semicolon) (atSemicolon (at + 1) d)
     (cond (eqb b openBrace) (On (record { at = at + 1 }) (d + 1))
-    (cond (eqb b closeBrace) (atClose at (at + 1) d) (On (record { at = at + 1 }) d))))
+    (cond (eqb b closeBrace) (atClose at (at + 1) d) (atOther at (at + 1) d b))))
 
 unfoldable pub partAt : List ℕ → ℕ → ℕ → Part
-partAt s at d = cond (leb (length s) at) (Stop (record { at = at }) Text) (partOf s at d (look s at))
+partAt s at d = cond (leb (length s) at) (Stop (Past (record { at = at }) Text)) (partOf s at d (look s at))
 
 -- ---- a statement
 
@@ -65,7 +71,7 @@ pub record Inside : Type 0 where
 
 unfoldable pub ofPart : Part → Turn Inside Skipped
 ofPart (On c d) = on (record { at = c .at; depth = d })
-ofPart (Stop c how) = stop (Past c how)
+ofPart (Stop e) = stop e
 
 unfoldable pub statementTurn : List ℕ → Inside → Turn Inside Skipped
 statementTurn s i = ofPart (partAt s (gapEnd s (i .at)) (i .depth))

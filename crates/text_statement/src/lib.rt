@@ -7,7 +7,7 @@ ghost use mathlib.Core.Path.{_≡_};
 ghost use Prim.Native.Nat.{_≤_};
 ghost use Rattle.text.specs.Class.{classTable};
 ghost use Rattle.text.specs.Scan.{gapEnd};
-ghost use Rattle.text_statement.specs.Statement.{closes, quotedEnd, atSemicolon, atClose, partAt, statementAt, pastStatement};
+ghost use Rattle.text_statement.specs.Statement.{closes, quotedEnd, atSemicolon, atClose, atOther, partAt, statementAt, pastStatement};
 
 // Past the statement that stands after a gap. `whole`: one that the text's end ends is refused (11).
 pub fn past_statement(from: Cursor, classes: &[u8; 128], whole: bool, s: &[u8]) -> Due
@@ -42,17 +42,17 @@ fn skip_statement(here: Cursor, classes: &[u8; 128], s: &[u8]) -> Skipped
                 at = after.at;
                 depth = d;
             }
-            Part::Stop(end, how) => {
-                return Skipped::Past(end, how);
+            Part::Stop(end) => {
+                return end;
             }
         }
     }
 }
 
-// A part of a statement was passed, and the depth after it; or the statement ended, and how.
+// A part of a statement was passed, and the depth after it; or what skipping the statement answers.
 pub enum Part {
     On { next: Cursor, depth: usize },
-    Stop(Cursor, How),
+    Stop(Skipped),
 }
 
 // The part of a statement that stands here, at a depth: each brace that opened took a byte.
@@ -62,7 +62,7 @@ fn skip_part(here: Cursor, s: &[u8], depth: usize) -> Part
 {
     let at = here.at;
     if s.len() <= at {
-        return Part::Stop(here, How::Text);
+        return Part::Stop(Skipped::Past(here, How::Text));
     }
     let after = at + 1;
     let next = Cursor { at: after };
@@ -81,7 +81,7 @@ fn skip_part(here: Cursor, s: &[u8], depth: usize) -> Part
             Part::On { next, depth: inner }
         }
         b'}' => at_close(here, next, depth),
-        _ => Part::On { next, depth },
+        _ => at_other(here, next, text::peek_char(s, at), depth),
     }
 }
 
@@ -90,7 +90,7 @@ fn at_semicolon(next: Cursor, depth: usize) -> Part
     ensures { λ r. ⌜ r ≡ atSemicolon (next .at) depth ⌝ }
 {
     if depth == 0 {
-        return Part::Stop(next, How::Semicolon);
+        return Part::Stop(Skipped::Past(next, How::Semicolon));
     }
     Part::On { next, depth }
 }
@@ -100,13 +100,23 @@ fn at_close(here: Cursor, next: Cursor, depth: usize) -> Part
     ensures { λ r. ⌜ r ≡ atClose (here .at) (next .at) depth ⌝ }
 {
     if depth == 0 {
-        return Part::Stop(here, How::Before);
+        return Part::Stop(Skipped::Past(here, How::Before));
     }
     if depth == 1 {
-        return Part::Stop(next, How::Block);
+        return Part::Stop(Skipped::Past(next, How::Block));
     }
     let outer = depth - 1;
     Part::On { next, depth: outer }
+}
+
+// At any other byte b, and after it: from 128 on it is refused (3).
+fn at_other(here: Cursor, next: Cursor, b: u16, depth: usize) -> Part
+    ensures { λ r. ⌜ r ≡ atOther (here .at) (next .at) depth b ⌝ }
+{
+    if text::is_high(b) {
+        return Part::Stop(Skipped::Refused(text::high_byte(here.at)));
+    }
+    Part::On { next, depth }
 }
 
 // The place after the string whose bytes start at a place, in quotes q.

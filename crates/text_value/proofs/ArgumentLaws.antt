@@ -9,7 +9,7 @@ use Prim.Native.Nat.{ℕ, _+_, _-_, _<_, _≤_}
 use native.Mathlib.Omega.{arith}
 use lib.ListN.{length, getD}
 use Rattle.text.specs.Due.{dueAt, refusalOf}
-use Rattle.text.specs.Refusal.{cutAt}
+use Rattle.text.specs.Refusal.{cutAt, isHigh, refusedAt}
 use Rattle.text.specs.Scan.{gapEnd}
 use Rattle.text.specs.declared.Cursor.{Cursor}
 use Rattle.text.specs.declared.Due.{Due}
@@ -17,6 +17,7 @@ use Rattle.text.specs.declared.Due.the-variants.{After, Not}
 use Rattle.text.specs.declared.Refusal.{Refusal}
 use Rattle.text.proofs.DueLaws.{due-end, due-far, due-refused-within}
 use Rattle.text.proofs.Here.{by-test, past}
+use Rattle.text.proofs.HighLaws.{high-end, refused-other, refused-place}
 use Rattle.text.proofs.Laws.{gap-from}
 use Rattle.text_value.specs.Value.{Val, value, none, valueAt, closedAt, valueAnswer, valueBytes, valueEnd, valueClosed, placeOf}
 use Rattle.text_value.specs.Argument.{argumentOf, breaksOff, argumentAt, afterDue, afterArgument, lineAt, argumentRefusal}
@@ -60,23 +61,24 @@ module _ (whole : Bool) (s : List ℕ) (at u k : ℕ) {v : Value} (ve : v ≡ va
   argument-cut n e = let q : breaksOff whole (closedAt s at) ≡ true = off-is ∙ n in rw q (ap Refused (sym e))
 
   module _ (n : o ≡ false) where
-    argument-on : argumentAt whole s at u k ≡ argumentOf u k (valueAt s at)
+    argument-on : argumentAt whole s at u k ≡ argumentOf s u k (valueAt s at)
     unfolding argumentAt
     argument-on = let q : breaksOff whole (closedAt s at) ≡ false = off-is ∙ n in rw q refl
 
-    pub argument-missing : (c : Cursor) (z : Bool) → v ≡ Missing c z → {e : Cursor} → e .at ≡ valueEnd v
-        → argumentAt whole s at u k ≡ Refused (record { number = 4; keyword = k; at = e .at })
+    -- b: what stands where the value ends, r: what is refused there
+    pub argument-missing : (c : Cursor) (z : Bool) → v ≡ Missing c z → {e : Cursor} → e .at ≡ valueEnd v → {b : ℕ} → b ≡ getD s (e .at) 256
+        → {r : Refusal} → r ≡ refusedAt b 4 k (e .at) → argumentAt whole s at u k ≡ Refused r
     unfolding argumentOf valueEnd
-    argument-missing c z m {e} q =
+    argument-missing c z m {e} q be re =
         let p : c .at ≡ e .at = sym (q ∙ ap valueEnd m) in
-        argument-on ∙ ap (argumentOf u k) (missing-of u (closedAt s at) (valueAt s at) c z (sym ve ∙ m))
-        ∙ ap (λ i. Refused (record { number = 4; keyword = k; at = i })) p
+        argument-on ∙ ap (argumentOf s u k) (missing-of u (closedAt s at) (valueAt s at) c z (sym ve ∙ m))
+        ∙ ap (λ i. Refused (refusedAt (getD s i 256) 4 k i)) p ∙ ap Refused (sym (re ∙ ap (λ i. refusedAt i 4 k (e .at)) be))
 
     argument-told : (c : Cursor) (i : ℕ) (z : Bool) → v ≡ ReadValue c i z → argumentAt whole s at u k ≡ Read c i
     unfolding argumentOf
     argument-told c i z m =
         let w = read-of u (closedAt s at) (valueAt s at) c i z (sym ve ∙ m) in
-        argument-on ∙ ap (argumentOf u k) (w .0) ∙ ap (Read c) (sym (w .1))
+        argument-on ∙ ap (argumentOf s u k) (w .0) ∙ ap (Read c) (sym (w .1))
 
 -- the value was read, and y says whether each string of it closes
 module _ (whole : Bool) (s : List ℕ) (at u k : ℕ) {v : Value} (ve : v ≡ valueAnswer u (closedAt s at) (valueAt s at)) (c : Cursor) (i : ℕ) (y : Bool)
@@ -118,7 +120,7 @@ module _ (w : Bool) (s : List ℕ) (at u k b : ℕ) {v : Argument} (ve : v ≡ a
 abbrev pub Far : List ℕ → ℕ → ℕ → List ℕ → Cursor → ℕ → Type 0
 Far s at u bs c n = (at < c .at) × (at + length bs ≤ c .at) × (c .at ≤ length s) × (n ≡ u + length bs)
 
-far-of : (s : List ℕ) (at u k : ℕ) (w : Val) (c : Cursor) (n : ℕ) → valueAt s at ≡ w → argumentOf u k w ≡ Read c n → Far s at u (valueBytes w) c n
+far-of : (s : List ℕ) (at u k : ℕ) (w : Val) (c : Cursor) (n : ℕ) → valueAt s at ≡ w → argumentOf s u k w ≡ Read c n → Far s at u (valueBytes w) c n
 unfolding argumentOf valueBytes
 far-of s at u k (value bs e) c n h l =
     let i : e ≡ c .at = cc in
@@ -128,7 +130,7 @@ far-of s at u k (none e) c n h l = let z : _≡_ {A = ℕ} 0 1 = cc in absurd (o
 
 -- in the whole-text mode it is 11, or as before
 argument-either : (w : Bool) (s : List ℕ) (at u k : ℕ)
-    → (argumentAt w s at u k ≡ Refused (cutAt (length s))) ⊎ (argumentAt w s at u k ≡ argumentOf u k (valueAt s at))
+    → (argumentAt w s at u k ≡ Refused (cutAt (length s))) ⊎ (argumentAt w s at u k ≡ argumentOf s u k (valueAt s at))
 unfolding argumentAt
 argument-either w s at u k = by-test (breaksOff w (closedAt s at)) (λ t. inl (rw t refl)) (λ t. inr (rw t refl))
 
@@ -136,7 +138,7 @@ read-not : {a : Argument} {c : Cursor} {n : ℕ} {r : Refusal} → a ≡ Read c 
 read-not e h = let z : _≡_ {A = ℕ} 0 1 = cc in omega arith
 
 -- a value that was read is read so in either mode
-pub argument-old : (w : Bool) (s : List ℕ) (at u k : ℕ) (c : Cursor) (n : ℕ) → argumentAt w s at u k ≡ Read c n → argumentOf u k (valueAt s at) ≡ Read c n
+pub argument-old : (w : Bool) (s : List ℕ) (at u k : ℕ) (c : Cursor) (n : ℕ) → argumentAt w s at u k ≡ Read c n → argumentOf s u k (valueAt s at) ≡ Read c n
 argument-old w s at u k c n h = ⊎-elim (λ e. absurd (read-not h e)) (λ e. sym e ∙ h) (argument-either w s at u k)
 
 -- a value that was read is behind its start, within the text, and takes its bytes at least
@@ -149,11 +151,14 @@ pub argument-room : (w : Bool) (s : List ℕ) (at u k l : ℕ) (c : Cursor) (n :
 argument-room w s at u k l c n h r = let f = argument-far w s at u k c n h in omega arith
 
 -- the place of a refused one is within the text, where the scan stands within it
-refused-of : (s : List ℕ) (at u k : ℕ) (w : Val) (r : Refusal) → at ≤ length s → valueAt s at ≡ w → argumentOf u k w ≡ Refused r
+refused-of : (s : List ℕ) (at u k : ℕ) (w : Val) (r : Refusal) → at ≤ length s → valueAt s at ≡ w → argumentOf s u k w ≡ Refused r
     → (at ≤ r .at) × (r .at ≤ length s)
 unfolding argumentOf
 refused-of s at u k (value bs e) r l h q = let z : _≡_ {A = ℕ} 0 1 = cc in absurd (omega arith)
-refused-of s at u k (none e) r l h q = let i : e ≡ r .at = cc in omega (arith, none-size s at e l h)
+refused-of s at u k (none e) r l h q =
+    let p : refusedAt (getD s e 256) 4 k e ≡ r = cc in
+    let i : e ≡ r .at = sym (refused-place (getD s e 256) 4 k e) ∙ ap (λ x. x .at) p in
+    omega (arith, none-size s at e l h)
 
 cut-place : (s : List ℕ) {a : Argument} {r : Refusal} → a ≡ Refused r → a ≡ Refused (cutAt (length s)) → r .at ≡ length s
 cut-place s h e = cc
@@ -228,11 +233,13 @@ unfolding argumentAt argumentOf breaksOff placeOf
 argument-open s at u k h = by-val (valueAt s at) refl
   where
     by-val : (v : Val) → valueAt s at ≡ v
-        → (argumentOf u k v ≡ Refused (record { number = 4; keyword = k; at = length s }))
-        ⊎ ((c : Cursor) × (n : ℕ) × (argumentOf u k v ≡ Read c n) × (c .at ≡ length s))
+        → (argumentOf s u k v ≡ Refused (record { number = 4; keyword = k; at = length s }))
+        ⊎ ((c : Cursor) × (n : ℕ) × (argumentOf s u k v ≡ Read c n) × (c .at ≡ length s))
     by-val (value bs e) q = inr (record { at = e }, u + length bs, refl, sym (ap placeOf q) ∙ open-place s at h)
     by-val (none e) q =
-        inl (ap (λ i. Refused (record { number = 4; keyword = k; at = i })) (sym (ap placeOf q) ∙ open-place s at h))
+        let i : e ≡ length s = sym (ap placeOf q) ∙ open-place s at h in
+        let z : isHigh (getD s e 256) ≡ false = high-end (past s e (omega (arith, i))) in
+        inl (ap Refused (sym (refused-other (getD s e 256) 4 k e refl z)) ∙ ap (λ i. Refused (record { number = 4; keyword = k; at = i })) i)
 
 -- at the text's end no byte stands
 pub due-past : (s : List ℕ) (at b k : ℕ) → b < 256 → at ≡ length s → dueAt s at b k ≡ Not (record { number = 6; keyword = k; at = gapEnd s at })

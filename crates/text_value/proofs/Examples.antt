@@ -7,7 +7,7 @@ use Prim.Native.Nat.{ℕ}
 use lib.Dec.{eqb, T}
 use Rattle.text.specs.Class.{classOf}
 use Rattle.text.specs.Due.{dueNumber, dueHere, dueAt}
-use Rattle.text.specs.Refusal.{noValue, otherByte, endOfText, cutShort}
+use Rattle.text.specs.Refusal.{highByteMet, noValue, otherByte, endOfText, cutShort, isHigh, refusedAt}
 use Rattle.text.specs.Keyword.{same, part}
 use Rattle.text.specs.Scan.{inIdent, inRun, span, runEnd, pairAt, closing, blockEnd, commentEnd, afterWhite, gapTurn, gapEnd}
 use Rattle.text.specs.Turns.{turns}
@@ -63,9 +63,9 @@ all [] = true
 all (x ∷ xs) = holds x && all xs
 
 -- "a"+"b" | "a"+"b with no end | "a" + b | "a"+{ | a+"b" | a name after a comment | "\n\t\x" | '\n' | "\"" | '\' | "" | "a with no end |
--- a line comment and no more | byte 28 before a name | byte 11 before a name | /*/ before a name
+-- a line comment and no more | byte 28 before a name | byte 11 before a name | /*/ before a name | "é" | 'é' | "\é" | "é with no end | aé | é
 -- after "a": +"b" | +"b with no end | + b | ;
--- a{ and { | a b and { | a and { | // and { | "a with no end and { | "a"+"b with no end and {
+-- a{ and { | a b and { | a and { | // and { | "a with no end and { | "a"+"b with no end and { | é and { | aé and { | "a" + é and { | "é with no end and {
 -- in the whole-text mode: a{ and { | a and { | // and { | "a with no end and { | "a"+"b with no end and {
 examples : List Example
 examples =
@@ -85,6 +85,12 @@ examples =
     ∷ val (28 ∷ 97 ∷ []) (none 0)
     ∷ val (11 ∷ 97 ∷ []) (value (97 ∷ []) 2)
     ∷ val (47 ∷ 42 ∷ 47 ∷ 97 ∷ []) (none 4)
+    ∷ val (34 ∷ 195 ∷ 169 ∷ 34 ∷ []) (value (195 ∷ 169 ∷ []) 4)
+    ∷ val (39 ∷ 195 ∷ 169 ∷ 39 ∷ []) (value (195 ∷ 169 ∷ []) 4)
+    ∷ val (34 ∷ 92 ∷ 195 ∷ 169 ∷ 34 ∷ []) (value (195 ∷ 169 ∷ []) 5)
+    ∷ val (34 ∷ 195 ∷ 169 ∷ []) (none 3)
+    ∷ val (97 ∷ 195 ∷ 169 ∷ []) (value (97 ∷ []) 1)
+    ∷ val (195 ∷ 169 ∷ []) (none 0)
     ∷ more (34 ∷ 97 ∷ 34 ∷ 43 ∷ 34 ∷ 98 ∷ 34 ∷ []) 3 (added (98 ∷ []) 7)
     ∷ more (34 ∷ 97 ∷ 34 ∷ 43 ∷ 34 ∷ 98 ∷ []) 3 (broken 6)
     ∷ more (34 ∷ 97 ∷ 34 ∷ 43 ∷ 32 ∷ 98 ∷ []) 3 (ends 5)
@@ -95,6 +101,10 @@ examples =
     ∷ refuses false (47 ∷ 47 ∷ []) 123 noValue 2
     ∷ refuses false (34 ∷ 97 ∷ []) 123 noValue 2
     ∷ refuses false (34 ∷ 97 ∷ 34 ∷ 43 ∷ 34 ∷ 98 ∷ []) 123 endOfText 6
+    ∷ refuses false (195 ∷ 169 ∷ 123 ∷ []) 123 highByteMet 0
+    ∷ refuses false (97 ∷ 195 ∷ 169 ∷ 123 ∷ []) 123 highByteMet 1
+    ∷ refuses false (34 ∷ 97 ∷ 34 ∷ 32 ∷ 43 ∷ 32 ∷ 195 ∷ 169 ∷ 123 ∷ []) 123 highByteMet 6
+    ∷ refuses false (34 ∷ 195 ∷ 169 ∷ []) 123 noValue 3
     ∷ reads true (97 ∷ 123 ∷ []) 123 2 1
     ∷ refuses true (97 ∷ []) 123 endOfText 1
     ∷ refuses true (47 ∷ 47 ∷ []) 123 noValue 2
@@ -103,7 +113,7 @@ examples =
     ∷ []
 
 right : T (all examples)
-unfolding examples all holds sameVal sameMore isRead isRefused lineAt afterArgument afterDue argumentAt argumentOf dueAt dueHere dueNumber same valueAt
+unfolding examples all holds sameVal sameMore isRead isRefused lineAt afterArgument afterDue argumentAt argumentOf dueAt dueHere dueNumber refusedAt isHigh same valueAt
     valueHere ofString joined joinedWith joinTurn addTo moreAt afterGap afterPlus addedBy isQuote startsName breaksOff closedAt closedHere closedString
     closedFrom closedTurn closedMore strAt closedBy strBytes strEnd escaped escapes part gapEnd gapTurn afterWhite commentEnd blockEnd closing pairAt runEnd
     span inRun inIdent classOf turns

@@ -1,13 +1,15 @@
 -- A keyword's value, and the byte that is due after it. 4: no value after the keyword. 5: another byte than the one required after it.
 -- 6: the end instead of that byte. Position is the cursor.
 -- 2026-07: in the whole-text mode a value with a string that never closes is 11, before 4 and 6.
+-- 2026-01: 3 before 4 at one place.
 -- Assumes nothing.
 use Prim.Native.Nat.{ℕ, _+_}
 use mathlib.Core.Bool.{Bool, cond, not, _&&_}
 use mathlib.Core.List.{List}
 use lib.ListN.{length}
+use Rattle.text.specs.Bytes.{look}
 use Rattle.text.specs.Due.{dueAt}
-use Rattle.text.specs.Refusal.{noValue, noRefusal, cutAt}
+use Rattle.text.specs.Refusal.{noValue, refusedAt, noRefusal, cutAt}
 use Rattle.text.specs.declared.Due.{Due}
 use Rattle.text.specs.declared.Due.the-variants.{After, Not}
 use Rattle.text.specs.declared.Refusal.{Refusal}
@@ -17,9 +19,9 @@ use Rattle.text_value.specs.declared.Argument.the-variants.{Read, Refuse
 
 -- whole: the whole-text mode, u: the store's next place, k: the keyword, b: the byte that is due
 
-unfoldable pub argumentOf : ℕ → ℕ → Val → Argument
-argumentOf u k (value bs end) = Read (record { at = end }) (u + length bs)
-argumentOf u k (none at) = Refused (record { number = noValue; keyword = k; at = at })
+unfoldable pub argumentOf : List ℕ → ℕ → ℕ → Val → Argument
+argumentOf s u k (value bs end) = Read (record { at = end }) (u + length bs)
+argumentOf s u k (none at) = Refused (refusedAt (look s at) noValue k at)
 
 -- whether a text that must be whole breaks off inside a value; closed: each string of it closes
 unfoldable pub breaksOff : Bool → Bool → Bool
@@ -27,7 +29,7 @@ breaksOff whole closed = whole && not closed
 
 -- the value alone
 unfoldable pub argumentAt : Bool → List ℕ → ℕ → ℕ → ℕ → Argument
-argumentAt whole s at u k = cond (breaksOff whole (closedAt s at)) (Refused (cutAt (length s))) (argumentOf u k (valueAt s at))
+argumentAt whole s at u k = cond (breaksOff whole (closedAt s at)) (Refused (cutAt (length s))) (argumentOf s u k (valueAt s at))
 
 unfoldable pub afterDue : ℕ → Due → Argument
 afterDue n (After c) = Read c n

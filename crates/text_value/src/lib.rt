@@ -73,8 +73,8 @@ pub fn argument_refusal(a: Argument) -> Refusal
     }
 }
 
-// Reads the value that is due after a keyword. Where there is none, nothing is stored and the refusal is 4. `whole`: a string of it that never
-// closes is refused (11).
+// Reads the value that is due after a keyword. Where there is none, nothing is stored and the refusal is 4, or 3 where a byte of 128 or more stands.
+// `whole`: a string of it that never closes is refused (11).
 pub fn read_value(
     here: Cursor,
     classes: &[u8; 128],
@@ -99,11 +99,13 @@ pub fn read_value(
             return Argument::Refused(text::cut_short(s.len()));
         }
         let c = value_end(got);
-        return Argument::Refused(Refusal {
-            number: text::NO_VALUE,
+        let at = c.at;
+        return Argument::Refused(text::refused_at(
+            text::peek_char(s, at),
+            text::NO_VALUE,
             keyword,
-            at: c.at,
-        });
+            at,
+        ));
     };
     if breaks_off(whole, closed) {
         return Argument::Refused(text::cut_short(s.len()));

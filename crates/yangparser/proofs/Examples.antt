@@ -5,6 +5,7 @@ use mathlib.Core.List.{List, [], _∷_, _++_}
 use Prim.Native.Nat.{ℕ}
 use lib.Dec.{T}
 use lib.ListN.{length}
+use Rattle.text.specs.Refusal.{isHigh, refusedAt}
 use Rattle.text.specs.Class.{classOf}
 use Rattle.text.specs.Due.{dueNumber, dueHere, dueAt}
 use Rattle.text.specs.Keyword.{startsIdent, endsKeyword, same, part, keywordAt, matchAt, orMatch}
@@ -16,8 +17,9 @@ use Rattle.text_value.specs.Value.{startsName, addedBy, afterPlus, afterGap, mo
 use Rattle.text_value.specs.Value.{valueHere, valueAt, valueBytes, closedMore, closedTurn, closedFrom, closedString, closedHere, closedAt}
 use Rattle.text_past.specs.Past.{brokeOff, pastOf}
 use Rattle.text_skip.specs.Skip.{closedToken, tokenHere, tokenAt, pastToken}
-use Rattle.text_statement.specs.Statement.{closes, quotedLen, quotedEnd, atSemicolon, atClose, partOf, partAt, ofPart, statementTurn, statementFrom}
+use Rattle.text_statement.specs.Statement.{closes, quotedLen, quotedEnd, atSemicolon, atClose, partOf, partAt, ofPart, statementTurn, statementFrom, atOther}
 use Rattle.text_statement.specs.Statement.{statementAt, pastStatement}
+use Rattle.text_utf8.specs.Utf8.{wrongFrom, charTurn, seqLen, charLen, one, two, three, second3, four, second4, tail}
 use Rattle.text_lent.specs.Lent.{lentAt}
 use Rattle.scan_rows.specs.Rows.{importWords, includeWords, table, importTable, includeTable}
 use Rattle.scan_block.specs.Block.{orLine, lineKind, kept, withValue, withSkipped, afterKind, insideHere, insideAt, afterInside, blockTurn, blockFrom, blockAt}
@@ -47,6 +49,8 @@ all (x ∷ xs) = holds x && all xs
 -- include a; reference x; import b | import a{prefix "";} | import a{prefix p;prefix q;} | import "a"+{prefix p;revision-date r;} include b{revision-date
 -- s;} | byte 200, too little lent | a blank and byte 200
 -- in the whole-text mode: x "abc | "\" | import a{x | description "cut | //cut | import a{} "x | a quote and byte 200
+-- with accents: import a{x " and byte 195 | import "é"{prefix 'ü';} | x é | fooé bar | import é{ | import a é{ | import a{é} | import a{}é |
+-- import a{x 'é\';prefix p;} | import a/*é | description é | a byte order mark and module m{} | in the whole-text mode: x é "cut | "cut é
 examples : List Example
 examples =
     example false (105 ∷ 109 ∷ 112 ∷ 111 ∷ 114 ∷ 116 ∷ 32 ∷ 97 ∷ 32 ∷ 98 ∷ []) false (5 ∷ 8 ∷ 9 ∷ [])
@@ -73,14 +77,30 @@ examples =
     ∷ 118 ∷ 105 ∷ 115 ∷ 105 ∷ 111 ∷ 110 ∷ 45 ∷ 100 ∷ 97 ∷ 116 ∷ 101 ∷ 32 ∷ 115 ∷ 59 ∷ 125 ∷ []) false
     (0 ∷ 1 ∷ 1 ∷ 0 ∷ 1 ∷ 1 ∷ 1 ∷ 1 ∷ 2 ∷ 1 ∷ 3 ∷ 1 ∷ 1 ∷ 4 ∷ 1 ∷ 97 ∷ 112 ∷ 114 ∷ 98 ∷ 115 ∷ [])
     ∷ example false (200 ∷ []) true (2 ∷ 0 ∷ 0 ∷ [])
-    ∷ example false (32 ∷ 200 ∷ []) false (3 ∷ 0 ∷ 1 ∷ [])
+    ∷ example false (32 ∷ 200 ∷ []) false (12 ∷ 0 ∷ 1 ∷ [])
     ∷ example true (120 ∷ 32 ∷ 34 ∷ 97 ∷ 98 ∷ 99 ∷ []) false (11 ∷ 0 ∷ 6 ∷ [])
     ∷ example true (34 ∷ 92 ∷ 34 ∷ []) false (11 ∷ 0 ∷ 3 ∷ [])
     ∷ example true (105 ∷ 109 ∷ 112 ∷ 111 ∷ 114 ∷ 116 ∷ 32 ∷ 97 ∷ 123 ∷ 120 ∷ []) false (11 ∷ 0 ∷ 10 ∷ [])
     ∷ example true (100 ∷ 101 ∷ 115 ∷ 99 ∷ 114 ∷ 105 ∷ 112 ∷ 116 ∷ 105 ∷ 111 ∷ 110 ∷ 32 ∷ 34 ∷ 99 ∷ 117 ∷ 116 ∷ []) false (0 ∷ 0 ∷ 0 ∷ [])
     ∷ example true (47 ∷ 47 ∷ 99 ∷ 117 ∷ 116 ∷ []) false (0 ∷ 0 ∷ 0 ∷ [])
     ∷ example true (105 ∷ 109 ∷ 112 ∷ 111 ∷ 114 ∷ 116 ∷ 32 ∷ 97 ∷ 123 ∷ 125 ∷ 32 ∷ 34 ∷ 120 ∷ []) false (7 ∷ 8 ∷ 10 ∷ [])
-    ∷ example true (34 ∷ 200 ∷ []) false (3 ∷ 0 ∷ 1 ∷ [])
+    ∷ example true (34 ∷ 200 ∷ []) false (12 ∷ 0 ∷ 1 ∷ [])
+    ∷ example false (105 ∷ 109 ∷ 112 ∷ 111 ∷ 114 ∷ 116 ∷ 32 ∷ 97 ∷ 123 ∷ 120 ∷ 32 ∷ 34 ∷ 195 ∷ 34 ∷ 125 ∷ []) false (12 ∷ 0 ∷ 12 ∷ [])
+    ∷ example false (105 ∷ 109 ∷ 112 ∷ 111 ∷ 114 ∷ 116 ∷ 32 ∷ 34 ∷ 195 ∷ 169 ∷ 34 ∷ 123 ∷ 112 ∷ 114 ∷ 101 ∷ 102 ∷ 105 ∷ 120 ∷ 32 ∷ 39 ∷ 195 ∷ 188
+    ∷ 39 ∷ 59 ∷ 125 ∷ []) false (0 ∷ 1 ∷ 0 ∷ 0 ∷ 2 ∷ 2 ∷ 2 ∷ 0 ∷ 0 ∷ 0 ∷ 195 ∷ 169 ∷ 195 ∷ 188 ∷ [])
+    ∷ example false (120 ∷ 32 ∷ 195 ∷ 169 ∷ []) false (3 ∷ 0 ∷ 2 ∷ [])
+    ∷ example false (102 ∷ 111 ∷ 111 ∷ 195 ∷ 169 ∷ 32 ∷ 98 ∷ 97 ∷ 114 ∷ []) false (3 ∷ 0 ∷ 3 ∷ [])
+    ∷ example false (105 ∷ 109 ∷ 112 ∷ 111 ∷ 114 ∷ 116 ∷ 32 ∷ 195 ∷ 169 ∷ 123 ∷ []) false (3 ∷ 0 ∷ 7 ∷ [])
+    ∷ example false (105 ∷ 109 ∷ 112 ∷ 111 ∷ 114 ∷ 116 ∷ 32 ∷ 97 ∷ 32 ∷ 195 ∷ 169 ∷ 123 ∷ []) false (3 ∷ 0 ∷ 9 ∷ [])
+    ∷ example false (105 ∷ 109 ∷ 112 ∷ 111 ∷ 114 ∷ 116 ∷ 32 ∷ 97 ∷ 123 ∷ 195 ∷ 169 ∷ 125 ∷ []) false (3 ∷ 0 ∷ 9 ∷ [])
+    ∷ example false (105 ∷ 109 ∷ 112 ∷ 111 ∷ 114 ∷ 116 ∷ 32 ∷ 97 ∷ 123 ∷ 125 ∷ 195 ∷ 169 ∷ []) false (7 ∷ 8 ∷ 10 ∷ [])
+    ∷ example false (105 ∷ 109 ∷ 112 ∷ 111 ∷ 114 ∷ 116 ∷ 32 ∷ 97 ∷ 123 ∷ 120 ∷ 32 ∷ 39 ∷ 195 ∷ 169 ∷ 92 ∷ 39 ∷ 59 ∷ 112 ∷ 114 ∷ 101 ∷ 102 ∷ 105
+    ∷ 120 ∷ 32 ∷ 112 ∷ 59 ∷ 125 ∷ []) false (8 ∷ 8 ∷ 27 ∷ [])
+    ∷ example false (105 ∷ 109 ∷ 112 ∷ 111 ∷ 114 ∷ 116 ∷ 32 ∷ 97 ∷ 47 ∷ 42 ∷ 195 ∷ 169 ∷ []) false (6 ∷ 8 ∷ 12 ∷ [])
+    ∷ example false (100 ∷ 101 ∷ 115 ∷ 99 ∷ 114 ∷ 105 ∷ 112 ∷ 116 ∷ 105 ∷ 111 ∷ 110 ∷ 32 ∷ 195 ∷ 169 ∷ []) false (0 ∷ 0 ∷ 0 ∷ [])
+    ∷ example false (239 ∷ 187 ∷ 191 ∷ 109 ∷ 111 ∷ 100 ∷ 117 ∷ 108 ∷ 101 ∷ 32 ∷ 109 ∷ 123 ∷ 125 ∷ []) false (3 ∷ 0 ∷ 0 ∷ [])
+    ∷ example true (120 ∷ 32 ∷ 195 ∷ 169 ∷ 32 ∷ 34 ∷ 99 ∷ 117 ∷ 116 ∷ []) false (3 ∷ 0 ∷ 2 ∷ [])
+    ∷ example true (34 ∷ 99 ∷ 117 ∷ 116 ∷ 32 ∷ 195 ∷ 169 ∷ []) false (11 ∷ 0 ∷ 7 ∷ [])
     ∷ []
 
 right : T (all examples)
@@ -91,5 +111,6 @@ unfolding examples all holds outcome importWordsOf includeWordsOf joined importS
     lineAt escaped escapes strEnd strBytes closedBy strAt isQuote startsName addedBy afterPlus afterGap moreAt addTo joinTurn joinedWith joinedValue ofString
     valueHere valueAt closedMore closedTurn closedFrom closedString closedHere closedAt valueBytes closedToken tokenHere tokenAt closes quotedLen quotedEnd
     atSemicolon atClose partOf partAt ofPart statementTurn statementFrom statementAt pastStatement dueNumber dueHere dueAt startsIdent endsKeyword same part
-    keywordAt matchAt gapEnd gapTurn afterWhite commentEnd blockEnd closing pairAt runEnd span inRun inIdent classOf turns
+    keywordAt matchAt gapEnd gapTurn afterWhite commentEnd blockEnd closing pairAt runEnd span inRun inIdent classOf turns refusedAt isHigh atOther
+    wrongFrom charTurn seqLen charLen one two three second3 four second4 tail
 right = tt

@@ -15,6 +15,7 @@ use Rattle.text.specs.declared.Due.the-variants.{After, Not}
 use Rattle.text.proofs.Here.{by-test}
 use Rattle.text.proofs.Laws.{gap-from}
 use Rattle.text_skip.specs.Skip.{pastToken}
+use Rattle.text_past.proofs.PastLaws.{refused-within}
 use Rattle.text_skip.proofs.PastLaws.{past-token-far, past-token-not}
 use Rattle.scan_rows.specs.Rows.{mostRows}
 use Rattle.scan_imports.specs.Statement.{importAt, includeAt}
@@ -126,7 +127,7 @@ token-went : (whole : Bool) (s : List ℕ) (far : Sofar) (g : ℕ) → far .at �
 unfolding afterToken movedTo
 token-went whole s far g from in-text (After c) e =
     let f = past-token-far whole s g in-text c e in (omega (arith, f .0), f .1, omega arith, omega arith, omega arith)
-token-went whole s far g from in-text (Not r) e = λ i. omega (arith, ap (λ q. q .at) (past-token-not whole s g r e))
+token-went whole s far g from in-text (Not r) e = λ i. refused-within s r (past-token-not whole s g r e)
 
 head-said : (whole : Bool) (s : List ℕ) (far : Sofar) (g : ℕ) → far .at ≤ g → g < length s → (w : Head) → headAt s g ≡ w
     → Said s far (headStep whole s far g w)

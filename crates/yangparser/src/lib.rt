@@ -89,7 +89,7 @@ pub fn scan_over(
 {
     let classes = text::classes();
     let unfit = scan_rows::too_short(short, s.len(), store.len(), imports.len(), includes.len());
-    let lent = text_lent::check_lent(&classes, s, unfit);
+    let lent = text_lent::check_lent(s, unfit);
     let Lent::Fit = lent else {
         return Parsed::Refused(text_lent::lent_refusal(lent));
     };

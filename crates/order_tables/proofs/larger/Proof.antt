@@ -1,7 +1,7 @@
 -- `order_tables::larger`. Each branch is one of the definition.
 -- Assumes nothing.
 use borrow.Author.Tests.{le-leb, lt-leb}
-use Rattle.text.specs.High.{larger}
+use Rattle.text_utf8.specs.Largest.{larger}
 use Rattle.order_tables.proofs.larger.Statement.{statement}
 use Rattle.order_tables.proofs.larger.Tie as tie
 

@@ -4,8 +4,8 @@ use borrow.Author.Needs.{needs}
 use mathlib.Core.Path.{_≡_, refl, sym, _∙_}
 use Prim.Native.Nat.{_-_}
 use lib.ListN.{length, drop}
-use Rattle.text.specs.High.{largest}
-use Rattle.text.proofs.HighLaws.{largest-more, largest-past}
+use Rattle.text_utf8.specs.Largest.{largest}
+use Rattle.text_utf8.proofs.LargestLaws.{largest-more, largest-past}
 use Rattle.order_tables.proofs.largest.Statement.{statement}
 use Rattle.order_tables.proofs.largest.Tie as tie
 

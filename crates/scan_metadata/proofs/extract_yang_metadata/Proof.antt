@@ -11,7 +11,7 @@ returns c =
     let refusal = c .before in
     let told = refusal .before in
     let check = told .before .before in
-    let clear = check .before .before .before .before .before in
+    let clear = check .before .before .before .before in
     let a = clear .before .before .before .before .args in
     let k = told .enum-told2 .given in
     entry-refused (a .whole) (a .s .now) (a .store .now) (clear .clear-bytes .ensures) refl (check .check-lent .ensures) (k .0 .0) (k .1)
@@ -21,7 +21,7 @@ parse-cleared-requires : tie.Need-parse-cleared-requires
 parse-cleared-requires c κs =
     let told = c .before .before in
     let check = told .before .before in
-    let classes = check .before .before in
+    let classes = check .before in
     let clear = classes .before .before .before in
     let a = clear .before .before .before .before .args in
     entry-cleared (a .whole) (a .s .now) (a .store .now) (clear .clear-bytes .ensures) refl (check .check-lent .ensures) (told .enum-told .given .1)
@@ -31,7 +31,7 @@ returns-2 : tie.Need-returns-2
 returns-2 c =
     let told = c .before .before .before .before .before in
     let check = told .before .before in
-    let clear = check .before .before .before .before .before in
+    let clear = check .before .before .before .before in
     let a = clear .before .before .before .before .args in
     entry-scanned (a .whole) (a .s .now) (a .store .now) (clear .clear-bytes .ensures) refl (check .check-lent .ensures) (told .enum-told .given .1)
     (c .before .before .parse-cleared .ensures)

@@ -2,7 +2,7 @@
 -- Assumes nothing.
 use mathlib.Core.Path.{sym}
 use borrow.Author.Needs.{needs}
-use Rattle.text.proofs.Laws.{run-white, run-line, run-ident, run-name, run-name-too, run-low}
+use Rattle.text.proofs.Laws.{run-white, run-line, run-ident, run-name, run-name-too}
 use Rattle.text.proofs.in_run.Statement.{statement}
 use Rattle.text.proofs.in_run.Tie as tie
 
@@ -31,9 +31,6 @@ returns-5 c =
     let kind = ident .before in
     sym (run-name-too (kind .before .before .args .b) (kind .enum-told4 .given .1) (ident .in-ident2 .ensures) (c .if1 .left))
 
-returns-6 : tie.Need-returns-6
-returns-6 c = run-low (c .before .before .args .b) (c .enum-told5 .given .1)
-
 pub in-run-spec : {M : Type 1} → statement M
 in-run-spec =
     tie.close
@@ -46,9 +43,7 @@ in-run-spec =
     (λ c. search needs)
     (λ c κs. search needs)
     returns
-    (λ c. search needs)
     returns-2
     returns-3
     returns-4
-    returns-5
-    returns-6)
+    returns-5)

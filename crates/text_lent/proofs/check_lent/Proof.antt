@@ -1,6 +1,6 @@
 -- `text_lent::check_lent`. Each test decides where those before it passed.
 -- Assumes nothing.
-use Rattle.text_lent.proofs.LentLaws.{lent-long, lent-short, lent-high, lent-fit}
+use Rattle.text_lent.proofs.LentLaws.{lent-long, lent-short, lent-wrong, lent-fit}
 use borrow.Author.Needs.{needs}
 use Rattle.text_lent.proofs.check_lent.Statement.{statement}
 use Rattle.text_lent.proofs.check_lent.Tie as tie
@@ -12,7 +12,7 @@ returns-2 : tie.Need-returns-2
 returns-2 c = search lent-short
 
 returns-3 : tie.Need-returns-3
-returns-3 c = search lent-high
+returns-3 c = search lent-wrong
 
 returns-4 : tie.Need-returns-4
 returns-4 c = search lent-fit

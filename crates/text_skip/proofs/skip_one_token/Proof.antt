@@ -1,8 +1,9 @@
--- `text_skip::skip_one_token`. An identifier's first byte, a quote or any other stands here: one law for each, and two for a string.
+-- `text_skip::skip_one_token`. An identifier's first byte, a quote or any other stands here: one law for each, two for a string and two for
+-- any other byte.
 -- Assumes nothing.
 use mathlib.Core.Path.{sym}
 use borrow.Author.Needs.{needs}
-use Rattle.text_skip.proofs.SkipLaws.{token-past, token-closed, token-cut, token-name, token-byte}
+use Rattle.text_skip.proofs.SkipLaws.{token-past, token-closed, token-cut, token-name, token-high, token-byte}
 use Rattle.text_skip.proofs.skip_one_token.Statement.{statement}
 use Rattle.text_skip.proofs.skip_one_token.Tie as tie
 
@@ -46,14 +47,30 @@ returns-4 c =
 
 returns-5 : tie.Need-returns-5
 returns-5 c =
-    let quote = c .before in
+    let if4 = c .before in
+    let high = if4 .before in
+    let if3 = high .before in
+    let quote = if3 .before in
+    let if2 = quote .before in
+    let starts = if2 .before in
+    let peek = starts .before in
+    let if1 = peek .before in
+    let a = if1 .before .before .args in
+    sym (token-high (a .s .now) (a .here .at) (if1 .if1 .left) (peek .peek-char .ensures) (starts .starts-ident .ensures) (if2 .if2 .left)
+    (quote .is-quote .ensures) (if3 .if3 .left) (high .is-high .ensures) (if4 .if4 .taken) (c .high-byte .ensures))
+
+returns-6 : tie.Need-returns-6
+returns-6 c =
+    let high = c .before in
+    let if3 = high .before in
+    let quote = if3 .before in
     let if2 = quote .before in
     let starts = if2 .before in
     let peek = starts .before in
     let if1 = peek .before in
     let a = if1 .before .before .args in
     sym (token-byte (a .s .now) (a .here .at) (if1 .if1 .left) (peek .peek-char .ensures) (starts .starts-ident .ensures) (if2 .if2 .left)
-    (quote .is-quote .ensures) (c .if3 .left))
+    (quote .is-quote .ensures) (if3 .if3 .left) (high .is-high .ensures) (c .if4 .left))
 
 pub skip-one-token-spec : {M : Type 1} → statement M
 skip-one-token-spec =
@@ -72,4 +89,7 @@ skip-one-token-spec =
     (λ c. search needs)
     returns-3
     returns-4
-    returns-5)
+    (λ c κs. search needs)
+    (λ c κs. search needs)
+    returns-5
+    returns-6)

@@ -38,10 +38,13 @@ returns-5 c =
 
 returns-6 : tie.Need-returns-6
 returns-6 c =
-    let if1 = c .before .before in
+    let peek = c .before in
+    let key = peek .before in
+    let if1 = key .before .before in
     let a = if1 .before .before .args in
-    sym (part-other (a .s .now) (a .here .at) (a .depth) (if1 .if1 .left) (c .match .rest .0 .0 .0 .1) (c .match .rest .0 .0 .1) (c .match .rest .0 .1)
-    (c .match .rest .1))
+    c .at-other .ensures
+    ∙ sym (part-other (a .s .now) (a .here .at) (a .depth) (if1 .if1 .left) (key .match .rest .0 .0 .0 .1) (key .match .rest .0 .0 .1)
+    (key .match .rest .0 .1) (key .match .rest .1) (peek .peek-char .ensures))
 
 pub skip-part-spec : {M : Type 1} → statement M
 skip-part-spec =
@@ -53,6 +56,8 @@ skip-part-spec =
     (λ c κs. search needs)
     (λ c κs. search needs)
     (λ c. search needs)
+    (λ c κs. search needs)
+    (λ c κs. search needs)
     (λ c κs. search needs)
     returns-2
     returns-3

@@ -59,7 +59,7 @@ returns c =
     let part = known .before .before in
     let at-loop = part .before in
     sym (statement-stop (at-loop .before .before .args .s .now) (at-loop .loop .at) (at-loop .loop .depth) (sym (at-loop .loop .inv .1))
-    (part .skip-part .ensures) (known .end .given .0 .0) (known .end .given .0 .1 .0) (known .end .given .1)) ∙ at-loop .loop .inv .2
+    (part .skip-part .ensures) (known .end .given .0 .0) (known .end .given .1)) ∙ at-loop .loop .inv .2
 
 pub skip-statement-spec : {M : Type 1} → statement M
 skip-statement-spec =

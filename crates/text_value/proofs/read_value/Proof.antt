@@ -21,7 +21,9 @@ returns c =
 
 returns-2 : tie.Need-returns-2
 returns-2 c =
-    let off = c .before .before in
+    let peek = c .before in
+    let end = peek .before in
+    let off = end .before .before in
     let closed = off .before in
     let told = closed .before in
     let at-read = told .before .before .before .before in
@@ -29,7 +31,8 @@ returns-2 c =
     let v = at-read .read-string-or-identifier in
     let k = told .enum-told .given in (
       sym (argument-missing (a .whole) (a .s .now) (a .here .at) (a .used) (a .keyword) (v .ensures .0) (closed .value-closed .ensures)
-          (off .breaks-off .ensures) (c .before .if1 .left) (k .0 .0) (k .0 .1 .0) (k .1) (c .value-end .ensures)),
+          (off .breaks-off .ensures) (end .before .if1 .left) (k .0 .0) (k .0 .1 .0) (k .1) (end .value-end .ensures) (peek .peek-char .ensures)
+          (c .refused-at .ensures)),
       v .ensures .1,
     )
 
@@ -71,6 +74,8 @@ read-value-spec =
     (λ c κs. search needs)
     (λ c. search needs)
     returns
+    (λ c κs. search needs)
+    (λ c κs. search needs)
     (λ c κs. search needs)
     (λ c. search needs)
     returns-2

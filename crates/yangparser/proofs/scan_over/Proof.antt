@@ -12,7 +12,7 @@ parse-requires : tie.Need-parse-requires
 parse-requires c κs =
     let told = c .before .before .before .before in
     let check = told .before .before in
-    let short = check .before .before in
+    let short = check .before in
     let classes = short .before in
     let a = classes .before .before .before .before .before .args in
     let k = over-fits (a .whole) (a .s .now) (a .short) (a .store .now) (a .imports .now) (a .includes .now)

@@ -31,12 +31,13 @@ returns-2 c =
 
 returns-3 : tie.Need-returns-3
 returns-3 c =
-    let if1 = c .before in
+    let if2 = c .before in
+    let if1 = if2 .before in
     let peek = if1 .before in
     let gap = peek .before in
     let a = gap .before .before .args in
     sym (due-other (a .s .now) (a .self .at) (a .b) (a .keyword) (gap .skip-whitespace-and-comments .ensures) (peek .peek-char .ensures) (if1 .if1 .left)
-    (c .if2 .left))
+    (if2 .if2 .left) (c .refused-at .ensures))
 
 pub expect-char-spec : {M : Type 1} → statement M
-expect-char-spec = tie.close (tie.spec (λ c κs. search needs) (λ c κs. search needs) add-end returns returns-2 returns-3)
+expect-char-spec = tie.close (tie.spec (λ c κs. search needs) (λ c κs. search needs) add-end returns returns-2 (λ c κs. search needs) returns-3)

@@ -1,13 +1,13 @@
--- `text::largest`. The larger of two numbers is kept, so the largest of that so far and the rest is the largest of all.
+-- `text_utf8::largest`. The larger of two numbers is kept, so the largest of that so far and the rest is the largest of all.
 -- Assumes nothing.
 use mathlib.Core.Path.{_≡_, refl, sym, _∙_}
 use Prim.Native.Nat.{_-_}
 use lib.ListN.{length, drop}
 use native.Mathlib.Omega.{arith}
-use Rattle.text.specs.High.{largest}
-use Rattle.text.proofs.HighLaws.{largest-more, largest-past}
-use Rattle.text.proofs.largest.Statement.{statement}
-use Rattle.text.proofs.largest.Tie as tie
+use Rattle.text_utf8.specs.Largest.{largest}
+use Rattle.text_utf8.proofs.LargestLaws.{largest-more, largest-past}
+use Rattle.text_utf8.proofs.largest.Statement.{statement}
+use Rattle.text_utf8.proofs.largest.Tie as tie
 
 abbrev Inv-loop : tie.InvT-loop
 Inv-loop s most₀ i₀ most i = largest most (drop i s) ≡ largest 0 s

@@ -1,5 +1,4 @@
--- 3: a byte is 128 or more, first such place. The place is where the run of lower bytes from the start ends (`runEnd Low`); the largest byte tells
--- whether there is one.
+-- The largest byte of some: it tells whether all of them are below 128.
 -- Assumes nothing.
 use Prim.Native.Nat.{ℕ}
 use mathlib.Core.Bool.{cond}

@@ -1,9 +1,9 @@
--- `text::larger`. Each branch is one of the definition.
+-- `text_utf8::larger`. Each branch is one of the definition.
 -- Assumes nothing.
 use borrow.Author.Tests.{le-leb, lt-leb}
-use Rattle.text.specs.High.{larger}
-use Rattle.text.proofs.larger.Statement.{statement}
-use Rattle.text.proofs.larger.Tie as tie
+use Rattle.text_utf8.specs.Largest.{larger}
+use Rattle.text_utf8.proofs.larger.Statement.{statement}
+use Rattle.text_utf8.proofs.larger.Tie as tie
 
 returns : tie.Need-returns
 unfolding larger

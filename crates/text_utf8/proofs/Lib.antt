@@ -1,0 +1,3 @@
+pub mod Examples
+pub mod LargestLaws
+pub mod Utf8Laws
