@@ -74,13 +74,14 @@ from_c_and_rust() {
     "$here/../examples/test.sh"
 }
 
-# The first six ask the original nothing. Where the original never ends, the texts wait for it: the others go on beside them.
+# The first seven ask the original nothing. Where the original never ends, the texts wait for it: the others go on beside them.
 compared() {
     [ "$minor" -ge 88 ] || { skip "no Rust of 1.88 or newer" "the comparison"; return 0; }
     "$here/compare/build.sh"
     "$compare" edges
     "$compare" changes 3 24
     "$compare" whole 9 20000
+    "$compare" accents 9 20000
     "$compare" complete 9 5000
     "$compare" orders 13 20000
     "$here/libyang/test.py"
@@ -90,6 +91,7 @@ compared() {
     # shellcheck disable=SC2086
     "$compare" files 3 3 $real
     "$compare" whole-beside 9 2000
+    "$compare" accents-beside 9 2000
     "$compare" finds 5 2000
     "$compare" graphs 9 2000
     "$compare" sorts 13 5000

@@ -64,9 +64,13 @@ extern "C" {
 
 /* ---- Scans: one YANG text
  *
- * A text has bytes below 128. A value in it is a name, a quoted string, or several strings joined by +. In double quotes \n is byte 10, \t is byte 9, and
- * a backslash before another byte is dropped. The values that are read are put into the store one behind the other, without quotes, those that a later
- * one replaces too, but of metadata no yang-version and no prefix behind the first; rows and records have the start of a value in the store and its length.
+ * A value in a text is a name, a quoted string, or several strings joined by +. In double quotes \n is byte 10, \t is byte 9, and a backslash before another
+ * byte is dropped. The values that are read are put into the store one behind the other, without quotes, those that a later one replaces too, but of metadata
+ * no yang-version and no prefix behind the first; rows and records have the start of a value in the store and its length.
+ *
+ * UTF-8. A text is UTF-8 (RFC 3629), all of it, read or not. Bytes above 127 may stand in comments and behind the opening quote of a string, closed or not.
+ * They are copied as they are, so values and the page are UTF-8 too. Elsewhere such a byte is part of no name and no keyword, ends none, is not white, and is
+ * refused where the scan meets it. A byte order mark is such a byte. Places and lengths count bytes.
  *
  * WHOLE TEXTS. A text whose download broke off may be scanned as if it were whole, since a string, and a statement that is passed over, may end with the text.
  * The calls with _whole refuse that with NUVALETA_CUT_SHORT, with no keyword and the text's end as position, in the place of an answer or of refusal 4, 6, 8 or
@@ -127,12 +131,12 @@ enum nuvaleta_scan_word {
     NUVALETA_METADATA_STORED = 3         /* bytes of the store */
 };
 
-/* Refusals of a scan: 1, 2 and 3 are looked for first, in this order, the others as the text is read. "After it": after the keyword and its value. 11 is of
+/* Refusals of a scan: 1, 2 and 12 are looked for first, in this order, the others as the text is read. "After it": after the keyword and its value. 11 is of
  * the calls with _whole alone. */
 enum nuvaleta_scan_refusal {
     NUVALETA_TEXT_TOO_LONG = 1,   /* text over NUVALETA_TEXT_MOST bytes */
     NUVALETA_LENT_TOO_SHORT = 2,  /* store, table or page too short */
-    NUVALETA_HIGH_BYTE = 3,       /* a byte of 128 or more; position: the first such byte */
+    NUVALETA_HIGH_BYTE = 3,       /* a byte above 127 outside of strings and comments; instead of 4 and 5 at that byte; position: that byte */
     NUVALETA_NO_VALUE = 4,        /* no value after the keyword; position: where it would begin, or the text's end for a quote that never closes */
     NUVALETA_OTHER_BYTE = 5,      /* another byte than the one required after it; position: that other byte */
     NUVALETA_END_OF_TEXT = 6,     /* the end instead of that byte; position: the text's end */
@@ -140,7 +144,8 @@ enum nuvaleta_scan_refusal {
     NUVALETA_OPEN_ENDED = 8,      /* the end inside the block of an import or include; position: the text's end */
     NUVALETA_NO_NAME = 9,         /* metadata without a name; position: behind the word that ended the scan, or the text's end */
     NUVALETA_TOO_MANY = 10,       /* a 257th import or a 257th include; position: behind that keyword */
-    NUVALETA_CUT_SHORT = 11       /* the end inside a string, or inside a statement that is passed over; before 4, 6, 8 and 9; position: the text's end */
+    NUVALETA_CUT_SHORT = 11,      /* the end inside a string, or inside a statement that is passed over; before 4, 6, 8 and 9; position: the text's end */
+    NUVALETA_NOT_UTF8 = 12        /* bytes that are not UTF-8; position: where the first wrong sequence begins */
 };
 
 enum nuvaleta_keyword {
@@ -158,7 +163,7 @@ enum nuvaleta_keyword {
 };
 
 /* The imports and includes of a text, up to its first organization, contact, description or reference, or its end. Of several prefixes or
- * revision-dates in one block the last one holds. Refusals: 1 to 8 and 10.
+ * revision-dates in one block the last one holds. Refusals: 1 to 8, 10 and 12.
  *
  * answer[NUVALETA_DEPENDENCIES_ANSWER]
  *
@@ -180,6 +185,16 @@ enum nuvaleta_keyword {
  *     number = nuvaleta_dependencies((const uint8_t *)"import a b", 10, store, sizeof store, imports, NUVALETA_IMPORT_WORDS,
  *                                    includes, NUVALETA_INCLUDE_WORDS, answer);
  *     assert(number == NUVALETA_OTHER_BYTE && answer[NUVALETA_SCAN_KEYWORD] == NUVALETA_IMPORT && answer[NUVALETA_SCAN_POSITION] == 9);
+ *
+ *     number = nuvaleta_dependencies((const uint8_t *)"include 'caf\303\251';", 16, store, sizeof store, imports, NUVALETA_IMPORT_WORDS,
+ *                                    includes, NUVALETA_INCLUDE_WORDS, answer);
+ *     assert(number == 0 && includes[NUVALETA_INCLUDE_NAME_LENGTH] == 5 && memcmp(store, "caf\303\251", 5) == 0);
+ *     number = nuvaleta_dependencies((const uint8_t *)"include caf\303\251;", 14, store, sizeof store, imports, NUVALETA_IMPORT_WORDS,
+ *                                    includes, NUVALETA_INCLUDE_WORDS, answer);
+ *     assert(number == NUVALETA_HIGH_BYTE && answer[NUVALETA_SCAN_KEYWORD] == NUVALETA_NO_KEYWORD && answer[NUVALETA_SCAN_POSITION] == 11);
+ *     number = nuvaleta_dependencies((const uint8_t *)"include 'caf\351';", 15, store, sizeof store, imports, NUVALETA_IMPORT_WORDS,
+ *                                    includes, NUVALETA_INCLUDE_WORDS, answer);
+ *     assert(number == NUVALETA_NOT_UTF8 && answer[NUVALETA_SCAN_POSITION] == 12); // as ISO 8859-1 has it
  */
 uint32_t nuvaleta_dependencies(const uint8_t *text, size_t text_len, uint8_t *store, size_t store_len, uint32_t *imports, size_t imports_len,
                                uint32_t *includes, size_t includes_len, uint32_t *answer);
@@ -220,8 +235,8 @@ enum nuvaleta_value_word {
     NUVALETA_VALUE_LENGTH = 2
 };
 
-/* The metadata of a text, up to its first container, list, leaf, grouping, typedef, identity, augment, rpc or notification, or its end. Refusals: 1 to 6
- * and 9.
+/* The metadata of a text, up to its first container, list, leaf, grouping, typedef, identity, augment, rpc or notification, or its end. Refusals: 1 to 6,
+ * 9 and 12.
  *
  * record[NUVALETA_RECORD_WORDS], answer[NUVALETA_METADATA_ANSWER]
  *
@@ -239,7 +254,7 @@ enum nuvaleta_value_word {
  */
 uint32_t nuvaleta_metadata(const uint8_t *text, size_t text_len, uint8_t *store, size_t store_len, uint32_t *record, uint32_t *answer);
 
-/* The imports and includes of a text of which nothing that is read may break off. Refusals: 1 to 8, 10 and 11.
+/* The imports and includes of a text of which nothing that is read may break off. Refusals: 1 to 8 and 10 to 12.
  *
  * answer[NUVALETA_DEPENDENCIES_ANSWER]
  *
@@ -284,7 +299,7 @@ uint32_t nuvaleta_dependencies_whole(const uint8_t *text, size_t text_len, uint8
 uint32_t nuvaleta_printed_whole(const uint8_t *text, size_t text_len, uint8_t *store, size_t store_len, uint32_t *imports, size_t imports_len,
                                 uint32_t *includes, size_t includes_len, uint8_t *page, size_t page_len, uint32_t *answer);
 
-/* The metadata of a text of which nothing that is read may break off. Refusals: 1 to 6, 9 and 11.
+/* The metadata of a text of which nothing that is read may break off. Refusals: 1 to 6, 9, 11 and 12.
  *
  * record[NUVALETA_RECORD_WORDS], answer[NUVALETA_METADATA_ANSWER]
  *

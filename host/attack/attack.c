@@ -71,7 +71,8 @@ static void scan_lengths(const uint8_t *text, size_t length) {
         lengths((struct given){.call = call, .read = {{text, length}}}, of);
 }
 
-/* Texts of each length around the limit: good ones, one value that is almost all of the text; such a value that breaks off, and a high byte at its end. */
+/* Texts of each length around the limit: good ones, one value that is almost all of the text; such a value that breaks off, with a character above 127 at its
+ * end, and with half of one. */
 static void scans(void) {
     static const char *const starts[] = {"module m{import a{prefix p;}include s;", "module m{import \""};
     static const size_t most[] = {NUVALETA_TEXT_MOST - 1, NUVALETA_TEXT_MOST, NUVALETA_TEXT_MOST + 1};
@@ -95,8 +96,9 @@ static void scans(void) {
     memset(text, 'x', sizeof text);
     memcpy(text, starts[1], strlen(starts[1]));
     scan_lengths(text, sizeof text - 1);
-    text[sizeof text - 2] = 0x80;
+    memcpy(text + sizeof text - 3, "\xc3\xa9", 2);
     scan_lengths(text, sizeof text - 1);
+    scan_lengths(text, sizeof text - 2);
 }
 
 static uint32_t scanned(enum call call, const void *text, size_t length, size_t more) {
@@ -133,6 +135,47 @@ static void broken(void) {
     for (size_t i = 0; i < COUNT(all); i++)
         for (enum call call = DEPENDENCIES_WHOLE; call <= METADATA_WHOLE; call++)
             due(scanned(call, all[i].text, strlen(all[i].text), 0), call == METADATA_WHOLE ? all[i].metadata : all[i].dependencies, all[i].text);
+}
+
+/* Bytes above 127 in every place: the number of dependencies, and of metadata, in the old mode and in the whole-text mode. */
+static void accents(void) {
+    static const struct {
+        const char *text;
+        uint32_t dependencies, metadata, dependencies_whole, metadata_whole;
+    } all[] = {
+        {"\xc3", 12, 12, 12, 12},
+        {"x \xc0\xaf", 12, 12, 12, 12},
+        {"'\xed\xa0\x80'", 12, 12, 12, 12},
+        {"//\xf4\x90\x80\x80", 12, 12, 12, 12},
+        {"description \xe9", 12, 12, 12, 12},
+        {"import \"\xc3\xa9\"{prefix '\xc3\xbc';}", 0, NUVALETA_NO_NAME, 0, NUVALETA_NO_NAME},
+        {"module '\xc3\xa9'{belongs-to \"\xe2\x82\xac\"{x '\xc3\xa9';}}", 0, 0, 0, 0},
+        {"import \"\xc3\xa9", NUVALETA_NO_VALUE, NUVALETA_NO_NAME, 11, 11},
+        {"import \"a\"+\"\xc3\xa9", NUVALETA_END_OF_TEXT, NUVALETA_NO_NAME, 11, 11},
+        {"import a{x '\xc3\xa9\\';prefix p;}", NUVALETA_OPEN_ENDED, NUVALETA_NO_NAME, 11, NUVALETA_NO_NAME},
+        {"module m{/*\xc3\xa9*/import a//\xc3\xa9\n{prefix p;/*\xc3\xa9*/}}", 0, 0, 0, 0},
+        {"module m{/*\xc3\xa9", 0, 0, 0, 0},
+        {"module m{\xc3\xa9}", 3, 3, 3, 3},
+        {"import\xc3\xa9 a{", 3, 3, 3, 3},
+        {"import \xc3\xa9{", 3, 3, 3, 3},
+        {"import a\xc3\xa9{", 3, 3, 3, 3},
+        {"import a{x \xc3\xa9;prefix p;}", 3, 3, 3, 3},
+        {"import a{prefix \xc3\xa9;}", 3, 3, 3, 3},
+        {"module m{belongs-to p \xc3\xa9;}", 3, 3, 3, 3},
+        {"module m{yang-version \xc3\xa9;}", 3, 3, 3, 3},
+        {"import a{}\xc3\xa9", NUVALETA_NO_PREFIX, 3, NUVALETA_NO_PREFIX, 3},
+        {"module m{contact \xc3\xa9;}", 0, 3, 0, 3},
+        {"module m{container \xc3\xa9", 3, 0, 3, 0},
+        {"\xef\xbb\xbfmodule m{}", 3, 3, 3, 3},
+        {"x \xc3\xa9 \"cut", 3, 3, 3, 3},
+        {"\"cut \xc3\xa9", 0, NUVALETA_NO_NAME, 11, 11},
+    };
+    for (size_t i = 0; i < COUNT(all); i++)
+        for (enum call call = DEPENDENCIES; call <= METADATA_WHOLE; call++) {
+            const int whole = call >= DEPENDENCIES_WHOLE;
+            const uint32_t links = whole ? all[i].dependencies_whole : all[i].dependencies, about = whole ? all[i].metadata_whole : all[i].metadata;
+            due(scanned(call, all[i].text, strlen(all[i].text), 0), call == METADATA || call == METADATA_WHOLE ? about : links, all[i].text);
+        }
 }
 
 /* As many imports or includes as the tables have rows, and one more or less. */
@@ -554,6 +597,7 @@ int main(int count, char **words) {
     call_milliseconds *= by_malloc ? 60 : 1; /* valgrind takes its time */
     lent_start(by_malloc);
     scans();
+    accents();
     broken();
     rows();
     forms();

@@ -27,14 +27,22 @@ static size_t lent(size_t enough, uint8_t by) {
     return by < 128 ? enough : by < 224 ? enough + by % 64 : enough - less;
 }
 
-/* A byte for the lengths that are lent, then a text; if that byte is even, all its high bytes are made low ones, which are not refused at once. */
+/* A byte for the lengths that are lent, then a text. Of what is not UTF-8 nothing is read, so by that byte in a quarter of the inputs all high bytes are made
+ * low ones, and in another each is made a character of two bytes, with the byte behind it. */
 static void scans(const uint8_t *data, size_t size) {
     static struct bytes text;
     const uint8_t by = next(&data, &size);
     text.length = 0;
     put(&text, data, size);
-    for (size_t i = 0; by % 2 == 0 && i < size; i++)
-        text.at[i] &= 127;
+    for (size_t i = 0; by % 2 == 0 && i < size; i++) {
+        if (by % 4 == 0 || i + 1 == size || text.at[i] < 128) {
+            text.at[i] &= 127;
+            continue;
+        }
+        text.at[i] = 0xc2 + text.at[i] % 30;
+        i++;
+        text.at[i] = 0x80 + text.at[i] % 64;
+    }
     for (enum call call = DEPENDENCIES; call <= METADATA; call++)
         call_made(&(struct given){.call = call, .read = {{text.at, size}},
                                   .written = {lent(size, by), lent(NUVALETA_IMPORT_WORDS, by), lent(NUVALETA_INCLUDE_WORDS, by),
@@ -142,7 +150,7 @@ static void seed_scans(struct choices *from) {
     make_text(from, &text);
     if (choose(from, 3) == 0)
         text.length = choose(from, text.length + 1);
-    start(1, (const uint8_t[]){0});
+    start(1, (const uint8_t[]){choose(from, 4)});
     for (size_t left = choose(from, 40) == 0 ? 257 : 0; left > 0; left--)
         put_words(&seed, "include s;");
     put(&seed, text.at, text.length);

@@ -13,12 +13,12 @@ static const struct rule {
     size_t words;
     uint64_t numbers, zero_refused, zero_good;
 } rules[CALLS] = {
-    {6, TO(0, 8) | BIT(10), TO(3, 5), TO(1, 2)},
-    {7, TO(0, 8) | BIT(10), TO(3, 6), TO(1, 2)},
-    {4, TO(0, 6) | BIT(9), BIT(3), TO(1, 2)},
-    {6, TO(0, 8) | TO(10, 11), TO(3, 5), TO(1, 2)},
-    {7, TO(0, 8) | TO(10, 11), TO(3, 6), TO(1, 2)},
-    {4, TO(0, 6) | BIT(9) | BIT(11), BIT(3), TO(1, 2)},
+    {6, TO(0, 8) | BIT(10) | BIT(12), TO(3, 5), TO(1, 2)},
+    {7, TO(0, 8) | BIT(10) | BIT(12), TO(3, 6), TO(1, 2)},
+    {4, TO(0, 6) | BIT(9) | BIT(12), BIT(3), TO(1, 2)},
+    {6, TO(0, 8) | TO(10, 12), TO(3, 5), TO(1, 2)},
+    {7, TO(0, 8) | TO(10, 12), TO(3, 6), TO(1, 2)},
+    {4, TO(0, 6) | BIT(9) | TO(11, 12), BIT(3), TO(1, 2)},
     {5, BIT(0) | BIT(20), TO(2, 4), BIT(1)},
     {5, BIT(0) | BIT(20), TO(2, 4), BIT(1)},
     {5, BIT(0) | BIT(20), TO(2, 4), BIT(1)},
@@ -80,17 +80,39 @@ static int is_short(const struct given *g) {
     return lent[1] < NUVALETA_IMPORT_WORDS || lent[2] < NUVALETA_INCLUDE_WORDS || (call == PRINTED && lent[3] < text + NUVALETA_PAGE_MORE);
 }
 
-static size_t first_high(const struct read *text) {
-    const uint8_t *bytes = text->at;
+/* How many bytes the character here has, by the lines of RFC 3629's section 4; 0 if there is none. */
+static size_t character(const uint8_t *bytes, size_t length) {
+    static const struct line {
+        uint8_t first[2], second[2];
+        size_t size;
+    } lines[] = {
+        {{0x00, 0x7f}, {0, 0}, 1},       {{0xc2, 0xdf}, {0x80, 0xbf}, 2}, {{0xe0, 0xe0}, {0xa0, 0xbf}, 3},
+        {{0xe1, 0xec}, {0x80, 0xbf}, 3}, {{0xed, 0xed}, {0x80, 0x9f}, 3}, {{0xee, 0xef}, {0x80, 0xbf}, 3},
+        {{0xf0, 0xf0}, {0x90, 0xbf}, 4}, {{0xf1, 0xf3}, {0x80, 0xbf}, 4}, {{0xf4, 0xf4}, {0x80, 0x8f}, 4},
+    };
+    for (const struct line *line = lines; line < lines + sizeof lines / sizeof lines[0]; line++) {
+        if (length < line->size || bytes[0] < line->first[0] || bytes[0] > line->first[1])
+            continue;
+        size_t good = 1;
+        while (good < line->size && bytes[good] >= (good == 1 ? line->second[0] : 0x80) && bytes[good] <= (good == 1 ? line->second[1] : 0xbf))
+            good++;
+        if (good == line->size)
+            return good;
+    }
+    return 0;
+}
+
+/* Where the first bytes begin that are no character's, or the end. */
+static size_t wrong_from(const uint8_t *bytes, size_t length) {
     size_t at = 0;
-    while (at < text->length && bytes[at] < 128)
-        at++;
+    for (size_t size = 1; size != 0 && at < length; at += size)
+        size = character(bytes + at, length - at);
     return at;
 }
 
 /* The keywords that may come with a number of 4 or more. */
 static uint64_t keywords(enum call call, uint32_t number) {
-    if (number == NUVALETA_CUT_SHORT)
+    if (number == NUVALETA_CUT_SHORT || number == NUVALETA_NOT_UTF8)
         return BIT(0);
     if (call_old(call) == METADATA)
         return number == 9 ? BIT(0) : TO(1, 7) & ~(number == 4 ? BIT(6) : BIT(3));
@@ -99,12 +121,14 @@ static uint64_t keywords(enum call call, uint32_t number) {
     return number <= 6 ? BIT(5) | TO(8, 10) : TO(8, 9);
 }
 
-/* What the header says of the position at 5 to 8, 10 and 11: another byte, the end, behind a brace, behind the keyword. */
+/* What the header says of the position at 4 to 8, 10 and 11: the end, or a byte below 128, since one above is 3; another byte; the end, behind a brace, behind
+ * the keyword. */
 static int is_placed(const struct read *text, uint32_t number, uint32_t keyword, size_t at) {
     const char *bytes = text->at, *word = keyword == NUVALETA_IMPORT ? "import" : "include";
     const size_t length = strlen(word);
     switch (number) {
-    case NUVALETA_OTHER_BYTE: return at < text->length;
+    case NUVALETA_NO_VALUE: return at == text->length || (uint8_t)bytes[at] < 128;
+    case NUVALETA_OTHER_BYTE: return at < text->length && (uint8_t)bytes[at] < 128;
     case NUVALETA_END_OF_TEXT:
     case NUVALETA_OPEN_ENDED:
     case NUVALETA_CUT_SHORT: return at == text->length;
@@ -119,32 +143,44 @@ static const char *judge_refused_scan(const struct asked *a) {
     const uint32_t *answer = a->answer;
     if (answer[2] > g->read[0].length)
         return "a position behind the text";
-    if (a->number <= 3)
-        return answer[1] == 0 && (a->number == 3 || answer[2] == 0) ? NULL : "a keyword or a position at 1, 2 or 3";
+    if (a->number <= 2)
+        return answer[1] == 0 && answer[2] == 0 ? NULL : "a keyword or a position at 1 or 2";
+    if (a->number == NUVALETA_HIGH_BYTE) {
+        const uint8_t *met = (const uint8_t *)g->read[0].at + answer[2];
+        return answer[1] != 0 ? "a keyword at 3" : answer[2] < g->read[0].length && *met > 0xbf ? NULL : "3 where no character above 127 begins";
+    }
     if (answer[1] >= 64 || (keywords(g->call, a->number) >> answer[1] & 1) == 0)
         return "a keyword that does not come with this number";
     return is_placed(&g->read[0], a->number, answer[1], answer[2]) ? NULL : "a position that does not come with this number";
 }
 
-/* 1, 2 and 3 are given exactly when they are due. */
+/* 1, 2 and 12 are given exactly when they are due. */
 static const char *judge_first(const struct asked *a) {
     const struct given *g = a->given;
-    const size_t length = g->read[0].length, high = length > NUVALETA_TEXT_MOST ? length : first_high(&g->read[0]);
-    const uint32_t due = length > NUVALETA_TEXT_MOST ? 1 : is_short(g) ? 2 : high < length ? 3 : 0;
-    if (due != 0 ? a->number != due : a->number >= 1 && a->number <= 3)
-        return "another number than 1, 2 or 3 as it is due";
-    return due == 3 && a->answer[2] != high ? "another place of the first high byte" : NULL;
+    const size_t length = g->read[0].length, wrong = length > NUVALETA_TEXT_MOST ? length : wrong_from(g->read[0].at, length);
+    const uint32_t due = length > NUVALETA_TEXT_MOST ? 1 : is_short(g) ? 2 : wrong < length ? NUVALETA_NOT_UTF8 : 0, first = a->number;
+    if (due != 0 ? first != due : first == 1 || first == 2 || first == NUVALETA_NOT_UTF8)
+        return "another number than 1, 2 or 12 as it is due";
+    return due == NUVALETA_NOT_UTF8 && a->answer[2] != wrong ? "another place of the first wrong sequence" : NULL;
 }
 
-/* A mark, a start and a length: a missing value has 0 and 0, a present one lies in what is stored. */
-static int is_span(const uint32_t *words, size_t stored) {
-    return words[0] == 0 ? words[1] == 0 && words[2] == 0 : words[0] == 1 && words[1] <= stored && words[2] <= stored - words[1];
+/* What is stored: the bytes, and how many. */
+struct stored {
+    const uint8_t *at;
+    size_t length;
+};
+
+/* A mark, a start and a length: a missing value has 0 and 0, a present one lies in what is stored, and is UTF-8. */
+static int is_span(const uint32_t *words, struct stored in) {
+    if (words[0] == 0)
+        return words[1] == 0 && words[2] == 0;
+    return words[0] == 1 && words[1] <= in.length && words[2] <= in.length - words[1] && wrong_from(in.at + words[1], words[2]) == words[2];
 }
 
-static int are_spans(const uint32_t *table, size_t rows, size_t row, size_t stored) {
+static int are_spans(const uint32_t *table, size_t rows, size_t row, struct stored in) {
     for (size_t i = 0; i < rows; i++, table += row) {
         const uint32_t name[3] = {1, table[0], table[1]}, prefix[3] = {1, table[2], table[3]};
-        if (!is_span(name, stored) || !is_span(table + row - 3, stored) || (row == NUVALETA_IMPORT_ROW && !is_span(prefix, stored)))
+        if (!is_span(name, in) || !is_span(table + row - 3, in) || (row == NUVALETA_IMPORT_ROW && !is_span(prefix, in)))
             return 0;
     }
     return 1;
@@ -159,9 +195,14 @@ static const char *judge_scan(const struct asked *a) {
         return "more stored than the text has";
     if (answer[3] * NUVALETA_IMPORT_ROW > NUVALETA_IMPORT_WORDS || answer[4] * NUVALETA_INCLUDE_ROW > NUVALETA_INCLUDE_WORDS)
         return "too many rows";
-    if (!are_spans(a->written[1], answer[3], NUVALETA_IMPORT_ROW, answer[5]) || !are_spans(a->written[2], answer[4], NUVALETA_INCLUDE_ROW, answer[5]))
-        return "a span outside what is stored";
-    return call_old(a->given->call) == PRINTED && answer[6] > a->given->read[0].length + NUVALETA_PAGE_MORE ? "a page that is too long" : NULL;
+    const struct stored in = {a->written[0], answer[5]};
+    if (!are_spans(a->written[1], answer[3], NUVALETA_IMPORT_ROW, in) || !are_spans(a->written[2], answer[4], NUVALETA_INCLUDE_ROW, in))
+        return "a span outside what is stored, or a value that is not UTF-8";
+    if (call_old(a->given->call) != PRINTED)
+        return NULL;
+    if (answer[6] > a->given->read[0].length + NUVALETA_PAGE_MORE)
+        return "a page that is too long";
+    return wrong_from(a->written[3], answer[6]) == answer[6] ? NULL : "a page that is not UTF-8";
 }
 
 static const char *judge_metadata(const struct asked *a) {
@@ -173,8 +214,8 @@ static const char *judge_metadata(const struct asked *a) {
     if (a->record[3 * NUVALETA_VALUE_NAME] != 1)
         return "no name";
     for (size_t v = 0; v < NUVALETA_RECORD_WORDS; v += 3)
-        if (!is_span(a->record + v, a->answer[3]))
-            return "a value outside what is stored";
+        if (!is_span(a->record + v, (struct stored){a->written[0], a->answer[3]}))
+            return "a value outside what is stored, or one that is not UTF-8";
     return NULL;
 }
 
@@ -195,7 +236,7 @@ static const char *judge_refused_graph(const struct asked *a) {
     const struct given *g = a->given;
     if ((answer[1] != 0) != (number >= 23 && number != NUVALETA_TOO_MANY_NODES))
         return "an entry before the walk, or none in it";
-    const uint64_t scans = BIT(1) | TO(3, 8) | BIT(10);
+    const uint64_t scans = BIT(1) | TO(3, 8) | BIT(10) | BIT(12);
     if (number == NUVALETA_SCAN_REFUSED ? answer[2] >= 64 || (scans >> answer[2] & 1) == 0 : (answer[2] | answer[3] | answer[4]) != 0)
         return "a scan's answer but at 25, or there one that a scan does not give";
     if (number != NUVALETA_IMAGE_BROKEN && number != NUVALETA_BUNDLE_BROKEN)

@@ -16,7 +16,8 @@ static const char *const tokens[] = {
     "container", "list",      "leaf",        "grouping",     "typedef",   "identity",     "augment",   "rpc",            "notification",
     "contact",   "reference", "description", "organization", "urn:x",     "a:b",          "'it\"s'",  "2024-05-01",     "revision-date",
     "\"open",    "'open",     "/*open",      "/*block*/",    "//line\n", "'a' +",        "'a' + 'b'", "\"a\\n\\t\\\"\"", "\"a\" + 'b'",
-    "{",         "}",         ";",           "+",            "\\",       "\n",           "\x7f",      "\x80",
+    "{",         "}",         ";",           "+",            "\\",       "\n",           "\x7f",      "\x80",           "\xc3\xa9",
+    "\"\xc3\xa9\"", "'\xe2\x82\xac'", "\"\\\xc3\xa9", "'\xf0\x9f\x98\x80", "/*\xc3\xa9*/", "//\xef\xbb\xbf\n", "/*\xc2\x80", "x \"\xdf\xbf\";", "\xc2\xa0",
 };
 
 void put(struct bytes *out, const void *bytes, size_t length) {
@@ -70,7 +71,11 @@ static void put_import(struct choices *from, struct bytes *text, const char *nam
     const size_t how = choose(from, 64);
     put_words(text, "import ");
     put_words(text, name);
-    put_words(text, how == 0 ? "{}" : how == 1 ? "{prefix p;" : how < 8 ? " { prefix 'p' ; revision-date 2024-05-01; x {y;} }\n" : "{prefix p;}");
+    put_words(text, how == 0  ? "{}"
+                    : how == 1 ? "{prefix p;"
+                    : how == 2 ? "{prefix \"\xc3\xa9\";x '\xc3\xa9';/*\xc3\xa9*/}"
+                    : how < 8  ? " { prefix 'p' ; revision-date 2024-05-01; x {y;} }\n"
+                               : "{prefix p;}");
 }
 
 static void put_include(struct choices *from, struct bytes *text, const char *name) {

@@ -29,7 +29,13 @@ enum planted {
     CUT_KEYWORD,        /* a keyword with 11 */
     CUT_PLACE,          /* 11 at another place than the text's end */
     CUT_LEFT,           /* the record not zero at 11 */
-    WHOLE_OTHERWISE     /* a name in the store that is another one in the whole-text mode */
+    WHOLE_OTHERWISE,    /* a name in the store that is another one in the whole-text mode */
+    WRONG_MOVED,        /* 12 one byte behind the wrong sequence */
+    WRONG_AS_HIGH,      /* 3 in the place of 12 */
+    HIGH_KEYWORD,       /* a keyword with 3 */
+    HIGH_AS_OTHER,      /* 5 in the place of 3 */
+    HIGH_MOVED,         /* 3 at another place */
+    VALUE_TORN          /* a value with half a character */
 };
 
 static volatile uint8_t planted_sink;
@@ -53,6 +59,18 @@ static uint32_t planted_dependencies(const uint8_t *text, size_t text_len, uint8
         store[0] = was;
     if (call_planted == OF_ANOTHER_CALL && number == 4)
         answer[0] = number = 9;
+    if (call_planted == WRONG_MOVED && number == NUVALETA_NOT_UTF8)
+        answer[2]++;
+    if (call_planted == WRONG_AS_HIGH && number == NUVALETA_NOT_UTF8)
+        answer[0] = number = NUVALETA_HIGH_BYTE;
+    if ((call_planted == HIGH_KEYWORD || call_planted == HIGH_AS_OTHER) && number == NUVALETA_HIGH_BYTE)
+        answer[1] = NUVALETA_IMPORT;
+    if (call_planted == HIGH_AS_OTHER && number == NUVALETA_HIGH_BYTE)
+        answer[0] = number = NUVALETA_OTHER_BYTE;
+    if (call_planted == HIGH_MOVED && number == NUVALETA_HIGH_BYTE)
+        answer[2]++;
+    for (size_t i = 0; call_planted == VALUE_TORN && number == 0 && i < answer[5]; i++)
+        store[i] |= 128;
     return call_planted == OTHER_NUMBER && number == 4 ? 5 : number;
 }
 

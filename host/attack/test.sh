@@ -77,6 +77,12 @@ noticed 24 "dependencies_whole: a keyword that does not come"
 noticed 25 "dependencies_whole: a position that does not come"
 noticed 26 "metadata_whole: the record on a refusal"
 noticed 27 "dependencies_whole: not 11, and another outcome"
+noticed 28 "dependencies: another place of the first wrong sequence"
+noticed 29 "dependencies: another number than 1, 2 or 12"
+noticed 30 "dependencies: a keyword at 3"
+noticed 31 "dependencies: a position that does not come"
+noticed 32 "dependencies: 3 where no character above 127 begins"
+noticed 33 "dependencies: a span outside what is stored, or a value that is not UTF-8"
 
 # valgrind's own status is 3, the harness's 1.
 watch() { valgrind -q --error-exitcode=3 --track-origins=yes "$build/watched" --malloc --short "$@" >"$said" 2>&1; }
@@ -86,4 +92,4 @@ for fault in "1 Invalid write of size 1" "9 left undefined"; do
     ! watch --once --planted="${fault%% *}" 1 0 && grep -q "${fault#* }" "$said" ||
         { echo "attack: valgrind does not notice planted fault $fault" >&2; exit 1; }
 done
-echo "$told; 27 planted faults noticed; under valgrind ${watched#attack: }"
+echo "$told; 33 planted faults noticed; under valgrind ${watched#attack: }"

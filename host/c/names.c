@@ -50,7 +50,15 @@ static void scan_refusals(void) {
         uint32_t number, keyword, position;
         int cut;
     } all[] = {
-        {dependencies, "a\200", NUVALETA_HIGH_BYTE, NUVALETA_NO_KEYWORD, 1, STAYS},
+        {dependencies, "a\303\251", NUVALETA_HIGH_BYTE, NUVALETA_NO_KEYWORD, 1, STAYS},
+        {dependencies, "import \303\251", NUVALETA_HIGH_BYTE, NUVALETA_NO_KEYWORD, 7, STAYS},
+        {dependencies, "import a\303\251{", NUVALETA_HIGH_BYTE, NUVALETA_NO_KEYWORD, 8, STAYS},
+        {dependencies, "import a{x \303\251;}", NUVALETA_HIGH_BYTE, NUVALETA_NO_KEYWORD, 11, STAYS},
+        {metadata, "\357\273\277module m{}", NUVALETA_HIGH_BYTE, NUVALETA_NO_KEYWORD, 0, STAYS},
+        {dependencies, "a\200", NUVALETA_NOT_UTF8, NUVALETA_NO_KEYWORD, 1, STAYS},
+        {metadata, "container \303", NUVALETA_NOT_UTF8, NUVALETA_NO_KEYWORD, 10, STAYS},
+        {dependencies, "/*\303\251", 0, NUVALETA_NO_KEYWORD, 0, STAYS},
+        {dependencies, "\"\303\251", 0, NUVALETA_NO_KEYWORD, 0, CUT},
         {dependencies, "import ;", NUVALETA_NO_VALUE, NUVALETA_IMPORT, 7, STAYS},
         {dependencies, "import \"a", NUVALETA_NO_VALUE, NUVALETA_IMPORT, 9, CUT},
         {dependencies, "import a b", NUVALETA_OTHER_BYTE, NUVALETA_IMPORT, 9, STAYS},

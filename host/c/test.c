@@ -159,7 +159,7 @@ static int read_in_both_forms(const struct reading *x, enum scan scan) {
                   : number == x->number && memcmp(&lent, &left, sizeof lent) == 0;
 }
 
-/* The readings of request 2026-07, in its order. */
+/* The readings of request 2026-07, in its order; the last two are one of request 2026-01. */
 static int readings(void) {
     enum { STAYS, CUT };
     static const struct reading all[] = {
@@ -197,7 +197,9 @@ static int readings(void) {
         /* 9: the order of reading, and what comes first of all */
         {DEPENDENCIES, PRINTED, "import a{} \"x", NUVALETA_NO_PREFIX, NUVALETA_IMPORT, 10, STAYS},
         {DEPENDENCIES, PRINTED, "import a b \"x", NUVALETA_OTHER_BYTE, NUVALETA_IMPORT, 9, STAYS},
-        {DEPENDENCIES, METADATA, "x \"abc\200", NUVALETA_HIGH_BYTE, 0, 6, STAYS},
+        {DEPENDENCIES, METADATA, "x \"abc\200", NUVALETA_NOT_UTF8, 0, 6, STAYS},
+        {DEPENDENCIES, METADATA, "x \303\251 \"cut", NUVALETA_HIGH_BYTE, 0, 2, STAYS},
+        {DEPENDENCIES, PRINTED, "\"cut \303\251", 0, 0, 0, CUT},
     };
 
     for (size_t i = 0; i < sizeof all / sizeof all[0]; i++)

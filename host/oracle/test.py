@@ -1,5 +1,5 @@
 #!/usr/bin/env python3
-"""Asks the oracle document 01's examples, a hang, an overflow and a panic, each followed by a request that must be answered; and where its parser stood."""
+"""Asks the oracle document 01's examples, a hang, an overflow and panics, each followed by a request that must be answered; and where its parser stood."""
 import os
 import subprocess
 import sys
@@ -90,6 +90,21 @@ CASES = [
     (("graph", word(M_S_B), word(bundle({"m": "include s;", "s": "include s;", "b": ""}))), "overflow"),
     GOOD,
     (("graph", word(M_S_B), word(bundle({"m": "include s;", "b": ""}))), "panic"),
+    GOOD,
+    # characters above 127: read in strings and comments; elsewhere letters and blanks of Unicode count, and bytes that are taken for them cause panics
+    (("deps", word("import \"\u00e9\"{prefix '\u00fc';}")), ok(1, 0, word("\u00e9"), word("\u00fc"), None)),
+    (("deps", word("//\u00e9")), ok(0, 0)),
+    (("deps", word("/*\u00e9 ")), ok(0, 0)),
+    (("deps", word("/*\u00e9*")), ok(0, 0)),
+    (("deps", word('"\u00e9')), ok(0, 0)),
+    (("deps", word("/*\u00e9")), "panic"),
+    (("meta", word("/*\u00e9")), "panic"),
+    (("deps", word("import a/*\u00e9")), "panic"),
+    (("deps", word("import a{/*\u00e9")), "panic"),
+    (("deps", word("x \u00e9")), "panic"),
+    (("deps", word("import a\u00e9{prefix p;}")), ok(1, 0, word("a\u00e9"), word("p"), None)),
+    (("meta", word("import a\u00e9{prefix p;}")), "panic"),
+    (("deps", word("import a\u00a0{prefix p;}")), ok(1, 0, word("a"), word("p"), None)),
     GOOD,
     (("deps", word(b"\xff")), "utf8"),
     (("nothing", word("")), "what"),

@@ -14,6 +14,8 @@ SECONDS = 300  # so long the command is waited for: it needs milliseconds, and f
 TO_DO = {  # what to do about what only packing knows; about a refusal the command tells it
     "missing": "get the text from the router by get-schema, or name its folder by --texts",
     "empty": "get the text anew",
+    "not_utf8": "save the text as UTF-8",
+    "byte_order_mark": "save the text without its first three bytes",
     "no_module": "get the text anew, and keep what is inside the envelope alone",
     "name": "get the text of that name, or give the file the name that stands inside",
     "revision": "get the text of that revision from the router: the imports of another may differ",
@@ -132,8 +134,8 @@ LOOKS = {  # what a text seems to be that begins so, whatever the case of its le
     b"[": "JSON: if the text is inside, take it out of its envelope",
     b'"': "JSON: if the text is inside, take it out of its envelope",
     b"#": "a reply in NETCONF's chunks: take the text out of them",
-    b"\xff\xfe": "UTF-16: write it in ASCII",
-    b"\xfe\xff": "UTF-16: write it in ASCII",
+    b"\xff\xfe": "UTF-16: write it in UTF-8",
+    b"\xfe\xff": "UTF-16: write it in UTF-8",
 }
 
 
@@ -216,8 +218,8 @@ def place(fault, text):
     keyword, name = fault["by"].encode(), re.escape(fault["listed"].encode())
     statement = rb"(?P<statement>(?<![\w.-])%s(?:\s|%s)+[\"']?%s(?![\w.:-]))" % (keyword, COMMENT, name)
     found = next((one for one in re.finditer(b"|".join((COMMENT, statement, STRING)), text, re.DOTALL) if one["statement"]), None)
-    before = text[:found.start()] if found else b""
-    return (before.count(b"\n") + 1, found.start() - before.rfind(b"\n")) if found else (None, None)
+    before = text[:found.start()].split(b"\n") if found else []
+    return (len(before), len(before[-1].decode(errors="replace")) + 1) if found else (None, None)
 
 
 def fault_words(fault):
@@ -251,9 +253,18 @@ def library_problems(image, bundle, texts, files, told, complete):
 def unread(told, files, found):
     """Warnings for texts that a scan refuses and that no walk reads."""
     known = {one.text for one in found if one.number == 25 or one.kind == "no_module"}
-    return [Problem("warning", "scan", f"a scan refuses it, though nothing reads it now: {why['words']}", word, files[word], None, why.get("line"),
-                    why.get("column"))
+    return [Problem("warning", *scan_refuses(why), word, files[word], None, why.get("line"), why.get("column"))
             for word, one in told.items() if word not in known for why in [one["dependencies"].get("refused")] if why]
+
+
+def scan_refuses(why):
+    """(kind, words) for a text that a scan refuses. What comes of how it was saved has a kind of its own."""
+    kind, words = "scan", why["words"]
+    if why["number"] == 12:
+        kind = "not_utf8"
+    elif why["number"] == 3 and why["found"].startswith("a byte order mark"):
+        kind, words = "byte_order_mark", "it has a byte order mark"
+    return kind, f"a scan refuses it, though nothing reads it now: {words}"
 
 
 def not_included(entries, told, files):

@@ -200,14 +200,14 @@ class Order(Told):
 
     def test_all_at_once(self):
         self.good(b=None, m="module m { prefix m;\n  include s;\n  include gone;\n\timport 'away' { prefix a; }\n revision 2024-01-01; }",
-                  d="module d { prefix d;\n import m { } }", k=b"module k { prefix k; contact '\xc3\xa9'; }",
+                  d="module d { prefix d;\n import m { } }", k=b"module k { prefix k; contact '\xe9'; }",
                   s=GOOD["s"].replace("revision", "import nowhere { prefix n; } revision"))
         said = self.library(XML)
         self.refused(said, "6 errors: nothing is written", "to do at 26: ", "to do at 27: ", "to do at 25: ")
         self.assertEqual(sorted(line.split(":")[0] for line in self.errors(said)), [
             "b", "d.yang, line 2, column 14", "k.yang, line 1, column 31", "m.yang, line 3, column 3", "m.yang, line 4, column 2",
             "s.yang, line 1, column 42"])
-        for word in ["refused 25: ", "refused 26: ", "refused 27: ", "import is closed without prefix", "128 or more", 'imports "away"', 'includes "gone"',
+        for word in ["refused 25: ", "refused 26: ", "refused 27: ", "import is closed without prefix", "not UTF-8", 'imports "away"', 'includes "gone"',
                      'imports "nowhere"']:
             self.assertIn(word, said[2])
 
@@ -336,6 +336,26 @@ class Order(Told):
         self.assertEqual((said[0], self.lines(said, "warning")[1:]),
                          (0, ["j.yang, line 1, column 54: a scan refuses it, though nothing reads it now: an import is closed without prefix"]))
 
+    def test_accents(self):
+        """In strings and comments they are packed; columns count characters. What is not UTF-8, and a byte order mark, is refused."""
+        self.wrong("k.yang, line 1, column 19: refused 25: import-only module k (set 1, entry 5): the text of k: a byte above 127 outside of strings",
+                   k="module k { /*\u00e9\u00e9*/ \u00e9 }")
+        self.wrong("k.yang, line 1, column 1: refused 25: ", k="\ufeff" + GOOD["k"])
+        self.wrong("k.yang, line 1, column 30: refused 26: ", k="module k { /*\u00e9\u00e9*/ prefix k;  import '\u00e9' { prefix e; } }")
+        for text, words, kind in [
+            (("\ufeff" + GOOD["j"]).encode(), "line 1, column 1: a scan refuses it, though nothing reads it now: it has a byte order mark", "byte order mark"),
+            (b"/*\xe9*/" + GOOD["j"].encode(), "line 1, column 3: a scan refuses it, though nothing reads it now: the text is not UTF-8", "not utf8"),
+        ]:
+            self.good(j=text)
+            said = self.library(XML)
+            self.assertEqual((said[0], self.lines(said, "warning")[1:]), (0, [f"j.yang, {words}"]))
+            self.assertIn(f"to do at {kind}: save the text ", said[2])
+        text = GOOD["m"].replace("prefix m;", "prefix m; /* \u00e9 */ x '\u00e9';", 1)
+        self.good(m=text, k="// \u00e9\nmodule k { prefix 'k'; contact '\u00e9'; }")
+        said = self.library(XML)
+        self.assertEqual((said[0], self.lines(said, "warning")), (0, [TWO]))
+        self.assertEqual(dict(self.read()[1])["m"], text.encode())
+
     def test_a_submodule_that_nothing_includes(self):
         """Its imports give no edge, which is told; not where its module cannot be read, as that is told."""
         import_, words = "import b { prefix b; }", "s.yang: no text that is read includes it, so its own imports and includes give no edge: b"
@@ -454,7 +474,7 @@ class Folder(Told):
     def test_wrong_texts(self):
         self.put("s.yang", "submodule s { belongs-to away { prefix p; } }")
         self.put("m.yang", "module other { }")
-        self.put("u.yang", "module u { contact é; }")
+        self.put("u.yang", "module u { prefix_ é; }")
         self.put("w.yang", b"module w {" + b" " * 1_048_576)
         self.put("n@2024-01-01.yang", "module n { revision 2023-01-01; }")
         self.put("e.yang", "")

@@ -16,7 +16,7 @@ def padded(text, size):
 
 
 def high(at):
-    """Blanks, and a byte of 128 at a place."""
+    """Blanks, and a byte of 128 at a place, which is no UTF-8."""
     return bytes([128]).rjust(at + 1)
 
 
@@ -26,7 +26,9 @@ CASES = {
         (b"module import {}", "refused 4 keyword 8 at 14\n"),
         (b'import "a"+"b', "refused 6 keyword 8 at 13\n"),
         (b"include a;" * 257, "refused 10 keyword 9 at 2567\n"),
-        (high(32767), "refused 3 keyword 0 at 32767\n"),
+        (high(32767), "refused 12 keyword 0 at 32767\n"),
+        ("x \u00e9".encode(), "refused 3 keyword 0 at 2\n"),
+        ("include '\u00e9';".encode(), "Imports (0):\n\nIncludes (1):\n  - \u00e9\n"),
         (b"", "Imports (0):\n\nIncludes (0):\n"),
         (b"include a;" * 256, "Imports (0):\n\nIncludes (256):\n" + "  - a\n" * 256),
         (padded("include a;", 32768), "Imports (0):\n\nIncludes (1):\n  - a\n"),
@@ -39,7 +41,9 @@ CASES = {
         (b"module {}", "refused 4 keyword 1 at 7\n"),
         (b"module m;", "refused 5 keyword 1 at 8\n"),
         (b'module m{namespace "u"', "refused 6 keyword 4 at 22\n"),
-        (high(131071), "refused 3 keyword 0 at 131071\n"),
+        (high(131071), "refused 12 keyword 0 at 131071\n"),
+        ("module \u00e9{".encode(), "refused 3 keyword 0 at 7\n"),
+        ("module '\u00e9'{".encode(), "name: \u00e9\n"),
         (padded("module m{", 32769), "name: m\n"),
         (padded("module m{", 131072), "name: m\n"),
         (padded("module m{", 131073), TOO_LONG),

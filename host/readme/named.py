@@ -12,7 +12,7 @@ CRATES = ROOT / "crates"
 # Folders that a path of the documents may begin with, beside a crate's name; and those of a crate.
 FOLDERS = {"docs", "host", "include", "examples", "target", "CRATE", "NAME"}
 PARTS = {"src", "specs", "proofs", "must-fail", "data", "stdin", "stdout"}
-PATH = re.compile(r"(?<![\w/.+-])([A-Za-z_]+)/([\w+-]+)((?:/[\w+.-]+)*)")
+PATH = re.compile(r"(?<![\w/.+-])([A-Za-z_0-9]+)/([\w+-]+)((?:/[\w+.-]+)*)")
 NAMES = re.compile(r"((?:,? `[^`]+`(?: \([^)]*\))?)+)")
 
 

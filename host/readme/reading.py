@@ -9,7 +9,8 @@ from pathlib import Path
 CRATES = Path(__file__).resolve().parents[2] / "crates"
 # In reading order; a definition belongs to the first topic that has its crate or reaches it.
 TOPICS = [
-    ("bytes, gaps, keywords, values, skipping", {"text", "text_past", "text_string", "text_value", "text_skip", "text_statement"}, []),
+    ("bytes, UTF-8, gaps, keywords, values, skipping",
+     {"text", "text_past", "text_utf8", "text_string", "text_value", "text_skip", "text_statement"}, []),
     ("imports and includes of a text, their printed form", set(), ["nuvaleta/Host"]),
     ("the metadata of a text", set(), ["nuvaleta/Record"]),
     ("image and bundle, the finds", {"library_form", "library_image", "library_index", "library_find", "library_bundle"}, ["nuvaleta/Finds"]),
@@ -22,10 +23,12 @@ TOPICS = [
     ("a graph with all names as nodes: what it gives beyond demand 3", set(), ["graph/Complete", "demands/Complete"]),
     ("each included text once: the walk with a memory is the plain walk, and reads no text twice", set(), ["graph/Once", "demands/Once"]),
     ("the whole-text mode of a scan beside the old one, with all readings of its request", set(), ["demands_scans/Whole", "demands/Whole"]),
+    ("names with accents: the check is RFC 3629's table; what 3 and 12 tell; every value is UTF-8; with all readings of its request", set(),
+     ["demands_utf8/Utf8Right", "demands_scans/Accents", "demands/Accents", "demands_accents/ValuesValid"]),
     ("what an order is, by edges alone", set(), ["demands_order/Order", "demands/OrderCalls"]),
     ("document 01's starred examples", set(), ["demands/Starred"]),
 ]
-USE = re.compile(r"use Rattle·([a-z_]+)(?:·specs)?\.specs\.(\w+)(?:\.\{([^}]*)\}| as (\w+))$")
+USE = re.compile(r"use Rattle·([a-z_0-9]+)(?:·specs)?\.specs\.(\w+)(?:\.\{([^}]*)\}| as (\w+))$")
 DEFINED = re.compile(r"\s*(?:(?:abbrev |unfoldable )*(?:pub )?(\S+) :|(?:pub )?(?:record|data|module) (\S+))")
 TOKEN = re.compile(r"[^\s(){};,]+")
 

@@ -276,6 +276,51 @@ printf 'module m { import a; }' >semicolon.yang
 "$nuvaleta" deps semicolon.yang >out 2>err && wrong "deps semicolon.yang" || :
 sed -n 4p err | grep -qx 'expected { after import a, found ;' || wrong "deps semicolon.yang"
 
+# Accents: in strings and comments they are read and printed; elsewhere they are refused, and so is what is not UTF-8. Columns count characters.
+printf 'module m { // \303\251\n  prefix "\303\274";\n  import "caf\303\251" { prefix \047\342\202\254\047; }\n}\n' >accents.yang
+due 'Imports (1):\n  - caf\303\251 (prefix: \342\202\254)\n\nIncludes (0):\n'
+expect 0 deps accents.yang
+expect 0 deps --whole accents.yang
+due '{"imports":[{"name":"caf\303\251","prefix":"\342\202\254","revision":null}],"includes":[]}\n'
+expect 0 deps --json accents.yang
+due 'name: m\nprefix: \303\274\n'
+expect 0 meta accents.yang
+printf 'module m {\n  /* \303\251\303\251 */ prefix \342\200\234m;\n}\n' >quotes.yang
+advice='put what it belongs to into quotes, or write ASCII there: accents, typographic quotes and dashes, other blanks than the usual one, and a byte order'
+advice="$advice mark at the beginning are the usual causes"
+words='a byte above 127 outside of strings and comments'
+{
+    printf 'refused 3: quotes.yang, line 2, column 19: %s\n      /* \303\251\303\251 */ prefix \342\200\234m;\n%22s^\n' "$words" ''
+    printf 'expected ASCII outside of strings and comments, found \342\200\234, byte 0xe2\nTo do: %s\n' "$advice"
+} >due
+expect 1 meta quotes.yang
+expect 1 deps quotes.yang
+expect 1 deps --whole quotes.yang
+printf 'scan refusal 3, of a text: %s\nTo do: %s\n' "$words" "$advice" >due
+expect 0 explain 3
+printf 'module m {\n  contact "Zo\353";\n}\n' >latin.yang
+advice='save the text as UTF-8: it may be written in ISO 8859-1, Windows-1252 or UTF-16, or be cut off inside a character'
+cat >due <<X1
+refused 12: latin.yang, line 2, column 14: the text is not UTF-8
+      contact "Zo?";
+                 ^
+expected UTF-8, found byte 0xeb
+To do: $advice
+X1
+expect 1 deps latin.yang
+expect 1 meta --whole latin.yang
+clash='"expected":"UTF-8","found":"byte 0xeb"'
+echo "{\"refused\":{\"number\":12,\"words\":\"the text is not UTF-8\",\"position\":24,\"line\":2,\"column\":14,$clash,\"advice\":\"$advice\"}}" >due
+expect 1 deps --json latin.yang
+cat >due <<X1
+scan refusal 12, at byte 24 of a text: the text is not UTF-8
+latin.yang, line 2, column 14:
+      contact "Zo?";
+                 ^
+To do: $advice
+X1
+expect 0 explain 12 --at 24 latin.yang
+
 # A text that is cut off: it may be read as if it were whole, and is refused with --whole where that is seen.
 printf 'module m {\n  prefix m;\n  revision 2024-05-01 {\n    description "The la' >cut.yang
 due 'name: m\nprefix: m\nfirst revision: 2024-05-01\nnewest revision: 2024-05-01\n'
@@ -348,12 +393,12 @@ echo "{\"number\":20,\"words\":\"the image breaks its form at byte 9\",\"advice\
 expect 0 explain --json 20 --at 9 image
 expect 0 explain --json 20 --at 9
 "$nuvaleta" explain 42 --at 3 | grep -q '^refusal 42: the list is wrong at place 3, counted from 0$' || wrong "explain 42 --at 3"
-for number in 0 1 2 3 4 5 6 7 8 9 10 11 20 21 22 23 24 25 26 27 28 29 30 31 40 41 42 43; do
+for number in 0 1 2 3 4 5 6 7 8 9 10 11 12 20 21 22 23 24 25 26 27 28 29 30 31 40 41 42 43; do
     "$nuvaleta" explain $number >out 2>err || wrong "explain $number"
     sed -n 1p out | grep -q "refusal ${number}[:,] .\|^0: no refusal" && sed -n 2p out | grep -q '^To do: .' || wrong "explain $number"
 done
-for number in 12 19 32 39 44 4294967303 99999999999999999999; do
-    due "nuvaleta: no call answers $number: the numbers are 0 to 11, 20 to 31 and 40 to 43\n$(usage explain)\n"
+for number in 13 19 32 39 44 4294967303 99999999999999999999; do
+    due "nuvaleta: no call answers $number: the numbers are 0 to 12, 20 to 31 and 40 to 43\n$(usage explain)\n"
     expect 2 explain $number
 done
 
@@ -440,7 +485,7 @@ expect 2 explain 42 --at 1 early.yang
 due "nuvaleta: keyword and place beside 25 are those of the scan's number: explain that one\n$(usage explain)\n"
 expect 2 explain 25 --at 1
 expect 2 explain 25 --keyword import
-for pair in '8 module' '10 revision' '11 import' '23 import' '9 module' '4 yang-version' '5 belongs-to'; do
+for pair in '8 module' '10 revision' '3 import' '11 import' '12 import' '23 import' '9 module' '4 yang-version' '5 belongs-to'; do
     due "nuvaleta: ${pair% *} does not come with the keyword ${pair#* }\n$(usage explain)\n"
     expect 2 explain "${pair% *}" --keyword "${pair#* }"
 done

@@ -1,3 +1,4 @@
+pub mod Accents
 pub mod Graphing
 pub mod Needs
 pub mod Numbers

@@ -31,6 +31,7 @@ use Rattle.text_string.specs.Str.{isQuote}
 use Rattle.text_value.specs.Value.{startsName, addedBy, afterPlus, joinedWith, joined as joinedValue, ofString, valueHere, valueAt, valueBytes}
 use Rattle.text_skip.specs.Skip.{closedToken, tokenHere}
 use Rattle.text_statement.specs.Statement.{statementAt}
+use Rattle.text_utf8.specs.Utf8.{wrongFrom, charTurn, seqLen, charLen, one, two, three, second3, four, second4, tail}
 use Rattle.text_lent.specs.Lent.{lentAt}
 use Rattle.scan_block.specs.Block.{orLine}
 use Rattle.scan_imports.specs.Statement.{plainOf, blockOf, openOrPlain, afterValue, includeAt}
@@ -116,6 +117,7 @@ unfolding with-s with-t textsRead entriesRead walkRead includesRead walkOnce inc
     breaksOff argumentAt afterDue isQuote startsName addedBy afterPlus joinedWith joinedValue ofString valueHere valueAt valueBytes closedToken tokenHere
     statementAt dueNumber dueHere dueAt startsIdent endsKeyword same part keywordAt matchAt gapEnd gapTurn afterWhite commentEnd blockEnd closing pairAt runEnd
     span inRun inIdent classOf turns refusedAt isHigh
+    wrongFrom charTurn seqLen charLen one two three second3 four second4 tail
 computed = record {
   empty = refl;
   full = refl;

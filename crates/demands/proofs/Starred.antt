@@ -15,6 +15,7 @@ use Rattle.text_past.specs.Past.{pastOf}
 use Rattle.text_skip.specs.Skip.{closedToken, tokenHere, tokenAt, pastToken}
 use Rattle.text_statement.specs.Statement.{closes, quotedLen, quotedEnd, atSemicolon, atClose, partOf, partAt, ofPart, statementTurn, statementFrom, atOther}
 use Rattle.text_statement.specs.Statement.{statementAt, pastStatement}
+use Rattle.text_utf8.specs.Utf8.{wrongFrom, charTurn, seqLen, charLen, one, two, three, second3, four, second4, tail}
 use Rattle.text_lent.specs.Lent.{lentAt}
 use Rattle.scan_newest.specs.Newest.{newer, newestFrom, newest, less}
 use Rattle.scan_header.specs.Header.{dueFor, afterRevision, afterValue as afterHeaderValue, passed, kept, withRest, fieldAt, laterPrefix}
@@ -61,4 +62,5 @@ unfolding starred all holds enough drawn graphed tooShort nodeWords rowWords gra
     moreAt addTo joinTurn joinedWith joinedValue ofString valueHere valueAt valueBytes closedToken tokenHere tokenAt closes quotedLen quotedEnd atSemicolon
     atClose partOf partAt ofPart statementTurn statementFrom statementAt dueNumber dueHere dueAt startsIdent endsKeyword same part keywordAt matchAt gapEnd
     gapTurn afterWhite commentEnd blockEnd closing pairAt runEnd span inRun inIdent classOf turns refusedAt isHigh atOther
+    wrongFrom charTurn seqLen charLen one two three second3 four second4 tail
 right = tt

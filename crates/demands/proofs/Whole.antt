@@ -23,6 +23,7 @@ use Rattle.text_past.specs.Past.{brokeOff, pastOf}
 use Rattle.text_skip.specs.Skip.{closedToken, tokenHere, tokenAt, pastToken, skippedAt, pastValue}
 use Rattle.text_statement.specs.Statement.{closes, quotedLen, quotedEnd, atSemicolon, atClose, partOf, partAt, ofPart, statementTurn, statementFrom, atOther}
 use Rattle.text_statement.specs.Statement.{statementAt, pastStatement}
+use Rattle.text_utf8.specs.Utf8.{wrongFrom, charTurn, seqLen, charLen, one, two, three, second3, four, second4, tail}
 use Rattle.text_lent.specs.Lent.{lentAt}
 use Rattle.scan_newest.specs.Newest.{newer, newestFrom, newest, less}
 use Rattle.scan_header.specs.Header.{dueFor, afterRevision, afterValue as afterHeaderValue, passed, kept, withRest, fieldAt, afterSkipped, laterPrefix}
@@ -46,6 +47,7 @@ use Rattle.demands_scans.specs.Whole.{toldDependencies, toldMetadata, WholeOrOl
 use Rattle.demands_scans.proofs.WholeDependencies.{dependencies-whole}
 use Rattle.demands_scans.proofs.WholeMetadata.{metadata-whole}
 use Rattle.demands_scans.proofs.WholeNumbers.{old-mode}
+use Rattle.demands.specs.Accents.{accents}
 use Rattle.demands.specs.Whole.{answer, holds, all, readings, WholeMode}
 use Rattle.demands.proofs.Outcomes.{leaves-one, filled, equals}
 
@@ -131,8 +133,9 @@ records s x y d (cut q m) h k =
 
 -- ---- all of it
 
-computed : T (all readings)
-unfolding readings all holds answer metadata Metadata.ifFit Metadata.scanned Metadata.scanFrom metadataTurn afterHeard ended told firstOf valuesOf newer
+-- the readings of this request and of 2026-01
+pub computed : T (all readings) × T (all accents)
+unfolding readings accents all holds answer metadata Metadata.ifFit Metadata.scanned Metadata.scanFrom metadataTurn afterHeard ended told firstOf valuesOf newer
     newestFrom newest less brokeOff pastOf pastToken pastValue pastStatement skippedAt placeOf breaksOff closedAt closedHere closedString closedFrom closedTurn
     closedMore dueFor afterRevision afterHeaderValue passed kept withRest fieldAt afterSkipped laterPrefix statementSaid tagSaid saidHere saidAt dataAt lastTag
     orTag tagAt joined importStep includeStep unlessFull importHere includeHere movedTo afterToken headStep stepHere stepAt afterStep scanTurn scanFrom scanned
@@ -142,7 +145,8 @@ unfolding readings all holds answer metadata Metadata.ifFit Metadata.scanned Met
     joinedValue ofString valueHere valueAt valueBytes closedToken tokenHere tokenAt closes quotedLen quotedEnd atSemicolon atClose partOf partAt ofPart
     statementTurn statementFrom statementAt dueNumber dueHere dueAt startsIdent endsKeyword same part keywordAt matchAt gapEnd gapTurn afterWhite commentEnd
     blockEnd closing pairAt runEnd span inRun inIdent classOf turns refusedAt isHigh atOther
-computed = tt
+    wrongFrom charTurn seqLen charLen one two three second3 four second4 tail
+computed = (tt, tt)
 
 pub whole-mode : WholeMode
 whole-mode = record {
@@ -158,5 +162,5 @@ whole-mode = record {
   host-metadata = λ s d h k.
       let short = ltb (length d) (length s) in
       records s (metadata true s short) (metadata false s short) d (metadata-whole s short) h k;
-  readings-right = computed;
+  readings-right = computed .0;
 }

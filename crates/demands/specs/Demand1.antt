@@ -109,7 +109,7 @@ pub record Demand1 : Type 0 where
       → Dependencies.dependencies whole s short ≡ Dependencies.bad r d → RefusedAs (ModeRefusal whole DependenciesRefusal s) s short r
   pub metadata : (whole : Bool) (s : List ℕ) (short : Bool) (r : Refusal) (bs : List ℕ)
       → Metadata.metadata whole s short ≡ Metadata.bad r bs → RefusedAs (ModeRefusal whole MetadataRefusal s) s short r
-  -- and 1 to 3 are given whenever they are due
+  -- and 1, 2 and 12 are given whenever they are due
   pub first-refused : (whole : Bool) (s : List ℕ) (short : Bool) (r : Refusal) → FirstRefusal s short r
       → (Dependencies.dependencies whole s short ≡ Dependencies.bad r Dependencies.none) × (Metadata.metadata whole s short ≡ Metadata.bad r [])
   -- the finds: 20 exactly if the image is wrong there; the text under a name: 21 exactly if the bundle is

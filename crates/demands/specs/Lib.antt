@@ -1,3 +1,4 @@
+pub mod Accents
 pub mod OneOutcome
 pub mod Demand3
 pub mod Demand3Needs

@@ -1,3 +1,4 @@
+pub mod Accents
 pub mod Loops
 pub mod ScanNumbers
 pub mod MetadataNumbers

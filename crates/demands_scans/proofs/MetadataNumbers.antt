@@ -41,18 +41,18 @@ use Rattle.scan_metadata.specs.Metadata.{Metadata, nothing, Scan, good, bad, en
 use Rattle.demands_scans.specs.Refusals.{FirstRefusal, Fits, RefusedAs, first, read, HeaderRefusal, no-value, no-byte, MetadataRefusal, header, no-name}
 use Rattle.demands_scans.specs.Refusals.{MetRefusal, high, other}
 use Rattle.demands_scans.proofs.Loops.{turns-all}
-use Rattle.demands_scans.proofs.ScanNumbers.{isOne, some-number, refusal, of, DueIs, ArgumentIs, due-is, value-is, past-is, LentIs, lent-is}
-use Rattle.demands_scans.proofs.ScanNumbers.{first-unfit}
+use Rattle.demands_scans.proofs.ScanNumbers.{isOne, areRead, FourToTen, read-number, refusal, of, DueIs, ArgumentIs, due-is, value-is, past-is}
+use Rattle.demands_scans.proofs.ScanNumbers.{LentIs, lent-is, first-unfit}
 
-pub header-number : (q : Refusal) → HeaderRefusal q → q .number ≡ 0 → ⊥
-unfolding isOne
-header-number q (no-value o) = some-number (4 ∷ []) (o .number) refl
-header-number q (no-byte o) = some-number (5 ∷ 6 ∷ []) (o .number) refl
+pub header-number : (q : Refusal) → HeaderRefusal q → FourToTen (q .number)
+unfolding areRead
+header-number q (no-value o) = read-number (4 ∷ []) (o .number) refl
+header-number q (no-byte o) = read-number (5 ∷ 6 ∷ []) (o .number) refl
 
-pub metadata-number : (q : Refusal) → MetadataRefusal q → q .number ≡ 0 → ⊥
-unfolding isOne
+pub metadata-number : (q : Refusal) → MetadataRefusal q → FourToTen (q .number)
+unfolding areRead
 metadata-number q (header h) = header-number q h
-metadata-number q (no-name o) = some-number (9 ∷ []) (o .number) refl
+metadata-number q (no-name o) = read-number (9 ∷ []) (o .number) refl
 
 -- ---- what follows a value
 

@@ -1,16 +1,17 @@
 -- The refusals of a scan in the old mode, by number and keyword: each comes from a place in the definitions that has both, and nothing on the way changes them.
 -- A block ends before its turns do.
 -- Assumes nothing.
-use Prim.Native.Nat.{ℕ, suc, _+_, _-_}
+use Prim.Native.Nat.{ℕ, suc, _+_, _-_, _≤_}
 use mathlib.Core.Path.{_≡_, refl, sym, ap, _∙_, subst}
-use mathlib.Core.Bool.{Bool, true, false, cond}
+use mathlib.Core.Bool.{Bool, true, false, cond, _&&_}
 use mathlib.Core.Logic.{⊎-elim}
 use mathlib.Core.List.{List, [], _∷_, _++_, List·Memᴰ, List·Memᴰ·head, List·Memᴰ·tail}
 use native.Mathlib.Omega.{arith}
 use lib.Dec.{eqb, leb, ltb}
 use lib.ListN.{length}
-use borrow.Author.Tests.{eqb-true, eq-eqb, ltb-true, ltb-false}
+use borrow.Author.Tests.{eqb-true, eq-eqb, leb-true, ltb-true, ltb-false}
 use Rattle.text.specs.Bytes.{look}
+use Rattle.text.specs.Class.{within}
 use Rattle.text.specs.Due.{dueNumber, dueHere, dueAt}
 use Rattle.text.specs.Keyword.{matchAt}
 use Rattle.text.specs.Refusal.{MetHigh, refusedAt}
@@ -22,7 +23,7 @@ use Rattle.text.specs.declared.Due.the-variants.{After, Not}
 use Rattle.text.specs.declared.Match.{Match}
 use Rattle.text.specs.declared.Match.the-variants.{After as Matched, Not as Unmatched}
 use Rattle.text.specs.declared.Refusal.{Refusal}
-use Rattle.text.proofs.Here.{by-test, never}
+use Rattle.text.proofs.Here.{by-test, both}
 use Rattle.text.proofs.HighLaws.{refused-met}
 use Rattle.text.proofs.Turns.{turns-rule}
 use Rattle.text_value.specs.Argument.{argumentOf, breaksOff, argumentAt, afterDue, afterArgument, lineAt}
@@ -96,9 +97,20 @@ is-one {n} (List·Memᴰ·tail {x = k} m) = go (eqb n k) (is-one m)
     go true h = refl
     go false h = h
 
--- a refusal's number is not 0
-pub some-number : {n : ℕ} (ks : List ℕ) → List·Memᴰ n ks → isOne 0 ks ≡ false → n ≡ 0 → ⊥
-some-number ks m f e = never (ap (λ z. isOne z ks) e ∙ f) (is-one m)
+-- the numbers of what is read are 4 to 10
+unfoldable pub areRead : List ℕ → Bool
+areRead [] = true
+areRead (k ∷ ks) = within 4 10 k && areRead ks
+
+abbrev pub FourToTen : ℕ → Type 0
+FourToTen n = (4 ≤ n) × (n ≤ 10)
+
+pub read-number : {n : ℕ} (ks : List ℕ) → List·Memᴰ n ks → areRead ks ≡ true → FourToTen n
+unfolding areRead
+read-number {n} (k ∷ ks) (List·Memᴰ·head e) f =
+    let w = both (leb 4 k) (leb k 10) (both (within 4 10 k) (areRead ks) f .0) in
+    omega (arith, e, leb-true 4 k (w .0), leb-true k 10 (w .1))
+read-number {n} (k ∷ ks) (List·Memᴰ·tail m) f = read-number ks m (both (within 4 10 k) (areRead ks) f .1)
 
 abbrev pub refusal : ℕ → ℕ → ℕ → Refusal
 refusal n k at = record { number = n; keyword = k; at = at }
@@ -167,18 +179,18 @@ module _ (s : List ℕ) (Q : Refusal → Type 0) where
 
 -- ---- dependencies
 
-pub statement-number : (k : ℕ) (q : Refusal) → StatementRefusal k q → q .number ≡ 0 → ⊥
-unfolding isOne
-statement-number k q (argument o) = some-number (4 ∷ 5 ∷ 6 ∷ []) (o .number) refl
-statement-number k q (prefix e o) = some-number (4 ∷ 5 ∷ 6 ∷ []) (o .number) refl
-statement-number k q (no-prefix e o) = some-number (7 ∷ []) (o .number) refl
-statement-number k q (block o) = some-number (8 ∷ []) (o .number) refl
+pub statement-number : (k : ℕ) (q : Refusal) → StatementRefusal k q → FourToTen (q .number)
+unfolding areRead
+statement-number k q (argument o) = read-number (4 ∷ 5 ∷ 6 ∷ []) (o .number) refl
+statement-number k q (prefix e o) = read-number (4 ∷ 5 ∷ 6 ∷ []) (o .number) refl
+statement-number k q (no-prefix e o) = read-number (7 ∷ []) (o .number) refl
+statement-number k q (block o) = read-number (8 ∷ []) (o .number) refl
 
-pub dependencies-number : (q : Refusal) → DependenciesRefusal q → q .number ≡ 0 → ⊥
-unfolding isOne
+pub dependencies-number : (q : Refusal) → DependenciesRefusal q → FourToTen (q .number)
+unfolding areRead
 dependencies-number q (import h) = statement-number 8 q h
 dependencies-number q (include h) = statement-number 9 q h
-dependencies-number q (rows o) = some-number (10 ∷ []) (o .number) refl
+dependencies-number q (rows o) = read-number (10 ∷ []) (o .number) refl
 
 -- in the statement of the keyword k, a value with the keyword j may be refused by 4, 5 and 6
 abbrev Refusable : ℕ → ℕ → Type 0

@@ -27,7 +27,7 @@ use Rattle.scan_metadata.specs.Metadata as Meta
 use Rattle.demands_scans.specs.Refusals.{FirstRefusal, RefusedAs, first, read, StatementRefusal, DependenciesRefusal, HeaderRefusal, MetadataRefusal}
 use Rattle.demands_scans.specs.Refusals.{MetRefusal, high, other, WholeRefusal, cut-short, as-before, ModeRefusal}
 use Rattle.demands_scans.specs.Whole.{OldMode, toldDependencies, toldMetadata, WholeOrOld, same, cut, oldDependencies, oldMetadata}
-use Rattle.demands_scans.proofs.ScanNumbers.{Stated, ImportedIs, IncludedIs, import-is, include-is, LentIs, lent-is, dependencies-refused}
+use Rattle.demands_scans.proofs.ScanNumbers.{FourToTen, Stated, ImportedIs, IncludedIs, import-is, include-is, LentIs, lent-is, dependencies-refused}
 use Rattle.demands_scans.proofs.ScanNumbers as Scans
 use Rattle.demands_scans.proofs.MetadataNumbers.{M, HeardIs, said-is, metadata-refused}
 use Rattle.demands_scans.proofs.MetadataNumbers as Headers
@@ -42,11 +42,12 @@ unfolding pastOf argumentAt breaksOff
 old-mode = record { skipped = λ n c h. refl; value = λ s at u k. refl }
 
 -- no refusal has the number 0
-met-number : {Read : Refusal → Type 0} → ((q : Refusal) → Read q → q .number ≡ 0 → ⊥) → (s : List ℕ) (q : Refusal) → MetRefusal Read s q → q .number ≡ 0 → ⊥
+met-number : {Read : Refusal → Type 0} → ((q : Refusal) → Read q → FourToTen (q .number)) → (s : List ℕ) (q : Refusal) → MetRefusal Read s q
+    → q .number ≡ 0 → ⊥
 met-number f s q (high m) z = omega (arith, z, ap (λ r. r .number) (m .0))
-met-number f s q (other h) z = f q h z
+met-number f s q (other h) z = omega (arith, z, f q h)
 
-pub mode-number : {Read : Refusal → Type 0} → ((q : Refusal) → Read q → q .number ≡ 0 → ⊥) → (s : List ℕ) (whole : Bool) (q : Refusal)
+pub mode-number : {Read : Refusal → Type 0} → ((q : Refusal) → Read q → FourToTen (q .number)) → (s : List ℕ) (whole : Bool) (q : Refusal)
     → ModeRefusal whole Read s q → q .number ≡ 0 → ⊥
 mode-number f s true q (cut-short e) z = omega (arith, z, ap (λ r. r .number) e)
 mode-number f s true q (as-before h) z = met-number f s q h z

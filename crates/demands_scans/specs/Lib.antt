@@ -1,3 +1,4 @@
-pub mod Refusals
+pub mod Accents
 pub mod Newest
+pub mod Refusals
 pub mod Whole

@@ -24,7 +24,7 @@ use Rattle.text_statement.specs.Statement.{statementTurn, statementFrom,
 use Rattle.text_past.specs.declared.How.{How}
 use Rattle.text_past.specs.declared.How.the-variants.{Whole, Semicolon, Block, Before, Text}
 use Rattle.text_statement.specs.declared.Part.{Part}
-use Rattle.text_statement.specs.declared.Part.the-variants.{On, Stop}
+use Rattle.text_statement.specs.declared.Part.the-variants.{On, Stop, High}
 use Rattle.text_past.specs.declared.Skipped.{Skipped}
 use Rattle.text_past.specs.declared.Skipped.the-variants.{Past, Refused}
 
@@ -71,7 +71,7 @@ quoted-within s at q h = omega (arith, quoted-most q q (drop at s), length-drop 
 
 -- ---- a part
 
-pub part-past : (s : List ℕ) (at d : ℕ) → length s ≤ at → partAt s at d ≡ Stop (Past (record { at = at }) Text)
+pub part-past : (s : List ℕ) (at d : ℕ) → length s ≤ at → partAt s at d ≡ Stop (record { at = at }) Text
 unfolding partAt
 part-past s at d h = rw (le-leb (length s) at h) refl
 
@@ -116,16 +116,19 @@ module _ (s : List ℕ) (at d : ℕ) (h : at < length s) where
 
 -- b: any other byte, t: whether it is 128 or more
 module _ (at next d b : ℕ) {t : Bool} (te : t ≡ isHigh b) where
-  pub other-high : t ≡ true → {r : Refusal} → r ≡ highAt at → Stop (Refused r) ≡ atOther at next d b
+  pub other-high : t ≡ true → High (record { at = at }) ≡ atOther at next d b
   unfolding atOther
-  other-high y e = let q : isHigh b ≡ true = sym te ∙ y in rw q (ap (λ r. Stop (Refused r)) e)
+  other-high y = let q : isHigh b ≡ true = sym te ∙ y in rw q refl
 
   pub other-on : t ≡ false → On (record { at = next }) d ≡ atOther at next d b
   unfolding atOther
   other-on n = let q : isHigh b ≡ false = sym te ∙ n in rw q refl
 
-stop-not : {e : Skipped} {c : Cursor} {d : ℕ} {p : Part} → p ≡ Stop e → p ≡ On c d → ⊥
+stop-not : {e c : Cursor} {w : How} {d : ℕ} {p : Part} → p ≡ Stop e w → p ≡ On c d → ⊥
 stop-not e f = let z : _≡_ {A = ℕ} 0 1 = cc in omega arith
+
+high-not : {e c : Cursor} {d : ℕ} {p : Part} → p ≡ High e → p ≡ On c d → ⊥
+high-not e f = let z : _≡_ {A = ℕ} 0 1 = cc in omega arith
 
 on-is : {b c : Cursor} {d e : ℕ} {p : Part} → p ≡ On b d → p ≡ On c e → (b .at ≡ c .at) × (d ≡ e)
 on-is e f = (cc, cc)
@@ -154,7 +157,7 @@ other-far : (s : List ℕ) (at d b e : ℕ) (c : Cursor) → at < length s → a
 unfolding atOther
 other-far s at d b e c l h =
     by-test (isHigh b)
-    (λ t. absurd (stop-not refl (rw t at h)))
+    (λ t. absurd (high-not refl (rw t at h)))
     (λ t. let k = on-is refl (rw t at h) in omega (arith, k .0, k .1))
 
 of-far : (s : List ℕ) (at d b e : ℕ) (c : Cursor) → at < length s → partOf s at d b ≡ On c e → Far s at d c e
@@ -177,7 +180,7 @@ part-far s at d e c h =
     (λ t. absurd (stop-not refl (rw t at h)))
     (λ t. let l : at < length s = leb-false (length s) at t in (l, of-far s at d (getD s at 256) e c l (rw t at h)))
 
--- how a part that ends the statement ends it: past its byte, before its brace, or at the text's end; or it refuses a byte of 128 or more, which stands here
+-- how a part that ends the statement ends it: past its byte, before its brace, or at the text's end; or a byte of 128 or more, which stands here, is refused
 abbrev pub Stops : List ℕ → ℕ → Skipped → Type 0
 Stops s at (Past c Whole) = ⊥
 Stops s at (Past c Semicolon) = (at < length s) × (c .at ≡ at + 1)
@@ -186,62 +189,108 @@ Stops s at (Past c Before) = (at < length s) × (c .at ≡ at) × (getD s at 256
 Stops s at (Past c Text) = (length s ≤ at) × (c .at ≡ at)
 Stops s at (Refused r) = (r .at ≡ at) × MetHigh s r
 
-on-not : {e : Skipped} {c : Cursor} {d : ℕ} {p : Part} → p ≡ On c d → p ≡ Stop e → ⊥
+on-not : {e c : Cursor} {w : How} {d : ℕ} {p : Part} → p ≡ On c d → p ≡ Stop e w → ⊥
 on-not e f = stop-not f e
 
 -- the answer is the one of which it is known
-stops-is : (s : List ℕ) (at : ℕ) (b e : Skipped) → _≡_ {A = Part} (Stop b) (Stop e) → Stops s at b → Stops s at e
-stops-is s at b e k t = let z : b ≡ e = cc in subst (Stops s at) z t
+stops-is : (s : List ℕ) (at : ℕ) (b e : Cursor) (v w : How) → _≡_ {A = Part} (Stop b v) (Stop e w) → Stops s at (Past b v) → Stops s at (Past e w)
+stops-is s at b e v w k t = let z : Past b v ≡ Past e w = cc in subst (Stops s at) z t
 
-semicolon-stops : (s : List ℕ) (at d : ℕ) (e : Skipped) → at < length s → atSemicolon (at + 1) d ≡ Stop e → Stops s at e
+semicolon-stops : (s : List ℕ) (at d : ℕ) (e : Cursor) (w : How) → at < length s → atSemicolon (at + 1) d ≡ Stop e w → Stops s at (Past e w)
 unfolding atSemicolon
-semicolon-stops s at d e l h =
+semicolon-stops s at d e w l h =
     by-test (eqb d 0)
-    (λ t. stops-is s at (Past (record { at = at + 1 }) Semicolon) e (rw t at h) (l, refl))
+    (λ t. stops-is s at (record { at = at + 1 }) e Semicolon w (rw t at h) (l, refl))
     (λ t. absurd (on-not refl (rw t at h)))
 
-close-stops : (s : List ℕ) (at d : ℕ) (e : Skipped) → at < length s → getD s at 256 ≡ 125 → atClose at (at + 1) d ≡ Stop e → Stops s at e
+close-stops : (s : List ℕ) (at d : ℕ) (e : Cursor) (w : How) → at < length s → getD s at 256 ≡ 125 → atClose at (at + 1) d ≡ Stop e w
+    → Stops s at (Past e w)
 unfolding atClose
-close-stops s at d e l b h =
+close-stops s at d e w l b h =
     by-test (eqb d 0)
-    (λ t. stops-is s at (Past (record { at = at }) Before) e (rw t at h) (l, refl, b))
+    (λ t. stops-is s at (record { at = at }) e Before w (rw t at h) (l, refl, b))
     (λ t. by-test (eqb d 1)
-    (λ u. stops-is s at (Past (record { at = at + 1 }) Block) e (rw u at (rw t at h)) (l, refl))
+    (λ u. stops-is s at (record { at = at + 1 }) e Block w (rw u at (rw t at h)) (l, refl))
     (λ u. absurd (on-not refl (rw u at (rw t at h)))))
 
-other-stops : (s : List ℕ) (at d b : ℕ) (e : Skipped) → getD s at 256 ≡ b → atOther at (at + 1) d b ≡ Stop e → Stops s at e
-unfolding atOther
-other-stops s at d b e k h =
-    by-test (isHigh b)
-    (λ t. stops-is s at (Refused (highAt at)) e (rw t at h) (refl, (refl, ap isHigh k ∙ t)))
-    (λ t. absurd (on-not refl (rw t at h)))
+high-stop : {e b : Cursor} {w : How} {p : Part} → p ≡ High b → p ≡ Stop e w → ⊥
+high-stop e f = let z : _≡_ {A = ℕ} 0 1 = cc in omega arith
 
-of-stops : (s : List ℕ) (at d b : ℕ) (e : Skipped) → at < length s → getD s at 256 ≡ b → partOf s at d b ≡ Stop e → Stops s at e
+-- any other byte does not end it
+other-stops : (at d b : ℕ) (e : Cursor) (w : How) → atOther at (at + 1) d b ≡ Stop e w → ⊥
+unfolding atOther
+other-stops at d b e w h = by-test (isHigh b) (λ t. high-stop refl (rw t at h)) (λ t. on-not refl (rw t at h))
+
+of-stops : (s : List ℕ) (at d b : ℕ) (e : Cursor) (w : How) → at < length s → getD s at 256 ≡ b → partOf s at d b ≡ Stop e w → Stops s at (Past e w)
 unfolding partOf
-of-stops s at d b e l k h =
+of-stops s at d b e w l k h =
     by-test (isQuote b)
     (λ t. absurd (on-not refl (rw t at h)))
     (λ t. by-test (eqb b 59)
-    (λ u. semicolon-stops s at d e l (rw u at (rw t at h)))
+    (λ u. semicolon-stops s at d e w l (rw u at (rw t at h)))
     (λ u. by-test (eqb b 123)
     (λ v. absurd (on-not refl (rw v at (rw u at (rw t at h)))))
     (λ v. by-test (eqb b 125)
-    (λ x. close-stops s at d e l (k ∙ eqb-true b 125 x) (rw x at (rw v at (rw u at (rw t at h)))))
-    (λ x. other-stops s at d b e k (rw x at (rw v at (rw u at (rw t at h))))))))
+    (λ x. close-stops s at d e w l (k ∙ eqb-true b 125 x) (rw x at (rw v at (rw u at (rw t at h)))))
+    (λ x. absurd (other-stops at d b e w (rw x at (rw v at (rw u at (rw t at h)))))))))
 
-pub part-stops : (s : List ℕ) (at d : ℕ) (e : Skipped) → partAt s at d ≡ Stop e → Stops s at e
+pub part-stops : (s : List ℕ) (at d : ℕ) (e : Cursor) (w : How) → partAt s at d ≡ Stop e w → Stops s at (Past e w)
 unfolding partAt
-part-stops s at d e h =
+part-stops s at d e w h =
     by-test (leb (length s) at)
-    (λ t. stops-is s at (Past (record { at = at }) Text) e (rw t at h) (leb-true (length s) at t, refl))
-    (λ t. of-stops s at d (getD s at 256) e (leb-false (length s) at t) refl (rw t at h))
+    (λ t. stops-is s at (record { at = at }) e Text w (rw t at h) (leb-true (length s) at t, refl))
+    (λ t. of-stops s at d (getD s at 256) e w (leb-false (length s) at t) refl (rw t at h))
+
+-- a part that is refused is such a byte
+high-is : {b c : Cursor} {p : Part} → p ≡ High b → p ≡ High c → b .at ≡ c .at
+high-is e f = cc
+
+stop-high : {e b : Cursor} {w : How} {p : Part} → p ≡ Stop e w → p ≡ High b → ⊥
+stop-high e f = high-stop f e
+
+on-high : {b c : Cursor} {d : ℕ} {p : Part} → p ≡ On c d → p ≡ High b → ⊥
+on-high e f = high-not f e
+
+semicolon-high : (next d : ℕ) (e : Cursor) → atSemicolon next d ≡ High e → ⊥
+unfolding atSemicolon
+semicolon-high next d e h = by-test (eqb d 0) (λ t. stop-high refl (rw t at h)) (λ t. on-high refl (rw t at h))
+
+close-high : (at next d : ℕ) (e : Cursor) → atClose at next d ≡ High e → ⊥
+unfolding atClose
+close-high at next d e h =
+    by-test (eqb d 0)
+    (λ t. stop-high refl (rw t at h))
+    (λ t. by-test (eqb d 1) (λ u. stop-high refl (rw u at (rw t at h))) (λ u. on-high refl (rw u at (rw t at h))))
+
+of-high : (s : List ℕ) (at d b : ℕ) (e : Cursor) → partOf s at d b ≡ High e → (e .at ≡ at) × (isHigh b ≡ true)
+unfolding partOf atOther
+of-high s at d b e h =
+    by-test (isQuote b)
+    (λ t. absurd (on-high refl (rw t at h)))
+    (λ t. by-test (eqb b 59)
+    (λ u. absurd (semicolon-high (at + 1) d e (rw u at (rw t at h))))
+    (λ u. by-test (eqb b 123)
+    (λ v. absurd (on-high refl (rw v at (rw u at (rw t at h)))))
+    (λ v. by-test (eqb b 125)
+    (λ x. absurd (close-high at (at + 1) d e (rw x at (rw v at (rw u at (rw t at h))))))
+    (λ x. by-test (isHigh b)
+    (λ y. (sym (high-is refl (rw y at (rw x at (rw v at (rw u at (rw t at h)))))), y))
+    (λ y. absurd (on-high refl (rw y at (rw x at (rw v at (rw u at (rw t at h)))))))))))
+
+pub part-high : (s : List ℕ) (at d : ℕ) (e : Cursor) → partAt s at d ≡ High e → Stops s at (Refused (highAt (e .at)))
+unfolding partAt
+part-high s at d e h =
+    by-test (leb (length s) at)
+    (λ t. absurd (stop-high refl (rw t at h)))
+    (λ t. let k = of-high s at d (getD s at 256) e (rw t at h) in (k .0, (refl, ap (λ i. isHigh (getD s i 256)) (k .0) ∙ k .1)))
 
 -- ---- a statement
 
 of-on : (s : List ℕ) (g d : ℕ) (p : Part) (i : Inside) → partAt s g d ≡ p → ofPart p ≡ on i → (g < length s) × (g < i .at) × (i .at ≤ length s)
 unfolding ofPart
 of-on s g d (On c e) i q h = let k : c .at ≡ i .at = cc in omega (arith, part-far s g d e c q)
-of-on s g d (Stop e) i q h = let z : _≡_ {A = ℕ} 0 1 = cc in omega arith
+of-on s g d (Stop e w) i q h = let z : _≡_ {A = ℕ} 0 1 = cc in omega arith
+of-on s g d (High e) i q h = let z : _≡_ {A = ℕ} 0 1 = cc in omega arith
 
 statement-falls : (s : List ℕ) (i j : Inside) → statementTurn s i ≡ on j → length s - j .at < length s - i .at
 unfolding statementTurn
@@ -259,11 +308,19 @@ module _ (s : List ℕ) (at d : ℕ) {g : ℕ} {p : Part} (ge : g ≡ gapEnd s a
   unfolding statementTurn
   turn-is = ap (λ i. ofPart (partAt s i d)) (sym ge) ∙ ap ofPart (sym pe)
 
-  pub statement-stop : (e : Skipped) → p ≡ Stop e → statementFrom s at d ≡ e
-  unfolding statementFrom ofPart
-  statement-stop e h =
+  ends-so : (e : Skipped) → ofPart p ≡ stop e → statementFrom s at d ≡ e
+  unfolding statementFrom
+  ends-so e h =
       turns-stop (statementTurn s) (Past (record { at = 0 }) Text) (λ i. length s - i .at) (statement-falls s)
-      (suc (length s)) (record { at = at; depth = d }) e (omega arith) (turn-is ∙ ap ofPart h)
+      (suc (length s)) (record { at = at; depth = d }) e (omega arith) (turn-is ∙ h)
+
+  pub statement-stop : (e : Cursor) (w : How) → p ≡ Stop e w → statementFrom s at d ≡ Past e w
+  unfolding ofPart
+  statement-stop e w h = ends-so (Past e w) (ap ofPart h)
+
+  pub statement-high : (e : Cursor) → p ≡ High e → {r : Refusal} → r ≡ highAt (e .at) → statementFrom s at d ≡ Refused r
+  unfolding ofPart
+  statement-high e h {r} q = ends-so (Refused r) (ap ofPart h ∙ ap (λ x. stop (Refused x)) (sym q))
 
   module _ (c : Cursor) (e : ℕ) (h : p ≡ On c e) where
     far : (g < length s) × Far s g d c e
@@ -321,7 +378,9 @@ stops-tell s at (Refused r) t = (omega (arith, t .0), t .1)
 of-stop : (s : List ℕ) (g d : ℕ) (p : Part) (e : Skipped) → partAt s g d ≡ p → ofPart p ≡ stop e → Tells s g e
 unfolding ofPart
 of-stop s g d (On c f) e q h = let z : _≡_ {A = ℕ} 0 1 = cc in absurd (omega arith)
-of-stop s g d (Stop f) e q h = let k : f ≡ e = cc in subst (Tells s g) k (stops-tell s g f (part-stops s g d f q))
+of-stop s g d (Stop f w) e q h = let k : Past f w ≡ e = cc in subst (Tells s g) k (stops-tell s g (Past f w) (part-stops s g d f w q))
+of-stop s g d (High f) e q h =
+    let k : Refused (highAt (f .at)) ≡ e = cc in subst (Tells s g) k (stops-tell s g (Refused (highAt (f .at))) (part-high s g d f q))
 
 from-tells : (s : List ℕ) (at d : ℕ) → Tells s at (statementFrom s at d)
 unfolding statementFrom statementTurn
@@ -369,7 +428,8 @@ from-moves : (s : List ℕ) (at : ℕ) (p : Part) → at < length s → (getD s 
 from-moves s at (On c d) l n h =
     rw (statement-more s at 0 refl refl c d h)
     (tells-moves s at (c .at) (statementFrom s (c .at) d) (omega (arith, part-far s (gapEnd s at) 0 d c h, gap-from s at)) (from-tells s (c .at) d))
-from-moves s at (Stop e) l n h = rw (statement-stop s at 0 refl refl e h) (stopped e (part-stops s (gapEnd s at) 0 e h))
+from-moves s at (High e) l n h = rw (statement-high s at 0 refl refl e h refl) tt
+from-moves s at (Stop e w) l n h = rw (statement-stop s at 0 refl refl e w h) (stopped (Past e w) (part-stops s (gapEnd s at) 0 e w h))
   where
     stopped : (e : Skipped) → Stops s (gapEnd s at) e → Moves at e
     stopped (Past c Whole) t = absurd t

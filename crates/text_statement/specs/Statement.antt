@@ -16,7 +16,7 @@ use Rattle.text_string.specs.Str.{isQuote}
 use Rattle.text_past.specs.Past.{pastOf}
 use Rattle.text_past.specs.declared.How.the-variants.{Semicolon, Block, Before, Text}
 use Rattle.text_statement.specs.declared.Part.{Part}
-use Rattle.text_statement.specs.declared.Part.the-variants.{On, Stop}
+use Rattle.text_statement.specs.declared.Part.the-variants.{On, Stop, High}
 use Rattle.text_past.specs.declared.Skipped.{Skipped}
 use Rattle.text_past.specs.declared.Skipped.the-variants.{Past, Refused}
 
@@ -39,17 +39,17 @@ quotedEnd s at q = at + quotedLen q q (drop at s)
 
 -- after a semicolon
 unfoldable pub atSemicolon : ℕ → ℕ → Part
-atSemicolon next d = cond (eqb d 0) (Stop (Past (record { at = next }) Semicolon)) (On (record { at = next }) d)
+atSemicolon next d = cond (eqb d 0) (Stop (record { at = next }) Semicolon) (On (record { at = next }) d)
 
 -- at a closing brace, and after it
 unfoldable pub atClose : ℕ → ℕ → ℕ → Part
 atClose at next d =
-    cond (eqb d 0) (Stop (Past (record { at = at }) Before))
-    (cond (eqb d 1) (Stop (Past (record { at = next }) Block)) (On (record { at = next }) (d - 1)))
+    cond (eqb d 0) (Stop (record { at = at }) Before)
+    (cond (eqb d 1) (Stop (record { at = next }) Block) (On (record { at = next }) (d - 1)))
 
 -- at any other byte b, and after it
 unfoldable pub atOther : ℕ → ℕ → ℕ → ℕ → Part
-atOther at next d b = cond (isHigh b) (Stop (Refused (highAt at))) (On (record { at = next }) d)
+atOther at next d b = cond (isHigh b) (High (record { at = at })) (On (record { at = next }) d)
 
 -- b: what stands at the place
 unfoldable pub partOf : List ℕ → ℕ → ℕ → ℕ → Part
@@ -60,7 +60,7 @@ partOf s at d b =
     (cond (eqb b closeBrace) (atClose at (at + 1) d) (atOther at (at + 1) d b))))
 
 unfoldable pub partAt : List ℕ → ℕ → ℕ → Part
-partAt s at d = cond (leb (length s) at) (Stop (Past (record { at = at }) Text)) (partOf s at d (look s at))
+partAt s at d = cond (leb (length s) at) (Stop (record { at = at }) Text) (partOf s at d (look s at))
 
 -- ---- a statement
 
@@ -71,7 +71,8 @@ pub record Inside : Type 0 where
 
 unfoldable pub ofPart : Part → Turn Inside Skipped
 ofPart (On c d) = on (record { at = c .at; depth = d })
-ofPart (Stop e) = stop e
+ofPart (Stop c how) = stop (Past c how)
+ofPart (High c) = stop (Refused (highAt (c .at)))
 
 unfoldable pub statementTurn : List ℕ → Inside → Turn Inside Skipped
 statementTurn s i = ofPart (partAt s (gapEnd s (i .at)) (i .depth))

@@ -42,17 +42,21 @@ fn skip_statement(here: Cursor, classes: &[u8; 128], s: &[u8]) -> Skipped
                 at = after.at;
                 depth = d;
             }
-            Part::Stop(end) => {
-                return end;
+            Part::Stop(end, how) => {
+                return Skipped::Past(end, how);
+            }
+            Part::High(end) => {
+                return Skipped::Refused(text::high_byte(end.at));
             }
         }
     }
 }
 
-// A part of a statement was passed, and the depth after it; or what skipping the statement answers.
+// A part of a statement was passed, and the depth after it; or the statement ended, and how; or a byte of 128 or more stands here.
 pub enum Part {
     On { next: Cursor, depth: usize },
-    Stop(Skipped),
+    Stop(Cursor, How),
+    High(Cursor),
 }
 
 // The part of a statement that stands here, at a depth: each brace that opened took a byte.
@@ -62,7 +66,7 @@ fn skip_part(here: Cursor, s: &[u8], depth: usize) -> Part
 {
     let at = here.at;
     if s.len() <= at {
-        return Part::Stop(Skipped::Past(here, How::Text));
+        return Part::Stop(here, How::Text);
     }
     let after = at + 1;
     let next = Cursor { at: after };
@@ -90,7 +94,7 @@ fn at_semicolon(next: Cursor, depth: usize) -> Part
     ensures { λ r. ⌜ r ≡ atSemicolon (next .at) depth ⌝ }
 {
     if depth == 0 {
-        return Part::Stop(Skipped::Past(next, How::Semicolon));
+        return Part::Stop(next, How::Semicolon);
     }
     Part::On { next, depth }
 }
@@ -100,10 +104,10 @@ fn at_close(here: Cursor, next: Cursor, depth: usize) -> Part
     ensures { λ r. ⌜ r ≡ atClose (here .at) (next .at) depth ⌝ }
 {
     if depth == 0 {
-        return Part::Stop(Skipped::Past(here, How::Before));
+        return Part::Stop(here, How::Before);
     }
     if depth == 1 {
-        return Part::Stop(Skipped::Past(next, How::Block));
+        return Part::Stop(next, How::Block);
     }
     let outer = depth - 1;
     Part::On { next, depth: outer }
@@ -114,7 +118,7 @@ fn at_other(here: Cursor, next: Cursor, b: u16, depth: usize) -> Part
     ensures { λ r. ⌜ r ≡ atOther (here .at) (next .at) depth b ⌝ }
 {
     if text::is_high(b) {
-        return Part::Stop(Skipped::Refused(text::high_byte(here.at)));
+        return Part::High(here);
     }
     Part::On { next, depth }
 }

@@ -11,7 +11,8 @@ use Rattle.text.proofs.Here.{rest, inside, by-test}
 use Rattle.text_utf8.specs.Largest.{larger, largest}
 
 -- r: the larger of the largest so far and the byte here
-pub largest-more : (s : List ℕ) (i most : ℕ) → i < length s → {r : ℕ} → r ≡ larger most (getD s i 0) → largest r (drop (i + 1) s) ≡ largest most (drop i s)
+pub largest-more : (s : List ℕ) (i most : ℕ) → i < length s → {r : ℕ} → r ≡ larger most (getD s i 0)
+    → largest r (drop (i + 1) s) ≡ largest most (drop i s)
 unfolding largest
 largest-more s i most h {r} e = rw (rest s i h) (ap (λ x. largest x (drop (i + 1) s)) (e ∙ ap (larger most) (inside s i 0 256 h)))
 

@@ -2,19 +2,18 @@
 -- stands within the text, so the turns over a text end.
 -- Assumes nothing.
 use mathlib.Core.Path.{_≡_, refl, sym, ap, _∙_}
-use mathlib.Core.Bool.{Bool, true, false, cond, _&&_, _||_}
-use mathlib.Core.List.{List, [], _∷_}
+use mathlib.Core.Bool.{Bool, true, false, _&&_, _||_, and-false}
+use mathlib.Core.List.{List, _∷_}
 use Prim.Native.Nat.{ℕ, zero, suc, _+_, _<_, _≤_, _-_}
-use native.Mathlib.Nat.{not-suc-le-zero}
 use native.Mathlib.Omega.{arith}
 use lib.ListN.{length, getD, take, drop}
 use lib.Seq.{take-length}
 use lib.Dec.{eqb, leb}
-use borrow.Author.Tests.{eq-eqb, ne-eqb, eqb-true, eqb-false, leb-true, le-leb, lt-leb}
+use borrow.Author.Tests.{eq-eqb, ne-eqb, eqb-true, eqb-false, leb-true, leb-false, le-leb, lt-leb}
 use Rattle.text.specs.Class.{within}
-use Rattle.text.specs.Turns.{Turn, stop, on, turns}
+use Rattle.text.specs.Turns.{Turn, stop, on}
 use Rattle.text.proofs.Turns.{turns-stop, turns-on, turns-rule}
-use Rattle.text.proofs.Here.{inside, rest, here, past, by-test, both}
+use Rattle.text.proofs.Here.{inside, rest, here, past, by-test, both, or-none}
 use Rattle.text_utf8.specs.Largest.{larger, largest}
 use Rattle.text_utf8.specs.Utf8.{tail, one, two, second3, three, second4, four, charLen, seqLen, charTurn, wrongFrom}
 use Rattle.text_utf8.proofs.LargestLaws.{largest-first, largest-rest}
@@ -29,21 +28,53 @@ pub two-is : (a b : ℕ) {p q : Bool} → p ≡ within 194 223 a → q ≡ tail 
 unfolding two
 two-is a b e f = rw (e, f) refl
 
--- p1: after E0; p2 and q2: after E1 to EC; p3: after ED; p4 and q4: after EE and EF
-pub second3-is : (a b : ℕ) {p1 p2 q2 p3 p4 q4 : Bool} → p1 ≡ within 160 191 b → p2 ≡ within 225 236 a → q2 ≡ tail b → p3 ≡ within 128 159 b
-    → p4 ≡ within 238 239 a → q4 ≡ tail b → ((((eqb a 224 && p1) || (p2 && q2)) || (eqb a 237 && p3)) || (p4 && q4)) ≡ second3 a b
-unfolding second3
-second3-is a b e1 e2 f2 e3 e4 f4 = rw (e1, e2, f2, e3, e4, f4) refl
+-- which alternatives are left
+one-left : (w : Bool) → w ≡ (((w || false) || false) || false)
+one-left w = sym (or-none ((w || false) || false) ∙ or-none (w || false) ∙ or-none w)
+
+two-left : (p q t : Bool) → ((p || q) && t) ≡ (((p && t) || false) || (q && t))
+two-left true q true = refl
+two-left true q false = sym (and-false q)
+two-left false q t = refl
+
+-- E1 to EF but for ED
+joined : (a : ℕ) → (a ≡ 237 → ⊥) → within 225 239 a ≡ (within 225 236 a || within 238 239 a)
+joined a n =
+    by-test (leb 225 a)
+    (λ t. by-test (leb a 236)
+    (λ u. rw (t, u, le-leb a 239 (omega (arith, leb-true a 236 u))) refl)
+    (λ u. let l = leb-false a 236 u in rw (t, u, le-leb 238 a (omega arith)) refl))
+    (λ t. rw (t, lt-leb 238 a (omega (arith, leb-false 225 a t))) refl)
+
+module _ (a b : ℕ) where
+  pub second3-e0 : a ≡ 224 → {t : Bool} → t ≡ within 160 191 b → t ≡ second3 a b
+  unfolding second3
+  second3-e0 h e = rw (e, h) (one-left (within 160 191 b))
+
+  pub second3-ed : a ≡ 237 → {t : Bool} → t ≡ within 128 159 b → t ≡ second3 a b
+  unfolding second3
+  second3-ed h e = rw (e, h) (sym (or-none (within 128 159 b)))
+
+  pub second3-others : (a ≡ 224 → ⊥) → (a ≡ 237 → ⊥) → {p q : Bool} → p ≡ within 225 239 a → q ≡ tail b → (p && q) ≡ second3 a b
+  unfolding second3
+  second3-others n m e f =
+      rw (e ∙ joined a m, f, ne-eqb a 224 n, ne-eqb a 237 m) (two-left (within 225 236 a) (within 238 239 a) (tail b))
+
+  pub second4-f0 : a ≡ 240 → {t : Bool} → t ≡ within 144 191 b → t ≡ second4 a b
+  unfolding second4
+  second4-f0 h e = rw (e, h) (sym (or-none (within 144 191 b || false) ∙ or-none (within 144 191 b)))
+
+  pub second4-f4 : a ≡ 244 → {t : Bool} → t ≡ within 128 143 b → t ≡ second4 a b
+  unfolding second4
+  second4-f4 h e = rw (e, h) refl
+
+  pub second4-others : (a ≡ 240 → ⊥) → (a ≡ 244 → ⊥) → {p q : Bool} → p ≡ within 241 243 a → q ≡ tail b → (p && q) ≡ second4 a b
+  unfolding second4
+  second4-others n m e f = rw (e, f, ne-eqb a 240 n, ne-eqb a 244 m) (sym (or-none (within 241 243 a && tail b)))
 
 pub three-is : (a b c : ℕ) {p q : Bool} → p ≡ second3 a b → q ≡ tail c → (p && q) ≡ three a b c
 unfolding three
 three-is a b c e f = rw (e, f) refl
-
--- p1: after F0; p2 and q2: after F1 to F3; p3: after F4
-pub second4-is : (a b : ℕ) {p1 p2 q2 p3 : Bool} → p1 ≡ within 144 191 b → p2 ≡ within 241 243 a → q2 ≡ tail b → p3 ≡ within 128 143 b
-    → (((eqb a 240 && p1) || (p2 && q2)) || (eqb a 244 && p3)) ≡ second4 a b
-unfolding second4
-second4-is a b e1 e2 f2 e3 = rw (e1, e2, f2, e3) refl
 
 pub four-is : (a b c d : ℕ) {p q r : Bool} → p ≡ second4 a b → q ≡ tail c → r ≡ tail d → ((p && q) && r) ≡ four a b c d
 unfolding four

@@ -1,7 +1,7 @@
 // A text in UTF-8 (RFC 3629): where its first wrong sequence starts. Bytes below 128 are passed by blocks, any other sequence by itself.
 use text::peek_char;
 ghost use mathlib.Core.Path.{_≡_};
-ghost use Prim.Native.Nat.{_+_, _<_, _≤_};
+ghost use Prim.Native.Nat.{_<_, _≤_};
 ghost use lib.ListN.{length};
 ghost use Rattle.text.specs.Class.{within};
 ghost use Rattle.text_utf8.specs.Largest.{larger, largest};
@@ -62,6 +62,7 @@ fn low_end(s: &[u8], at: usize) -> usize
     i
 }
 
+// From a byte to another, both included.
 fn within(from: u16, to: u16, b: u16) -> bool
     ensures { λ r. ⌜ r ≡ within from to b ⌝ }
 {
@@ -70,12 +71,14 @@ fn within(from: u16, to: u16, b: u16) -> bool
     above & below
 }
 
+// A byte that goes on with a character: 80 to BF.
 fn tail(b: u16) -> bool
     ensures { λ r. ⌜ r ≡ tail b ⌝ }
 {
     within(128, 191, b)
 }
 
+// A character of two bytes, of three and of four, by RFC 3629's grammar. The first byte tells which, C0 and C1 begin none.
 fn two(a: u16, b: u16) -> bool
     ensures { λ r. ⌜ r ≡ two a b ⌝ }
 {
@@ -88,11 +91,15 @@ fn two(a: u16, b: u16) -> bool
 fn second3(a: u16, b: u16) -> bool
     ensures { λ r. ⌜ r ≡ second3 a b ⌝ }
 {
-    let e0 = (a == 224) & within(160, 191, b);
-    let e1 = within(225, 236, a) & tail(b);
-    let ed = (a == 237) & within(128, 159, b);
-    let ee = within(238, 239, a) & tail(b);
-    ((e0 | e1) | ed) | ee
+    if a == 224 {
+        return within(160, 191, b);
+    }
+    if a == 237 {
+        return within(128, 159, b);
+    }
+    let first = within(225, 239, a);
+    let second = tail(b);
+    first & second
 }
 
 fn three(a: u16, b: u16, c: u16) -> bool
@@ -107,10 +114,15 @@ fn three(a: u16, b: u16, c: u16) -> bool
 fn second4(a: u16, b: u16) -> bool
     ensures { λ r. ⌜ r ≡ second4 a b ⌝ }
 {
-    let f0 = (a == 240) & within(144, 191, b);
-    let f1 = within(241, 243, a) & tail(b);
-    let f4 = (a == 244) & within(128, 143, b);
-    (f0 | f1) | f4
+    if a == 240 {
+        return within(144, 191, b);
+    }
+    if a == 244 {
+        return within(128, 143, b);
+    }
+    let first = within(241, 243, a);
+    let second = tail(b);
+    first & second
 }
 
 fn four(a: u16, b: u16, c: u16, d: u16) -> bool
@@ -123,7 +135,7 @@ fn four(a: u16, b: u16, c: u16, d: u16) -> bool
 }
 
 // How many bytes the character has that stands at a place, or 0 where none does.
-pub fn seq_len(s: &[u8], at: usize) -> usize
+fn seq_len(s: &[u8], at: usize) -> usize
     requires { ⌜ at < length (now s) ⌝ }
     ensures { λ r. ⌜ r ≡ seqLen (now (s .entry)) at ⌝ }
 {

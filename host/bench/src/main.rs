@@ -39,7 +39,7 @@ fn main() {
         eprintln!("usage: bench [--port] IMAGE BUNDLE FILE..");
         std::process::exit(2);
     };
-    let (dependencies, metadata) = (scans::for_dependencies(files), scans::for_metadata(files));
+    let (dependencies, metadata, accents) = (scans::for_dependencies(files), scans::for_metadata(files), scans::with_accents());
     let (graphs, adverse) = (graph::inputs(image, bundle), graph::adverse());
     let (growing, growing_routers) = (graph::growing(), graph::growing_routers());
     // An archive from before request 2026-10, which ./beside may hand in, would take longer with nine texts than anyone waits.
@@ -62,6 +62,8 @@ fn main() {
         Group { name: "graph with complete nodes (none in the Rust)", rows: drawn.map(graph::complete).collect() },
         Group { name: "order of registration", rows: orders.iter().map(order::ordering).chain([order::checking(&orders[0])]).collect() },
         Group { name: "reading alone (none in the Rust)", rows: scans::look_ups().chain(graphs.iter().map(graph::reading)).collect() },
+        Group { name: "dependencies of a text with accents", rows: accents.iter().map(scans::dependencies).collect() },
+        Group { name: "what is UTF-8, beside `from_utf8`", rows: accents.iter().map(scans::checking).collect() },
     ];
     if alone {
         measure_port(groups.iter_mut().flat_map(|group| &mut group.rows), ROUNDS_OF_PORT);
@@ -85,7 +87,7 @@ fn main() {
     println!("Each row ran in {ROUNDS} rounds (many routers: {ROUNDS_OF_MANY}, edges and names that are slow to find: {ROUNDS_OF_COSTLY}), each with");
     println!("{}.\n{TIMES}\n", timing::told());
     table::print(&groups);
-    let [_, _, _, _, _, _, _, _, _, _, _, growing, growing_routers, .., many] = &groups[..] else { panic!("eighteen groups") };
+    let [_, _, _, _, _, _, _, _, _, _, _, growing, growing_routers, .., many] = &groups[..] else { panic!("too few groups") };
     println!("\n{}", grown("modules", graph::SIZES, &growing.rows));
     println!("{}\n", grown("modules of a router", graph::ROUTERS, &growing_routers.rows));
     println!("{}\n\n{INCLUDED}", many_told(&many.rows));

@@ -3,6 +3,7 @@
 use crate::timing::Row;
 use crate::{port, yangparser};
 use std::hint::black_box;
+use vectors::rng::Rng;
 
 /// Texts that are scanned one after the other, and what they are.
 pub struct Input {
@@ -67,6 +68,23 @@ pub fn for_metadata(files: &[String]) -> Vec<Input> {
     out.push(Input::one("1 MiB of skipped statements", format!("revision 1 {{ {} }}", statements())));
     out.push(Input::one("1 MiB of revisions", repeated("revision 2024-05-01;")));
     out
+}
+
+/// 1 MiB of comments in which one character in so many, by chance, is \u{e9}: where they come at equal distances a processor learns their places.
+fn accented(one_in: usize) -> String {
+    let (mut text, mut r) = (String::new(), Rng::new(1));
+    while text.len() < MIB - 256 {
+        let line: String = (0..80).map(|_| if r.once_in(one_in) { '\u{e9}' } else { 'c' }).collect();
+        text += &format!("// {line}\n");
+    }
+    text
+}
+
+/// An archive from before request 2026-01, which ./beside may hand in, refuses them.
+pub fn with_accents() -> Vec<Input> {
+    let reads = port::enough("//\u{e9}".as_bytes(), 0).dependencies(false, "//\u{e9}".as_bytes()) == 0;
+    let input = |(share, one_in): (&str, usize)| Input::one(&format!("1 MiB of comments, {share} of their characters \u{e9}"), accented(one_in));
+    if reads { [("0.1 %", 1_000), ("2 %", 50), ("10 %", 10), ("50 %", 2)].map(input).into() } else { Vec::new() }
 }
 
 // ---- scans
@@ -137,6 +155,19 @@ pub fn metadata_whole(input: &Input) -> Row<'_> {
         assert_eq!(old, whole, "{}: two answers", input.what);
     }
     Row::alone(&input.what, input.bytes(), describing(input, true))
+}
+
+/// The check that a text is UTF-8, by a metadata scan that ends at its second word, and what it clears; beside Rust's own check and a store that is cleared.
+pub fn checking(input: &Input) -> Row<'_> {
+    let text = format!("module m{{container {}", input.texts[0]);
+    let (mut lent, mut store) = (port::lent_store(text.len()), vec![0; text.len()]);
+    assert_eq!(lent.metadata(false, text.as_bytes()), 0, "{}", input.what);
+    let bytes = text.clone().into_bytes();
+    let rust = move || {
+        black_box(std::str::from_utf8(black_box(&bytes)).is_ok());
+        black_box(&mut store).fill(0);
+    };
+    Row::new(&input.what, text.len(), rust, move || _ = black_box(lent.metadata(false, black_box(text.as_bytes()))))
 }
 
 // ---- look-ups

@@ -38,7 +38,11 @@ pub fn run(run: &mut Run) {
     expect(run, "nothing lent", text, lent(0, 0, 0, 0), REFUSED_SHORT);
     expect(run, "an empty text", b"", long(b""), [0; 6]);
     expect(run, "a high byte", b"import a{\xc3\xa9", long(b"import a{\xc3\xa9"), [3, 0, 9, 0, 0, 0]);
-    expect(run, "a high byte and a short store", b"\x80", lent(0, IMPORT_WORDS, INCLUDE_WORDS, page), REFUSED_SHORT);
+    expect(run, "no UTF-8", b"import a{} \xc3", long(b"import a{} \xc3"), [12, 0, 11, 0, 0, 0]);
+    expect(run, "no UTF-8 and a short store", b"\x80", lent(0, IMPORT_WORDS, INCLUDE_WORDS, page), REFUSED_SHORT);
+    let over = vec![b'\xff'; 1_048_577];
+    expect(run, "no UTF-8 and one byte more", &over, long(&over), [1, 0, 0, 0, 0, 0]);
+    expect(run, "no UTF-8 in the longest text", &over[1..], long(&over[1..]), [12, 0, 0, 0, 0, 0]);
     rows(run);
 }
 

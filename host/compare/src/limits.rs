@@ -324,8 +324,8 @@ fn scans(run: &mut Run) {
     let at = many.len() as u32 + 6;
     library(run, "a 257th import", &small("include s;", &format!("{many}import")), &scan(1, [10, 8, at]));
     let image = small("", "").image();
-    let high = b"\x03\x01m\x0ainclude s;\x01s\x02a\xff\x01b\0";
-    ask(run, "a high byte", &image, high, enough(high, 0), &scan(1, [3, 0, 1]));
+    let wrong = b"\x03\x01m\x0ainclude s;\x01s\x02a\xff\x01b\0";
+    ask(run, "no UTF-8", &image, wrong, enough(wrong, 0), &scan(1, [12, 0, 1]));
     let most = format!("{}{}", include("s"), " ".repeat(1_048_566));
     library(run, "the longest text", &small(&most, ""), &built(&words("m s b"), vec![[1, 0]]));
     library(run, "one byte more", &small(&format!("{most} "), ""), &scan(1, [1, 0, 0]));

@@ -5,6 +5,8 @@
 //! compare changes SEED COUNT: COUNT small images and COUNT small bundles, with every beginning and every change of one byte.
 //! compare whole SEED COUNT [FILE..]: COUNT generated texts, and every beginning of each FILE, in the old mode and in the whole-text mode, beside a plain
 //! reading of request 2026-07. `whole-beside` for `whole`: where the answer is not 11, the original must say the same.
+//! compare accents SEED COUNT: COUNT generated texts with accents, in both modes, beside a plain reading of request 2026-01; and every string of up to four of
+//! 25 bytes, which is UTF-8 or not as Rust's own check says. `accents-beside` for `accents`: the original must say the same, or panic, where that is due.
 //! compare finds SEED COUNT: COUNT generated libraries: the Rust's finds, and damaged copies.
 //! compare graphs SEED COUNT: COUNT generated libraries, every other one with texts that include each other: nodes, edges in order, which refusal.
 //! compare complete SEED COUNT: COUNT generated libraries, in most of which names come again: the graphs of both modes, beside a plain reading of
@@ -14,7 +16,7 @@
 //! compare sorts SEED COUNT: COUNT generated graphs: the Rust's own order is accepted, or both say that there is none.
 //! compare edges: lengths around each boundary and the limits of a graph and of an order, which the Rust does not have.
 //!
-//! Changes, whole, complete, orders and edges ask the original nothing.
+//! Changes, whole, accents, complete, orders and edges ask the original nothing.
 
 use std::path::Path;
 use vectors::answers::{self, Dependencies, Refusal, Scan};
@@ -22,6 +24,7 @@ use vectors::oracle::Oracle;
 use vectors::rng::Rng;
 use vectors::texts;
 
+mod accents;
 mod complete;
 mod complete_limits;
 mod edges;
@@ -55,6 +58,8 @@ fn main() {
         }
         ["whole", seed, count, ref files @ ..] => whole::texts(&mut run, false, number(seed), number(count), files),
         ["whole-beside", seed, count, ref files @ ..] => whole::texts(&mut run, true, number(seed), number(count), files),
+        ["accents", seed, count] => accents::texts(&mut run, false, number(seed), number(count)),
+        ["accents-beside", seed, count] => accents::texts(&mut run, true, number(seed), number(count)),
         ["changes", seed, count] => library::changes(&mut run, number(seed), number(count) as usize),
         ["finds", seed, count] => library::finds(&mut run, number(seed), number(count)),
         ["graphs", seed, count] => graph::graphs(&mut run, number(seed), number(count)),
@@ -66,6 +71,7 @@ fn main() {
             edges::run(&mut run);
             metadata::edges(&mut run);
             whole::edges(&mut run);
+            accents::edges(&mut run);
             library::edges(&mut run);
             limits::run(&mut run);
             complete_limits::run(&mut run);
@@ -73,8 +79,8 @@ fn main() {
             order_limits::run(&mut run);
         }
         _ => {
-            eprintln!("compare: texts|changes|finds|graphs|complete|orders|sorts SEED COUNT | files|whole|whole-beside SEED COUNT FILE..");
-            eprintln!("         | graph-of IMAGE BUNDLE | edges");
+            eprintln!("compare: texts|accents|accents-beside|changes|finds|graphs|complete|orders|sorts SEED COUNT");
+            eprintln!("         | files|whole|whole-beside SEED COUNT FILE.. | graph-of IMAGE BUNDLE | edges");
             std::process::exit(2);
         }
     }
@@ -82,7 +88,7 @@ fn main() {
     std::process::exit(i32::from(run.different != 0));
 }
 
-/// The contents of these files, but for those with bytes of 128 or more.
+/// The contents of these files, but for those with bytes above 127.
 fn ascii<'a>(files: &'a [&str]) -> impl Iterator<Item = String> + 'a {
     files.iter().filter_map(|file| String::from_utf8(std::fs::read(file).expect("a file")).ok().filter(|text| text.is_ascii()))
 }

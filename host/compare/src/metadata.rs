@@ -66,8 +66,9 @@ pub fn edges(run: &mut Run) {
     expect(run, "metadata, the store too short", text, text.len() - 1, [2, 0, 0, 0]);
     expect(run, "metadata, nothing lent", text, 0, [2, 0, 0, 0]);
     expect(run, "metadata of an empty text", b"", 0, [9, 0, 0, 0]);
-    expect(run, "metadata, a high byte", b"module m\x80{", 10, [3, 0, 8, 0]);
-    expect(run, "metadata, a high byte and a short store", b"\x80", 0, [2, 0, 0, 0]);
+    expect(run, "metadata, a high byte", b"module m\xc3\xa9{", 11, [3, 0, 8, 0]);
+    expect(run, "metadata, no UTF-8", b"container\x80{", 11, [12, 0, 9, 0]);
+    expect(run, "metadata, no UTF-8 and a short store", b"\x80", 0, [2, 0, 0, 0]);
     expect(run, "metadata behind a stop word", b"container x", 11, [9, 0, 9, 0]);
     expect(run, "metadata without a name", b"x  ", 3, [9, 0, 3, 0]);
 }

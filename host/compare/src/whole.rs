@@ -1,24 +1,37 @@
 //! The whole-text mode of request 2026-07: its three calls beside those of the old mode, and all of them beside a plain reading
-//! (`../../vectors/src/scans.rs`); where the answer is not 11 also beside the original, if that is asked.
+//! (`../../vectors/src/scans.rs`); where the answer is not 11 also beside the original, if that is asked. accents.rs has its texts compared so too.
 
 use crate::port::{self, Described, IMPORT_WORDS, INCLUDE_WORDS, PAGE_MORE, Scanned, lent, lent_store};
 use crate::{Run, edges, metadata};
 use vectors::answers::{self, Dependencies, Refusal, Scan};
 use vectors::oracle::Oracle;
 use vectors::rng::Rng;
-use vectors::scans::{self, CUT_SHORT, Plain, described};
+use vectors::scans::{self, CUT_SHORT, HIGH_BYTE, NOT_UTF8, Plain, described};
 use vectors::texts;
 
 /// What 11 may stand in the place of.
 const INSTEAD: [u32; 5] = [0, 4, 6, 8, 9];
 
-struct Whole<'r> {
+/// When the original is asked. It has the old mode alone, and where the answer is 11 that mode may be one at which it never ends.
+#[derive(Clone, Copy, PartialEq)]
+pub enum Asked {
+    Never,
+    NotAt11,
+    Always,
+}
+
+pub struct Whole<'r> {
     run: &'r mut Run,
-    /// Whether the original is asked.
-    beside: bool,
-    texts: usize,
+    asked: Asked,
+    pub texts: usize,
     /// How often 11 came in the place of each.
     instead: [usize; 5],
+    /// How many scans the old mode refuses with 3, and with 12.
+    pub high: usize,
+    pub not_utf8: usize,
+    /// Of those of which the original was asked and which are not 3: at how many it is to panic, and how many it is to answer.
+    pub panics: usize,
+    pub told: usize,
 }
 
 /// What a mode refuses: before it reads, or as the plain reading does.
@@ -82,7 +95,11 @@ fn described_by(mut lent: Described, whole: bool, text: &[u8]) -> Described {
     lent
 }
 
-impl Whole<'_> {
+impl<'r> Whole<'r> {
+    pub fn new(run: &'r mut Run, asked: Asked) -> Whole<'r> {
+        Whole { run, asked, texts: 0, instead: [0; 5], high: 0, not_utf8: 0, panics: 0, told: 0 }
+    }
+
     fn dependencies(&mut self, text: &[u8], lent: &Scanned) {
         let plain = read(text, scans::dependencies);
         let (mut same, mut told) = (true, [[0; 7]; 2]);
@@ -116,10 +133,14 @@ impl Whole<'_> {
         self.count("M", text, same, &plain, [&old.answer, &whole.answer]);
     }
 
-    /// What the original says, where it is asked and the answer is not 11.
+    /// What the original says, where it is asked. Of a text that is refused with 3 it may say anything.
     fn is_told<T: PartialEq>(&mut self, text: &[u8], whole: u32, plain: &Option<Plain<T>>, told: fn(&mut Oracle, &[u8]) -> Scan<T>) -> bool {
+        let asked = self.asked == Asked::Always || (self.asked == Asked::NotAt11 && whole != CUT_SHORT);
         match plain {
-            Some(plain) if self.beside && whole != CUT_SHORT => plain.is_told(text, &told(self.run.oracle(), text)),
+            Some(plain) if asked && whole != HIGH_BYTE => {
+                *(if plain.panics { &mut self.panics } else { &mut self.told }) += 1;
+                plain.is_told(text, &told(self.run.oracle(), text))
+            }
             _ => true,
         }
     }
@@ -128,6 +149,8 @@ impl Whole<'_> {
         if let (CUT_SHORT, Some(place)) = (whole[0], INSTEAD.iter().position(|n| *n == old[0])) {
             self.instead[place] += 1;
         }
+        self.high += usize::from(old[0] == HIGH_BYTE);
+        self.not_utf8 += usize::from(old[0] == NOT_UTF8);
         self.run.count(same, || {
             let shown = String::from_utf8_lossy(&text[..text.len().min(2_000)]);
             let due = plain.as_ref().map(|plain| [false, true].map(|whole| plain.refusal(whole)));
@@ -141,13 +164,13 @@ impl Whole<'_> {
         self.metadata(text, record);
     }
 
-    fn text(&mut self, text: &str) {
+    pub fn text(&mut self, text: &[u8]) {
         let more = self.texts % 3;
-        self.lent(text.as_bytes(), &port::enough(text.as_bytes(), more), &lent_store(text.len() + more));
+        self.lent(text, &port::enough(text, more), &lent_store(text.len() + more));
     }
 
     /// With buffers that are one short, just enough or one longer, and that held any of these before.
-    fn around(&mut self, r: &mut Rng, text: &[u8]) {
+    pub fn around(&mut self, r: &mut Rng, text: &[u8]) {
         let mut around = |enough: usize| (enough + r.below(3)).saturating_sub(1);
         let mut rows = lent(around(text.len()), around(IMPORT_WORDS), around(INCLUDE_WORDS), around(text.len() + PAGE_MORE));
         let mut record = lent_store(around(text.len()));
@@ -162,19 +185,20 @@ impl Whole<'_> {
 
 // ---- which texts
 
-/// Half of them beginnings of good modules; of the others most as `compare texts` has them, one in four damaged, with a high byte, or with other buffers lent.
+/// Half of them beginnings of good modules; of the others most as `compare texts` has them, one in four damaged, with a high byte, which is no UTF-8, or with
+/// other buffers lent.
 fn generated(whole: &mut Whole, seed: u64, count: u64) {
     let mut r = Rng::new(seed);
     let end = whole.texts + count as usize;
     while whole.texts < end {
         let module = texts::module(&mut r);
         for beginning in texts::beginnings(&module).take(end - whole.texts) {
-            whole.text(beginning);
+            whole.text(beginning.as_bytes());
         }
         for _ in 0..module.len().min(end - whole.texts) {
             let text = texts::any(&mut r);
             match r.below(12) {
-                0 => whole.text(&texts::damaged(&mut r, &text)),
+                0 => whole.text(texts::damaged(&mut r, &text).as_bytes()),
                 1 => whole.around(&mut r, text.as_bytes()),
                 2 if !text.is_empty() => {
                     let mut bytes = text.into_bytes();
@@ -182,22 +206,22 @@ fn generated(whole: &mut Whole, seed: u64, count: u64) {
                     bytes[place] |= 128;
                     whole.around(&mut r, &bytes);
                 }
-                _ => whole.text(&text),
+                _ => whole.text(text.as_bytes()),
             }
         }
     }
 }
 
 pub fn texts(run: &mut Run, beside: bool, seed: u64, count: u64, files: &[&str]) {
-    let mut whole = Whole { run, beside, texts: 0, instead: [0; 5] };
-    texts::EXAMPLES.iter().for_each(|t| whole.text(t));
-    texts::broken().iter().for_each(|t| whole.text(t));
-    texts::SMALL.iter().flat_map(|t| texts::beginnings(t)).for_each(|t| whole.text(t));
+    let mut whole = Whole::new(run, if beside { Asked::NotAt11 } else { Asked::Never });
+    texts::EXAMPLES.iter().for_each(|t| whole.text(t.as_bytes()));
+    texts::broken().iter().for_each(|t| whole.text(t.as_bytes()));
+    texts::SMALL.iter().flat_map(|t| texts::beginnings(t)).for_each(|t| whole.text(t.as_bytes()));
     let longest = if beside { 2 } else { 3 }; // the original is not asked of so many that it never answers
-    (0..=longest).flat_map(|n| texts::short(n).chain(texts::short_broken(n))).for_each(|t| whole.text(&t));
+    (0..=longest).flat_map(|n| texts::short(n).chain(texts::short_broken(n))).for_each(|t| whole.text(t.as_bytes()));
     generated(&mut whole, seed, count);
     for file in crate::ascii(files) {
-        texts::beginnings(&file).for_each(|t| whole.text(t));
+        texts::beginnings(&file).for_each(|t| whole.text(t.as_bytes()));
     }
     let Whole { texts, instead: [good, no_value, end, open, no_name], .. } = whole;
     println!("compare: {texts} texts, each scanned for dependencies and for metadata in both modes; 11 in the place of");
@@ -207,12 +231,12 @@ pub fn texts(run: &mut Run, beside: bool, seed: u64, count: u64, files: &[&str])
 // ---- by hand
 
 #[derive(Clone, Copy)]
-enum Of {
+pub enum Of {
     D,
     M,
 }
 
-const GOOD: [u32; 3] = [0; 3];
+pub const GOOD: [u32; 3] = [0; 3];
 
 /// The readings of request 2026-07: number, keyword and position of the old mode, and of the whole-text mode.
 const READINGS: [(Of, &str, [u32; 3], [u32; 3]); 40] = [
@@ -268,21 +292,21 @@ const READINGS: [(Of, &str, [u32; 3], [u32; 3]); 40] = [
 ];
 
 /// The port and the plain reading.
-fn read_by_hand(run: &mut Run, of: Of, text: &str, due: [[u32; 3]; 2]) {
-    let bytes = text.as_bytes();
+pub fn read_by_hand(run: &mut Run, of: Of, bytes: &[u8], due: [[u32; 3]; 2]) {
     for (whole, due) in [false, true].into_iter().zip(due) {
         let refusal = Some(Refusal { number: due[0], keyword: due[1], position: due[2] }).filter(|_| due != GOOD);
         let (plain, port, clean) = match of {
             Of::D => {
-                let got = linked(&port::enough(bytes, 1), whole, true, bytes);
-                (scans::dependencies(bytes).refusal(whole), got.answer[..3].to_vec(), refusal.is_none_or(|r| is_refused(&r, &got)))
+                let (due, got) = (scans::answered(bytes, whole, scans::dependencies), linked(&port::enough(bytes, 1), whole, true, bytes));
+                (due.refusal(), got.answer[..3].to_vec(), refusal.is_none_or(|r| is_refused(&r, &got)))
             }
             Of::M => {
-                let got = described_by(lent_store(bytes.len() + 1), whole, bytes);
-                (scans::metadata(bytes).refusal(whole), got.answer[..3].to_vec(), refusal.is_none_or(|r| metadata::is_refused(bytes, &r, &got)))
+                let (due, got) = (scans::answered(bytes, whole, scans::metadata), described_by(lent_store(bytes.len() + 1), whole, bytes));
+                (due.refusal(), got.answer[..3].to_vec(), refusal.is_none_or(|r| metadata::is_refused(bytes, &r, &got)))
             }
         };
         let same = port == due && clean && plain == refusal;
+        let text = String::from_utf8_lossy(bytes);
         run.count(same, || format!("{text:?}, whole {whole}: {port:?}, the plain reading {plain:?}, expected {due:?}"));
     }
 }
@@ -290,15 +314,15 @@ fn read_by_hand(run: &mut Run, of: Of, text: &str, due: [[u32; 3]; 2]) {
 /// The readings, those with quotes and no backslash also in single quotes; and what comes before 11.
 pub fn edges(run: &mut Run) {
     for (of, text, old, whole) in READINGS {
-        read_by_hand(run, of, text, [old, whole]);
+        read_by_hand(run, of, text.as_bytes(), [old, whole]);
         if text.contains('"') && !text.contains('\\') {
-            read_by_hand(run, of, &text.replace('"', "'"), [old, whole]);
+            read_by_hand(run, of, text.replace('"', "'").as_bytes(), [old, whole]);
         }
     }
     limits(run);
 }
 
-/// Around the longest text, with too little lent, with a high byte, and behind as many rows as there may be.
+/// Around the longest text, with too little lent, with a byte that is no UTF-8, and behind as many rows as there may be.
 fn limits(run: &mut Run) {
     let expect = edges::expect_in;
     let longest = format!("module m{{\"{}", "x".repeat(1_048_566));
@@ -313,8 +337,8 @@ fn limits(run: &mut Run) {
     expect(true, run, "broken off, the store too short", b"\"", lent(0, IMPORT_WORDS, INCLUDE_WORDS, 1 + PAGE_MORE), [2, 0, 0, 0, 0, 0]);
     expect(true, run, "broken off, the page too short", b"\"", lent(1, IMPORT_WORDS, INCLUDE_WORDS, PAGE_MORE), [2, 0, 0, 0, 0, 0]);
     metadata::expect_in(true, run, "metadata, broken off, the store too short", b"\"", 0, [2, 0, 0, 0]);
-    expect(true, run, "broken off, a high byte", b"\"\x80", edges::long(b"\"\x80"), [3, 0, 1, 0, 0, 0]);
-    metadata::expect_in(true, run, "metadata, broken off, a high byte", b"\"\x80", 2, [3, 0, 1, 0]);
+    expect(true, run, "broken off, no UTF-8", b"\"\x80", edges::long(b"\"\x80"), [12, 0, 1, 0, 0, 0]);
+    metadata::expect_in(true, run, "metadata, broken off, no UTF-8", b"\"\x80", 2, [12, 0, 1, 0]);
     let rows = format!("{}{}", "import a{prefix b;}".repeat(256), "include c;".repeat(256));
     let at = rows.len() as u32;
     for (end, answer) in [("import \"x", [10, 8, at + 6]), ("include \"x", [10, 9, at + 7]), (" \"x", [11, 0, at + 3])] {

@@ -1,6 +1,7 @@
 //! What was expected at the place of a refusal, and what was found there. Both are read off the text and the place alone.
 
 use crate::plain::is_name;
+use crate::scan_refusal::printed;
 use crate::{Keyword, ScanFault, ScanRefusal};
 use std::fmt::{self, Display, Formatter};
 
@@ -36,7 +37,8 @@ impl ScanRefusal {
         let at = self.position?.min(text.len());
         let keyword = self.keyword.map_or("", Keyword::word);
         let (expected, found) = match self.fault {
-            ScanFault::HighByte => ("a byte below 128".to_string(), high(text, at)),
+            ScanFault::HighByte => ("ASCII outside of strings and comments".to_string(), high(text, at)),
+            ScanFault::NotUtf8 => ("UTF-8".to_string(), high(text, at)),
             ScanFault::NoValue => (format!("a name or a string after {keyword}"), value(text, keyword, at)),
             ScanFault::OtherByte | ScanFault::EndOfText => (format!("{} after {}", byte_after(self.keyword?), with_value(text, keyword, at)), byte(text, at)),
             ScanFault::NoPrefix => ("prefix NAME; before the end of the block".to_string(), "}".to_string()),
@@ -59,8 +61,9 @@ fn byte_after(keyword: Keyword) -> &'static str {
 }
 
 fn cut(bytes: &[u8]) -> String {
-    let part = String::from_utf8_lossy(&bytes[..bytes.len().min(PART)]);
-    format!("{part}{}", if bytes.len() > PART { ".." } else { "" })
+    let whole = String::from_utf8_lossy(bytes);
+    let part: String = whole.chars().take(PART).map(printed).collect();
+    format!("{part}{}", if whole.chars().nth(PART).is_some() { ".." } else { "" })
 }
 
 /// The byte at a place, or the whole name that begins there.
@@ -84,12 +87,13 @@ fn value(text: &[u8], keyword: &str, at: usize) -> String {
     }
 }
 
-/// A byte of 128 or more, with the character that it begins.
+/// A byte above 127, with the character that it begins, if it begins one.
 fn high(text: &[u8], at: usize) -> String {
     let some = &text[at..text.len().min(at + 4)];
     let good = std::str::from_utf8(some).map_or_else(|e| e.valid_up_to(), str::len);
     let first = std::str::from_utf8(&some[..good]).ok().and_then(|good| good.chars().next());
-    format!("{}byte 0x{:02x}", first.map_or_else(String::new, |c| format!("{}, ", c.escape_debug())), text[at])
+    let named = |c: char| if c == '\u{feff}' { "a byte order mark, ".to_string() } else { format!("{}, ", c.escape_debug()) };
+    format!("{}byte 0x{:02x}", first.map_or_else(String::new, named), text[at])
 }
 
 /// What ended the metadata scan: the end, or the word before the place.
@@ -126,5 +130,5 @@ fn trimmed(bytes: &[u8]) -> &[u8] {
 fn is_value(bytes: &[u8]) -> bool {
     let quoted = |quote: u8| bytes.len() > 1 && bytes[0] == quote && bytes[bytes.len() - 1] == quote;
     let plain = !bytes.is_empty() && bytes.iter().copied().all(is_name);
-    plain || ((quoted(b'"') || quoted(b'\'')) && bytes.iter().all(|byte| (32..127).contains(byte)))
+    plain || ((quoted(b'"') || quoted(b'\'')) && bytes.iter().all(|byte| *byte >= 32 && *byte != 127))
 }

@@ -9,7 +9,7 @@ use std::ffi::OsStr;
 struct Asked {
     meaning: &'static Meaning,
     keyword: Option<Keyword>,
-    /// A position in a text (3 to 11), a place in an image or a bundle (20, 21) or in a list (42).
+    /// A position in a text (3 to 12), a place in an image or a bundle (20, 21) or in a list (42).
     at: Option<usize>,
 }
 
@@ -52,7 +52,7 @@ impl Asked {
     fn read(args: &Args, word: &OsStr) -> Result<Asked, Wrong> {
         let meaning = match number(word)?.and_then(Meaning::of) {
             Some(meaning) => meaning,
-            None => return wrong(format!("no call answers {}: the numbers are 0 to 11, 20 to 31 and 40 to 43", word.to_string_lossy())),
+            None => return wrong(format!("no call answers {}: the numbers are 0 to 12, 20 to 31 and 40 to 43", word.to_string_lossy())),
         };
         let keyword = args.value("--keyword").map_or(Ok(None), keyword)?;
         let at = match args.value("--at").map(|word| Ok((word, number(word)?))).transpose()? {

@@ -19,7 +19,7 @@ impl Meaning {
     /// ```
     /// let meaning = nuvaleta::Meaning::of(4).expect("a number of the header");
     /// assert_eq!(meaning.words(), "no value after the keyword");
-    /// assert!(nuvaleta::Meaning::of(12).is_none());
+    /// assert!(nuvaleta::Meaning::of(13).is_none());
     /// ```
     pub fn of(number: u32) -> Option<&'static Meaning> {
         MEANINGS.iter().find(|meaning| meaning.number == number)
@@ -44,12 +44,16 @@ const fn row(number: u32, words: &'static str, general: &'static str, advice: &'
     Meaning { number, words, general, advice }
 }
 
-static MEANINGS: [Meaning; 28] = [
+static MEANINGS: [Meaning; 29] = [
     row(0, "no refusal: the call has answered", "", "nothing"),
     // a scan
     row(1, "more than 1,048,576 bytes", "", "split the text: this is the most that is scanned"),
     row(2, "store or table too short", "", "lend what include/nuvaleta.h asks for; the Rust crate and the command always do"),
-    row(3, "a byte of 128 or more", "", "write plain ASCII, in comments and strings too: typographic quotes, dashes and accents are the usual cause"),
+    row(
+        3, "a byte above 127 outside of strings and comments", "",
+        "put what it belongs to into quotes, or write ASCII there: accents, typographic quotes and dashes, other blanks than the usual one, and a byte order \
+         mark at the beginning are the usual causes",
+    ),
     row(
         4, "no value after {}", "the keyword",
         "write a name or a closed string behind the keyword. A keyword counts wherever it stands as a word of its own, also as the name of something else",
@@ -71,6 +75,10 @@ static MEANINGS: [Meaning; 28] = [
         11, "the text ends inside a string, or inside a statement that is passed over", "",
         "the text is cut off, or a quote, a ; or a } is missing: download it again, or complete it. A text without this refusal may be cut off too, where it \
          is not seen: behind the word that ends the scan, in a comment between statements, or in the module's own block outside of strings",
+    ),
+    row(
+        12, "the text is not UTF-8", "",
+        "save the text as UTF-8: it may be written in ISO 8859-1, Windows-1252 or UTF-16, or be cut off inside a character",
     ),
     // an image, a bundle
     row(

@@ -13,7 +13,7 @@ pub struct Dependencies {
     page: String,
 }
 
-/// An import. A value can be empty, and hold any byte below 128.
+/// An import. A value can be empty, and hold any character.
 #[derive(Clone, Copy, Debug, PartialEq, Eq)]
 pub struct Import<'a> {
     /// The module that is imported.
@@ -24,7 +24,7 @@ pub struct Import<'a> {
     pub revision: Option<&'a str>,
 }
 
-/// An include. A value can be empty, and hold any byte below 128.
+/// An include. A value can be empty, and hold any character.
 #[derive(Clone, Copy, Debug, PartialEq, Eq)]
 pub struct Include<'a> {
     /// The submodule that is included.
@@ -43,10 +43,10 @@ fn marked<'a>(store: &'a str, words: &[u32]) -> Option<&'a str> {
     (words[0] == 1).then(|| value(store, &words[1..]))
 }
 
-/// So many bytes of a store or a page, all of which the header promises to be below 128.
-fn ascii(mut bytes: Vec<u8>, used: u32) -> String {
+/// So many bytes of a store or a page, which the header promises to be UTF-8.
+fn utf8(mut bytes: Vec<u8>, used: u32) -> String {
     bytes.truncate(used as usize);
-    String::from_utf8(bytes).expect("bytes below 128")
+    String::from_utf8(bytes).expect("UTF-8")
 }
 
 /// A store for a text; for one that is too long none is needed.
@@ -54,7 +54,7 @@ fn store_for(text: &[u8]) -> Vec<u8> {
     vec![0; if text.len() > TEXT_MOST { 0 } else { text.len() }]
 }
 
-/// The imports and includes of a text, or why it is refused.
+/// The imports and includes of a text, or why it is refused. A text is UTF-8, and has characters above 127 in quoted strings and comments only.
 ///
 /// ```
 /// let found = nuvaleta::dependencies(b"module m { import base { prefix b; } include m-types; }")?;
@@ -88,7 +88,7 @@ fn read_dependencies(whole: bool, text: &[u8]) -> Result<Dependencies, ScanRefus
     ScanRefusal::of([answer[0], answer[1], answer[2]]).map_or(Ok(()), Err)?;
     imports.truncate(IMPORT_ROW * answer[3] as usize);
     includes.truncate(INCLUDE_ROW * answer[4] as usize);
-    Ok(Dependencies { store: ascii(store, answer[5]), imports, includes, page: ascii(page, answer[6]) })
+    Ok(Dependencies { store: utf8(store, answer[5]), imports, includes, page: utf8(page, answer[6]) })
 }
 
 impl Dependencies {
@@ -147,7 +147,7 @@ fn read_metadata(whole: bool, text: &[u8]) -> Result<Metadata, ScanRefusal> {
     let mut record = [0; RECORD_WORDS];
     let answer = sys::metadata(whole, text, &mut store, &mut record);
     ScanRefusal::of([answer[0], answer[1], answer[2]]).map_or(Ok(()), Err)?;
-    Ok(Metadata { store: ascii(store, answer[3]), record })
+    Ok(Metadata { store: utf8(store, answer[3]), record })
 }
 
 impl Metadata {

@@ -22,7 +22,7 @@ pub enum ScanFault {
     TextTooLong = 1,
     /// Store, table or page too short. With this crate's functions it does not come.
     LentTooShort = 2,
-    /// A byte of 128 or more: the first such place.
+    /// A byte above 127 outside of strings and comments, where the scan meets it.
     HighByte = 3,
     /// No value after the keyword.
     NoValue = 4,
@@ -40,6 +40,8 @@ pub enum ScanFault {
     TooMany = 10,
     /// The end inside a string, or inside a statement that is passed over. Of [`crate::dependencies_whole`] and [`crate::metadata_whole`] alone.
     CutShort = 11,
+    /// The text is not UTF-8: where the first wrong sequence begins.
+    NotUtf8 = 12,
 }
 
 /// A keyword that a refusal names, under the header's number.
@@ -61,7 +63,7 @@ pub enum Keyword {
 
 impl ScanFault {
     /// All of them, in the order of their numbers.
-    pub const ALL: [ScanFault; 11] = [
+    pub const ALL: [ScanFault; 12] = [
         ScanFault::TextTooLong,
         ScanFault::LentTooShort,
         ScanFault::HighByte,
@@ -73,9 +75,10 @@ impl ScanFault {
         ScanFault::NoName,
         ScanFault::TooMany,
         ScanFault::CutShort,
+        ScanFault::NotUtf8,
     ];
 
-    /// The header's number, 1 to 11.
+    /// The header's number, 1 to 12.
     pub fn number(self) -> u32 {
         self as u32
     }
@@ -142,7 +145,7 @@ impl ScanRefusal {
         Some(ScanRefusal { fault, keyword, position: (number > 2).then_some(position as usize) })
     }
 
-    /// The header's number, 1 to 11.
+    /// The header's number, 1 to 12.
     pub fn number(&self) -> u32 {
         self.fault.number()
     }
@@ -175,7 +178,8 @@ impl Display for ScanRefusal {
     }
 }
 
-/// A place in a text as a person counts it, lines and columns (of bytes) from 1 on. `Display` is the line with a mark below the place.
+/// A place in a text as a person counts it, lines and columns from 1 on. A column is a character, or a byte that is part of none. `Display` is the line with
+/// a mark below the place; what cannot be printed is a question mark there.
 #[derive(Clone, Debug, PartialEq, Eq)]
 pub struct Line {
     /// The line's number.
@@ -188,7 +192,7 @@ pub struct Line {
     pub at: usize,
 }
 
-/// How many bytes of a line are printed, and how many of them at most before the place.
+/// How many characters of a line are printed, and how many of them at most before the place.
 const PART: usize = 72;
 const BEFORE: usize = 56;
 
@@ -198,16 +202,43 @@ impl Line {
         let (before, behind) = text.split_at(place.min(text.len()));
         let start = before.iter().rposition(|b| *b == b'\n').map_or(0, |i| i + 1);
         let end = behind.iter().position(|b| *b == b'\n').map_or(text.len(), |i| before.len() + i);
-        let from = start.max(before.len().saturating_sub(BEFORE));
-        let part = text[from..end.min(from + PART)].iter().map(|b| printed(*b)).collect::<String>().trim_end().to_string();
-        Line { number: 1 + before.iter().filter(|b| **b == b'\n').count(), column: before.len() - start + 1, part, at: before.len() - from }
+        let line = characters(&text[start..end]);
+        let index = if before.len() == end { line.len() } else { line.partition_point(|(at, _)| start + at <= before.len()) - 1 };
+        let from = index.saturating_sub(BEFORE);
+        let part: String = line[from..line.len().min(from + PART)].iter().map(|(_, c)| *c).collect();
+        let number = 1 + before.iter().filter(|b| **b == b'\n').count();
+        Line { number, column: index + 1, part: part.trim_end().to_string(), at: index - from }
     }
 }
 
-fn printed(byte: u8) -> char {
-    match byte {
-        9..=13 => ' ',
-        32..=126 => byte as char,
+/// The characters of a line, each with its place and as it is printed. A byte that is part of none counts as one.
+fn characters(line: &[u8]) -> Vec<(usize, char)> {
+    let mut out = Vec::new();
+    let mut at = 0;
+    while at < line.len() {
+        let good = std::str::from_utf8(&line[at..]).map_or_else(|e| e.valid_up_to(), str::len);
+        let part = std::str::from_utf8(&line[at..at + good]).unwrap_or_default();
+        out.extend(part.char_indices().map(|(i, c)| (at + i, printed(c))));
+        at += good;
+        if at < line.len() {
+            out.push((at, '?'));
+            at += 1;
+        }
+    }
+    out
+}
+
+/// How many columns this part of a line takes.
+pub(crate) fn columns(part: &[u8]) -> usize {
+    characters(part).len()
+}
+
+/// A character as it stands in a line on a terminal, where none may move the others or hide.
+pub(crate) fn printed(c: char) -> char {
+    match c {
+        '\t'..='\r' => ' ',
+        ' '..='~' => c,
+        _ if c.escape_debug().count() == 1 => c,
         _ => '?',
     }
 }

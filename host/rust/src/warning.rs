@@ -2,6 +2,7 @@
 //! does not import.
 
 use crate::plain::{self, Found, Snag, Statement};
+use crate::scan_refusal::columns;
 use crate::words::quoted;
 use crate::{Dependencies, Line};
 use std::collections::HashSet;
@@ -14,7 +15,7 @@ pub struct Warning {
     pub kind: WarningKind,
     /// The line of the keyword, counted from 1.
     pub line: usize,
-    /// Its column, in bytes, counted from 1.
+    /// Its column, in characters, counted from 1.
     pub column: usize,
     /// What was seen, and what seems to be the cause.
     pub words: String,
@@ -59,16 +60,15 @@ pub(crate) fn warnings(text: &[u8], read: &Dependencies) -> Vec<Warning> {
         _ => None,
     };
     // statements stand in the order of the text, so its lines are counted once
-    let (mut line, mut start, mut counted) = (1, 0, 0);
+    let (mut line, mut column, mut counted) = (1, 1, 0);
     let mut out = Vec::new();
     for statement in &found.statements {
         if let Some((kind, words)) = words(statement) {
-            for (i, _) in text[counted..statement.at].iter().enumerate().filter(|(_, byte)| **byte == b'\n') {
-                line += 1;
-                start = counted + i + 1;
-            }
+            let lines: Vec<&[u8]> = text[counted..statement.at].split(|byte| *byte == b'\n').collect();
+            line += lines.len() - 1;
+            column = if lines.len() > 1 { 1 } else { column } + lines.last().map_or(0, |last| columns(last));
             counted = statement.at;
-            out.push(Warning { kind, line, column: statement.at - start + 1, words });
+            out.push(Warning { kind, line, column, words });
         }
     }
     if found.cut && out.is_empty() {

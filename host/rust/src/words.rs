@@ -76,7 +76,7 @@ impl Display for Why {
     }
 }
 
-/// A name out of a text, which may be empty, of any length, and hold any byte below 128. Of a long one so much is said as an image's name can have.
+/// A name out of a text, which may be empty, of any length, and hold any character. Of a long one so much is said as an image's name can have.
 pub(crate) fn quoted(name: &str) -> String {
     let said: String = name.chars().take(NAME_MOST).collect();
     format!("{said:?}{}", if said.len() < name.len() { ".." } else { "" })

@@ -84,8 +84,8 @@ fn any_bytes() {
         assert!(warnings.iter().all(|warning| warning.line <= lines && warning.column > 0 && !warning.words.is_empty()));
         let place = r.below(text.len() + 1);
         text.insert(place, 128 + r.below(128) as u8);
-        let deps = [dependencies, dependencies_whole].map(|scan| scan(&text).expect_err("a high byte"));
-        let meta = [metadata, metadata_whole].map(|scan| scan(&text).expect_err("a high byte"));
-        assert!(deps.iter().chain(&meta).all(|refusal| (refusal.number(), refusal.position) == (3, Some(place))));
+        let deps = [dependencies, dependencies_whole].map(|scan| scan(&text).expect_err("no UTF-8"));
+        let meta = [metadata, metadata_whole].map(|scan| scan(&text).expect_err("no UTF-8"));
+        assert!(deps.iter().chain(&meta).all(|refusal| (refusal.number(), refusal.position) == (12, Some(place))));
     }
 }

@@ -1,6 +1,6 @@
 //! Graphs and refusals through the crate: names, and every refusal in words.
 
-use nuvaleta::{graph, graph_complete, Edge, Graph, Refusal, Why};
+use nuvaleta::{graph, graph_complete, Edge, Graph, Line, Refusal, Why};
 use std::iter::once;
 use vectors::libraries::{self, module, of, only, small, words, Library, Set};
 use vectors::rng::Rng;
@@ -291,9 +291,48 @@ fn long_lines() {
 #[test]
 fn high_bytes() {
     let bundle = b"\x03\x01m\x0ainclude s;\x01s\x06a\r\n\tb\xff\x01b\0";
-    let told = told(graph(&small("", "").image(), bundle));
-    let due = "the text of s, line 2, column 3: a byte of 128 or more (scan refusal 3, byte 5)\n     b?\n      ^\nexpected a byte below 128, found byte 0xff";
-    assert!(told.ends_with(due), "{told}");
+    let wrong = told(graph(&small("", "").image(), bundle));
+    let due = "the text of s, line 2, column 3: the text is not UTF-8 (scan refusal 12, byte 5)\n     b?\n      ^\nexpected UTF-8, found byte 0xff";
+    assert!(wrong.ends_with(due), "{wrong}");
+    let high = refused_at("include s;", "//\u{e9}\n'\u{e9}\u{20ac}' \u{fc}");
+    let due = "s, line 2, column 6: a byte above 127 outside of strings and comments (scan refusal 3, byte 13)";
+    assert_eq!(high, [due, "'\u{e9}\u{20ac}' \u{fc}", "     ^"]);
+}
+
+/// Names with accents are read, and no library has them.
+#[test]
+fn accents() {
+    let image = small("", "").image();
+    for (text, number, words) in [
+        ("import \"\u{e9}\"{prefix p;}", 26, "the text of m imports \"\u{e9}\", which is neither a module nor an import-only module"),
+        ("include '\u{e9}';", 27, "the text of m includes \"\u{e9}\", which is no submodule of a module"),
+    ] {
+        let refusal = graph(&image, &small(text, "").bundle()).expect_err("a refusal");
+        assert_eq!(refusal.number(), number);
+        assert!(refusal.words().ends_with(words), "{}", refusal.words());
+    }
+    assert_eq!(graph(&image, &small("//\u{e9}\nimport b{prefix '\u{e9}';}", "").bundle()).expect("a graph").edges.len(), 1);
+}
+
+/// A column is a character, or a byte that is part of none, and what cannot be printed takes one too.
+#[test]
+fn columns() {
+    let at = |text: &[u8], place| {
+        let line = Line::at(text, place);
+        (line.number, line.column, line.part, line.at)
+    };
+    let text = "\u{e9}\u{20ac}a\n\u{a0}e\u{301}\u{1f600}x".as_bytes();
+    for (place, column) in [(0, 1), (1, 1), (2, 2), (4, 2), (5, 3), (6, 4)] {
+        assert_eq!(at(text, place), (1, column, "\u{e9}\u{20ac}a".to_string(), column - 1), "{place}");
+    }
+    for (place, column) in [(7, 1), (8, 1), (9, 2), (10, 3), (12, 4), (15, 4), (16, 5), (17, 6), (99, 6)] {
+        assert_eq!(at(text, place), (2, column, "?e?\u{1f600}x".to_string(), column - 1), "{place}");
+    }
+    for (place, column) in [(1, 2), (2, 3), (3, 4), (5, 5)] {
+        assert_eq!(at(b"a\xff\xe2\xc3\xa9b", place), (1, column, "a??\u{e9}b".to_string(), column - 1), "{place}");
+    }
+    let long = "\u{e9}".repeat(200);
+    assert_eq!(at(long.as_bytes(), 200), (1, 101, "\u{e9}".repeat(72), 56));
 }
 
 /// Whether the cause of a refusal by names and texts was found, and which of the four it is; nothing of another one.

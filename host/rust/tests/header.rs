@@ -90,6 +90,6 @@ fn the_numbers() {
     let refusals = HEADER.split("enum nuvaleta_").filter(|part| part.split(' ').next().map_or(false, |name| name.ends_with("_refusal")));
     let numbers = refusals.flat_map(|part| part.split('}').next().unwrap_or("").lines().skip(1).filter_map(|line| line.strip_prefix("    NUVALETA_")));
     let numbers: Vec<u32> = numbers.map(|line| line.split([' ', ',']).nth(2).and_then(|n| n.parse().ok()).expect("a number")).collect();
-    assert_eq!(numbers.len(), 27);
+    assert_eq!(numbers.len(), 28);
     assert!(numbers.iter().all(|number| Meaning::of(*number).is_some()), "{numbers:?}");
 }

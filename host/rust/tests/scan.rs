@@ -63,6 +63,46 @@ fn values() {
     assert_eq!(both.includes().map(|i| (i.name, i.revision)).collect::<Vec<_>>(), [("a\n", Some("")), ("b", None)]);
 }
 
+/// Characters above 127 are in values and on the page as they are in the text, and a value is a `str` of its own.
+#[test]
+fn accents() {
+    let text = "module \"m\u{e9}\" { import '\u{fc}' { prefix \"\\\u{20ac}\"+'\u{1f600}'; } /*\u{e9}*/ contact \u{e9}; //\u{e9}";
+    let both = found(text);
+    let import = both.imports().next().expect("an import");
+    assert_eq!((import.name, import.prefix), ("\u{fc}", "\u{20ac}\u{1f600}"));
+    assert_eq!(both.to_string(), "Imports (1):\n  - \u{fc} (prefix: \u{20ac}\u{1f600})\n\nIncludes (0):\n");
+    let about = metadata("submodule '\u{e9}' { belongs-to \"\u{fc}\"; revision '\u{7ff}'; revision '\u{800}'; }".as_bytes()).expect("a good text");
+    assert_eq!((about.name(), about.parent(), about.newest_revision()), ("\u{e9}", Some("\u{fc}"), Some("\u{800}")));
+    assert_eq!(about.to_string(), "name: \u{e9}\nbelongs to: \u{fc}\nfirst revision: \u{7ff}\nnewest revision: \u{800}\n");
+}
+
+/// Of generated texts with accents, in both forms: values are `str`s that stand on the page; at 3 a byte above 127, at 12 what Rust's own check says.
+#[test]
+fn generated_accents() {
+    let mut r = Rng::new(47);
+    let mut seen = [0; 13];
+    for i in 0..10_000 {
+        let text = texts::any(&mut r);
+        let text = texts::accented(&mut r, &text);
+        let text = if i % 8 == 0 { texts::torn(&mut r, &text) } else { text.into_bytes() };
+        let wrong = std::str::from_utf8(&text).err().map(|e| e.valid_up_to());
+        let deps = [dependencies, dependencies_whole].map(|scan| scan(&text));
+        let page = |found: &Dependencies| found.imports().all(|i| found.to_string().contains(&format!("  - {} (prefix: {})", i.name, i.prefix)));
+        assert!(deps.iter().flatten().all(page));
+        let meta = [metadata, metadata_whole].map(|scan| scan(&text).map(drop));
+        for scan in deps.map(|d| d.map(drop)).iter().chain(&meta) {
+            let refusal = scan.as_ref().err();
+            seen[refusal.map_or(0, |refusal| refusal.number() as usize)] += 1;
+            assert_eq!(refusal.filter(|refusal| refusal.fault == ScanFault::NotUtf8).and_then(|refusal| refusal.position), wrong);
+            if let Some(refusal) = refusal.filter(|refusal| refusal.fault == ScanFault::HighByte) {
+                assert!(refusal.keyword.is_none() && text[refusal.position.expect("a place")] > 127, "{:?}", String::from_utf8_lossy(&text));
+                assert!(refusal.clash(&text).is_some() && refusal.line(&text).is_some());
+            }
+        }
+    }
+    assert!([0, 3, 4, 5, 6, 7, 8, 9, 11, 12].iter().all(|number| seen[*number] > 20), "{seen:?}");
+}
+
 // ---- refusals
 
 /// Every refusal that a scan of the crate can give, with its keywords. 2 cannot: the crate lends enough.
@@ -72,7 +112,9 @@ fn in_words() {
     let meta = |text: &[u8]| metadata(text).expect_err("a refusal").to_string();
     let long = vec![b' '; nuvaleta::TEXT_MOST + 1];
     assert_eq!([deps(&long), meta(&long)], ["more than 1,048,576 bytes (scan refusal 1)"; 2]);
-    assert_eq!([deps(b"a \x80\xff"), meta(b"a \x80\xff")], ["a byte of 128 or more (scan refusal 3, byte 2)"; 2]);
+    let high = "a \u{e9}".as_bytes();
+    assert_eq!([deps(high), meta(high)], ["a byte above 127 outside of strings and comments (scan refusal 3, byte 2)"; 2]);
+    assert_eq!([deps(b"a \x80\xff"), meta(b"a \x80\xff")], ["the text is not UTF-8 (scan refusal 12, byte 2)"; 2]);
     assert_eq!(deps(b"include"), "no value after include (scan refusal 4, byte 7)");
     assert_eq!(deps(b"import a{prefix ;"), "no value after prefix (scan refusal 4, byte 16)");
     assert_eq!(deps(b"include a{revision-date ;"), "no value after revision-date (scan refusal 4, byte 24)");
@@ -125,8 +167,13 @@ fn expected_and_found() {
     assert_eq!(deps("import 'a'{prefix b;}import"), "expected a name or a string after import, found the end of the text");
     assert_eq!(deps("import a{}"), "expected prefix NAME; before the end of the block, found }");
     assert_eq!(deps("import a{prefix b;"), "expected } at the end of the block of the import, found the end of the text");
-    assert_eq!(deps("leaf \u{2019}x"), "expected a byte below 128, found \u{2019}, byte 0xe2");
-    assert_eq!(of(dependencies(b"a\xff").expect_err("a refusal"), b"a\xff"), "expected a byte below 128, found byte 0xff");
+    assert_eq!(deps("leaf \u{2019}x"), "expected ASCII outside of strings and comments, found \u{2019}, byte 0xe2");
+    assert_eq!(deps("\u{feff}module m {}"), "expected ASCII outside of strings and comments, found a byte order mark, byte 0xef");
+    assert_eq!(of(dependencies(b"a\xff").expect_err("a refusal"), b"a\xff"), "expected UTF-8, found byte 0xff");
+    assert_eq!(of(dependencies(b"'\xc3'").expect_err("a refusal"), b"'\xc3'"), "expected UTF-8, found byte 0xc3");
+    assert_eq!(deps("import \"Zo\u{eb}\" ;"), "expected { after import \"Zo\u{eb}\", found ;");
+    assert_eq!(deps(&format!("import '{}';", "\u{e9}".repeat(40))), format!("expected {{ after import '{}.., found ;", "\u{e9}".repeat(39)));
+    assert_eq!(deps("import '\u{202e}\u{85}';"), "expected { after import '??', found ;", "nothing that moves what stands beside it");
     assert_eq!(deps(&"include a;".repeat(257)), "", "the words say it all");
     assert_eq!(deps(&" ".repeat(nuvaleta::TEXT_MOST + 1)), "");
     assert_eq!(meta("module m;"), "expected { after module m, found ;");
@@ -150,10 +197,10 @@ fn expected_in_a_long_text() {
 
 #[test]
 fn numbers_and_meanings() {
-    assert!(ScanFault::ALL.iter().map(|fault| fault.number()).eq(1..=11));
+    assert!(ScanFault::ALL.iter().map(|fault| fault.number()).eq(1..=12));
     assert!(Keyword::ALL.iter().map(|keyword| keyword.number()).eq(1..=10));
-    assert!((0..100).filter(|number| Meaning::of(*number).is_some()).eq((0..=11).chain(20..=31).chain(40..=43)));
-    for number in (0..=11).chain(20..=31).chain(40..=43) {
+    assert!((0..100).filter(|number| Meaning::of(*number).is_some()).eq((0..=12).chain(20..=31).chain(40..=43)));
+    for number in (0..=12).chain(20..=31).chain(40..=43) {
         let meaning = Meaning::of(number).expect("a meaning");
         assert!(!meaning.words().is_empty() && !meaning.words().contains("{}") && !meaning.advice.is_empty(), "{meaning:?}");
     }

@@ -43,6 +43,15 @@ fn an_argument_that_ends_in_one() {
     }
 }
 
+/// Columns count characters, however many there are in a line before.
+#[test]
+fn behind_accents() {
+    let cause = "the scan ends at the word contact in line 1";
+    let text = "module m{contact '\u{e9}'; /*\u{20ac}*/ import '\u{e9}'{prefix p;} /*\u{1f600}*/ include b;\n/*\u{e9}*/include c;}";
+    let due = [passed(1, 29, "import \"\u{e9}\"", cause), passed(1, 57, "include \"b\"", cause), passed(2, 6, "include \"c\"", cause)];
+    assert_eq!(warned(text), due.concat());
+}
+
 #[test]
 fn an_extension_before_the_imports() {
     let text = "module m{\nx:ext{\ndescription \"d\";}\nimport a{prefix p;}\ninclude b{revision-date 2024-01-01;}}";

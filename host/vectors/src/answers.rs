@@ -35,6 +35,15 @@ pub enum Scan<T> {
     Silent(String),
 }
 
+impl<T> Scan<T> {
+    pub fn refusal(&self) -> Option<Refusal> {
+        match self {
+            Scan::Refused(refusal) => Some(*refusal),
+            _ => None,
+        }
+    }
+}
+
 pub type Value = Option<Vec<u8>>;
 
 #[derive(Debug, PartialEq)]

@@ -11,3 +11,4 @@ pub mod rng;
 pub mod routers;
 pub mod scans;
 pub mod texts;
+pub mod utf8;

@@ -185,8 +185,78 @@ fn all(oracle: &mut Oracle) -> Vec<File> {
         let (image, bundle) = (library.image(), library.bundle());
         graph.add(records::graph(&image, &bundle, &answers::graph(oracle, &image, &bundle)));
     }
-    let [dependencies_whole, metadata_whole] = whole(oracle);
-    vec![dependencies, metadata, dependencies_whole, metadata_whole, values, skips, finds, graph, completed(oracle), ordered()]
+    let mut files = vec![dependencies, metadata, values, skips, finds, graph, completed(oracle), ordered()];
+    files.extend(whole(oracle));
+    files.extend(accented(oracle));
+    files.extend(accented_parts(oracle));
+    files
+}
+
+/// Asks the original whether it says the same of a text as the plain reading in the old mode; of one that is no UTF-8 it is not asked.
+fn must_agree(oracle: &mut Oracle, text: &[u8]) {
+    let alike = scans::first(text, true).is_some()
+        || scans::dependencies(text).is_told(text, &answers::dependencies(oracle, text))
+            && scans::metadata(text).is_told(text, &answers::metadata(oracle, text));
+    assert!(alike, "the plain reading: {:?}", String::from_utf8_lossy(text));
+}
+
+/// Texts with accents in both modes: the plain reading's. Where it is not 3 or 12 and no panic is due, it must have the original's answer in the old mode.
+fn accented(oracle: &mut Oracle) -> [File; 4] {
+    let mut dependencies = [File::new("yangparser_run/data/dependencies-accents.vec"), File::new("yangparser_run/data/dependencies-whole-accents.vec")];
+    let mut metadata = [File::new("yangparser_run/data/metadata-accents.vec"), File::new("yangparser_run/data/metadata-whole-accents.vec")];
+    let mut r = Rng::new(9);
+    let mut all = texts::telling_accents();
+    all.extend((0..=texts::SMALL_ACCENTED.len()).map(|n| texts::SMALL_ACCENTED.as_bytes()[..n].to_vec()));
+    all.extend((1..3).flat_map(texts::short_accented).map(String::into_bytes));
+    for i in 0..600 {
+        let text = texts::any(&mut r);
+        let text = texts::accented(&mut r, &text);
+        all.push(if i % 10 == 0 { texts::torn(&mut r, &text) } else { text.into_bytes() });
+    }
+    for text in &all {
+        must_agree(oracle, text);
+        for whole in [false, true] {
+            dependencies[usize::from(whole)].add(records::dependencies(text, &scans::answered(text, whole, scans::dependencies)));
+            metadata[usize::from(whole)].add(records::metadata(text, &scans::answered(text, whole, scans::metadata)));
+        }
+    }
+    let ([a, b], [c, d]) = (dependencies, metadata);
+    [a, c, b, d]
+}
+
+/// Values with accents; statements and tokens with accents in their strings and comments, up to a value.
+fn accented_parts(oracle: &mut Oracle) -> [File; 2] {
+    let mut values = File::new("text_run/data/values-accents.vec");
+    let mut skips = File::new("text_run/data/skips-accents.vec");
+    let (mut r, mut accents) = (Rng::new(10), Rng::new(11));
+    let mut add = |file: &mut File, text: String, which| {
+        let answer = scans::metadata(text.as_bytes()).answer(false);
+        if is_at_value(&text, &answer) {
+            must_agree(oracle, text.as_bytes());
+            file.add(records::one_value(text.as_bytes(), &answer, which));
+        }
+    };
+    (1..4).flat_map(texts::short_accented_values).for_each(|text| add(&mut values, text, NAMESPACE));
+    // What is asked begins behind these.
+    let mut accented = |front: &str, text: String| front.to_string() + &texts::accented(&mut accents, &text[front.len()..]);
+    for i in 0..500 {
+        add(&mut values, accented(texts::NAMESPACE, texts::one_value(&mut r)), NAMESPACE);
+        let skipped = if i % 2 == 0 { accented(texts::BELONGS, texts::one_statement(&mut r)) } else { accented(texts::OPENED, texts::some_tokens(&mut r)) };
+        add(&mut skips, skipped, PREFIX);
+    }
+    [values, skips]
+}
+
+/// Whether a byte that is refused with 3 is met where the value or the semicolon behind it is due: a letter and the end in its place are 5 or 6. Elsewhere it
+/// is met by the scan alone, and not by what the text layer is asked.
+fn is_at_value(text: &str, answer: &Scan<Vec<answers::Value>>) -> bool {
+    match answer {
+        Scan::Refused(r) if r.number == scans::HIGH_BYTE => {
+            let letter = format!("{}x", &text[..r.position as usize]);
+            scans::metadata(letter.as_bytes()).refusal(false).map_or(false, |r| matches!(r.number, 5 | 6))
+        }
+        _ => true,
+    }
 }
 
 /// Scans in the whole-text mode, which the original does not have: the plain reading's. In the old mode it must have the original's answer to the same text.

@@ -1,12 +1,15 @@
-//! A plain reading of document 01's two scans, and of the whole-text mode of request 2026-07. It shares no code with the port. A text is read as in the old
-//! mode, and it is noted whether something that was read broke off at the text's end: a string, or a skipped statement. Then the whole-text mode answers 11,
-//! and else what the old one does.
+//! A plain reading of document 01's two scans, of the whole-text mode of request 2026-07, and of the bytes above 127 of request 2026-01. It shares no code with
+//! the port. A text is read as in the old mode, and it is noted whether something that was read broke off at the text's end: a string, or a skipped statement.
+//! Then the whole-text mode answers 11, and else what the old one does.
 
 use crate::answers::{Dependencies, Refusal, Scan, Value};
+use crate::utf8::wrong_from;
 
 const TEXT_MOST: usize = 1_048_576;
 const ROWS_MOST: usize = 256;
+pub const HIGH_BYTE: u32 = 3;
 pub const CUT_SHORT: u32 = 11;
+pub const NOT_UTF8: u32 = 12;
 
 const MODULE: u32 = 1;
 const SUBMODULE: u32 = 2;
@@ -36,6 +39,9 @@ pub struct Plain<T> {
     pub stored: Vec<(u32, Vec<u8>)>,
     /// The whole-text mode's own refusal, where something that was read broke off.
     pub cut: Option<Refusal>,
+    /// Whether the original panics: a gap ran into a block comment that never closes, and the text's last character, at which the original looks for two, is
+    /// above 127.
+    pub panics: bool,
 }
 
 impl<T> Plain<T> {
@@ -45,7 +51,8 @@ impl<T> Plain<T> {
         let number = old.as_ref().map_or_else(|r| r.number, |_| 0);
         assert!(!reader.cut || (reader.at == length && matches!(number, 0 | 4 | 6 | 8 | 9)), "broken off, and then {number}");
         let cut = reader.cut.then_some(Refusal { number: CUT_SHORT, keyword: 0, position: length as u32 });
-        Plain { old, stored: reader.stored, cut }
+        let panics = reader.open && reader.text.last().map_or(false, |b| is_high(*b));
+        Plain { old, stored: reader.stored, cut, panics }
     }
 
     pub fn refusal(&self, whole: bool) -> Option<Refusal> {
@@ -61,9 +68,11 @@ impl<T> Plain<T> {
 }
 
 impl<T: PartialEq> Plain<T> {
-    /// Whether the original says the same of this text, in the old mode.
+    /// Whether the original says the same of this text, in the old mode. Of one that is refused with 3 it may say anything: it reads characters there.
     pub fn is_told(&self, text: &[u8], told: &Scan<T>) -> bool {
         match (&self.old, told) {
+            _ if self.panics => matches!(told, Scan::Silent(line) if line == "panic"),
+            (Err(refusal), _) if refusal.number == HIGH_BYTE => true,
             (Ok(kept), Scan::Good(other)) => kept == other,
             (Err(refusal), Scan::Refused(other)) => *refusal == other.due(text),
             _ => false,
@@ -71,15 +80,20 @@ impl<T: PartialEq> Plain<T> {
     }
 }
 
-/// What both modes refuse before they read: an over-long text, too little lent, a high byte.
+/// What both modes refuse before they read: an over-long text, too little lent, bytes that are no UTF-8.
 pub fn first(text: &[u8], enough: bool) -> Option<Refusal> {
     let refusal = |number, position| Some(Refusal { number, keyword: 0, position });
-    match text.iter().position(|b| *b >= 128) {
+    match wrong_from(text) {
         _ if text.len() > TEXT_MOST => refusal(1, 0),
         _ if !enough => refusal(2, 0),
-        Some(place) => refusal(3, place as u32),
-        None => None,
+        place if place < text.len() => refusal(NOT_UTF8, place as u32),
+        _ => None,
     }
+}
+
+/// The answer to a text for which enough is lent.
+pub fn answered<T>(text: &[u8], whole: bool, scan: fn(&[u8]) -> Plain<T>) -> Scan<T> {
+    first(text, true).map_or_else(|| scan(text).answer(whole), Scan::Refused)
 }
 
 pub fn dependencies(text: &[u8]) -> Plain<Dependencies> {
@@ -132,7 +146,7 @@ pub fn five(record: &[Span; 6], store: &[u8]) -> Vec<Value> {
 }
 
 fn page(imports: &[[Value; 3]], includes: &[[Value; 2]]) -> Vec<u8> {
-    let text = |value: &Value| String::from_utf8(value.clone().expect("a value")).expect("bytes below 128");
+    let text = |value: &Value| String::from_utf8(value.clone().expect("a value")).expect("UTF-8");
     let dated = |revision: &Value| revision.as_ref().map_or(String::new(), |_| format!(" @ {}", text(revision)));
     let mut out = format!("Imports ({}):\n", imports.len());
     for [name, prefix, revision] in imports {
@@ -153,6 +167,13 @@ struct Reader<'a> {
     stored: Vec<(u32, Vec<u8>)>,
     /// Whether something broke off.
     cut: bool,
+    /// Whether a gap ran into a block comment that never closes.
+    open: bool,
+}
+
+/// Such a byte is part of no name and no keyword, ends none and is not white.
+fn is_high(b: u8) -> bool {
+    b > 127
 }
 
 fn is_white(b: u8) -> bool {
@@ -169,7 +190,7 @@ fn in_identifier(b: u8) -> bool {
 
 impl<'a> Reader<'a> {
     fn new(text: &'a [u8]) -> Reader<'a> {
-        Reader { text, at: 0, stored: Vec::new(), cut: false }
+        Reader { text, at: 0, stored: Vec::new(), cut: false, open: false }
     }
 
     fn rest(&self) -> &'a [u8] {
@@ -195,6 +216,11 @@ impl<'a> Reader<'a> {
         Err(Refusal { number, keyword, position: self.at as u32 })
     }
 
+    /// A byte above 127 outside of strings and comments is refused where it is met.
+    fn not_high(&self) -> Read<()> {
+        if self.peek().map_or(false, is_high) { self.refused(HIGH_BYTE, 0) } else { Ok(()) }
+    }
+
     /// White bytes and comments; a comment may go on to the end.
     fn gap(&mut self) {
         loop {
@@ -202,10 +228,16 @@ impl<'a> Reader<'a> {
             self.at += match rest {
                 [b, ..] if is_white(*b) => 1,
                 [b'/', b'/', ..] => rest.iter().position(|b| *b == b'\n').unwrap_or(rest.len()),
-                [b'/', b'*', body @ ..] => body.windows(2).position(|w| w == b"*/").map_or(rest.len(), |i| i + 4),
+                [b'/', b'*', body @ ..] => body.windows(2).position(|w| w == b"*/").map_or_else(|| self.unclosed(), |i| i + 4),
                 _ => return,
             }
         }
+    }
+
+    /// How long a block comment is that never closes.
+    fn unclosed(&mut self) -> usize {
+        self.open = true;
+        self.rest().len()
     }
 
     /// Passes the word if it is the identifier here and a separator or the end follows.
@@ -273,22 +305,25 @@ impl<'a> Reader<'a> {
     }
 
     /// A whole string, a whole name that begins with no digit, or one byte.
-    fn token(&mut self) {
+    fn token(&mut self) -> Read<()> {
+        self.not_high()?;
         match self.peek() {
             Some(b'"' | b'\'') => _ = self.string(),
             Some(b) if begins_identifier(b) => _ = self.name(),
             _ => self.at += 1,
         }
+        Ok(())
     }
 
     /// A statement that is not read. If the text ends before it does, it breaks off.
-    fn statement(&mut self) {
+    fn statement(&mut self) -> Read<()> {
         let mut depth = 0;
         self.gap();
         while let Some(byte) = self.peek() {
             if byte == b'}' && depth == 0 {
-                return;
+                return Ok(());
             }
+            self.not_high()?;
             self.at += 1;
             match byte {
                 b'"' | b'\'' => self.skipped_string(byte),
@@ -297,11 +332,12 @@ impl<'a> Reader<'a> {
                 _ => {}
             }
             if depth == 0 && (byte == b';' || byte == b'}') {
-                return;
+                return Ok(());
             }
             self.gap();
         }
         self.cut = true;
+        Ok(())
     }
 
     /// In such a statement a string ends at its quote unless a backslash stands before that.
@@ -316,6 +352,7 @@ impl<'a> Reader<'a> {
     /// The byte that is due after a gap.
     fn due(&mut self, byte: u8, keyword: u32) -> Read<()> {
         self.gap();
+        self.not_high()?;
         match self.peek() {
             Some(b) if b == byte => self.at += 1,
             Some(_) => return self.refused(5, keyword),
@@ -327,7 +364,7 @@ impl<'a> Reader<'a> {
     /// The value that is due after a keyword.
     fn argument(&mut self, keyword: u32) -> Read<Value> {
         match self.value() {
-            None => self.refused(4, keyword),
+            None => self.not_high().and(self.refused(4, keyword)),
             Some(value) => {
                 self.stored.push((keyword, value.clone()));
                 Ok(Some(value))
@@ -349,7 +386,7 @@ impl<'a> Reader<'a> {
             } else if self.keyword(INCLUDE) {
                 includes.push(self.include(includes.len())?);
             } else {
-                self.token();
+                self.token()?;
             }
         }
     }
@@ -399,7 +436,7 @@ impl<'a> Reader<'a> {
             } else if self.keyword(REVISION_DATE) {
                 kept[1] = self.line(REVISION_DATE)?;
             } else {
-                self.statement();
+                self.statement()?;
             }
         }
     }
@@ -420,7 +457,7 @@ impl<'a> Reader<'a> {
             }
             match (MODULE..=REVISION).find(|keyword| self.keyword(*keyword)) {
                 Some(keyword) => self.field(keyword)?,
-                None => self.token(),
+                None => self.token()?,
             }
         }
         let (record, store) = described(&self.stored);
@@ -430,10 +467,7 @@ impl<'a> Reader<'a> {
 
     fn field(&mut self, keyword: u32) -> Read<()> {
         match keyword {
-            PREFIX if self.stored.iter().any(|(before, _)| *before == PREFIX) => {
-                self.statement();
-                return Ok(());
-            }
+            PREFIX if self.stored.iter().any(|(before, _)| *before == PREFIX) => return self.statement(),
             YANG_VERSION => _ = self.value(),
             _ => _ = self.argument(keyword)?,
         }
@@ -442,8 +476,8 @@ impl<'a> Reader<'a> {
         }
         match keyword {
             MODULE | SUBMODULE => self.due(b'{', keyword)?,
-            BELONGS_TO => self.statement(),
-            REVISION if self.peek() == Some(b'{') => self.statement(),
+            BELONGS_TO => self.statement()?,
+            REVISION if self.peek() == Some(b'{') => self.statement()?,
             _ => self.due(b';', keyword)?,
         }
         Ok(())

@@ -1,7 +1,8 @@
-//! Texts: every short string over a small alphabet, rows of tokens, statements with and without faults, damaged copies of good modules.
-//! Every byte is below 128.
+//! Texts: every short string over a small alphabet, rows of tokens, statements with and without faults, damaged copies of good modules. Every byte is below
+//! 128, but for those of request 2026-01, with accents.
 
 use crate::rng::Rng;
+use crate::utf8::BOUNDS;
 
 /// Words that a scan looks for, and some that only look like one.
 const KEYWORDS: [&str; 30] = [
@@ -340,6 +341,235 @@ module "m"{prefix "p";prefix q{r "}";}import a{x{y{z;}}prefix "a\n";}belongs-to 
 /// Every beginning of a text, itself too.
 pub fn beginnings(text: &str) -> impl Iterator<Item = &str> {
     (0..=text.len()).map(move |n| &text[..n])
+}
+
+// ---- texts with bytes above 127
+
+/// Characters of each length and around its bounds; such that are white, letters or digits to Rust; a byte order mark.
+const ACCENTS: [&str; 20] = [
+    "\u{e9}", "\u{fc}", "\u{e9}", "\u{df}", "\u{80}", "\u{85}", "\u{a0}", "\u{b2}", "\u{7ff}", "\u{800}", "\u{20ac}", "\u{2028}", "\u{3000}", "\u{8a9e}",
+    "\u{d7ff}", "\u{e000}", "\u{feff}", "\u{10000}", "\u{1f600}", "\u{10ffff}",
+];
+
+/// The telling inputs of request 2026-01: of what stands in strings and comments, of what is met elsewhere and in whose place, and of the original's panics.
+const ACCENTED: [&str; 76] = [
+    // 2: behind an opening quote
+    "import \"é\"{prefix 'ü';}",
+    "import \"é",
+    "import \"a\"+\"é",
+    "import a{x 'é\\';prefix p;}",
+    "import a{x 'é';prefix p;}",
+    "import a{x \"é\\\";prefix p;}",
+    "import a{x \"é",
+    "import \"\\é\"{prefix p;}",
+    "import '\\é'{prefix p;}",
+    "import \"\\é",
+    "x \"é\" include \"é\";",
+    "include é\"é\";",
+    "include \"s\"{revision-date \"é\"+'é';x \"é\";}",
+    "module \"é\"{namespace \"urn:é\";prefix \"é\";prefix \"é\";revision \"é\"{x \"é\";}belongs-to \"é\"{x 'é';}}",
+    "module m{yang-version \"é\";}",
+    "module m{yang-version \"é",
+    "module m{belongs-to p \"é",
+    "module m{revision 1{\"é",
+    // 3: in a comment
+    "//é",
+    "/*é",
+    "/*é*/",
+    "//é\nimport a{prefix p;}",
+    "import/*é*/ a{prefix p;}",
+    "import a/*é*/{/*é*/prefix/*é*/ p;/*é*/}/*é*/",
+    "import a{prefix /*é*/p/*é*/;}//é",
+    "import a{x/*é*/;prefix p;}",
+    "import a{x //é\n;prefix p;}",
+    "import \"a\"/*é*/+/*é*/\"b\"{prefix p;}",
+    "module m{/*é",
+    "module m{//é",
+    "module m{belongs-to p/*é*/;}",
+    "module m{revision 1/*é*/{/*é*/}}",
+    "import a{x/*é",
+    // 4: met as a token, in a skipped statement, or where a keyword would end
+    "é",
+    "x é",
+    "fooé bar",
+    "importé a{",
+    "import a{x é;prefix p;}",
+    "import a{é}",
+    "import a{prefixé p;}",
+    "import a{x{é}prefix p;}",
+    "include a{é}",
+    "include a{revision-dateé 1;}",
+    "descriptioné",
+    "module m{belongs-to p é;}",
+    "module m{prefix p;prefix é;}",
+    "module m{revision 1{é}}",
+    "module m{containeré",
+    "x\u{a0}y",
+    "x\u{85}y",
+    "x\u{2028}y",
+    "import\u{a0}a{prefix p;}",
+    "import a{prefix p;}\u{a0}",
+    // 5: in the place of 4 and 5
+    "import é{",
+    "import aé{",
+    "import aé{prefix p;}",
+    "import a é{",
+    "import \"a\" + é{",
+    "import \"a\"é",
+    "import a{prefix é;}",
+    "import a{prefix pé;}",
+    "import a{prefix p é",
+    "include é;",
+    "include a é;",
+    "module m{yang-version é;}",
+    "module é{",
+    "module mé{",
+    "module m{namespace \"a\"é;}",
+    "module m{revision 1é;}",
+    // 6: behind what is told, and behind what ends the scan
+    "import a{}é",
+    "description é",
+    "module m{container é",
+    // 7 and 8
+    "\u{feff}module m{}",
+    "x é \"cut",
+    "\"cut é",
+    // the original's own panic, and where it returns
+    "import a/*é",
+];
+
+/// More of the last kind.
+const PANICS: [&str; 6] = ["import a{/*é", "/*é*", "/*é ", "/*é/", "module m{/*\u{10ffff}", "import a{prefix p;}/*\u{20ac}"];
+
+/// What is no UTF-8: the sequence that is wrong is read by no scan, or stands where it would be.
+const NOT_UTF8: [&[u8]; 24] = [
+    b"\x41\xc3",
+    b"\xe2\x82\x41",
+    b"\xc0\xaf",
+    b"\xed\xa0\x80",
+    b"\xf4\x90\x80\x80",
+    b"\xc3\xa9\xc3",
+    b"\x80",
+    b"import a{x \"\xc3\"}",
+    b"import a{prefix p;}//\xff",
+    b"import a{} /*\xc3\xa9\xbf*/",
+    b"description \"\xe9\";",
+    b"module m{container \xe9",
+    b"x \xc3\xa9 \xc3",
+    b"\xfeff",
+    b"\"\xe0\x9f\xbf\"",
+    b"\"\xf0\x8f\xbf\xbf\"",
+    b"\"\xc1\xbf\"",
+    b"\"\xed\xbf\xbf\"",
+    b"\"\xf5\x80\x80\x80\"",
+    b"\"\xf0\x9f\x98\"",
+    b"\"\xe2\x82\xac\xac\"",
+    b"import \"\\\xc3\"{prefix p;}",
+    b"import \"a\xc3",
+    b"0123456789012345678901234567890 \xc3\xa9 0123456789012345678901234567890\xa9",
+];
+
+/// All of these, and those that have double quotes and no others again in single ones.
+pub fn telling_accents() -> Vec<Vec<u8>> {
+    let all = || ACCENTED.iter().chain(&PANICS);
+    let single = all().filter(|t| t.contains('"') && !t.contains('\'')).map(|t| t.replace('"', "'").into_bytes());
+    let plain = all().map(|t| t.as_bytes().to_vec());
+    plain.chain(single).chain(NOT_UTF8.iter().map(|t| t.to_vec())).collect()
+}
+
+/// A small good module with accents in every string and comment. Of its beginnings, in bytes, some end inside a character.
+pub const SMALL_ACCENTED: &str = r#"/*é*/module "mé" {//ü
+ yang-version "1é" + '€1';
+ namespace "urn:é" + "m";
+ prefix 'é';
+ import "é" { description "x;é"; prefix 'ü'; /*é*/ revision-date "2024é"; }
+ include /*é*/ 'é';
+ include t { x { y 'é';é'; } }
+ revision "é" {
+  description "é " }";
+ }
+ revision '😀';
+ contact "Zoë";
+ container c;
+}
+"#;
+
+/// Strings of `length` letters, of the alphabet and é, in which é stands.
+fn words_accented(length: u32) -> impl Iterator<Item = String> {
+    let letters = ALPHABET.len() + 1;
+    let word = move |k: usize| -> String {
+        let letter = |i: u32| ALPHABET.get(k / letters.pow(i) % letters).map_or('é', |b| *b as char);
+        (0..length).map(letter).collect()
+    };
+    (0..letters.pow(length)).map(word).filter(|w| w.contains('é'))
+}
+
+/// These behind each of the beginnings.
+pub fn short_accented(length: u32) -> impl Iterator<Item = String> {
+    FRONTS.iter().chain(&BROKEN_FRONTS).flat_map(move |front| words_accented(length).map(move |w| format!("{front}{w}")))
+}
+
+/// These behind a namespace keyword and a blank.
+pub fn short_accented_values(length: u32) -> impl Iterator<Item = String> {
+    words_accented(length).map(|w| format!("{NAMESPACE} {w}"))
+}
+
+/// Where a character stands, as far as that is seen from left to right.
+#[derive(Clone, Copy, PartialEq)]
+enum Inside {
+    Nothing,
+    String(char),
+    Line,
+    Block,
+}
+
+impl Inside {
+    /// Behind the character `c`, before which `before` stands.
+    fn behind(self, before: char, c: char) -> Inside {
+        match (self, before, c) {
+            (Inside::Nothing, _, '"' | '\'') => Inside::String(c),
+            (Inside::Nothing, '/', '/') => Inside::Line,
+            (Inside::Nothing, '/', '*') => Inside::Block,
+            (Inside::String('"'), '\\', '"') => self,
+            (Inside::String(quote), _, _) if quote == c => Inside::Nothing,
+            (Inside::Line, _, '\n') | (Inside::Block, '*', '/') => Inside::Nothing,
+            _ => self,
+        }
+    }
+}
+
+/// A copy with accents: many in strings and comments, few or none elsewhere.
+pub fn accented(r: &mut Rng, text: &str) -> String {
+    let (often, seldom) = (r.pick(&[2, 6, 20]), r.pick(&[0, 0, 30, 150]));
+    let mut accent = |inside: Inside, out: &mut String| {
+        if if inside == Inside::Nothing { seldom > 0 && r.once_in(seldom) } else { r.once_in(often) } {
+            out.push_str(r.pick(&ACCENTS));
+        }
+    };
+    let (mut out, mut inside, mut before) = (String::new(), Inside::Nothing, ' ');
+    for c in text.chars() {
+        accent(inside, &mut out);
+        out.push(c);
+        let next = inside.behind(before, c);
+        before = if next == inside { c } else { ' ' };
+        inside = next;
+    }
+    accent(inside, &mut out);
+    out
+}
+
+/// A copy with a byte gone, another one or one more, of those around the bounds of UTF-8's sequences; or cut off.
+pub fn torn(r: &mut Rng, text: &str) -> Vec<u8> {
+    let mut bytes = text.as_bytes().to_vec();
+    let high: Vec<usize> = (0..bytes.len()).filter(|i| bytes[*i] > 127).collect();
+    let at = if high.is_empty() { r.below(bytes.len() + 1) } else { r.pick(&high) };
+    match r.below(4) {
+        0 if at < bytes.len() => _ = bytes.remove(at),
+        1 if at < bytes.len() => bytes[at] = r.pick(&BOUNDS),
+        2 => bytes.truncate(at),
+        _ => bytes.insert(at, r.pick(&BOUNDS)),
+    }
+    bytes
 }
 
 // ---- one value, one statement, some tokens: what the text layer is asked alone

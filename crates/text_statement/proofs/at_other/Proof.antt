@@ -12,4 +12,4 @@ returns-2 : tie.Need-returns-2
 returns-2 c = search other-on
 
 pub at-other-spec : {M : Type 1} → statement M
-at-other-spec = tie.close (tie.spec (λ c κs. search needs) (λ c κs. search needs) returns returns-2)
+at-other-spec = tie.close (tie.spec (λ c κs. search needs) returns returns-2)

@@ -9,7 +9,7 @@ use borrow.Author.Needs.{needs}
 use Rattle.text.specs.Scan.{gapEnd}
 use Rattle.text.proofs.Laws.{gap-from, gap-done}
 use Rattle.text_statement.specs.Statement.{statementFrom, statementAt}
-use Rattle.text_statement.proofs.StatementLaws.{statement-is, statement-stop, statement-more, statement-on, statement-room, statement-gap}
+use Rattle.text_statement.proofs.StatementLaws.{statement-is, statement-stop, statement-high, statement-more, statement-on, statement-room, statement-gap}
 use Rattle.text_statement.proofs.skip_statement.Statement.{statement}
 use Rattle.text_statement.proofs.skip_statement.Tie as tie
 
@@ -59,7 +59,15 @@ returns c =
     let part = known .before .before in
     let at-loop = part .before in
     sym (statement-stop (at-loop .before .before .args .s .now) (at-loop .loop .at) (at-loop .loop .depth) (sym (at-loop .loop .inv .1))
-    (part .skip-part .ensures) (known .end .given .0 .0) (known .end .given .1)) ∙ at-loop .loop .inv .2
+    (part .skip-part .ensures) (known .end .given .0 .0) (known .end .given .0 .1 .0) (known .end .given .1)) ∙ at-loop .loop .inv .2
+
+returns-2 : tie.Need-returns-2 Inv-loop μ-loop
+returns-2 c =
+    let known = c .before .before in
+    let part = known .before .before in
+    let at-loop = part .before in
+    sym (statement-high (at-loop .before .before .args .s .now) (at-loop .loop .at) (at-loop .loop .depth) (sym (at-loop .loop .inv .1))
+    (part .skip-part .ensures) (known .end2 .given .0 .0) (known .end2 .given .1) (c .high-byte .ensures)) ∙ at-loop .loop .inv .2
 
 pub skip-statement-spec : {M : Type 1} → statement M
 skip-statement-spec =
@@ -74,4 +82,7 @@ skip-statement-spec =
     loop-less
     loop-again
     (λ c. search needs)
-    returns)
+    returns
+    (λ c. search needs)
+    (λ c κs. search needs)
+    returns-2)

@@ -1,6 +1,6 @@
 -- `text_utf8::low_end`. The loop keeps where the first wrong sequence starts: a byte below 128 leaves that as it was.
 -- Assumes nothing.
-use mathlib.Core.Path.{_≡_, refl, sym, _∙_}
+use mathlib.Core.Path.{_≡_, _∙_}
 use Prim.Native.Nat.{_-_, _≤_}
 use lib.ListN.{length}
 use native.Mathlib.Omega.{arith}

@@ -1,0 +1,3 @@
+pub mod Utf8Chars
+pub mod Utf8Right
+pub mod Utf8Instance
