@@ -24,7 +24,7 @@ TOPICS = [
     ("each included text once: the walk with a memory is the plain walk, and reads no text twice", set(), ["graph/Once", "demands/Once"]),
     ("the whole-text mode of a scan beside the old one, with all readings of its request", set(), ["demands_scans/Whole", "demands/Whole"]),
     ("names with accents: the check is RFC 3629's table; what 3 and 12 tell; every value is UTF-8; with all readings of its request", set(),
-     ["demands_utf8/Utf8Right", "demands_scans/Accents", "demands/Accents", "demands_accents/ValuesValid"]),
+     ["demands_utf8/Utf8Right", "demands_scans/Accents", "demands/Accents", "demands_accents/ValuesValid", "demands_accents/StoreValid"]),
     ("what an order is, by edges alone", set(), ["demands_order/Order", "demands/OrderCalls"]),
     ("document 01's starred examples", set(), ["demands/Starred"]),
 ]

@@ -126,7 +126,7 @@ module _ (whole : Bool) (s : List ℕ) (z : Bool) (d t u : List ℕ) {r : Parsed
     unfolding pageOf it
     good-page = ap pageOf (was .1)
 
-    rows-are : printedRows e f m g n ≡ pageOf (dependencies whole s z)
+    pub rows-are : printedRows e f m g n ≡ pageOf (dependencies whole s z)
     unfolding it
     rows-are =
         let x = it in

@@ -1,0 +1,9 @@
+pub mod Chars
+pub mod Good
+pub mod Instance
+pub mod Kept
+pub mod Rows
+pub mod StoreValid
+pub mod Stored
+pub mod Values
+pub mod ValuesValid

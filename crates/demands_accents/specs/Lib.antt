@@ -1,0 +1,3 @@
+pub mod StoreValid
+pub mod Valid
+pub mod ValuesValid
