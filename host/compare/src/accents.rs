@@ -46,13 +46,13 @@ pub fn texts(run: &mut Run, beside: bool, seed: u64, count: u64) {
 
 // ---- what is UTF-8
 
-/// So many low bytes before and behind a string: the code passes low bytes 32 at a time.
-const AROUND: [(usize, usize); 6] = [(0, 0), (0, 40), (31, 1), (32, 0), (33, 64), (63, 31)];
+/// So many low bytes before and behind a string: the code passes low bytes in blocks of 256 and of 16.
+const AROUND: [(usize, usize); 8] = [(0, 0), (0, 300), (15, 1), (16, 0), (13, 16), (255, 17), (256, 0), (253, 256)];
 
 /// Every string of up to four of these bytes: 12, at the place that the plain reading and Rust's own check have, or another number.
 fn utf8(run: &mut Run) {
     let (mut strings, before) = (0, run.inputs);
-    let mut lent = enough(&[b' '; 128], 0);
+    let mut lent = enough(&[b' '; 1_024], 0);
     for length in 0..=4 {
         for k in 0..BOUNDS.len().pow(length) {
             let string: Vec<u8> = (0..length).map(|i| BOUNDS[k / BOUNDS.len().pow(i) % BOUNDS.len()]).collect();
