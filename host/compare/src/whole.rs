@@ -137,7 +137,7 @@ impl<'r> Whole<'r> {
     fn is_told<T: PartialEq>(&mut self, text: &[u8], whole: u32, plain: &Option<Plain<T>>, told: fn(&mut Oracle, &[u8]) -> Scan<T>) -> bool {
         let asked = self.asked == Asked::Always || (self.asked == Asked::NotAt11 && whole != CUT_SHORT);
         match plain {
-            Some(plain) if asked && whole != HIGH_BYTE => {
+            Some(plain) if asked && !plain.is_high() => {
                 *(if plain.panics { &mut self.panics } else { &mut self.told }) += 1;
                 plain.is_told(text, &told(self.run.oracle(), text))
             }

@@ -59,6 +59,11 @@ impl<T> Plain<T> {
         self.cut.filter(|_| whole).or(self.old.as_ref().err().copied())
     }
 
+    /// Whether the answer is 3, in either mode.
+    pub fn is_high(&self) -> bool {
+        self.old.as_ref().err().map_or(false, |refusal| refusal.number == HIGH_BYTE)
+    }
+
     pub fn answer(self, whole: bool) -> Scan<T> {
         match self.refusal(whole) {
             Some(refusal) => Scan::Refused(refusal),
@@ -72,7 +77,7 @@ impl<T: PartialEq> Plain<T> {
     pub fn is_told(&self, text: &[u8], told: &Scan<T>) -> bool {
         match (&self.old, told) {
             _ if self.panics => matches!(told, Scan::Silent(line) if line == "panic"),
-            (Err(refusal), _) if refusal.number == HIGH_BYTE => true,
+            _ if self.is_high() => true,
             (Ok(kept), Scan::Good(other)) => kept == other,
             (Err(refusal), Scan::Refused(other)) => *refusal == other.due(text),
             _ => false,
