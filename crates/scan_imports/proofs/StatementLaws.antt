@@ -8,13 +8,13 @@ use native.Mathlib.Omega.{arith}
 use lib.ListN.{length, getD}
 use lib.Seq.{sets}
 use borrow.Author.Tests.{eq-eqb, ne-eqb}
-use Rattle.text.specs.Due.{dueHere, dueAt, refusalOf}
+use Rattle.text.specs.Due.{dueHere, refusalOf}
 use Rattle.text.specs.Scan.{gapEnd}
 use Rattle.text.specs.declared.Cursor.{Cursor}
 use Rattle.text.specs.declared.Due.{Due}
 use Rattle.text.specs.declared.Due.the-variants.{After, Not}
 use Rattle.text.specs.declared.Refusal.{Refusal}
-use Rattle.text.proofs.Laws.{gap-from, gap-done}
+use Rattle.text.proofs.Laws.{gap-from}
 use Rattle.text_value.specs.Argument.{argumentAt, lineAt, argumentRefusal}
 use Rattle.text_value.specs.Value.{valueAt, valueBytes}
 use Rattle.text_value.specs.declared.Argument.{Argument}
@@ -126,13 +126,12 @@ module _ (w : Bool) (s : List ℕ) (at u : ℕ) (d : List ℕ) {a : Argument} {e
         leaves q d u (re, sets-twice d e f u n (valueBytes (valueAt s at)) (blockAt w s (g + 1) n 9 .bytes) ee (l .3) fe)
 
     -- t: what the semicolon answered
-    module _ (m : p ≡ 123 → ⊥) {t : Due} (te : t ≡ dueAt s g 59 9) where
+    module _ (m : p ≡ 123 → ⊥) {t : Due} (te : t ≡ dueHere s g 59 9) where
       include-due : includeAt w s at u ≡ record { answer = plainOf x n t; bytes = valueBytes (valueAt s at) }
-      unfolding openOrPlain dueAt
+      unfolding openOrPlain
       include-due =
-          let twice : gapEnd s g ≡ g = gap-done s (c .at) ge in
-          let q : dueHere s g 59 9 ≡ t = sym (te ∙ ap (λ i. dueHere s i 59 9) twice) in
-          include-named ∙ rw (ne-eqb (getD s g 256) 123 (λ z. m (pe ∙ z))) (ap (λ z. record { answer = plainOf x n z; bytes = valueBytes (valueAt s at) }) q)
+          include-named
+          ∙ rw (ne-eqb (getD s g 256) 123 (λ z. m (pe ∙ z))) (ap (λ z. record { answer = plainOf x n z; bytes = valueBytes (valueAt s at) }) (sym te))
 
       pub include-other : (r : Refusal) → t ≡ Not r → {q : Refusal} → q ≡ refusalOf t → Leaves (includeAt w s at u) d u (NoInclude q) e
       unfolding plainOf refusalOf

@@ -146,7 +146,7 @@ pub fn parse_include(
             n,
         );
     }
-    let due = end.expect_char(classes, s, text::SEMICOLON, text::INCLUDE);
+    let due = end.expect_here(s, text::SEMICOLON, text::INCLUDE);
     let Due::After(after) = due else {
         return ParsedInclude::NoInclude(text::refusal_of(due));
     };

@@ -20,27 +20,45 @@ use Rattle.text.proofs.Here.{here, by-test}
 use Rattle.text.proofs.HighLaws.{high-end, refused-other, refused-place, refused-met}
 use Rattle.text.proofs.Laws.{gap-from, gap-within}
 
--- g after the gap, c what stands there
-module _ (s : List ℕ) (at b k : ℕ) {g c : ℕ} (ge : g ≡ gapEnd s at) (ce : c ≡ getD s g 256) where
-  pub due-after : c ≡ b → dueAt s at b k ≡ After (record { at = g + 1 })
-  unfolding dueAt dueHere
-  due-after e = rw (← ge) (rw (eq-eqb (getD s g 256) b (sym ce ∙ e)))
+-- c: what stands here
+module _ (s : List ℕ) (at b k : ℕ) {c : ℕ} (ce : c ≡ getD s at 256) where
+  pub here-after : c ≡ b → dueHere s at b k ≡ After (record { at = at + 1 })
+  unfolding dueHere
+  here-after e = rw (eq-eqb (getD s at 256) b (sym ce ∙ e))
 
   module _ (n : c ≡ b → ⊥) where
-    pub due-end : c ≡ 256 → dueAt s at b k ≡ Not (record { number = 6; keyword = k; at = g })
-    unfolding dueAt dueHere dueNumber
-    due-end e =
-        let z : getD s g 256 ≡ 256 = sym ce ∙ e in
-        rw (← ge)
-        (rw (ne-eqb (getD s g 256) b (λ h. n (ce ∙ h)))
-        (rw (eq-eqb (getD s g 256) 256 z) (ap Not (sym (refused-other (getD s g 256) 6 k g refl (high-end z))))))
+    pub here-end : c ≡ 256 → dueHere s at b k ≡ Not (record { number = 6; keyword = k; at = at })
+    unfolding dueHere dueNumber
+    here-end e =
+        let z : getD s at 256 ≡ 256 = sym ce ∙ e in
+        rw (ne-eqb (getD s at 256) b (λ h. n (ce ∙ h)))
+        (rw (eq-eqb (getD s at 256) 256 z) (ap Not (sym (refused-other (getD s at 256) 6 k at refl (high-end z)))))
 
-    pub due-other : (c ≡ 256 → ⊥) → {r : Refusal} → r ≡ refusedAt c 5 k g → dueAt s at b k ≡ Not r
-    unfolding dueAt dueHere dueNumber
-    due-other e q =
-        rw (← ge)
-        (rw (ne-eqb (getD s g 256) b (λ h. n (ce ∙ h)))
-        (rw (ne-eqb (getD s g 256) 256 (λ h. e (ce ∙ h))) (ap Not (sym (q ∙ ap (λ i. refusedAt i 5 k g) ce)))))
+    pub here-other : (c ≡ 256 → ⊥) → {r : Refusal} → r ≡ refusedAt c 5 k at → dueHere s at b k ≡ Not r
+    unfolding dueHere dueNumber
+    here-other e q =
+        rw (ne-eqb (getD s at 256) b (λ h. n (ce ∙ h)))
+        (rw (ne-eqb (getD s at 256) 256 (λ h. e (ce ∙ h))) (ap Not (sym (q ∙ ap (λ i. refusedAt i 5 k at) ce))))
+
+-- the same after a gap; g: the place there
+module _ (s : List ℕ) (at b k : ℕ) {g : ℕ} (ge : g ≡ gapEnd s at) where
+  pub due-at : {d : Due} → d ≡ dueHere s g b k → d ≡ dueAt s at b k
+  unfolding dueAt
+  due-at e = e ∙ ap (λ i. dueHere s i b k) ge
+
+  due-is : dueAt s at b k ≡ dueHere s g b k
+  due-is = sym (due-at refl)
+
+  module _ {c : ℕ} (ce : c ≡ getD s g 256) where
+    pub due-after : c ≡ b → dueAt s at b k ≡ After (record { at = g + 1 })
+    due-after e = due-is ∙ here-after s g b k ce e
+
+    module _ (n : c ≡ b → ⊥) where
+      pub due-end : c ≡ 256 → dueAt s at b k ≡ Not (record { number = 6; keyword = k; at = g })
+      due-end e = due-is ∙ here-end s g b k ce n e
+
+      pub due-other : (c ≡ 256 → ⊥) → {r : Refusal} → r ≡ refusedAt c 5 k g → dueAt s at b k ≡ Not r
+      due-other e q = due-is ∙ here-other s g b k ce n e q
 
 -- ---- how far it goes
 

@@ -9,7 +9,7 @@ ghost use Rattle.text.specs.Bytes.{look, theEnd};
 ghost use Rattle.text.specs.Class.{classOf, classTable};
 ghost use Rattle.text.specs.Scan.{inIdent, inRun, runEnd, blockEnd, pairAt, commentEnd, gapEnd};
 ghost use Rattle.text.specs.Keyword.{startsIdent, endsKeyword, wordly, begins, matchAt, orMatch};
-ghost use Rattle.text.specs.Due.{dueAt, refusalOf};
+ghost use Rattle.text.specs.Due.{dueHere, dueAt, refusalOf};
 ghost use Rattle.text.specs.Refusal.{noRefusal, cutAt, isHigh, highAt, refusedAt};
 
 // What stands at a place: a byte, or the end.
@@ -377,7 +377,14 @@ impl Cursor {
         ensures { λ r. ⌜ r ≡ dueAt (now (s .entry)) (self .at) b keyword ⌝ }
     {
         let next = self.skip_whitespace_and_comments(classes, s);
-        let at = next.at;
+        next.expect_here(s, b, keyword)
+    }
+    // The same where the gap was passed already.
+    pub fn expect_here(self, s: &[u8], b: u16, keyword: u32) -> Due
+        requires { ⌜ b < theEnd ⌝ }
+        ensures { λ r. ⌜ r ≡ dueHere (now (s .entry)) (self .at) b keyword ⌝ }
+    {
+        let at = self.at;
         let c = peek_char(s, at);
         if c == b {
             let end = at + 1;

@@ -7,7 +7,7 @@ use Prim.Native.Nat.{ℕ, _+_, _<_, _≤_}
 use native.Mathlib.Omega.{arith}
 use lib.ListN.{length, getD, drop, length-drop}
 use lib.Dec.{eqb, leb}
-use borrow.Author.Tests.{le-leb, lt-leb, leb-true, leb-false, eqb-true}
+use borrow.Author.Tests.{ne-eqb, le-leb, lt-leb, leb-true, leb-false, eqb-true}
 use Rattle.text.specs.Class.{classOf}
 use Rattle.text.specs.Keyword.{startsIdent}
 use Rattle.text.specs.Refusal.{isHigh, highAt, MetHigh}
@@ -16,6 +16,7 @@ use Rattle.text.specs.declared.Cursor.{Cursor}
 use Rattle.text.specs.declared.Refusal.{Refusal}
 use Rattle.text.specs.declared.Run.the-variants.{Name}
 use Rattle.text.proofs.Here.{by-test, inside, never}
+use Rattle.text.proofs.HighLaws.{high-said}
 use Rattle.text.proofs.KeywordLaws.{starts-in}
 use Rattle.text.proofs.Laws.{in-name, run-more, run-from, run-within}
 use Rattle.text_string.specs.Str.{isQuote, strEnd}
@@ -42,8 +43,15 @@ no-quote b m =
     (λ t. absurd (never (ap startsIdent (eqb-true b 34 t)) m))
     (λ f. by-test (eqb b 39) (λ t. absurd (never (ap startsIdent (eqb-true b 39 t)) m)) (λ g. simp (f, g)))
 
--- Each law takes what the calls on the way answered, in their order: b what stands here, n whether a name begins so, t whether that is a quote, k where the
--- string closes.
+-- nor is a quote 128 or more
+high-no-quote : (b : ℕ) → isHigh b ≡ true → isQuote b ≡ false
+unfolding isQuote
+high-no-quote b h =
+    let k = high-said b h .0 in
+    simp (ne-eqb b 34 (λ e. omega arith), ne-eqb b 39 (λ e. omega arith))
+
+-- Each law takes what the calls on the way answered, in their order: b what stands here, n whether a name begins so, o whether it is 128 or more, t whether it
+-- is a quote, k where the string closes.
 module _ (s : List ℕ) (at : ℕ) (h : at < length s) {b : ℕ} (be : b ≡ getD s at 256) where
   module _ {t : Bool} (te : t ≡ isQuote b) (y : t ≡ true) {k : Close} (ke : k ≡ strEnd (getD s at 0) false (drop (at + 1) s) (at + 1)) where
     token-string : tokenAt s at ≡ closedToken s k
@@ -67,20 +75,23 @@ module _ (s : List ℕ) (at : ℕ) (h : at < length s) {b : ℕ} (be : b ≡ get
         let r : startsIdent (getD s at 256) ≡ true = cc in
         rw (lt-leb (length s) at h) (rw (no-quote (getD s at 256) r) (rw r (rw (← ee))))
 
-    -- o: whether it is a byte of 128 or more
-    module _ (m : n ≡ false) {t : Bool} (te : t ≡ isQuote b) (f : t ≡ false) {o : Bool} (oe : o ≡ isHigh b) where
-      token-one : tokenAt s at ≡ cond (isHigh (getD s at 256)) (Refused (highAt at)) (pastWhole (at + 1))
+    module _ (m : n ≡ false) {o : Bool} (oe : o ≡ isHigh b) where
+      token-one : isQuote (getD s at 256) ≡ false → tokenAt s at ≡ cond (isHigh (getD s at 256)) (Refused (highAt at)) (pastWhole (at + 1))
       unfolding tokenAt tokenHere
-      token-one =
-          let q : isQuote (getD s at 256) ≡ false = cc in
+      token-one q =
           let r : startsIdent (getD s at 256) ≡ false = cc in
           rw (lt-leb (length s) at h) (rw q (rw r))
 
       pub token-high : o ≡ true → {r : Refusal} → r ≡ highAt at → tokenAt s at ≡ Refused r
-      token-high y e = let q : isHigh (getD s at 256) ≡ true = cc in token-one ∙ rw q (ap Refused (sym e))
+      token-high y e =
+          let q : isHigh (getD s at 256) ≡ true = cc in
+          token-one (high-no-quote (getD s at 256) q) ∙ rw q (ap Refused (sym e))
 
-      pub token-byte : o ≡ false → tokenAt s at ≡ pastWhole (at + 1)
-      token-byte z = let q : isHigh (getD s at 256) ≡ false = cc in token-one ∙ rw q refl
+      pub token-byte : o ≡ false → {t : Bool} → t ≡ isQuote b → t ≡ false → tokenAt s at ≡ pastWhole (at + 1)
+      token-byte z te f =
+          let q : isHigh (getD s at 256) ≡ false = cc in
+          let w : isQuote (getD s at 256) ≡ false = cc in
+          token-one w ∙ rw q refl
 
 -- ---- how far a token goes
 
@@ -118,8 +129,8 @@ token-tells s at =
         (whole-tells s at (runEnd Name s at)
         (λ l. omega (arith, run-more Name s at h refl (sym e) refl, run-from Name s (at + 1), run-within Name s at (omega arith)))))
         (λ n. by-test (isHigh (getD s at 256))
-        (λ o. rw (token-high s at h refl refl n refl q refl o refl) (refl, o))
-        (λ o. rw (token-byte s at h refl refl n refl q refl o) (whole-tells s at (at + 1) (λ l. omega arith)))))
+        (λ o. rw (token-high s at h refl refl n refl o refl) (refl, o))
+        (λ o. rw (token-byte s at h refl refl n refl o refl q) (whole-tells s at (at + 1) (λ l. omega arith)))))
 
 pub token-far : (s : List ℕ) (at : ℕ) → at < length s → (c : Cursor) (h : How) → tokenAt s at ≡ Past c h → (at < c .at) × (c .at ≤ length s)
 token-far s at l c h e = let f = subst (TokenTells s at) e (token-tells s at) l in (f .0, f .1)

@@ -20,7 +20,7 @@ pub fn past_token(here: Cursor, classes: &[u8; 128], whole: bool, s: &[u8]) -> D
 }
 
 // Skips a token: a whole string, a whole name that begins with a letter or _, or one byte, which is refused from 128 on (3). At the end nothing is skipped.
-// The name is tried first: a scan has just looked for an identifier here, and so that test is made once.
+// The name is tried first, then whether the byte is 128 or more: a scan has just looked for an identifier here, and so these tests are made once.
 pub fn skip_one_token(here: Cursor, classes: &[u8; 128], s: &[u8]) -> Skipped
     requires { ⌜ now classes ≡ classTable ⌝ }
     ensures { λ r. ⌜ r ≡ tokenAt (now (s .entry)) (here .at) ⌝ }
@@ -35,15 +35,15 @@ pub fn skip_one_token(here: Cursor, classes: &[u8; 128], s: &[u8]) -> Skipped
         let end = text::run_end(classes, Run::Name, s, at);
         return Skipped::Past(Cursor { at: end }, How::Whole);
     }
+    if text::is_high(b) {
+        return Skipped::Refused(text::high_byte(at));
+    }
     if text_string::is_quote(b) {
         let q = s[at];
         let Close::At(end) = text_string::close_of(s, after, q) else {
             return Skipped::Past(Cursor { at: s.len() }, How::Text);
         };
         return Skipped::Past(Cursor { at: end }, How::Whole);
-    }
-    if text::is_high(b) {
-        return Skipped::Refused(text::high_byte(at));
     }
     Skipped::Past(Cursor { at: after }, How::Whole)
 }

@@ -7,6 +7,9 @@ ghost use Rattle.text.specs.Class.{within};
 ghost use Rattle.text_utf8.specs.Largest.{larger, largest};
 ghost use Rattle.text_utf8.specs.Utf8.{tail, two, second3, three, second4, four, seqLen, wrongFrom};
 
+// A text below this length is first tried as one without a byte from 128 on.
+const SHORT: usize = 4096;
+
 fn larger(a: u8, b: u8) -> u8
     ensures { λ r. ⌜ r ≡ larger a b ⌝ }
 {
@@ -158,8 +161,20 @@ fn seq_len(s: &[u8], at: usize) -> usize
     0
 }
 
-// The place where the first wrong sequence of a text starts, or its end.
+// The place where the first wrong sequence of a text starts, or its end. Most texts are short and all below 128: these take one pass with no early exit.
 pub fn utf8_end(s: &[u8]) -> usize
+    ensures { λ r. ⌜ r ≡ wrongFrom (now (s .entry)) 0 ⌝ }
+{
+    if s.len() < SHORT {
+        if largest(s) < 128 {
+            return s.len();
+        }
+    }
+    characters_end(s)
+}
+
+// The same, character by character.
+fn characters_end(s: &[u8]) -> usize
     ensures { λ r. ⌜ r ≡ wrongFrom (now (s .entry)) 0 ⌝ }
 {
     let mut i: usize = 0;

@@ -71,7 +71,7 @@ returns-3 c =
     let t = c .before .enum-told2 .given in
     include-other (a .whole) (a .s .now) (a .here .at) (a .used) (a .store .now) (v .0) (v .1) (k .0 .0) (k .0 .1 .0) (k .1) (at-gap .before .held .ensures)
     (at-gap .skip-whitespace-and-comments .ensures) (at-peek .peek-char .ensures) (c .before .before .before .before .if1 .left)
-    (c .before .before .before .expect-char .ensures) (t .0 .0) (t .1) (c .refusal-of .ensures)
+    (c .before .before .before .expect-here .ensures) (t .0 .0) (t .1) (c .refusal-of .ensures)
 
 returns-4 : tie.Need-returns-4
 returns-4 c =
@@ -85,7 +85,7 @@ returns-4 c =
     let t = c .before .before .due .given in
     include-plain (a .whole) (a .s .now) (a .here .at) (a .used) (a .store .now) (v .0) (v .1) (k .0 .0) (k .0 .1 .0) (k .1) (at-gap .before .held .ensures)
     (at-gap .skip-whitespace-and-comments .ensures) (at-peek .peek-char .ensures) (c .before .before .before .before .before .if1 .left)
-    (c .before .before .before .before .expect-char .ensures) (t .0 .0) (t .1) (c .missing .ensures)
+    (c .before .before .before .before .expect-here .ensures) (t .0 .0) (t .1) (c .missing .ensures)
 
 pub parse-include-spec : {M : Type 1} → statement M
 parse-include-spec =

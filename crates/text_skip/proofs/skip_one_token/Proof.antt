@@ -22,55 +22,51 @@ returns-2 c =
 
 returns-3 : tie.Need-returns-3
 returns-3 c =
-    let close = c .before .before in
-    let if3 = close .before .before in
-    let quote = if3 .before in
-    let if2 = quote .before in
-    let peek = if2 .before .before in
-    let if1 = peek .before in
-    let a = if1 .before .before .args in
-    sym (token-cut (a .s .now) (a .here .at) (if1 .if1 .left) (peek .peek-char .ensures) (quote .is-quote .ensures) (if3 .if3 .taken)
-    (close .close-of .ensures) (c .enum-told .given .1))
-
-returns-4 : tie.Need-returns-4
-returns-4 c =
-    let known = c .before in
-    let close = known .before .before in
-    let if3 = close .before .before in
-    let quote = if3 .before in
-    let if2 = quote .before in
-    let peek = if2 .before .before in
-    let if1 = peek .before in
-    let a = if1 .before .before .args in
-    sym (token-closed (a .s .now) (a .here .at) (if1 .if1 .left) (peek .peek-char .ensures) (quote .is-quote .ensures) (if3 .if3 .taken)
-    (close .close-of .ensures) (known .end .given .0 .0) (known .end .given .1))
-
-returns-5 : tie.Need-returns-5
-returns-5 c =
-    let if4 = c .before in
-    let high = if4 .before in
-    let if3 = high .before in
-    let quote = if3 .before in
-    let if2 = quote .before in
+    let if3 = c .before in
+    let high = if3 .before in
+    let if2 = high .before in
     let starts = if2 .before in
     let peek = starts .before in
     let if1 = peek .before in
     let a = if1 .before .before .args in
     sym (token-high (a .s .now) (a .here .at) (if1 .if1 .left) (peek .peek-char .ensures) (starts .starts-ident .ensures) (if2 .if2 .left)
-    (quote .is-quote .ensures) (if3 .if3 .left) (high .is-high .ensures) (if4 .if4 .taken) (c .high-byte .ensures))
+    (high .is-high .ensures) (if3 .if3 .taken) (c .high-byte .ensures))
+
+returns-4 : tie.Need-returns-4
+returns-4 c =
+    let close = c .before .before in
+    let if4 = close .before .before in
+    let quote = if4 .before in
+    let peek = quote .before .before .before .before .before in
+    let if1 = peek .before in
+    let a = if1 .before .before .args in
+    sym (token-cut (a .s .now) (a .here .at) (if1 .if1 .left) (peek .peek-char .ensures) (quote .is-quote .ensures) (if4 .if4 .taken)
+    (close .close-of .ensures) (c .enum-told .given .1))
+
+returns-5 : tie.Need-returns-5
+returns-5 c =
+    let known = c .before in
+    let close = known .before .before in
+    let if4 = close .before .before in
+    let quote = if4 .before in
+    let peek = quote .before .before .before .before .before in
+    let if1 = peek .before in
+    let a = if1 .before .before .args in
+    sym (token-closed (a .s .now) (a .here .at) (if1 .if1 .left) (peek .peek-char .ensures) (quote .is-quote .ensures) (if4 .if4 .taken)
+    (close .close-of .ensures) (known .end .given .0 .0) (known .end .given .1))
 
 returns-6 : tie.Need-returns-6
 returns-6 c =
-    let high = c .before in
-    let if3 = high .before in
-    let quote = if3 .before in
-    let if2 = quote .before in
+    let quote = c .before in
+    let if3 = quote .before in
+    let high = if3 .before in
+    let if2 = high .before in
     let starts = if2 .before in
     let peek = starts .before in
     let if1 = peek .before in
     let a = if1 .before .before .args in
     sym (token-byte (a .s .now) (a .here .at) (if1 .if1 .left) (peek .peek-char .ensures) (starts .starts-ident .ensures) (if2 .if2 .left)
-    (quote .is-quote .ensures) (if3 .if3 .left) (high .is-high .ensures) (c .if4 .left))
+    (high .is-high .ensures) (if3 .if3 .left) (quote .is-quote .ensures) (c .if4 .left))
 
 pub skip-one-token-spec : {M : Type 1} → statement M
 skip-one-token-spec =
@@ -83,13 +79,13 @@ skip-one-token-spec =
     (λ c κs. search needs)
     returns-2
     (λ c κs. search needs)
-    (λ c. search needs)
     (λ c κs. search needs)
-    (λ c. search needs)
-    (λ c. search needs)
     returns-3
+    (λ c κs. search needs)
+    (λ c. search needs)
+    (λ c κs. search needs)
+    (λ c. search needs)
+    (λ c. search needs)
     returns-4
-    (λ c κs. search needs)
-    (λ c κs. search needs)
     returns-5
     returns-6)
