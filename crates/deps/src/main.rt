@@ -1,4 +1,6 @@
 // Reads one text from standard input and writes its imports and includes, or why they are refused.
+#![tactic(auto)]
+
 use libc::{STDIN_FILENO, STDOUT_FILENO};
 use text::Refusal;
 use yangparser::Parsed;

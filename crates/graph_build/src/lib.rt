@@ -1,5 +1,7 @@
 // The graph of an image and a bundle that were read, with enough lent: the nodes (crate graph_nodes), the edges between them (crate graph_draw), then the node
 // table. What comes before that, the readings and what is too short, is crate yanglib.
+#![tactic(auto)]
+
 ghost use Rattle.graph.specs.Nodes.{mode_of};
 ghost use Rattle.graph_draw.specs.Draw.{BothRead, Lent};
 ghost use Rattle.graph_build.specs.Result.{draw_result};
@@ -11,7 +13,7 @@ use graph_visit::Sizes;
 use text::Refusal;
 
 // How many nodes and edges there are; or a refusal's number, entry, scan answer and place.
-#[derive(Drop)]
+#[derive(Clone, Copy)]
 pub enum Graphed {
     Built(usize, usize),
     Refused(u32, usize, Refusal, usize),

@@ -1,5 +1,7 @@
 // The edges of a library, once image, bundle and nodes are read: the marks and chains that the walk wants are made here, its memory is cleared, since what is
 // lent may hold anything, and a refusal leaves no edges.
+#![tactic(auto)]
+
 ghost use Rattle.graph_nodes.specs.Adding.{names_held};
 ghost use Rattle.graph_draw.specs.Draw.{Prepared, Lent, Edged};
 

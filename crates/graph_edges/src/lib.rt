@@ -1,4 +1,6 @@
 // The edges of a graph in a lent table, and beside it the same edges in chains, so that one is found soon.
+#![tactic(auto)]
+
 ghost use Rattle.std.specs.Prelude.{◌≡◌, ◌+◌, ◌*◌, ◌<◌, length, get_or};
 ghost use Rattle.graph.specs.Numbers.{row, eq_r, mem_r};
 ghost use Rattle.graph.specs.Limits.{most_nodes};
@@ -18,7 +20,7 @@ const BUCKETS: usize = 8192;
 const FACTOR: usize = 131;
 
 // How many edges there are now; or there is no room for one more.
-#[derive(Drop)]
+#[derive(Clone, Copy)]
 pub enum Link {
     Count(usize),
     Full,

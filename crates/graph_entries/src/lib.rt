@@ -1,4 +1,6 @@
 // The entries of an image, one after another: the text of each is walked, then what a module lists is linked.
+#![tactic(auto)]
+
 ghost use Rattle.std.specs.Prelude.{◌≡◌, cond, ◌+◌, ◌<◌};
 ghost use Rattle.library_items.specs.Table.{most_items, item_word, Itemized};
 ghost use Rattle.graph.specs.Limits.{most_edges};
@@ -20,7 +22,7 @@ use text::Refusal;
 const DEEPEST: usize = 8;
 
 // How many edges there are, or the refusal's number, its entry and the scan's answer.
-#[derive(Drop)]
+#[derive(Clone, Copy)]
 pub enum Drawn {
     Built(usize),
     Refused(u32, usize, Refusal),

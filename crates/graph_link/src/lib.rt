@@ -1,4 +1,6 @@
 // One edge of the walk, the edges of a text's imports, and an include up to the walk of its text.
+#![tactic(auto)]
+
 ghost use Rattle.std.specs.Prelude.{◌≡◌, cond, ◌+◌, ◌<◌};
 ghost use Rattle.graph.specs.Limits.{most_edges, most_nodes};
 ghost use Rattle.graph.specs.Numbers.{each_o, import_code};
@@ -24,14 +26,14 @@ pub const TOO_DEEP: u32 = 29;
 pub const TOO_MANY_EDGES: u32 = 31;
 
 // What a walk answers: how many edges there are now, or the refusal's number and the scan's answer.
-#[derive(Drop)]
+#[derive(Clone, Copy)]
 pub enum Walked {
     Built(usize),
     Refused(u32, Refusal),
 }
 
 // One include: on to its text, with so many edges; or a refusal.
-#[derive(Drop)]
+#[derive(Clone, Copy)]
 pub enum Stepping {
     Down(NodeIndex, usize),
     Stopped(u32),

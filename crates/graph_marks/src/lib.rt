@@ -1,4 +1,6 @@
 // What each node may be: one that is imported or listed, one that is included; and the look-up of a name among the nodes.
+#![tactic(auto)]
+
 ghost use Rattle.std.specs.Prelude.{◌≡◌, ◌+◌, ◌≤◌, ◌<◌, length, replicate};
 ghost use Rattle.library_index.specs.Names.{names_in};
 ghost use Rattle.library_items.specs.Items.{items_at};
@@ -55,14 +57,14 @@ pub fn mark_nodes(s: &[u8], table: &[u32], count: usize, tab: &[u32], n: usize, 
 }
 
 // A module or import-only module by its name.
-#[derive(Drop)]
+#[derive(Clone, Copy)]
 pub enum Resolved {
     Unknown,
     Node(NodeIndex),
 }
 
 // A submodule of some module by its name: there is none (27); it is no node (28); its node.
-#[derive(Drop)]
+#[derive(Clone, Copy)]
 pub enum Included {
     NotFound,
     NotNode,

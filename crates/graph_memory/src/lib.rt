@@ -1,5 +1,7 @@
 // What the walk remembers of each text, in the words at the start of `levels`: two for each node, first 0 not read, 1 being walked, 2 walked, then how many
 // includes lie below it.
+#![tactic(auto)]
+
 ghost use Rattle.std.specs.Prelude.{◌≡◌, ◌≤◌, ◌<◌, length};
 ghost use Rattle.graph.specs.Limits.{most_nodes};
 ghost use Rattle.graph.specs.Graph.{deepest};
@@ -18,7 +20,7 @@ pub const WALKED: u32 = 2;
 
 // A text that is met: not read yet; walked, with no more includes below it than there is depth left; or too deep, since it has more of them, or is being walked
 // and so lies on a circle of includes.
-#[derive(Drop)]
+#[derive(Clone, Copy)]
 pub enum Recalled {
     Unread,
     Known,

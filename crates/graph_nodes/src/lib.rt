@@ -1,4 +1,6 @@
 // The nodes of an image in an index, a node by its name, and a name by its node.
+#![tactic(auto)]
+
 ghost use Rattle.std.specs.Prelude.{◌≡◌, false, [], ◌+◌, ◌≤◌, ◌<◌, length, get_or};
 ghost use Rattle.library_form.specs.Form.{word_at};
 ghost use Rattle.library_index.specs.Names.{names_in};
@@ -18,14 +20,14 @@ pub const NODE_TABLE: usize = 5123;
 pub const TOO_MANY_NODES: u32 = 30;
 
 // How many nodes there are now, and whether submodules that come now are added; or there are too many.
-#[derive(Drop)]
+#[derive(Clone, Copy)]
 pub enum Grown {
     On(usize, bool),
     Full,
 }
 
 // How many nodes there are, or too many.
-#[derive(Drop)]
+#[derive(Clone, Copy)]
 pub enum Nodes {
     Count(usize),
     TooMany,

@@ -1,4 +1,6 @@
 // The tables that a host lends for a graph: whether each is long enough, and the node table, laid from the index of nodes.
+#![tactic(auto)]
+
 ghost use Rattle.std.specs.Prelude.{◌≡◌};
 ghost use Rattle.graph_tables.specs.Lengths.{is_too_short};
 ghost use Rattle.graph_tables.specs.Tables.{Puts, Named};

@@ -1,4 +1,6 @@
 // The text under a name, found in the bundle and scanned over whatever the lent tables hold.
+#![tactic(auto)]
+
 ghost use Rattle.std.specs.Prelude.{length};
 ghost use Rattle.library_bundle.specs.Reading.{Held, longest_text};
 ghost use Rattle.graph_texts.specs.Texts.{scan_text, text_of, SeenAs, ScanRoom};
@@ -8,7 +10,7 @@ use text::Refusal;
 use yangparser::Parsed;
 
 // There is no text, its scan is refused, or so many rows of imports and of includes were read.
-#[derive(Drop)]
+#[derive(Clone, Copy)]
 pub enum Seen {
     Missing,
     Refused(Refusal),

@@ -1,5 +1,7 @@
 // One text of a walk: it is read, its imports are linked and its includes saved; or it was read before, and what is remembered of it is the answer. That lies
 // in `levels` (graph_memory); `marks` is the table of what each node may be (graph_marks).
+#![tactic(auto)]
+
 ghost use Rattle.std.specs.Prelude.{◌≡◌, ◌+◌, ◌<◌};
 ghost use Rattle.graph.specs.Once.{unread};
 ghost use Rattle.graph_edges.specs.Edges.{rows_in};
@@ -21,14 +23,14 @@ pub const SCAN_REFUSED: u32 = 25;
 pub const LEVEL: usize = 256;
 
 // How many texts the bundle has, and how many nodes there are.
-#[derive(Drop)]
+#[derive(Clone, Copy)]
 pub struct Sizes {
     pub texts: usize,
     pub nodes: usize,
 }
 
 // Where a walk is: the depth that is left, the refusal if there is no text, the node whose text is read, and how many edges there are so far.
-#[derive(Drop)]
+#[derive(Clone, Copy)]
 pub struct Spot {
     pub left: usize,
     pub absent: u32,
@@ -37,7 +39,7 @@ pub struct Spot {
 }
 
 // All that a text asks before its includes: how many of these are due, and how many edges there are now; nothing, if it is known; or a refusal.
-#[derive(Drop)]
+#[derive(Clone, Copy)]
 pub enum Visited {
     Children(usize, usize),
     Known,

@@ -1,5 +1,7 @@
 // The walk of a text: its imports are linked, then each include is, and the included text is walked before the next. A text that was walked is remembered, with
 // the includes below it, and not walked again.
+#![tactic(auto)]
+
 ghost use Rattle.std.specs.Prelude.{◌+◌, ◌<◌};
 ghost use Rattle.graph.specs.Limits.{most_edges};
 ghost use Rattle.graph.specs.Once.{walk_once};

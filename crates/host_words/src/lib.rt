@@ -1,4 +1,6 @@
 // The answers as words, as include/nuvaleta.h lays them out.
+#![tactic(auto)]
+
 ghost use Rattle.std.specs.Prelude.{◌≡◌, [], ◌∷◌, ◌++◌, ◌<◌, length};
 ghost use Rattle.scan_rows.specs.Rows.{Each};
 ghost use Rattle.scan_rows.specs.Span.{Fits};

@@ -1,5 +1,7 @@
 // The bundle: a number of texts, each a name, a length and as many bytes. It is read once, its names are put into an index, and the text under
 // a name is a part of the lent slice.
+#![tactic(auto)]
+
 ghost use Rattle.std.specs.Prelude.{◌≡◌, max, ◌+◌, ◌≤◌, length, take, drop};
 ghost use Rattle.library_index.specs.Names.{Space};
 ghost use Rattle.library_bundle.specs.Bundle.{looked, look_up, text_under};
@@ -20,21 +22,21 @@ pub const MOST_TEXTS: usize = 2048;
 pub const TABLE: usize = 8192;
 
 // The place behind a text that was read, or where it is wrong.
-#[derive(Drop)]
+#[derive(Clone, Copy)]
 pub enum Filed {
     Next(usize),
     Wrong(usize),
 }
 
 // The number of texts, or where the bundle is wrong.
-#[derive(Drop)]
+#[derive(Clone, Copy)]
 pub enum Opened {
     Texts(usize),
     Wrong(usize),
 }
 
 // Where a text stands and how long it is, or that there is none.
-#[derive(Drop)]
+#[derive(Clone, Copy)]
 pub enum TextPlace {
     At(usize, usize),
     Nothing,

@@ -1,5 +1,7 @@
 // The finds: a module, a submodule or an import-only module by its name, in the image's order. The image is read first, so that 20 is told wherever it
 // is broken; then the search goes through its bytes.
+#![tactic(auto)]
+
 ghost use Rattle.std.specs.Prelude.{◌≡◌};
 ghost use Rattle.library_find.specs.Find.{find_module, find_submodule, find_import_module};
 

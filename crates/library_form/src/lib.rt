@@ -1,4 +1,6 @@
 // Numbers and names of the library image, read at a place: seven-bit groups, and a number with as many bytes after it.
+#![tactic(auto)]
+
 ghost use Rattle.std.specs.Prelude.{◌≡◌, ◌+◌, ◌≤◌, length};
 ghost use Rattle.library_form.specs.Form.{number_at, number_seen, printable_at, name_at, name_seen};
 
@@ -17,20 +19,20 @@ const LEAST_BYTE: u8 = 33;
 const MOST_BYTE: u8 = 126;
 
 // A place in an image or a bundle.
-#[derive(Drop)]
+#[derive(Clone, Copy)]
 pub struct ImageCursor {
     pub at: usize,
 }
 
 // What the reading of a number finds: its value and the place behind it; or the place where it is wrong.
-#[derive(Drop)]
+#[derive(Clone, Copy)]
 pub enum Number {
     Value(usize, ImageCursor),
     Wrong(usize),
 }
 
 // What the reading of a name finds: the place of its first byte and its length; or where it is wrong. What follows the name starts at their sum.
-#[derive(Drop)]
+#[derive(Clone, Copy)]
 pub enum Name {
     Bytes(usize, usize),
     Wrong(usize),
@@ -38,7 +40,7 @@ pub enum Name {
 
 // What a search for a name finds in an image or a bundle: the place where that breaks its form; nothing; or the place of the hit and one number more, which
 // is the count of revisions of an import-only module, the length of a text, and else 0.
-#[derive(Drop)]
+#[derive(Clone, Copy)]
 pub enum LookUp {
     Broken(usize),
     Nothing,

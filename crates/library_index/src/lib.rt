@@ -1,5 +1,7 @@
 // An index over names that stand in a slice of bytes. The table has the heads of the buckets, and three words for each name: its place, its
 // length and its link, which leads to the name before it in its bucket. A head and a link are one more than the number of a name, or 0 for none.
+#![tactic(auto)]
+
 ghost use Rattle.std.specs.Prelude.{◌≡◌, ◌+◌, ◌≤◌, ◌<◌, length, get_or};
 ghost use Rattle.library_index.specs.Names.{buckets, row_words, row_of, first_of, names_in, hash_of, Indexed, Sought, Room, Added, Space, Taken, Puts, Stored};
 ghost use Rattle.library_index.specs.Names.{Cleared};
@@ -16,7 +18,7 @@ pub const ROW: usize = 3;
 const FACTOR: usize = 131;
 
 // The number of the first name with the bytes that are looked for.
-#[derive(Drop)]
+#[derive(Clone, Copy)]
 pub enum Found {
     At(usize),
     Nothing,

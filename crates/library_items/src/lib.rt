@@ -1,4 +1,6 @@
 // The names of a well-formed image in one list: where each stands, how long it is and what it is. Those who go through the library go through this list.
+#![tactic(auto)]
+
 ghost use Rattle.std.specs.Prelude.{◌≡◌, ◌+◌, ◌*◌, ◌≤◌, ◌<◌, length};
 ghost use Rattle.library_image.specs.Image.{image_at};
 ghost use Rattle.library_items.specs.Items.{most_kind};
@@ -30,7 +32,7 @@ const KINDS: usize = 8;
 pub const TABLE: usize = 65536;
 
 // A name: what it is, where its first byte stands, and how long it is.
-#[derive(Drop)]
+#[derive(Clone, Copy)]
 pub struct Item {
     pub kind: usize,
     pub place: usize,
@@ -38,7 +40,7 @@ pub struct Item {
 }
 
 // How many items there are so far, and the place in the image behind what was read.
-#[derive(Drop)]
+#[derive(Clone, Copy)]
 pub struct Reach {
     pub items: usize,
     pub at: usize,

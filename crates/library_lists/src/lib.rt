@@ -1,5 +1,7 @@
 // The lists of an image, and what stands behind the name of a module or an import-only module. Names of a revision's submodules must differ; they are few and
 // are compared with each other.
+#![tactic(auto)]
+
 ghost use Rattle.std.specs.Prelude.{◌≡◌, true, false};
 ghost use Rattle.library_form.specs.Form.{number_seen, name_seen};
 ghost use Rattle.library_image.specs.Image.{count_at};
@@ -19,7 +21,7 @@ pub const LEAST_REVISIONS: usize = 1;
 pub const MOST_REVISIONS: usize = 8;
 
 // The place behind what was read, or where it is wrong.
-#[derive(Drop)]
+#[derive(Clone, Copy)]
 pub enum Read {
     End(usize),
     Wrong(usize),

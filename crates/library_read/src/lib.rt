@@ -1,5 +1,7 @@
 // The library image, read from its first byte to its last. Names of modules must differ in a set, and so must those of import-only modules: both go through
 // an index.
+#![tactic(auto)]
+
 ghost use Rattle.std.specs.Prelude.{◌≡◌, true, false, []};
 ghost use Rattle.library_index.specs.Names.{Space};
 ghost use Rattle.library_image.specs.Image.{set_at, library_at, image_at};

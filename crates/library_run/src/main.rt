@@ -1,4 +1,6 @@
 // Replays recorded finds of the Rust, and answers a few questions about images and bundles that are easy to get wrong.
+#![tactic(auto)]
+
 use library_form::LookUp;
 use replay::Tally;
 

@@ -1,5 +1,7 @@
 // The searches over the bytes of an image that is well formed: for a module, an import-only module, or a submodule of some module, by its name, in the
 // image's order.
+#![tactic(auto)]
+
 ghost use Rattle.std.specs.Prelude.{◌≡◌, true, false};
 ghost use Rattle.library_form.specs.Form.{number_seen};
 ghost use Rattle.library_lists.specs.Lists.{read_seen, rest_at};
@@ -11,7 +13,7 @@ use library_lists::Read;
 
 // What a search finds at a part of the image: a hit, with its place and its count of revisions; something else, with the place behind it; or a broken part,
 // which no well-formed image has.
-#[derive(Drop)]
+#[derive(Clone, Copy)]
 pub enum Tried {
     Hit(usize, usize),
     Next(usize),

@@ -1,4 +1,6 @@
 // Reads one text from standard input and writes its metadata, a line for each value that is present, or why it is refused.
+#![tactic(auto)]
+
 use libc::{STDIN_FILENO, STDOUT_FILENO};
 use scan_rows::Span;
 use text::Refusal;

@@ -1,4 +1,6 @@
 // What a C or Rust host calls, as include/nuvaleta.h declares it: one function a call, with the promises of the function that it calls.
+#![tactic(auto)]
+
 ghost use Rattle.std.specs.Prelude.{◌≡◌, true, false};
 ghost use Rattle.nuvaleta.specs.Host.{DependenciesAnswered, PrintedAnswered};
 ghost use Rattle.library_image.specs.Image.{image_broken};

@@ -1,4 +1,6 @@
 // The order of registration from a built graph's tables, and the check of a list.
+#![tactic(auto)]
+
 ghost use Rattle.std.specs.Prelude.{◌≡◌, ◌≤◌, length};
 ghost use Rattle.text_lent.specs.Padded.{zeros};
 ghost use Rattle.graph_edges.specs.Edges.{rows_in};
@@ -15,14 +17,14 @@ pub const ORDER_TOO_SHORT: u32 = 41;
 pub const LIST_WRONG: u32 = 42;
 
 // The number, and how many nodes are written: all, those of a ring at 40, or none.
-#[derive(Drop)]
+#[derive(Clone, Copy)]
 pub struct Ordered {
     pub number: u32,
     pub length: u32,
 }
 
 // The number, and at 42 the first wrong place.
-#[derive(Drop)]
+#[derive(Clone, Copy)]
 pub struct Checked {
     pub number: u32,
     pub place: u32,

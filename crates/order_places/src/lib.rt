@@ -1,4 +1,6 @@
 // The check of a list: the first place that is wrong.
+#![tactic(auto)]
+
 ghost use Rattle.std.specs.Prelude.{◌≡◌, ◌≤◌, get_or};
 ghost use Rattle.graph_edges.specs.Edges.{row_at, rows_in};
 ghost use Rattle.order_tables.specs.Tables.{Fit};
@@ -12,7 +14,7 @@ use graph::NodeIndex;
 const NOWHERE: u32 = 4294967295;
 
 // The list holds each node once and breaks no edge; or this is its first wrong place.
-#[derive(Drop)]
+#[derive(Clone, Copy)]
 pub enum Verdict {
     Right,
     WrongAt(u32),

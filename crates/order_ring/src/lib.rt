@@ -1,4 +1,6 @@
 // The ring that is written out where nodes are left over.
+#![tactic(auto)]
+
 ghost use Rattle.std.specs.Prelude.{◌≡◌, true, ◌+◌, ◌-◌, ◌*◌, ◌≤◌, ◌<◌, length, take, drop};
 ghost use Rattle.std.proofs.lemmas.List.Edits.{sets};
 ghost use Rattle.std.proofs.Math.Seq.{slice};
@@ -16,7 +18,7 @@ use graph::NodeIndex;
 const NOWHERE: u32 = 1024;
 
 // Where the way back ended: at a node that it had gone through before. The nodes of the way stand in the trail from `at` on, the latest first.
-#[derive(Drop)]
+#[derive(Clone, Copy)]
 pub struct Met {
     pub at: usize,
     pub node: usize,

@@ -1,4 +1,6 @@
 // Replays recorded orders and checks of a plain implementation, and answers a few questions that are easy to get wrong.
+#![tactic(auto)]
+
 use order::{Checked, Ordered};
 use replay::Tally;
 

@@ -1,4 +1,6 @@
 // A built graph's tables as they are lent.
+#![tactic(auto)]
+
 ghost use Rattle.std.specs.Prelude.{◌≡◌, ◌-◌, ◌*◌, ◌≤◌, length};
 ghost use Rattle.text_utf8.specs.Largest.{larger, largest};
 ghost use Rattle.graph_edges.specs.Edges.{rows_in};

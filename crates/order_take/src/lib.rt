@@ -1,4 +1,6 @@
 // The order of registration: each time the lowest node that is free.
+#![tactic(auto)]
+
 ghost use Rattle.std.specs.Prelude.{◌≡◌, ◌+◌, ◌≤◌, ◌<◌, length};
 ghost use Rattle.std.proofs.lemmas.List.Edits.{sets};
 ghost use Rattle.graph_edges.specs.Edges.{rows_in};

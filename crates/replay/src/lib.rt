@@ -1,4 +1,6 @@
 // What the programs that replay recorded answers share: the fields of a file, a run over its records, and what is said of it.
+#![tactic(auto)]
+
 ghost use Rattle.std.specs.Prelude.{◌≡◌, ◌+◌, ◌%◌, ◌<◌, ◌≤◌, take};
 ghost use Rattle.io.specs.Counts.{IsPrefixLen};
 ghost use Rattle.replay.specs.Fields.{byte_at, length_at, missing_at, on_by, behind, field_at, word_at};
@@ -161,7 +163,7 @@ pub fn after_fields(d: &[u8], at: usize, count: u64) -> usize
 }
 
 // A run over the records of a file: the place of the next one, how many there were, and how many of them are answered otherwise.
-#[derive(Drop)]
+#[derive(Clone, Copy)]
 pub struct Tally {
     pub at: usize,
     pub records: u64,

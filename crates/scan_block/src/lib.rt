@@ -1,4 +1,6 @@
 // The block of an import or include: the values that it keeps, in the store that the caller lends, and any other statement skipped.
+#![tactic(auto)]
+
 ghost use Rattle.std.specs.Prelude.{◌≡◌, ◌+◌, ◌-◌, ◌≤◌, length};
 ghost use Rattle.std.proofs.lemmas.List.Edits.{sets};
 ghost use Rattle.text.specs.Bytes.{semicolon};
@@ -17,7 +19,7 @@ use text_value::Argument;
 pub const OPEN_ENDED: u32 = 8;
 
 // What a block gave so far: where it stands, the store's next place, and the last values read.
-#[derive(Drop)]
+#[derive(Clone, Copy)]
 pub struct Body {
     pub at: usize,
     pub used: usize,
@@ -65,7 +67,7 @@ fn moved(body: Body, at: usize) -> Body
 }
 
 // A block that its brace closed, or a refusal.
-#[derive(Drop)]
+#[derive(Clone, Copy)]
 pub enum Block {
     Whole(Body),
     Broken(Refusal),
@@ -112,7 +114,7 @@ pub fn block_refusal(b: Block) -> Refusal
 }
 
 // After a statement of a block; or the block is closed; or a refusal.
-#[derive(Drop)]
+#[derive(Clone, Copy)]
 pub enum Inside {
     On(Body),
     Closed(Body),
@@ -224,7 +226,7 @@ fn kept(body: Body, keyword: u32, next: Cursor, used: usize, value: Span) -> Bod
 }
 
 // What stands in a block: a keyword whose value is read, or any other statement.
-#[derive(Drop)]
+#[derive(Clone, Copy)]
 pub enum Line {
     Value { keyword: u32, after: Cursor },
     Other,

@@ -1,4 +1,6 @@
 // The keyword that the dependency scan meets: import, include, or one of the four that end it.
+#![tactic(auto)]
+
 ghost use Rattle.std.specs.Prelude.{◌≡◌};
 ghost use Rattle.text.specs.Class.{class_table};
 ghost use Rattle.scan_head.specs.Head.{last_at, head_at};
@@ -6,7 +8,7 @@ ghost use Rattle.scan_head.specs.Head.{last_at, head_at};
 use text::{Cursor, Match};
 
 // The keyword that stands at a place: import, include, one of the four after which nothing is imported or included, or none of these.
-#[derive(Drop)]
+#[derive(Clone, Copy)]
 pub enum Head {
     Import(Cursor),
     Include(Cursor),

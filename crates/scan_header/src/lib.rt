@@ -1,4 +1,6 @@
 // The statements of a module's header that the metadata scan reads, one at a time.
+#![tactic(auto)]
+
 ghost use Rattle.std.specs.Prelude.{◌≡◌, ◌+◌, ◌-◌, ◌≤◌, length};
 ghost use Rattle.std.proofs.lemmas.List.Edits.{sets};
 ghost use Rattle.text.specs.Class.{class_table};
@@ -13,7 +15,7 @@ use text::{Cursor, Due, Refusal};
 use text_value::Argument;
 
 // A value was read for a keyword; or something was passed that is not kept; or the scan is over; or a refusal.
-#[derive(Drop)]
+#[derive(Clone, Copy)]
 pub enum Heard {
     Value {
         keyword: u32,

@@ -1,4 +1,6 @@
 // Import and include statements: their values in the store that the caller lends, and what they say as spans of it.
+#![tactic(auto)]
+
 ghost use Rattle.std.specs.Prelude.{◌≡◌, ◌+◌, ◌-◌, ◌≤◌, length};
 ghost use Rattle.std.proofs.lemmas.List.Edits.{sets};
 ghost use Rattle.text.specs.Class.{class_table};
@@ -15,7 +17,7 @@ use text_value::Argument;
 pub const NO_PREFIX: u32 = 7;
 
 // An import with the cursor after it and the store's next place, or a refusal.
-#[derive(Drop)]
+#[derive(Clone, Copy)]
 pub enum ParsedImport {
     Import {
         next: Cursor,
@@ -99,7 +101,7 @@ pub fn import_refusal(x: ParsedImport) -> Refusal
 }
 
 // An include with the cursor after it and the store's next place, or a refusal.
-#[derive(Drop)]
+#[derive(Clone, Copy)]
 pub enum ParsedInclude {
     Include {
         next: Cursor,

@@ -1,5 +1,7 @@
 // Lines on a page that the caller lends: bytes, a number in decimal, the line of a refusal. Each `put` writes at a place and answers the place behind what it
 // wrote.
+#![tactic(auto)]
+
 ghost use Rattle.std.specs.Prelude.{◌≡◌, ◌++◌, ◌+◌, ◌≤◌, ◌<◌, length};
 ghost use Rattle.std.proofs.lemmas.List.Edits.{sets};
 ghost use Rattle.scan_line.specs.Line.{digit, decimal};

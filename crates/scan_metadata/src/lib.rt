@@ -1,4 +1,6 @@
 // The metadata scan: name, namespace, prefix, revisions and parent of a module, their values in the store that the caller lends.
+#![tactic(auto)]
+
 ghost use Rattle.std.specs.Prelude.{◌≡◌, ◌-◌, ◌≤◌, ◌<◌, length};
 ghost use Rattle.text.specs.Class.{class_table};
 ghost use Rattle.scan_metadata.specs.Metadata.{no_values, refused_with, scanned};
@@ -27,7 +29,7 @@ pub const PARENT_VALUE: usize = 4;
 pub const NEWEST_VALUE: usize = 5;
 
 // Name, namespace, prefix, first revision, parent and newest revision; the scan's answer, 0, 0, 0 for a good one; how many bytes are stored.
-#[derive(Drop)]
+#[derive(Clone, Copy)]
 pub struct YangModuleMetadata {
     pub values: [Span; 6],
     pub answer: Refusal,

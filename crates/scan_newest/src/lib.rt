@@ -1,4 +1,6 @@
 // The newest revision: the greatest value read, of equals the first.
+#![tactic(auto)]
+
 ghost use Rattle.std.specs.Prelude.{◌≡◌};
 ghost use Rattle.scan_newest.specs.Newest.{less, comes_newer};
 

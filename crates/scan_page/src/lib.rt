@@ -1,4 +1,6 @@
 // The dependencies of a text and their printed form, on a page that the caller lends.
+#![tactic(auto)]
+
 ghost use Rattle.std.specs.Prelude.{◌≡◌};
 ghost use Rattle.yangparser.specs.Dependencies.{page_short};
 ghost use Rattle.scan_page.specs.Page.{Prints};
@@ -9,7 +11,7 @@ use yangparser::Parsed;
 pub const PAGE_MORE: usize = 6944;
 
 // What the scan read, and the page's length.
-#[derive(Drop)]
+#[derive(Clone, Copy)]
 pub struct Page {
     pub parsed: Parsed,
     pub length: usize,

@@ -1,4 +1,6 @@
 // The printed form of YangDependencies, on a page that the caller lends. Each function writes at a place and answers the place behind what it wrote.
+#![tactic(auto)]
+
 ghost use Rattle.std.specs.Prelude.{◌≡◌, ◌++◌, ◌+◌, ◌*◌, ◌≤◌, ◌<◌, length};
 ghost use Rattle.std.proofs.lemmas.List.Edits.{sets};
 ghost use Rattle.scan_line.specs.Line.{newline};

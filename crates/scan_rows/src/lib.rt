@@ -1,4 +1,6 @@
 // What a dependency scan writes: values as spans of the store, a row of words for each import and include.
+#![tactic(auto)]
+
 ghost use Rattle.std.specs.Prelude.{◌≡◌, min, ◌+◌, ◌*◌, ◌≤◌, ◌<◌, length};
 ghost use Rattle.std.proofs.lemmas.List.Edits.{sets};
 ghost use Rattle.scan_rows.specs.Span.{held, missing, mark_of, value_in};
@@ -14,21 +16,21 @@ pub const INCLUDE_SIZE: usize = 5;
 pub const MOST_ROWS: usize = 256;
 
 // A value: where its bytes begin in the store and how many they are. One that is missing has 0, 0.
-#[derive(Drop)]
+#[derive(Clone, Copy)]
 pub struct Span {
     pub present: bool,
     pub start: usize,
     pub size: usize,
 }
 
-#[derive(Drop)]
+#[derive(Clone, Copy)]
 pub struct YangImport {
     pub module_name: Span,
     pub prefix: Span,
     pub revision_date: Span,
 }
 
-#[derive(Drop)]
+#[derive(Clone, Copy)]
 pub struct YangInclude {
     pub submodule_name: Span,
     pub revision_date: Span,

@@ -1,4 +1,6 @@
 // The keyword that the metadata scan meets: one of the header's seven, or one of the nine that end it.
+#![tactic(auto)]
+
 ghost use Rattle.std.specs.Prelude.{◌≡◌, true};
 ghost use Rattle.text.specs.Class.{class_table};
 ghost use Rattle.text.specs.Keyword.{wordly, match_at};
@@ -7,7 +9,7 @@ ghost use Rattle.scan_tag.specs.Tag.{later_data_at, data_at, last_tag, or_tag, l
 use text::{Cursor, Match};
 
 // What stands at a place: a keyword of the header, one of the nine that end the scan, or neither.
-#[derive(Drop)]
+#[derive(Clone, Copy)]
 pub enum Tag {
     Statement { keyword: u32, after: Cursor },
     Last(Cursor),

@@ -1,17 +1,17 @@
 -- What a proof uses of a byte of 128 or more: what its test says, and what is refused in its place.
 -- Assumes nothing.
-use mathlib.Core.Path.{◌≡◌, refl, sym, ap, ap₂, ◌∙◌}
-use mathlib.Core.Bool.{Bool, true, false, cond, not, ◌&&◌}
+use mathlib.Core.Path.{◌≡◌, refl, sym, ap, ◌∙◌}
+use mathlib.Core.Bool.{Bool, true, false, not}
 use mathlib.Core.Logic.{◌⊎◌, inl, inr}
 use mathlib.Core.List.{List}
 use Prim.Native.Nat.{ℕ, ◌<◌, ◌≤◌}
 use native.Mathlib.Omega.{arith}
 use lib.Dec.{eqb, leb}
 use lib.ListN.{length, get_or}
-use borrow.Author.Tests.{le-leb, lt-leb, leb-true, eq-eqb, eqb-false}
+use borrow.Author.Tests.{le-leb, lt-leb, leb-true, eqb-false}
 use Rattle.text.specs.Refusal.{is_high, high_at, MetHigh, refused_at}
 use Rattle.text.specs.declared.Refusal.{Refusal}
-use Rattle.text.proofs.Here.{here, never, both, by_test}
+use Rattle.text.proofs.Here.{here, both, by_test}
 
 -- ---- the test
 

@@ -1,6 +1,8 @@
 // One text, one cursor: the classes of bytes, gaps, keywords, a required byte. The Rust's parser with `&mut self` is a cursor by value
 // here: each function takes the place and answers the next one.
 // A function that needs a class is lent the table of classes.
+#![tactic(auto)]
+
 ghost use Rattle.std.specs.Prelude.{◌≡◌, true, ◌<◌, drop};
 ghost use Rattle.text.specs.Bytes.{look, the_end};
 ghost use Rattle.text.specs.Class.{class_of, class_table};
@@ -82,20 +84,20 @@ pub fn class(classes: &[u8; 128], b: u16) -> u8
 }
 
 // A place in a text. The Rust's advance is `at + 1` here, and its is_eof is that the end stands here.
-#[derive(Drop)]
+#[derive(Clone, Copy)]
 pub struct Cursor {
     pub at: usize,
 }
 
 // Past a keyword, or none stands here.
-#[derive(Drop)]
+#[derive(Clone, Copy)]
 pub enum Match {
     After(Cursor),
     Not,
 }
 
 // A refusal: its number, its keyword and its place.
-#[derive(Drop)]
+#[derive(Clone, Copy)]
 pub struct Refusal {
     pub number: u32,
     pub keyword: u32,
@@ -144,7 +146,7 @@ pub const INCLUDE: u32 = 9;
 pub const REVISION_DATE: u32 = 10;
 
 // Past the byte that was due, or the refusal.
-#[derive(Drop)]
+#[derive(Clone, Copy)]
 pub enum Due {
     After(Cursor),
     Not(Refusal),
@@ -291,7 +293,7 @@ pub fn or_word(here: Cursor, classes: &[u8; 128], s: &[u8], word: &[u8], m: Matc
 }
 
 // The kinds of runs: white bytes, the rest of a line, an identifier's bytes, a name's bytes.
-#[derive(Drop)]
+#[derive(Clone, Copy)]
 pub enum Run {
     White,
     Line,

@@ -1,4 +1,6 @@
 // Lent slices: cleared, each loop one memset, the part of one that is in use, and a word of one as a number. Whether a text can be scanned with what was lent.
+#![tactic(auto)]
+
 ghost use Rattle.std.specs.Prelude.{◌≡◌, length, take};
 ghost use Rattle.text_lent.specs.Lent.{lent_at, lent_refusal};
 ghost use Rattle.text_lent.specs.Padded.{zeros};
@@ -47,7 +49,7 @@ pub fn of_word(x: u32) -> usize
 }
 
 // Whether a text can be scanned with what was lent, or a refusal.
-#[derive(Drop)]
+#[derive(Clone, Copy)]
 pub enum Lent {
     Fit,
     Unfit(Refusal),

@@ -1,4 +1,6 @@
 // What every skip answers, and what is past it in either mode.
+#![tactic(auto)]
+
 ghost use Rattle.std.specs.Prelude.{◌≡◌};
 ghost use Rattle.text_past.specs.Past.{broke_off, skip_refusal, past_of};
 
@@ -6,7 +8,7 @@ use text::{Cursor, Due, Refusal};
 
 // How what was skipped ended. A token or a value: whole. A statement: by its semicolon, by its block, or before a closing brace that is not
 // its own. Or the text's end ended it: a string never closed, or the statement went on.
-#[derive(Drop)]
+#[derive(Clone, Copy)]
 pub enum How {
     Whole,
     Semicolon,
@@ -29,7 +31,7 @@ pub fn broke_off(how: How) -> bool
 }
 
 // What every skip answers: the place after what was skipped and how that ended, or a refusal: a byte of 128 or more outside strings and comments (3).
-#[derive(Drop)]
+#[derive(Clone, Copy)]
 pub enum Skipped {
     Past(Cursor, How),
     Refused(Refusal),

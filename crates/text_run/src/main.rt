@@ -1,5 +1,7 @@
 // Replays recorded answers for single values, statements and tokens, of the Rust, and with accents of a plain reading (host/vectors/src/scans.rs), and runs the
 // traps of document 01.
+#![tactic(auto)]
+
 ghost use Rattle.std.specs.Prelude.{◌≡◌};
 ghost use Rattle.text.specs.Class.{class_table};
 
@@ -45,7 +47,7 @@ fn value_agrees(here: Cursor, keyword: u32, s: &[u8], answer: &[u8], kept: &[u8]
 }
 
 // The place behind the next keyword prefix, past a token, or nothing more.
-#[derive(Drop)]
+#[derive(Clone, Copy)]
 enum Found {
     At(Cursor),
     On(Cursor),

@@ -1,4 +1,6 @@
 // Skipping a token and a value. A token's string closes by the rules of a value.
+#![tactic(auto)]
+
 ghost use Rattle.std.specs.Prelude.{◌≡◌};
 ghost use Rattle.text.specs.Class.{class_table};
 ghost use Rattle.text_value.specs.Value.{more_at};
@@ -101,7 +103,7 @@ fn skip_added(here: Cursor, classes: &[u8; 128], s: &[u8]) -> Skipped
 }
 
 // A string that is added was passed; or the value has ended.
-#[derive(Drop)]
+#[derive(Clone, Copy)]
 pub enum Tail {
     More(Cursor),
     Last(Skipped),

@@ -1,4 +1,6 @@
 // Skipping a statement. A string in it has a rule of its own: it ends at its quote unless the byte before is a backslash.
+#![tactic(auto)]
+
 ghost use Rattle.std.specs.Prelude.{◌≡◌, ◌≤◌};
 ghost use Rattle.text.specs.Class.{class_table};
 ghost use Rattle.text.specs.Scan.{gap_end};
@@ -51,7 +53,7 @@ fn skip_statement(here: Cursor, classes: &[u8; 128], s: &[u8]) -> Skipped
 }
 
 // A part of a statement was passed, and the depth after it; or the statement ended, and how; or a byte of 128 or more stands here.
-#[derive(Drop)]
+#[derive(Clone, Copy)]
 pub enum Part {
     On { next: Cursor, depth: usize },
     Stop(Cursor, How),

@@ -1,4 +1,6 @@
 // Quoted strings: where one closes, and its bytes copied into a store that the caller lends.
+#![tactic(auto)]
+
 ghost use Rattle.std.specs.Prelude.{◌≡◌, false, ◌+◌, ◌-◌, ◌≤◌, length, drop, take};
 ghost use Rattle.std.proofs.lemmas.List.Edits.{sets};
 ghost use Rattle.text_string.specs.Str.{is_quote, among, escaped, escapes, str_end, str_bytes, str_at, answer_of, bytes_of};
@@ -16,7 +18,7 @@ pub fn is_quote(b: u16) -> bool
 }
 
 // What reading a string gives: the cursor after it and the store's next place, or that it never closes.
-#[derive(Drop)]
+#[derive(Clone, Copy)]
 pub enum Quoted {
     Closed { next: Cursor, used: usize },
     Unclosed,
@@ -45,7 +47,7 @@ pub fn read_quoted_string(here: Cursor, s: &[u8], store: &mut [u8], used: usize)
 }
 
 // Where a string closes: the place after its closing quote, or nowhere.
-#[derive(Drop)]
+#[derive(Clone, Copy)]
 pub enum Close {
     At(usize),
     Open,

@@ -1,4 +1,6 @@
 // A text in UTF-8 (RFC 3629): where its first wrong sequence starts. Bytes below 128 are passed by blocks, any other sequence by itself.
+#![tactic(auto)]
+
 ghost use Rattle.std.specs.Prelude.{◌≡◌, ◌<◌, ◌≤◌, length};
 ghost use Rattle.text.specs.Class.{within};
 ghost use Rattle.text_utf8.specs.Largest.{larger, largest};

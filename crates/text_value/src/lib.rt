@@ -1,4 +1,6 @@
 // Values: names and joined strings, copied into a store that the caller lends, and a keyword's value with the byte that is due after it.
+#![tactic(auto)]
+
 ghost use Rattle.std.specs.Prelude.{◌≡◌, true, false, ◌+◌, ◌-◌, ◌≤◌, ◌<◌, length};
 ghost use Rattle.std.proofs.lemmas.List.Edits.{sets};
 ghost use Rattle.text.specs.Bytes.{the_end};
@@ -12,7 +14,7 @@ use text::{Cursor, Due, Refusal, Run};
 use text_string::Quoted;
 
 // A value: the cursor after it and the store's next place; or none stands here, and the cursor there. `closed`: each string of it closes.
-#[derive(Drop)]
+#[derive(Clone, Copy)]
 pub enum Value {
     Read {
         next: Cursor,
@@ -54,7 +56,7 @@ fn value_closed(v: Value) -> bool
 }
 
 // A keyword's value: the cursor after it and the store's next place, or the refusal.
-#[derive(Drop)]
+#[derive(Clone, Copy)]
 pub enum Argument {
     Read { next: Cursor, used: usize },
     Refused(Refusal),
@@ -241,7 +243,7 @@ pub fn read_string_or_identifier(
 }
 
 // The cursor after all that is added, the store's next place, and whether each part closes.
-#[derive(Drop)]
+#[derive(Clone, Copy)]
 pub struct Joined {
     pub next: Cursor,
     pub used: usize,
@@ -289,7 +291,7 @@ pub fn read_parts(
 
 // What follows a string: one that is added, with the cursor after it and the store's next place; nothing more, with the cursor there; or a
 // string that never closes, with the cursor at the text's end.
-#[derive(Drop)]
+#[derive(Clone, Copy)]
 pub enum Addition {
     Added { next: Cursor, used: usize },
     Last(Cursor),

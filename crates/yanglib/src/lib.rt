@@ -1,4 +1,6 @@
 // The call that a host makes for the graph of a library: image and bundle are read, what is lent is measured and cleared; crate graph_build makes the graph.
+#![tactic(auto)]
+
 ghost use Rattle.std.specs.Prelude.{◌≡◌, length};
 ghost use Rattle.text_lent.specs.Padded.{zeros};
 ghost use Rattle.graph.specs.Nodes.{mode_of};

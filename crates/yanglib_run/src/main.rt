@@ -1,4 +1,6 @@
 // Replays recorded graphs, those of the Rust and those of a plain reading with all names as nodes: nodes, edges in order, or which refusal.
+#![tactic(auto)]
+
 use graph_build::Graphed;
 use replay::Tally;
 use text::Refusal;

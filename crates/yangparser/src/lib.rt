@@ -1,4 +1,6 @@
 // The dependency scan: import and include statements, their values in the store that the caller lends, their rows in its tables.
+#![tactic(auto)]
+
 ghost use Rattle.std.specs.Prelude.{◌≡◌, false, ◌+◌, ◌-◌, ◌*◌, ◌≤◌, ◌<◌, length};
 ghost use Rattle.text.specs.Class.{class_table};
 ghost use Rattle.scan_rows.specs.Rows.{import_size, include_size, most_rows};
@@ -15,7 +17,7 @@ use text_lent::Lent;
 pub const TOO_MANY: u32 = 10;
 
 // What the scan read: how many rows of each, and how many bytes are stored; or its refusal.
-#[derive(Drop)]
+#[derive(Clone, Copy)]
 pub enum Parsed {
     Good {
         imports: usize,
@@ -93,7 +95,7 @@ pub fn scan_over(
 }
 
 // Where the scan stands, the store's next place, and the rows so far.
-#[derive(Drop)]
+#[derive(Clone, Copy)]
 pub struct Sofar {
     pub at: usize,
     pub used: usize,
@@ -102,7 +104,7 @@ pub struct Sofar {
 }
 
 // After a statement; or nothing more is read; or a refusal.
-#[derive(Drop)]
+#[derive(Clone, Copy)]
 pub enum Next {
     On(Sofar),
     Done,
@@ -174,7 +176,7 @@ fn parse_next(
 }
 
 // What ends a search: an import or include, and the cursor behind its keyword; nothing more is read; or a refusal.
-#[derive(Drop)]
+#[derive(Clone, Copy)]
 pub enum Sought {
     Import(Cursor),
     Include(Cursor),
@@ -202,7 +204,7 @@ fn seek(from: Cursor, classes: &[u8; 128], whole: bool, s: &[u8]) -> Sought
 }
 
 // A token was passed, and the cursor behind it; or what ends the search.
-#[derive(Drop)]
+#[derive(Clone, Copy)]
 pub enum Look {
     Past(Cursor),
     Met(Sought),

@@ -1,5 +1,7 @@
 // Replays recorded answers for whole texts: dependencies and their printed form, and metadata. In the old mode they are the Rust's; in the whole-text mode,
 // which the Rust does not have, and of texts with accents, those of a plain reading (host/vectors/src/scans.rs).
+#![tactic(auto)]
+
 use replay::Tally;
 use scan_page::Page;
 use scan_rows::Span;
@@ -17,7 +19,7 @@ fn value_agrees(store: &[u8], x: Span, data: &[u8], at: usize) -> bool {
 }
 
 // The place behind the values of a row, or that one of them differs.
-#[derive(Drop)]
+#[derive(Clone, Copy)]
 enum Walk {
     Behind(usize),
     Different,
@@ -185,7 +187,7 @@ fn metadata_agrees(whole: bool, s: &[u8], answer: &[u8], data: &[u8], values_at:
 }
 
 // What the records of a file tell of.
-#[derive(Drop)]
+#[derive(Clone, Copy)]
 enum Kind {
     Dependencies,
     Metadata,
