@@ -1,0 +1,14 @@
+-- `text_string::close_of`. The loop keeps where the string closes: bytes that are passed leave that as it was, the quote closes it here.
+-- Assumes nothing.
+use Prim.Native.Nat.{◌-◌}
+use Rattle.text_string.specs.Str.{str_end}
+use lib.ListN.{length, drop}
+use mathlib.Core.Bool.{false}
+use mathlib.Core.Path.{◌≡◌}
+use Rattle.text_string.proofs.close_of.Given as goal
+
+abbrev pub invariant-loop-i : goal.invariant-loop-i
+invariant-loop-i l = str_end l.q false (drop l.i l.s) l.i ≡ str_end l.q false (drop l.at l.s) l.at
+
+abbrev pub decreases-loop-i : goal.decreases-loop-i
+decreases-loop-i l = length l.s - l.i
