@@ -293,11 +293,17 @@ low_block s at size {r} l e h =
 -- from some place within so many of them
 low_behind : (s : List ℕ) (k n at most : ℕ) → at + (k + n) ≤ length s → largest most (take (k + n) (drop at s)) < 128
     → wrong_from s (at + k) ≡ wrong_from s (at + (k + n))
-low_behind s zero n at most l h = ap (wrong_from s) (omega arith) ∙ low_pass s n at most l h
+low_behind s zero n at most l h =
+    let e : zero + n ≡ n = omega arith in
+    let i : largest most (take n (drop at s)) < 128 = omega (arith, h, ap (λ m. largest most (take m (drop at s))) e) in
+    ap (wrong_from s) (omega arith) ∙ low_pass s n at most (omega arith) i ∙ ap (wrong_from s) (omega arith)
 low_behind s (suc k) n at most l h =
     let b = get_or s at 256 in
     let xs = take (k + n) (drop (at + 1) s) in
-    let i : largest most (b ∷ xs) < 128 = rw (rest s at (omega arith)) at h in
+    let e : suc k + n ≡ suc (k + n) = omega arith in
+    let f : drop at s ≡ b ∷ drop (at + 1) s = rest s at (omega arith) in
+    let i : largest most (b ∷ xs) < 128 =
+        omega (arith, h, ap (λ m. largest most (take m (drop at s))) e, ap (λ ys. largest most (take (suc (k + n)) ys)) f) in
     ap (wrong_from s) (omega arith)
     ∙ low_behind s k n (at + 1) (larger most b) (omega arith) (omega (arith, i, largest_rest most b xs))
     ∙ ap (wrong_from s) (omega arith)

@@ -178,7 +178,7 @@ pub fn utf8_end(s: &[u8]) -> usize
             return s.len();
         }
     }
-    characters_end(s, near)
+    characters_from(s, near)
 }
 
 // The same of a text that is shorter than a block.
@@ -188,11 +188,18 @@ fn short_end(s: &[u8]) -> usize
     if largest(s) < 128 {
         return s.len();
     }
-    characters_end(s, 0)
+    characters_end(s)
 }
 
-// The same from a place on, character by character.
-fn characters_end(s: &[u8], from: usize) -> usize
+// The same, character by character.
+fn characters_end(s: &[u8]) -> usize
+    ensures { result ≡ wrong_from s.now 0 }
+{
+    characters_from(s, 0)
+}
+
+// The same from a place on.
+fn characters_from(s: &[u8], from: usize) -> usize
     ensures { result ≡ wrong_from s.now from }
 {
     let mut i: usize = from;
