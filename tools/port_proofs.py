@@ -75,7 +75,9 @@ class Names:
             if a:
                 fits = []
                 for field, step, path in a[2]:
-                    rest = [("given" if x == "ensures" else x) for x in parts[1:]]
+                    rest = parts[1:]
+                    if rest[:1] == ["ensures"] and path[:1] == ["given"]:
+                        rest = ["given"] + rest[1:]
                     if plain(step) == plain(parts[0]) and rest[: len(path)] == path:
                         fits.append((len(path), field, parts[1 + len(path) :]))
                 if fits:
@@ -83,6 +85,29 @@ class Names:
                     return ".".join(["c", a[0], field] + rest)
             cur = self.parent.get(cur)
         return None
+
+    def arm_step(self, place, step):
+        cur = place
+        while cur is not None:
+            if any(plain(s) == plain(step) for _, s, _ in (self.arms.get(cur) or ["", 0, []])[2]):
+                return True
+            cur = self.parent.get(cur)
+        return False
+
+    def tuple(self, at, rest):
+        """`auto.1.1.0` and `new.1.1.0` of a call are named after its third parameter."""
+        params = self.params.get(self.callee.get(at))
+        if not params or len(rest) < 2 or rest[0] not in ("auto", "new"):
+            return rest
+        n = 1
+        while n < len(rest) and rest[n] == "1":
+            n += 1
+        if n - 1 >= len(params):
+            return rest
+        k = n - 1
+        if n < len(rest) and rest[n] == "0":
+            n += 1
+        return [rest[0], params[k]] + rest[n:]
 
     def up(self, place, step):
         want = plain(step)
@@ -100,7 +125,7 @@ PATH = re.compile(r"(?<![\w.'\u2080-\u2089-])([A-Za-z][\w'-]*)((?:\.[^\s().,;{}\
 
 def turn_body(body, names, place, left):
     """The body of an answer at a place, with paths through .before turned to c.STEP."""
-    bound = {"c": place}
+    bound, whole, steps = {"c": place}, {}, {}
 
     def resolve(var, rest):
         parts = rest.split(".")[1:]
@@ -114,9 +139,14 @@ def turn_body(body, names, place, left):
 
     def path(m):
         var, rest = m[1], m[2]
-        if var not in bound:
+        if var in whole:
+            cur, parts = whole[var][0], whole[var][1] + rest.split(".")[1:]
+        elif var in steps:
+            return ".".join([var] + names.tuple(steps[var], rest.split(".")[1:]))
+        elif var not in bound:
             return m[0]
-        cur, parts = resolve(var, rest)
+        else:
+            cur, parts = resolve(var, rest)
         if cur is None or not parts:
             left.append(m[0])
             return m[0]
@@ -134,7 +164,7 @@ def turn_body(body, names, place, left):
         rest = parts[1:]
         if rest and rest[0] == "given" and names.callee.get(at):
             rest[0] = "ensures"
-        return "c." + ".".join([names.step[at][1]] + rest)
+        return "c." + ".".join([names.step[at][1]] + names.tuple(at, rest))
 
     def bind(m):
         """let v = c.before.before in: the place is kept, the line goes."""
@@ -143,7 +173,13 @@ def turn_body(body, names, place, left):
             return m[0]
         parts = rest.split(".")[1:]
         if parts and any(p != "before" for p in parts):
-            return m[0]
+            cur, parts = resolve(var, rest)
+            if cur is not None and names.arm_step(cur, parts[0]) and parts[1:] in (["given"], ["given", "0"], ["given", "0", "1"]):
+                whole[v] = (cur, parts)
+                return ""
+            if cur is not None and len(parts) == 1 and names.up(cur, parts[0]):
+                steps[v] = names.up(cur, parts[0])
+            return PATH.sub(path, m[0])
         cur, _ = resolve(var, rest)
         if cur is None:
             left.append(m[0])
@@ -152,7 +188,7 @@ def turn_body(body, names, place, left):
         return ""
 
     out, i = [], 0
-    let = re.compile(r"let ([A-Za-z][\w'-]*) = ([A-Za-z][\w'-]*)((?:\.before)*) in[ \n]*")
+    let = re.compile(r"let ([A-Za-z][\w'-]*) = ([A-Za-z][\w'-]*)((?:\.[^\s().,;{}\[\]]+)*) in[ \n]*")
     while True:
         m = let.search(body, i)
         if not m:
@@ -162,7 +198,7 @@ def turn_body(body, names, place, left):
         out.append(bind(m))
         i = m.end()
     got = "".join(out)
-    for v in bound:
+    for v in list(bound) + list(whole):
         if v != "c" and re.search(r"(?<![\w.'-])" + re.escape(v) + r"(?![\w'.-])", got):
             left.append(v)
     if re.search(r"(?<![\w.'-])c(?![\w'.-])", got):
