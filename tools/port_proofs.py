@@ -214,10 +214,10 @@ def uses(head, text):
     for line in head:
         m = re.match(r"(pub )?use ([^\s{}]+)\.\{(.*)\}$", line)
         if not m:
-            if re.match(r"use ", line) and not re.search(r"\.(Statement|Tie|Lts)\b", line):
+            if re.match(r"use ", line) and not re.search(r"\.proofs\..*\.(Statement|Tie|Lts)\b", line):
                 out.append(line)
             continue
-        if re.search(r"\.(Statement|Tie)$", m[2]):
+        if re.search(r"\.proofs\..*\.(Statement|Tie)$", m[2]):
             continue
         keep = []
         for item in m[3].split(", "):
