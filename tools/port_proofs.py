@@ -224,7 +224,7 @@ def uses(head, text):
             name = item.split(" as ")[-1]
             pieces = [x for x in name.split("\u25ef") if x and x != "\u25cc"]
             pieces = [x for x in re.split("[\u25cc\u25ef]", name) if x]
-            if name in words or ("\u25cc" in name and all(x in text for x in pieces)):
+            if name in words or (name == "[]" and "[]" in text) or ("\u25cc" in name and all(x in text for x in pieces)):
                 keep.append(item)
         if keep:
             out.append(f"use {m[2]}.{{{', '.join(keep)}}}")
@@ -287,7 +287,7 @@ def turn(crate, folder, names, report):
         m = re.match(r"tie\.Need-(\S+)", kind)
         if m:
             key = plain(re.sub(r"^overflow[-_]", "", m[1]))
-            need = names.needs.get(key)
+            need = names.needs.get(key) or names.needs.get(plain(name)) or names.needs.get(key.replace("slice-bounds-", "part-"))
             if need is None:
                 if key.startswith("same-length"):
                     continue

@@ -1,4 +1,4 @@
-// What a C or Rust host calls, as include/nuvaleta.h declares it: one function a call, with the promises of the function that it calls.
+// What a host calls, as include/nuvaleta.h declares it: one function a call, with the promises of the function that it calls. nuvaleta_c exports them to C.
 #![tactic(auto)]
 
 ghost use Rattle.std.specs.Prelude.{◌≡◌, true, false};
@@ -65,8 +65,7 @@ fn dependencies_answer(
 }
 
 // The imports and includes of a text.
-#[unsafe(no_mangle)]
-pub extern "C" fn nuvaleta_dependencies(
+pub fn nuvaleta_dependencies(
     text: &[u8],
     store: &mut [u8],
     imports: &mut [u32],
@@ -81,8 +80,7 @@ pub extern "C" fn nuvaleta_dependencies(
 }
 
 // The same of a text that must be whole: what is read of it and breaks off is refused (11).
-#[unsafe(no_mangle)]
-pub extern "C" fn nuvaleta_dependencies_whole(
+pub fn nuvaleta_dependencies_whole(
     text: &[u8],
     store: &mut [u8],
     imports: &mut [u32],
@@ -118,8 +116,7 @@ fn printed_answer(
 }
 
 // The imports and includes of a text, and their printed form.
-#[unsafe(no_mangle)]
-pub extern "C" fn nuvaleta_printed(
+pub fn nuvaleta_printed(
     text: &[u8],
     store: &mut [u8],
     imports: &mut [u32],
@@ -135,8 +132,7 @@ pub extern "C" fn nuvaleta_printed(
 }
 
 // The same of a text that must be whole.
-#[unsafe(no_mangle)]
-pub extern "C" fn nuvaleta_printed_whole(
+pub fn nuvaleta_printed_whole(
     text: &[u8],
     store: &mut [u8],
     imports: &mut [u32],
@@ -172,8 +168,7 @@ fn metadata_answer(
 }
 
 // The metadata of a text.
-#[unsafe(no_mangle)]
-pub extern "C" fn nuvaleta_metadata(
+pub fn nuvaleta_metadata(
     text: &[u8],
     store: &mut [u8],
     words: &mut [u32; 18],
@@ -186,8 +181,7 @@ pub extern "C" fn nuvaleta_metadata(
 }
 
 // The same of a text that must be whole.
-#[unsafe(no_mangle)]
-pub extern "C" fn nuvaleta_metadata_whole(
+pub fn nuvaleta_metadata_whole(
     text: &[u8],
     store: &mut [u8],
     words: &mut [u32; 18],
@@ -200,8 +194,7 @@ pub extern "C" fn nuvaleta_metadata_whole(
 }
 
 // A module of an image by its name.
-#[unsafe(no_mangle)]
-pub extern "C" fn nuvaleta_find_module(image: &[u8], name: &[u8], answer: &mut [u32; 5]) -> u32
+pub fn nuvaleta_find_module(image: &[u8], name: &[u8], answer: &mut [u32; 5]) -> u32
     ensures { Told (told_words image_broken (find_module image.now name.now)) result answer.new }
 {
     let words = host_words::find_words(library_find::find_module(image, name));
@@ -210,8 +203,7 @@ pub extern "C" fn nuvaleta_find_module(image: &[u8], name: &[u8], answer: &mut [
 }
 
 // A submodule of an image's modules by its name.
-#[unsafe(no_mangle)]
-pub extern "C" fn nuvaleta_find_submodule(image: &[u8], name: &[u8], answer: &mut [u32; 5]) -> u32
+pub fn nuvaleta_find_submodule(image: &[u8], name: &[u8], answer: &mut [u32; 5]) -> u32
     ensures { Told (told_words image_broken (find_submodule image.now name.now)) result answer.new }
 {
     let words = host_words::find_words(library_find::find_submodule(image, name));
@@ -220,8 +212,7 @@ pub extern "C" fn nuvaleta_find_submodule(image: &[u8], name: &[u8], answer: &mu
 }
 
 // An import-only module of an image by its name, and how many revisions it has.
-#[unsafe(no_mangle)]
-pub extern "C" fn nuvaleta_find_import_module(
+pub fn nuvaleta_find_import_module(
     image: &[u8],
     name: &[u8],
     answer: &mut [u32; 5],
@@ -234,8 +225,7 @@ pub extern "C" fn nuvaleta_find_import_module(
 }
 
 // Where the text under a name stands in a bundle.
-#[unsafe(no_mangle)]
-pub extern "C" fn nuvaleta_text(bundle: &[u8], name: &[u8], answer: &mut [u32; 5]) -> u32
+pub fn nuvaleta_text(bundle: &[u8], name: &[u8], answer: &mut [u32; 5]) -> u32
     ensures { Told (told_words bundle_broken (look_up bundle.now name.now)) result answer.new }
 {
     let words = host_words::text_words(library_bundle::find_text(bundle, name));
@@ -271,8 +261,7 @@ fn graph_answer(
 }
 
 // The graph of an image and a bundle: a module whose name is already a node is passed over with its submodules.
-#[unsafe(no_mangle)]
-pub extern "C" fn nuvaleta_graph(
+pub fn nuvaleta_graph(
     image: &[u8],
     bundle: &[u8],
     nodes: &mut [u32],
@@ -295,8 +284,7 @@ pub extern "C" fn nuvaleta_graph(
 }
 
 // The same with the submodules of every listing and of every revision as nodes.
-#[unsafe(no_mangle)]
-pub extern "C" fn nuvaleta_graph_complete(
+pub fn nuvaleta_graph_complete(
     image: &[u8],
     bundle: &[u8],
     nodes: &mut [u32],
@@ -319,8 +307,7 @@ pub extern "C" fn nuvaleta_graph_complete(
 }
 
 // The order of registration from a graph's tables, or a ring of nodes that wait for each other.
-#[unsafe(no_mangle)]
-pub extern "C" fn nuvaleta_order(
+pub fn nuvaleta_order(
     nodes: &[u32],
     n: usize,
     edges: &[u32],
@@ -338,8 +325,7 @@ pub extern "C" fn nuvaleta_order(
 }
 
 // Whether a list holds each node of a graph once and breaks no edge.
-#[unsafe(no_mangle)]
-pub extern "C" fn nuvaleta_order_check(
+pub fn nuvaleta_order_check(
     nodes: &[u32],
     n: usize,
     edges: &[u32],

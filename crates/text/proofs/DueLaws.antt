@@ -1,6 +1,8 @@
--- What a proof uses of the definitions of `specs/Due.antt`: one law for each of the three things that stand after the gap.
+-- What a proof uses of the definitions of `specs/Due.antt`: one law for each of the three things that stand after the gap. What is
+-- refused there is told for each.
 -- Assumes nothing.
 use mathlib.Core.Path.{◌≡◌, refl, sym, ap, ◌∙◌}
+use mathlib.Core.Logic.{⊎_elim}
 use mathlib.Core.List.{List}
 use Prim.Native.Nat.{ℕ, ◌+◌, ◌<◌, ◌≤◌}
 use native.Mathlib.Omega.{arith}
@@ -9,13 +11,13 @@ use lib.Dec.{eqb}
 use borrow.Author.Tests.{eq-eqb, ne_eqb, eqb-true, eqb-false}
 use Rattle.text.specs.Scan.{gap_end}
 use Rattle.text.specs.Due.{due_number, due_here, due_at}
-use Rattle.text.specs.Refusal.{refused_at}
+use Rattle.text.specs.Refusal.{MetHigh, refused_at}
 use Rattle.text.specs.declared.Cursor.{Cursor}
 use Rattle.text.specs.declared.Due.{Due}
 use Rattle.text.specs.declared.Due.TheVariants.{After, Not}
 use Rattle.text.specs.declared.Refusal.{Refusal}
 use Rattle.text.proofs.Here.{here, by_test}
-use Rattle.text.proofs.HighLaws.{high_end, refused_other, refused_place}
+use Rattle.text.proofs.HighLaws.{high_end, refused_other, refused_place, refused_met}
 use Rattle.text.proofs.Laws.{gap_from, gap_within}
 
 -- c: what stands here
@@ -81,18 +83,26 @@ due_far s at b k c small h =
     (λ u. absurd (not_after (due-end s at b k refl refl q (eqb-true _ _ u)) h))
     (λ u. absurd (not_after (due-other s at b k refl refl q (eqb-false _ _ u) refl) h)))
 
--- what is refused stands after the gap
-due_refused : (s : List ℕ) (at b k : ℕ) (r : Refusal) → due_at s at b k ≡ Not r → r.at ≡ gap_end s at
+-- what is refused after the gap: a byte of 128 or more (3), the end (6) or another byte (5)
+pub data DueRefused (s : List ℕ) (k : ℕ) (r : Refusal) : Type 0 where
+  high : MetHigh s r → DueRefused s k r
+  at_end : r.number ≡ 6 → r.keyword ≡ k → DueRefused s k r
+  other : r.number ≡ 5 → r.keyword ≡ k → DueRefused s k r
+
+pub due_refused : (s : List ℕ) (at b k : ℕ) (r : Refusal) → due_at s at b k ≡ Not r → (r.at ≡ gap_end s at) × DueRefused s k r
 due_refused s at b k r h =
     let g = gap_end s at in
     by_test (eqb (get_or s g 256) b)
     (λ t. absurd (not_after h (due-after s at b k refl refl (eqb-true (get_or s g 256) b t))))
     (λ t. let q : (get_or s g 256 ≡ b → ⊥) = eqb-false _ _ t in
     by_test (eqb (get_or s g 256) 256)
-    (λ u. ap (λ x. x.at) (not_is r (record { number = 6; keyword = k; at = g }) h (due-end s at b k refl refl q (eqb-true _ _ u))))
-    (λ u. let e = not_is r (refused_at (get_or s g 256) 5 k g) h (due-other s at b k refl refl q (eqb-false _ _ u) refl) in
-    ap (λ x. x.at) e ∙ refused_place (get_or s g 256) 5 k g))
+    (λ u. let e = not_is r (record { number = 6; keyword = k; at = g }) h (due-end s at b k refl refl q (eqb-true _ _ u)) in
+    (ap (λ x. x.at) e, at_end (ap (λ x. x.number) e) (ap (λ x. x.keyword) e)))
+    (λ u. let e = not_is r (refused_at (get_or s g 256) 5 k g) h (due-other s at b k refl refl q (eqb-false _ _ u) refl) in (
+      ap (λ x. x.at) e ∙ refused_place (get_or s g 256) 5 k g,
+      ⊎_elim high (λ f. other (ap (λ x. x.number) f) (ap (λ x. x.keyword) f)) (refused_met s 5 k g r e),
+    )))
 
 -- and within the text, where the scan stands within it
 pub due_refused_within : (s : List ℕ) (at b k : ℕ) (r : Refusal) → at ≤ length s → due_at s at b k ≡ Not r → (at ≤ r.at) × (r.at ≤ length s)
-due_refused_within s at b k r l h = omega (arith, due_refused s at b k r h, gap_from s at, gap_within s at l)
+due_refused_within s at b k r l h = omega (arith, (due_refused s at b k r h).0, gap_from s at, gap_within s at l)

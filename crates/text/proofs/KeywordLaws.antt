@@ -371,6 +371,12 @@ module _ {o n : Match} (x : Match) (e : o ≡ n) where
   unfolding or_match
   or_given h = sym (ap (λ m. or_match m x) (sym e ∙ h))
 
+-- it takes just its own bytes
+pub match_end : (s : List ℕ) (at : ℕ) (word : List ℕ) (c : Cursor) → match_at s at word ≡ After c → c.at ≡ at + length word
+match_end s at word c h =
+    let g = match_given s at word c h in
+    g.1 ∙ (keyword_gives s at word g.0).1
+
 -- no two keywords stand at one place
 pub match_one : (s : List ℕ) (at : ℕ) (v w : List ℕ) (c d : Cursor) → match_at s at v ≡ After c → match_at s at w ≡ After d → v ≡ w
 match_one s at v w c d h k = sym (keyword_word s at v (match_given s at v c h).0) ∙ keyword_word s at w (match_given s at w d k).0

@@ -204,6 +204,12 @@ comment_within s i h =
     (λ b. let r = pair_room s i 47 42 (omega arith) b in omega (arith, comment_block s i l b, block_within s (i + 2) (omega arith)))
     (λ b. omega (arith, comment_none s i l b)))
 
+pub comment_past : (s : List ℕ) (i : ℕ) → length s ≤ i → comment_end s i ≡ i
+comment_past s i h =
+    by_test (eqb (comment_end s i) i)
+    (λ t. eqb-true _ _ t)
+    (λ t. absurd (let k : (comment_end s i ≡ i → ⊥) = eqb-false _ _ t in omega (arith, comment_on s i k)))
+
 -- ---- a gap
 
 gap_is : (s : List ℕ) (i : ℕ) → gap_end s i ≡ turns (gap_turn s) 0 (suc (length s)) i
@@ -301,3 +307,7 @@ gap_twice s i =
 -- g: where a gap ended
 pub gap_done : (s : List ℕ) (i : ℕ) {g : ℕ} → g ≡ gap_end s i → gap_end s g ≡ g
 gap_done s i e = ap (gap_end s) e ∙ gap_twice s i ∙ sym e
+
+-- at the end there is none
+pub gap_past : (s : List ℕ) (i : ℕ) → length s ≤ i → gap_end s i ≡ i
+gap_past s i h = gap_stop s i (sym (run_past White s i h)) (sym (comment_past s i h)) refl

@@ -6,7 +6,7 @@ use mathlib.Core.List.{List, [], ◌++◌, append-nil}
 use Prim.Native.Nat.{ℕ, zero, suc, ◌+◌, ◌-◌, ◌≤◌, ◌<◌}
 use native.Mathlib.Nat.{zero-add}
 use native.Mathlib.Omega.{arith}
-use lib.ListN.{length, set, take, drop, replicate, length-set, length-replicate}
+use lib.ListN.{length, set, take, drop, replicate, length-set, length-append, length-replicate}
 use lib.Seq.{sets, sets-eq, drop-length}
 use borrow.Author.Fill.{fill_more}
 use Rattle.text_lent.specs.Padded.{zeros, padded}
@@ -55,3 +55,7 @@ written_zero t xs {z} {e} ze ee h =
 pub padded_none : (n : ℕ) → zeros n ≡ padded n []
 unfolding padded
 padded_none n = as_many (n) (n - 0) (omega arith)
+
+pub padded_long : (n : ℕ) (xs : List ℕ) → length xs ≤ n → length (padded n xs) ≡ n
+unfolding padded
+padded_long n xs h = omega (arith, length-append xs (zeros (n - length xs)), length-replicate {A = ℕ} (n - length xs) 0)
