@@ -1,0 +1,62 @@
+-- `text_value::read_part`. After the gap stands a `+` or not, after the next gap a quote or not, and the string closes or not: one law for each.
+-- A string that never closes has left the store alone.
+-- Assumes nothing.
+use Prim.Native.Nat.{◌+◌}
+use Rattle.text.proofs.Here.{here}
+use Rattle.text.proofs.Laws.{gap_from}
+use Rattle.text_value.proofs.ValueLaws.{more_plain, more-bare, more_added, more_cut, more-stored}
+use Rattle.text_value.specs.Value.{more_answer, more_bytes}
+use lib.Seq.{sets}
+use mathlib.Core.Path.{sym, ap, ◌∙◌}
+use native.Mathlib.Omega.{arith}
+use Rattle.text_value.proofs.read_part.Goals as goal
+
+pub returns-then-peek_char-ne-PLUS : goal.returns-then-peek_char-ne-PLUS
+unfolding more_answer more_bytes
+returns-then-peek_char-ne-PLUS c =
+    let a = c.args in
+    let e = more_plain a.s.now a.here.at c.skip_whitespace_and_comments-plus.ensures c.peek_char.ensures c.if-peek_char-ne-PLUS.true in
+    (sym (ap (more_answer a.used) e), sym (ap (λ t. sets a.store.now a.used (more_bytes t)) e))
+
+pub overflow_add-next : goal.overflow_add-next
+overflow_add-next c =
+    omega (arith, here c.args.s.now c.skip_whitespace_and_comments-plus.result.at (λ e. omega arith))
+
+pub read_quoted_string-requires : goal.read_quoted_string-requires
+read_quoted_string-requires c =
+    let a = c.args in
+    omega (arith, gap_from a.s.now a.here.at, gap_from a.s.now (c.skip_whitespace_and_comments-plus.result.at + 1))
+
+pub returns-in_default : goal.returns-in_default
+returns-in_default c =
+    let a = c.args in
+    let read = c.read_quoted_string in (
+      sym (more_cut a.s.now a.here.at c.skip_whitespace_and_comments-plus.ensures c.peek_char.ensures c.if-peek_char-ne-PLUS.false
+          c.skip_whitespace_and_comments-quote.ensures c.peek_char-2.ensures c.is_quote.ensures c.if-is_quote.true a.used read.ensures.0
+          c.in_default.is),
+      read.ensures.1
+          ∙ sym (ap (sets a.store.now a.used) (more-stored a.s.now a.here.at c.skip_whitespace_and_comments-plus.ensures
+          c.peek_char.ensures c.if-peek_char-ne-PLUS.false c.skip_whitespace_and_comments-quote.ensures c.peek_char-2.ensures
+          c.is_quote.ensures c.if-is_quote.true a.used read.ensures.0)),
+    )
+
+pub returns-then-is_quote : goal.returns-then-is_quote
+returns-then-is_quote c =
+    let a = c.args in
+    let read = c.read_quoted_string in (
+      sym (more_added a.s.now a.here.at c.skip_whitespace_and_comments-plus.ensures c.peek_char.ensures c.if-peek_char-ne-PLUS.false
+          c.skip_whitespace_and_comments-quote.ensures c.peek_char-2.ensures c.is_quote.ensures c.if-is_quote.true a.used read.ensures.0
+          c.in-Closed.next c.in-Closed.n c.in-Closed.is),
+      read.ensures.1
+          ∙ sym (ap (sets a.store.now a.used) (more-stored a.s.now a.here.at c.skip_whitespace_and_comments-plus.ensures
+          c.peek_char.ensures c.if-peek_char-ne-PLUS.false c.skip_whitespace_and_comments-quote.ensures c.peek_char-2.ensures
+          c.is_quote.ensures c.if-is_quote.true a.used read.ensures.0)),
+    )
+
+pub returns : goal.returns
+unfolding more_answer more_bytes
+returns c =
+    let a = c.args in
+    let e = more-bare a.s.now a.here.at c.skip_whitespace_and_comments-plus.ensures c.peek_char.ensures c.if-peek_char-ne-PLUS.false
+    c.skip_whitespace_and_comments-quote.ensures c.peek_char-2.ensures c.is_quote.ensures c.if-is_quote.false in
+    (sym (ap (more_answer a.used) e), sym (ap (λ t. sets a.store.now a.used (more_bytes t)) e))

@@ -1,0 +1,13 @@
+-- `text_value::read_parts`. The loop's invariant is `Joining`: the bytes of all that was added stand in the store. Each part takes more bytes
+-- than it adds, so there is room and an end.
+-- Assumes nothing.
+use Prim.Native.Nat.{◌-◌}
+use Rattle.text_value.proofs.JoinLaws.{Joining}
+use lib.ListN.{length}
+use Rattle.text_value.proofs.read_parts.Given as goal
+
+abbrev pub invariant-loop-next : goal.invariant-loop-next
+invariant-loop-next l = Joining l.s l.initial.store l.used l.initial.at l.store l.at l.n
+
+abbrev pub decreases-loop-next : goal.decreases-loop-next
+decreases-loop-next l = length l.s - l.at
