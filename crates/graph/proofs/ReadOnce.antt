@@ -62,6 +62,7 @@ turns_append m (v ∷ xs) m₁ ys m₂ t s = (t.0, turns_append (mark m v readin
 
 was_unread : (m : Marks) (xs : List ℕ) (m₁ : Marks) → InTurn m xs m₁ → {u : ℕ} → Memᴰ u xs → is_unread (m u) ≡ true
 unfolding InTurn
+was_unread m [] m₁ t {u = u} x'' = elim x'' [ ]
 was_unread m (v ∷ xs) m₁ t (Memᴰ.head e) = rw e t.0
 was_unread m (v ∷ xs) m₁ t {u} (Memᴰ.tail n) = marked m v reading refl u (was_unread (mark m v reading) xs m₁ t.1 n)
 

@@ -20,18 +20,22 @@ module _ (s : List ℕ) where
 
   pub low : (count from left at : ℕ) → Same count from left at → 0 < left → get_or s at 0 < 33 → false ≡ printable_at count s from
   unfolding printable_at
+  low count from zero at e p h = elim p [ ]
   low count from (suc n) at e p h = sym (e ∙ rw (lt-ltb _ _ h))
 
   pub high : (count from left at : ℕ) → Same count from left at → 0 < left → 33 ≤ get_or s at 0 → 126 < get_or s at 0 → false ≡ printable_at count s from
   unfolding printable_at
+  high count from zero at e p h g = elim p [ ]
   high count from (suc n) at e p h g = sym (e ∙ rw (le-ltb _ _ h, lt-ltb _ _ g))
 
   pub next : (count from left at : ℕ) → Same count from left at → 0 < left → 33 ≤ get_or s at 0 → get_or s at 0 ≤ 126 → Same count from (left - 1) (at + 1)
   unfolding printable_at
+  next count from zero at e p h g = elim p [ ]
   next count from (suc n) at e p h g = e ∙ rw (le-ltb _ _ h, le-ltb _ _ g, sub-one)
 
   pub end : (count from left at : ℕ) → Same count from left at → left ≤ 0 → true ≡ printable_at count s from
   unfolding printable_at
+  end count from (suc _) at e p = elim p [ ]
   end count from zero at e p = sym e
 
   -- a name, by the tests of the code

@@ -33,11 +33,13 @@ module _ (s t : List ℕ) where
 
   pub none_left : (count from left at : ℕ) → Same count from left at → left ≤ 0 → false ≡ among_at count s from t
   unfolding among_at
+  none_left count from (suc _) at e h = elim h [ ]
   none_left count from zero at e h = sym e
 
   pub no_name : (count from left at : ℕ) (r : Name) {p : ℕ} → Same count from left at → r ≡ Wrong p → name_seen s r ≡ name_at s at → 0 < left
       → false ≡ among_at count s from t
   unfolding among_at
+  no_name count from zero at r {p = p} e q f h = elim h [ ]
   no_name count from (suc n) at r e q f h = sym (e ∙ rw (missed s r at q f))
 
   module _ (count from left at : ℕ) (r : Name) (first len : ℕ) {b : Bool} (e : Same count from left at) (q : r ≡ Bytes first len)

@@ -17,10 +17,12 @@ use Rattle.library_search.specs.declared.Tried.TheVariants.{Hit, Next, Bad}
 -- one part of a count that is not 0
 pub tries_turn : (f : ℕ → Tried) (left at : ℕ) → 0 < left → tries f left at ≡ and_then (f at) (tries f (left - 1))
 unfolding tries
+tries_turn f zero at h = elim h [ ]
 tries_turn f (suc n) at h = simp sub-one
 
 pub tries_none : (f : ℕ → Tried) (left at : ℕ) → left ≤ 0 → tries f left at ≡ Next at
 unfolding tries
+tries_none f (suc _) at h = elim h [ ]
 tries_none f zero at h = refl
 
 -- what the loop keeps, where `left` parts stand from `at` on

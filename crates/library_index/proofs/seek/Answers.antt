@@ -1,0 +1,27 @@
+use Rattle.library_index.proofs.Chain.{chain-begun, name_in, name_fits, chain-hit, chain-on, chain-falls, chain-done}
+use Rattle.library_index.proofs.seek.Goals as goal
+
+pub loop-j-init : goal.loop-j-init
+loop-j-init c = search chain-begun
+
+pub overflow_add-end : goal.overflow_add-end
+overflow_add-end c = search name_fits
+
+-- LEFT: slice-bounds-same-end
+-- part-same-end : tie.Need-slice-bounds-same-end invariant-loop decreases-loop
+-- part-same-end c = search name_in
+
+pub returns-then-same : goal.returns-then-same
+returns-then-same c = search chain-hit
+
+pub loop-j-smaller : goal.loop-j-smaller
+loop-j-smaller c = search chain-falls
+
+pub loop-j-preserved : goal.loop-j-preserved
+loop-j-preserved c =
+    let pre = c.requires in
+    chain-on _ _ _ _ _ pre _ c.loop-j.invariant c.of_word-place.ensures c.of_word-len.ensures c.loop-j-test.true
+    c.same.ensures c.of_word-j-in-loop-j.ensures c.if-same.false
+
+pub returns : goal.returns
+returns c = search chain-done

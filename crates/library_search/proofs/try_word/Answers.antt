@@ -1,0 +1,20 @@
+-- `library_search::try_word`. Each way out is one law of Ways.
+-- Assumes nothing.
+use Rattle.library_form.proofs.Bounds.{end_fits, end_in}
+use Rattle.library_search.proofs.Ways.{no_word, word-hit, word-other}
+use Rattle.library_search.proofs.try_word.Goals as goal
+
+pub returns-in_default : goal.returns-in_default
+returns-in_default c = search no_word
+
+pub overflow_add-end : goal.overflow_add-end
+overflow_add-end c = search end_fits
+
+pub slice_bounds-same-end : goal.slice_bounds-same-end
+slice_bounds-same-end c = search end_in
+
+pub returns-then-same : goal.returns-then-same
+returns-then-same c = search word-hit
+
+pub returns : goal.returns
+returns c = search word-other
