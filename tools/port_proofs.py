@@ -14,7 +14,7 @@ import sys
 import tempfile
 
 WORD = r"[^\s(){};,.:=|\[\]\u03bb]+"
-START = {"args", "requires", "ranges", "well_formed", "lifetimes", "utf8"}
+START = {"args", "requires", "ranges", "well_formed", "lifetimes", "utf8", "pre"}
 
 
 def plain(name):
@@ -131,10 +131,8 @@ def turn_body(body, names, place, left):
         parts = rest.split(".")[1:]
         cur = bound[var]
         while parts and parts[0] == "before":
-            cur = names.parent.get(cur)
+            cur = names.parent.get(cur) or cur  # behind the start there is nothing
             parts = parts[1:]
-            if cur is None:
-                return None, []
         return cur, parts
 
     def path(m):
@@ -150,6 +148,7 @@ def turn_body(body, names, place, left):
         if cur is None or not parts:
             left.append(m[0])
             return m[0]
+        parts[0] = "requires" if parts[0] == "pre" else parts[0].replace("well-formed", "well_formed")
         if parts[0] in START:
             return "c." + ".".join(parts)
         arm = names.arm(cur, parts) or names.arm(place, parts)
