@@ -1,7 +1,7 @@
 -- What agrees with a record, on each way through the code.
 -- Assumes nothing.
-use Rattle.std.proofs.Common.{◌≡◌, ℕ, zero, suc, ◌+◌, ◌-◌, ◌%◌, ◌^◌, ◌<◌, ◌≤◌, Bool, true, false, not, eqb, leb, List, length, get_or, sym, refl, ap, ◌∙◌, not-suc-le-zero, arith, eq-eqb, ne_eqb, eqb-true, le-leb, leb-false, leb-true}
-use borrow.Author.Tests.{not-true, not-false, lt-leb, eqb-false}
+use Rattle.std.proofs.Common.{◌≡◌, ℕ, zero, suc, ◌+◌, ◌-◌, ◌%◌, ◌^◌, ◌<◌, ◌≤◌, Bool, true, false, eqb, leb, List, length, get_or, sym, refl, ap, ◌∙◌, not-suc-le-zero, arith, eq-eqb, ne_eqb, eqb-true, le-leb, leb-false, leb-true}
+use borrow.Author.Tests.{lt-leb, eqb-false}
 use Rattle.text.specs.Turns.{stop, on}
 use Rattle.text.specs.declared.Refusal.{Refusal}
 use Rattle.text.proofs.Here.{by_test}
@@ -30,20 +30,20 @@ module _ (answer : List ℕ) (at : ℕ) (r : Refusal) {u : ℕ} {a : Bool} (ue :
   number_is : a ≡ number_told_as (word_at answer at) r.number
   number_is = ae ∙ ap (λ x. number_told_as x r.number) ue
 
-  pub other_number : not a ≡ true → false ≡ refusal_told_as answer at r
+  pub other_number : a ≡ false → false ≡ refusal_told_as answer at r
   unfolding refusal_told_as
-  other_number h = sym (simp (sym number_is ∙ not-true a h))
+  other_number h = sym (simp (sym number_is ∙ h))
 
   module _ {v : ℕ} (ve : v ≡ word_at answer (at + 4)) where
-    pub other-keyword : not a ≡ false → (v ≡ r.keyword → ⊥) → false ≡ refusal_told_as answer at r
+    pub other-keyword : a ≡ true → (v ≡ r.keyword → ⊥) → false ≡ refusal_told_as answer at r
     unfolding refusal_told_as
-    other-keyword h k = sym (simp (sym number_is ∙ not-false a h, ap (λ x. eqb x r.keyword) (sym ve) ∙ ne_eqb v r.keyword k))
+    other-keyword h k = sym (simp (sym number_is ∙ h, ap (λ x. eqb x r.keyword) (sym ve) ∙ ne_eqb v r.keyword k))
 
-    pub position-told : not a ≡ false → v ≡ r.keyword → {w : ℕ} → w ≡ word_at answer (at + 8) → eqb w (r.at % 4294967296) ≡ refusal_told_as answer at r
+    pub position-told : a ≡ true → v ≡ r.keyword → {w : ℕ} → w ≡ word_at answer (at + 8) → eqb w (r.at % 4294967296) ≡ refusal_told_as answer at r
     unfolding refusal_told_as
     position-told h k we =
         ap (λ x. eqb x (r.at % 4294967296)) we
-        ∙ sym (simp (sym number_is ∙ not-false a h, ap (λ x. eqb x r.keyword) (sym ve) ∙ eq-eqb v r.keyword k))
+        ∙ sym (simp (sym number_is ∙ h, ap (λ x. eqb x r.keyword) (sym ve) ∙ eq-eqb v r.keyword k))
 
 -- ---- words of a table
 
