@@ -38,7 +38,7 @@ def blocks(t):
             continue
         m = re.match(r"(?:(?:abbrev|pub|unfoldable|opaque) )*(" + WORD + r")(?: [^:=]*)?\s*:(?: |$)", line)
         starts = m and not line[0].isspace()
-        if starts or re.match(r"(module|mutual|record|data|pub data|pub record)\b", line):
+        if starts or re.match(r"(module|mutual|record|data|pub data|pub record)(\s|$)", line):
             cur = note + [line]
             note = []
             out.append(cur)
@@ -173,8 +173,8 @@ def turn_body(body, names, place, left):
         parts = rest.split(".")[1:]
         if parts and any(p != "before" for p in parts):
             cur, parts = resolve(var, rest)
-            if cur is not None and names.arm_step(cur, parts[0]) and parts[1:] in (["given"], ["given", "0"], ["given", "0", "1"]):
-                whole[v] = (cur, parts)
+            if cur is not None and names.arm_step(place, parts[0]) and parts[1:] in (["given"], ["given", "0"], ["given", "0", "1"]):
+                whole[v] = (place, parts)
                 return ""
             if cur is not None and len(parts) == 1 and names.up(cur, parts[0]):
                 steps[v] = names.up(cur, parts[0])
