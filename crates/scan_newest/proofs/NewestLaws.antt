@@ -99,7 +99,7 @@ from_greatest n (r ∷ rs) p h =
     (least_trans top m.value n.value on.0 least.0, (least_trans top m.value r.value on.0 least.1, on.1))
 
 pub newest_greatest : (rs : List Revision) → Each Read rs → Each (λ r. less (newest rs).value r.value ≡ false) rs
-unfolding Each
+unfolding Each newest newest_from newer
 newest_greatest [] h = tt
 newest_greatest (r ∷ rs) h = rw (newest_cons r rs) (from_greatest r rs h.0 h.1)
 
