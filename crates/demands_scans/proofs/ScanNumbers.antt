@@ -40,7 +40,7 @@ use Rattle.text_statement.proofs.StatementLaws.{statement_refused}
 use Rattle.text_utf8.specs.Utf8.{wrong_from}
 use Rattle.text_utf8.proofs.Utf8Laws.{wrong_within}
 use Rattle.text_lent.specs.Lent.{lent_at}
-use Rattle.text_lent.proofs.LentLaws.{lent_long, lent-short, lent-wrong, lent-fit}
+use Rattle.text_lent.proofs.LentLaws.{lent_long, lent_short, lent_wrong, lent_fit}
 use Rattle.text_lent.specs.declared.Lent.{Lent}
 use Rattle.text_lent.specs.declared.Lent.TheVariants.{Fit, Unfit}
 use Rattle.scan_rows.specs.declared.Span.{Span}
@@ -61,7 +61,7 @@ use Rattle.scan_imports.specs.declared.ParsedInclude.{ParsedInclude}
 use Rattle.scan_imports.specs.declared.ParsedInclude.TheVariants.{Include as ReadInclude, NoInclude}
 use Rattle.scan_block.proofs.BlockLaws.{block_falls}
 use Rattle.yangparser.specs.Dependencies as Deps
-use Rattle.yangparser.specs.Dependencies.{Step, import_step, include_step, unless_full, import_here, include_here, after_token, head_step, step_here, step_at, after_step}
+use Rattle.yangparser.specs.Dependencies.{Step, import_step, include_step, unless_full, import_here, include_here, after_token, head_step_lem, step_here, step_at, after_step}
 use Rattle.yangparser.specs.Dependencies.{scan_turn}
 use Rattle.scan_head.specs.Head.{head_at}
 use Rattle.yangparser.specs.declared.Next.{Next}
@@ -75,21 +75,21 @@ use Rattle.demands_scans.proofs.Loops.{turns_all}
 
 -- ---- membership of numerals, by test
 
-unfoldable pub is_one : ℕ → List ℕ → Bool
-is_one n [] = false
-is_one n (k ∷ ks) = cond (eqb n k) true (is_one n ks)
+unfoldable pub is_one_lem : ℕ → List ℕ → Bool
+is_one_lem n [] = false
+is_one_lem n (k ∷ ks) = cond (eqb n k) true (is_one_lem n ks)
 
-pub one_of : (n : ℕ) (ks : List ℕ) → is_one n ks ≡ true → Memᴰ n ks
-unfolding is_one
+pub one_of : (n : ℕ) (ks : List ℕ) → is_one_lem n ks ≡ true → Memᴰ n ks
+unfolding is_one_lem
 one_of n [] h = let z : ◌≡◌ {A = ℕ} 0 1 = cc in absurd (omega arith)
 one_of n (k ∷ ks) h = go (eqb n k) refl (one_of n ks) h
   where
-    go : (t : Bool) → eqb n k ≡ t → (is_one n ks ≡ true → Memᴰ n ks) → cond t true (is_one n ks) ≡ true → Memᴰ n (k ∷ ks)
+    go : (t : Bool) → eqb n k ≡ t → (is_one_lem n ks ≡ true → Memᴰ n ks) → cond t true (is_one_lem n ks) ≡ true → Memᴰ n (k ∷ ks)
     go true q f h = Memᴰ.head (eqb-true n k q)
     go false q f h = Memᴰ.tail (f h)
 
-pub is_one_lem : {n : ℕ} {ks : List ℕ} → Memᴰ n ks → is_one n ks ≡ true
-unfolding is_one
+pub is_one_lem : {n : ℕ} {ks : List ℕ} → Memᴰ n ks → is_one_lem n ks ≡ true
+unfolding is_one_lem
 is_one_lem {n} (Memᴰ.head {x = k} e) = rw (eq-eqb n k e)
 is_one_lem {n} (Memᴰ.tail {x = k} m) = go (eqb n k) (is_one_lem m)
   where
@@ -115,7 +115,7 @@ read_number_lem {n} (k ∷ ks) (Memᴰ.tail m) f = read_number_lem ks m (both (w
 abbrev pub refusal : ℕ → ℕ → ℕ → Refusal
 refusal n k at = record { number = n; keyword = k; at = at }
 
-pub of : (numbers keywords : List ℕ) (n k at : ℕ) → is_one n numbers ≡ true → is_one k keywords ≡ true → OneOf numbers keywords (refusal n k at)
+pub of : (numbers keywords : List ℕ) (n k at : ℕ) → is_one_lem n numbers ≡ true → is_one_lem k keywords ≡ true → OneOf numbers keywords (refusal n k at)
 of numbers keywords n k at h i = record { number = one_of n numbers h; keyword = one_of k keywords i }
 
 -- ---- what is refused for a value and the byte due after it has the keyword, and 4, 5 or 6; or it is a byte of 128 or more
@@ -141,19 +141,19 @@ module _ (s : List ℕ) (Q : Refusal → Type 0) where
 
   module _ (k : ℕ) where
     module _ (five : (at : ℕ) → Q (refusal 5 k at)) (six : (at : ℕ) → Q (refusal 6 k at)) where
-      pub due-here-is : (at b : ℕ) → DueIs Met (due_here s at b k)
+      pub due_here_is : (at b : ℕ) → DueIs Met (due_here s at b k)
       unfolding due_here due_number
-      due-here-is at b =
+      due_here_is at b =
           by_test (eqb (look s at) b) (λ t. rw t tt)
           (λ t. rw t (by_test (eqb (look s at) 256) (λ v. rw v (refused_is 6 k at (six at))) (λ v. rw v (refused_is 5 k at (five at)))))
 
       pub due_is : (at b : ℕ) → DueIs Met (due_at s at b k)
       unfolding due_at
-      due_is at b = due-here-is (gap_end s at) b
+      due_is at b = due_here_is (gap_end s at) b
 
-      pub line-is : (four : (at : ℕ) → Q (refusal 4 k at)) → (at u b : ℕ) → ArgumentIs Met (line_at false s at u k b)
+      pub line_is : (four : (at : ℕ) → Q (refusal 4 k at)) → (at u b : ℕ) → ArgumentIs Met (line_at false s at u k b)
       unfolding line_at argument_at breaks_off after_due after_argument argument_of
-      line-is four at u b = go (value_at s at)
+      line_is four at u b = go (value_at s at)
         where
           behind : (n : ℕ) (d : Due) → DueIs Met d → ArgumentIs Met (after_due n d)
           behind n (After c) h = tt
@@ -194,7 +194,7 @@ dependencies_number q (rows o) = read_number_lem (10 ∷ []) o.number refl
 
 -- in the statement of the keyword k, a value with the keyword j may be refused by 4, 5 and 6
 abbrev Refusable : ℕ → ℕ → Type 0
-Refusable k j = (n : ℕ) → is_one n (4 ∷ 5 ∷ 6 ∷ []) ≡ true → (at : ℕ) → StatementRefusal k (refusal n j at)
+Refusable k j = (n : ℕ) → is_one_lem n (4 ∷ 5 ∷ 6 ∷ []) ≡ true → (at : ℕ) → StatementRefusal k (refusal n j at)
 
 name_refusable : (k : ℕ) → Refusable k k
 name_refusable k n h at = argument (record { number = one_of n (4 ∷ 5 ∷ 6 ∷ []) h; keyword = Memᴰ.head refl })
@@ -211,8 +211,8 @@ module _ (s : List ℕ) (k : ℕ) where
   Stated r = MetRefusal (StatementRefusal k) s r
 
   argument_is : (j : ℕ) → Refusable k j → (at u b : ℕ) → ArgumentIs Stated (line_at false s at u j b)
-  unfolding is_one
-  argument_is j f = line-is s (StatementRefusal k) j (f 5 refl) (f 6 refl) (f 4 refl)
+  unfolding is_one_lem
+  argument_is j f = line_is s (StatementRefusal k) j (f 5 refl) (f 6 refl) (f 4 refl)
 
   abbrev InsideIs : Inside → Type 0
   InsideIs (OnInside b) = Unit {0}
@@ -288,7 +288,7 @@ IncludedIs P (NoInclude r) = P r
 
 module _ (s : List ℕ) where
   body_is : (name : Span) (b : Block) → BlockIs s 8 b → ImportedIs (Stated s 8) (import_of name b)
-  unfolding import_of of_body is_one
+  unfolding import_of of_body is_one_lem
   body_is name (Whole b) h =
       by_test b.prefix.present (λ t. rw t tt) (λ t. rw t (other (no_prefix refl (of (7 ∷ []) (8 ∷ []) 7 8 b.at refl refl))))
   body_is name (Broken r) h = h
@@ -313,11 +313,11 @@ module _ (s : List ℕ) where
   import_is at u = name_is u _ (line_at false s at u 8 123) (argument_is s 8 8 (name_refusable 8) at u 123)
 
   rest_is : (at n : ℕ) (name : Span) (bytes : List ℕ) → IncludedIs (Stated s 9) (open_or_plain false s at n name bytes).answer
-  unfolding open_or_plain block_of is_one
+  unfolding open_or_plain block_of is_one_lem
   rest_is at n name bytes =
       by_test (eqb (look s at) 123) (λ t. rw t (included_is name (block_at false s (at + 1) n 9).answer (block_is s 9 (at + 1) n)))
       (λ t. let f = name_refusable 9 in
-      rw t (plain_is name n (due_here s at 59 9) (due-here-is s (StatementRefusal 9) 9 (f 5 refl) (f 6 refl) at 59)))
+      rw t (plain_is name n (due_here s at 59 9) (due_here_is s (StatementRefusal 9) 9 (f 5 refl) (f 6 refl) at 59)))
 
   value_read_is : (u : ℕ) (bytes : List ℕ) (a : Argument) → ArgumentIs (Stated s 9) a
       → IncludedIs (Stated s 9) (after_value false s u bytes a).answer
@@ -326,7 +326,7 @@ module _ (s : List ℕ) where
   value_read_is u bytes (NoArgument r) h = h
 
   pub include_is : (at u : ℕ) → IncludedIs (Stated s 9) (include_at false s at u).answer
-  unfolding include_at is_one
+  unfolding include_at is_one_lem
   include_is at u = value_read_is u _ (argument_at false s at u 9) (value_is s (StatementRefusal 9) 9 (name_refusable 9 4 refl) at u)
 
 -- ---- a step, and all of them
@@ -345,8 +345,8 @@ module _ (s : List ℕ) where
   NextIs Done = Unit {0}
   NextIs (Stop r) = Met_here r
 
-  full_is : (n k at : ℕ) (x : Step) → is_one k (8 ∷ 9 ∷ []) ≡ true → NextIs x.answer → NextIs (unless_full n k at x).answer
-  unfolding unless_full is_one
+  full_is : (n k at : ℕ) (x : Step) → is_one_lem k (8 ∷ 9 ∷ []) ≡ true → NextIs x.answer → NextIs (unless_full n k at x).answer
+  unfolding unless_full is_one_lem
   full_is n k at x own h =
       by_test (leb 256 n) (λ t. rw t (other (rows (of (10 ∷ []) (8 ∷ 9 ∷ []) 10 k at refl own)))) (λ t. rw t h)
 
@@ -365,8 +365,8 @@ module _ (s : List ℕ) where
   token_is far (After c) h = tt
   token_is far (Not r) h = h
 
-  head_is : (far : Sofar) (at : ℕ) (w : Head) → NextIs (head_step false s far at w).answer
-  unfolding head_step import_here include_here is_one past_token
+  head_is : (far : Sofar) (at : ℕ) (w : Head) → NextIs (head_step_lem false s far at w).answer
+  unfolding head_step_lem import_here include_here is_one_lem past_token
   head_is far at (Import c) =
       full_is far.imports 8 c.at _ refl (import_step_is far _ (import_at false s c.at far.used).answer (import_is s c.at far.used))
   head_is far at (Include c) =
@@ -409,16 +409,16 @@ module _ (s : List ℕ) (short : Bool) where
       by_test (ltb 1048576 (length s))
       (λ t. let h = ltb-true 1048576 (length s) t in subst LentIs (lent_long s short h) (too_long h refl))
       (λ t. let f = ltb-false 1048576 (length s) t in
-      by_test short (λ v. subst LentIs (lent-short s short f v) (too_little f v refl))
-      (λ v. by_test (ltb at (length s)) (λ w. let h = ltb-true at (length s) w in subst LentIs (lent-wrong s short f v refl h) (not_utf8 f v h refl))
+      by_test short (λ v. subst LentIs (lent_short s short f v) (too_little f v refl))
+      (λ v. by_test (ltb at (length s)) (λ w. let h = ltb-true at (length s) w in subst LentIs (lent_wrong s short f v refl h) (not_utf8 f v h refl))
       (λ w. let h = ltb-false at (length s) w in
       let e : at ≡ length s = omega (arith, wrong_within s 0 (omega arith)) in
-      subst LentIs (lent-fit s short f v refl h) (record { few = f; enough = v; utf8 = e }))))
+      subst LentIs (lent_fit s short f v refl h) (record { few = f; enough = v; utf8 = e }))))
 
   pub first_unfit : (r : Refusal) → FirstRefusal s short r → lent_at s short ≡ Unfit r
   first_unfit r (too_long h e) = sym (lent_long s short h) ∙ ap Unfit (sym e)
-  first_unfit r (too_little f h e) = sym (lent-short s short f h) ∙ ap Unfit (sym e)
-  first_unfit r (not_utf8 f v h e) = sym (lent-wrong s short f v refl h) ∙ ap Unfit (sym e)
+  first_unfit r (too_little f h e) = sym (lent_short s short f h) ∙ ap Unfit (sym e)
+  first_unfit r (not_utf8 f v h e) = sym (lent_wrong s short f v refl h) ∙ ap Unfit (sym e)
 
   pub first_number : (r : Refusal) → FirstRefusal s short r → r.number ≡ 0 → ⊥
   first_number r (too_long h e) z = omega (arith, z, ap (λ q. q.number) e)

@@ -16,13 +16,13 @@ use Rattle.text.specs.declared.Match.TheVariants.{After}
 use Rattle.text.specs.declared.Refusal.{Refusal}
 use Rattle.text.proofs.Here.{by_test}
 use Rattle.text.proofs.KeywordLaws.{match_far}
-use Rattle.scan_head.proofs.HeadLaws.{head_import, head-include}
+use Rattle.scan_head.proofs.HeadLaws.{head_import, head_include}
 use Rattle.scan_imports.specs.Statement.{import_at, include_at}
 use Rattle.scan_imports.specs.declared.ParsedImport.{ParsedImport}
 use Rattle.scan_imports.specs.declared.ParsedImport.TheVariants.{Import as ReadImport, NoImport}
 use Rattle.scan_imports.specs.declared.ParsedInclude.{ParsedInclude}
 use Rattle.scan_imports.specs.declared.ParsedInclude.TheVariants.{Include as ReadInclude, NoInclude}
-use Rattle.yangparser.specs.Dependencies.{Dependencies, none, joined, Step, import_step, include_step, unless_full, import_here, include_here, head_step, step_at}
+use Rattle.yangparser.specs.Dependencies.{Dependencies, none, joined, Step, import_step, include_step, unless_full, import_here, include_here, head_step_lem, step_at}
 use Rattle.yangparser.specs.Dependencies.{Scanning, good, bad, scan_turn, scan_from, start, scanned}
 use Rattle.yangparser.specs.declared.Next.{Next}
 use Rattle.yangparser.specs.declared.Next.TheVariants.{On, Done, Stop}
@@ -108,7 +108,7 @@ differ e = omega (arith, ap (λ l. get_or l 1 0) e)
 
 module _ (s : List ℕ) (far : Sofar) (c : Cursor) where
   met_import : match_at s (gap_end s far.at) import_word ≡ After c → OneMore far (λ n. n.imports) (step_at false s far).answer
-  unfolding head_step import_here
+  unfolding head_step_lem import_here
   met_import m =
       let x = import_at false s c.at far.used in
       subst (λ z. OneMore far (λ n. n.imports) z.answer)
@@ -116,13 +116,13 @@ module _ (s : List ℕ) (far : Sofar) (c : Cursor) where
       (unless_full_lem far (λ n. n.imports) far.imports 8 c.at (import_step far x.bytes x.answer) (import_one far x.bytes x.answer))
 
   met_include : match_at s (gap_end s far.at) include_word ≡ After c → OneMore far (λ n. n.includes) (step_at false s far).answer
-  unfolding head_step include_here
+  unfolding head_step_lem include_here
   met_include m =
       let p = gap_end s far.at in
       let x = include_at false s c.at far.used in
       subst (λ z. OneMore far (λ n. n.includes) z.answer)
       (sym (step_head false s far refl (omega (arith, match_far s p include_word c m)) refl
-      (head-include s p refl (other_not s p include_word import_word m differ) refl c m)))
+      (head_include s p refl (other_not s p include_word import_word m differ) refl c m)))
       (unless_full_lem far (λ n. n.includes) far.includes 9 c.at (include_step far x.bytes x.answer) (include_one far x.bytes x.answer))
 
 -- ---- so each has its row

@@ -129,23 +129,23 @@ module _ (s : List ℕ) (at : ℕ) {a : ℕ} (ae : a ≡ get_or s at 256) where
   seq_one h = rw (sym ae) (rw (one_low a h) refl)
 
   module _ (n1 : 128 ≤ a) {b : ℕ} {t : Bool} (be : b ≡ get_or s (at + 1) 256) (te : t ≡ two a b) where
-    pub seq-two : t ≡ true → 2 ≡ seq_len s at
+    pub seq_two : t ≡ true → 2 ≡ seq_len s at
     unfolding seq_len char_len
-    seq-two y = rw (sym ae, sym be) (rw (one_high a n1, sym te ∙ y) refl)
+    seq_two y = rw (sym ae, sym be) (rw (one_high a n1, sym te ∙ y) refl)
 
     module _ (n2 : t ≡ false) {c : ℕ} {u : Bool} (ce : c ≡ get_or s (at + 2) 256) (ue : u ≡ three a b c) where
-      pub seq-three : u ≡ true → 3 ≡ seq_len s at
+      pub seq_three : u ≡ true → 3 ≡ seq_len s at
       unfolding seq_len char_len
-      seq-three y = rw (sym ae, sym be, sym ce) (rw (one_high a n1, sym te ∙ n2, sym ue ∙ y) refl)
+      seq_three y = rw (sym ae, sym be, sym ce) (rw (one_high a n1, sym te ∙ n2, sym ue ∙ y) refl)
 
       module _ (n3 : u ≡ false) {d : ℕ} {v : Bool} (de : d ≡ get_or s (at + 3) 256) (ve : v ≡ four a b c d) where
-        pub seq-four : v ≡ true → 4 ≡ seq_len s at
+        pub seq_four : v ≡ true → 4 ≡ seq_len s at
         unfolding seq_len char_len
-        seq-four y = rw (sym ae, sym be, sym ce, sym de) (rw (one_high a n1, sym te ∙ n2, sym ue ∙ n3, sym ve ∙ y) refl)
+        seq_four y = rw (sym ae, sym be, sym ce, sym de) (rw (one_high a n1, sym te ∙ n2, sym ue ∙ n3, sym ve ∙ y) refl)
 
-        pub seq-none : v ≡ false → 0 ≡ seq_len s at
+        pub seq_none : v ≡ false → 0 ≡ seq_len s at
         unfolding seq_len char_len
-        seq-none n = rw (sym ae, sym be, sym ce, sym de) (rw (one_high a n1, sym te ∙ n2, sym ue ∙ n3, sym ve ∙ n) refl)
+        seq_none n = rw (sym ae, sym be, sym ce, sym de) (rw (one_high a n1, sym te ∙ n2, sym ue ∙ n3, sym ve ∙ n) refl)
 
 -- past the end there is none
 pub seq_past : (s : List ℕ) (at : ℕ) → length s ≤ at → seq_len s at ≡ 0

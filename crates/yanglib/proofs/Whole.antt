@@ -16,7 +16,7 @@ use Rattle.library_bundle.specs.declared.Opened.TheVariants.{Wrong as WrongBundl
 use Rattle.library_lists.specs.Lists.{done, read_seen}
 use Rattle.library_lists.specs.declared.Read.{Read}
 use Rattle.library_lists.specs.declared.Read.TheVariants.{End, Wrong}
-use Rattle.library_read.specs.Reading.{read_number}
+use Rattle.library_read.specs.Reading.{read_number_lem}
 use Rattle.graph.specs.Nodes.{Mode}
 use Rattle.text.specs.Refusal.{no_refusal}
 use Rattle.graph_tables.specs.Tables.{node_words, row_words}
@@ -31,7 +31,7 @@ use Rattle.graph_build.specs.declared.Graphed.TheVariants.{Refused}
 use Rattle.graph_tables.proofs.Short.{Enough, long_enough}
 use Rattle.graph_draw.proofs.Drawing.{cleared_long}
 use Rattle.graph_visit.proofs.Visiting.{same_long}
-use Rattle.yanglib.proofs.Ways.{image_reads, image_wrong, bundle-wrong, too_little, enough}
+use Rattle.yanglib.proofs.Ways.{image_reads, image_wrong, bundle_wrong, too_little, enough}
 use Rattle.graph_build.proofs.Holds.{no_nodes}
 
 -- ---- `read_and_draw`
@@ -70,15 +70,15 @@ module _ (mode : Mode) (s b nodes edges store imports includes levels : List ℕ
     kept = same_long store imports includes levels;
   }
 
-  pub no_image : {r : Read} {p number : ℕ} {a : Refusal} → r ≡ Wrong p → read_seen r ≡ done (image_at s) → number ≡ read_number (Wrong p) → a ≡ no_refusal
+  pub no_image : {r : Read} {p number : ℕ} {a : Refusal} → r ≡ Wrong p → read_seen r ≡ done (image_at s) → number ≡ read_number_lem (Wrong p) → a ≡ no_refusal
       → Holds (graphed mode s b k) nodes edges store imports includes levels (Refused number 0 a p) nodes edges store imports includes levels
-  unfolding read_number
+  unfolding read_number_lem
   no_image {r} {p} e q n z = refusing z (image_wrong mode s b k r e q ∙ ap (λ (i : ℕ). refusal i 0 no_refusal p) (sym n))
 
   pub no_bundle : {r : Read} {j : ℕ} {o : Opened} {tab : List ℕ} {p : ℕ} {a : Refusal} → r ≡ End j → read_seen r ≡ done (image_at s) → OpenedAs b o tab
       → o ≡ WrongBundle p → a ≡ no_refusal
       → Holds (graphed mode s b k) nodes edges store imports includes levels (Refused 21 0 a p) nodes edges store imports includes levels
-  no_bundle {r} {o = o} {tab = tab} e q h f z = refusing z (bundle-wrong mode s b k (image_reads s r e q) o tab f h)
+  no_bundle {r} {o = o} {tab = tab} e q h f z = refusing z (bundle_wrong mode s b k (image_reads s r e q) o tab f h)
 
   pub not_enough : {tab : List ℕ} {texts : ℕ} {longest : ℕ} {short : Bool} {a : Refusal} → BothRead s b tab texts → longest ≡ longest_text b
       → short ≡ is_too_short longest k → short ≡ true → a ≡ no_refusal

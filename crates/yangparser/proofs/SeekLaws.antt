@@ -33,7 +33,7 @@ use Rattle.scan_head.specs.declared.Head.{Head}
 use Rattle.scan_head.specs.declared.Head.TheVariants.{Import as ImportHead, Include as IncludeHead, Last, Other}
 use Rattle.scan_head.proofs.HeadLaws.{head_import_far, head_include_far}
 use Rattle.yangparser.specs.Dependencies.{Dependencies, none, import_words_of, include_words_of, joined, Step, adding, import_step, include_step, unless_full}
-use Rattle.yangparser.specs.Dependencies.{import_here, include_here, moved_to, after_token, head_step, step_here, step_at, Scanning, good, bad, scan_from}
+use Rattle.yangparser.specs.Dependencies.{import_here, include_here, moved_to, after_token, head_step_lem, step_here, step_at, Scanning, good, bad, scan_from}
 use Rattle.yangparser.specs.Promises.{AddsImport, AddsInclude, Steps}
 use Rattle.yangparser.specs.Seek.{look_past, look_head, look_here, look_at, of_look, seek_turn, sought_at, sought_step, step_from}
 use Rattle.yangparser.specs.declared.Look.{Look}
@@ -65,25 +65,25 @@ module _ (whole : Bool) (s : List ℕ) (at : ℕ) {g : ℕ} (ge : g ≡ gap_end 
   look_end h = rw (← ge) (rw (le-leb (length s) g h) refl)
 
   module _ (h : g < length s) {w : Head} (we : w ≡ head_at s g) where
-    look-head : (y : Head) → w ≡ y → look_head whole s g y ≡ look_at whole s at
+    look_head_lem : (y : Head) → w ≡ y → look_head whole s g y ≡ look_at whole s at
     unfolding look_at look_here
-    look-head y q = rw (← ge) (rw (lt-leb (length s) g h) (ap (look_head whole s g) (sym q ∙ we)))
+    look_head_lem y q = rw (← ge) (rw (lt-leb (length s) g h) (ap (look_head whole s g) (sym q ∙ we)))
 
-    pub look-import : (c : Cursor) → w ≡ ImportHead c → Met (Import c) ≡ look_at whole s at
+    pub look_import : (c : Cursor) → w ≡ ImportHead c → Met (Import c) ≡ look_at whole s at
     unfolding look_head
-    look-import c q = look-head (ImportHead c) q
+    look_import c q = look_head_lem (ImportHead c) q
 
-    pub look-include : (c : Cursor) → w ≡ IncludeHead c → Met (Include c) ≡ look_at whole s at
+    pub look_include : (c : Cursor) → w ≡ IncludeHead c → Met (Include c) ≡ look_at whole s at
     unfolding look_head
-    look-include c q = look-head (IncludeHead c) q
+    look_include c q = look_head_lem (IncludeHead c) q
 
-    pub look-last : (c : Cursor) → w ≡ Last c → Met End ≡ look_at whole s at
+    pub look_last : (c : Cursor) → w ≡ Last c → Met End ≡ look_at whole s at
     unfolding look_head
-    look-last c q = look-head (Last c) q
+    look_last c q = look_head_lem (Last c) q
 
-    pub look-token : w ≡ Other → {k : Due} → k ≡ past_token whole s g → {r : Look} → r ≡ look_past k → r ≡ look_at whole s at
+    pub look_token : w ≡ Other → {k : Due} → k ≡ past_token whole s g → {r : Look} → r ≡ look_past k → r ≡ look_at whole s at
     unfolding look_head
-    look-token q ke re = re ∙ ap look_past ke ∙ look-head Other q
+    look_token q ke re = re ∙ ap look_past ke ∙ look_head_lem Other q
 
 -- ---- past all tokens
 
@@ -239,8 +239,8 @@ unfolding look_step look_past after_token sought_step
 past_step whole s far (After c) = refl
 past_step whole s far (Not r) = refl
 
-head_step_lem : (whole : Bool) (s : List ℕ) (far : Sofar) (g : ℕ) (w : Head) → head_step whole s far g w ≡ look_step whole s far (look_head whole s g w)
-unfolding head_step look_step look_head sought_step
+head_step_lem : (whole : Bool) (s : List ℕ) (far : Sofar) (g : ℕ) (w : Head) → head_step_lem whole s far g w ≡ look_step whole s far (look_head whole s g w)
+unfolding head_step_lem look_step look_head sought_step
 head_step_lem whole s far g (ImportHead c) = refl
 head_step_lem whole s far g (IncludeHead c) = refl
 head_step_lem whole s far g (Last c) = refl

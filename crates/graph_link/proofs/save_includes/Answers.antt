@@ -1,5 +1,5 @@
 use Prim.Native.Nat.{◌-◌}
-use Rattle.graph_link.proofs.Saving.{included_low, saving_begins, all_saved, level_in, saved-on}
+use Rattle.graph_link.proofs.Saving.{included_low, saving_begins, all_saved, level_in, saved_on}
 use native.Mathlib.Omega.{arith}
 use Rattle.graph_link.proofs.save_includes.Goals as goal
 
@@ -29,7 +29,7 @@ pub bounds-levels-base : goal.bounds-levels-base
 bounds-levels-base c = search level_in
 
 pub loop-i-preserved : goal.loop-i-preserved
-loop-i-preserved c = search saved-on
+loop-i-preserved c = search saved_on
 
 pub returns : goal.returns
 returns c = search all_saved

@@ -1,6 +1,6 @@
 -- `graph_texts::read_text`. Each way out is one law of Under.
 -- Assumes nothing.
-use Rattle.graph_texts.proofs.Under.{none_under, under-room, text-under}
+use Rattle.graph_texts.proofs.Under.{none_under, under_room, text_under}
 use Rattle.library_bundle.proofs.Looking.{text_in}
 use Rattle.graph_texts.proofs.read_text.Goals as goal
 
@@ -11,7 +11,7 @@ pub text_at-requires : goal.text_at-requires
 text_at-requires c = search text_in
 
 pub scan_text-requires : goal.scan_text-requires
-scan_text-requires c = search under-room
+scan_text-requires c = search under_room
 
 pub returns : goal.returns
-returns c = search text-under
+returns c = search text_under

@@ -1,5 +1,5 @@
 use Rattle.library_items.proofs.Ahead.{ahead_reads, ahead_on}
-use Rattle.library_items.proofs.Listing.{no_sets, sets_begun, all_listed, length-kept}
+use Rattle.library_items.proofs.Listing.{no_sets, sets_begun, all_listed, length_kept}
 use borrow.Author.Rules.{rules}
 use Rattle.library_items.proofs.list_items.Goals as goal
 
@@ -16,4 +16,4 @@ pub loop-left-preserved : goal.loop-left-preserved
 loop-left-preserved c = search ahead_on
 
 pub returns : goal.returns
-returns c = (search all_listed, search length-kept)
+returns c = (search all_listed, search length_kept)

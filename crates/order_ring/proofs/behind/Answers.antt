@@ -1,5 +1,5 @@
 use Prim.Native.Nat.{◌-◌}
-use Rattle.order_ring.proofs.Parts.{seek_begun, seek_found, seek-more, seek_ends}
+use Rattle.order_ring.proofs.Parts.{seek_begun, seek_found, seek_more, seek_ends}
 use Rattle.order_ring.proofs.behind.Goals as goal
 
 pub loop-i-init : goal.loop-i-init
@@ -11,7 +11,7 @@ returns-then-of_word-v c =
 
 pub loop-i-preserved : goal.loop-i-preserved
 loop-i-preserved c =
-    seek-more _ _ _ _ c.loop-i.invariant c.loop-i-test.true c.of_word.ensures c.if-of_word-v.false
+    seek_more _ _ _ _ c.loop-i.invariant c.loop-i-test.true c.of_word.ensures c.if-of_word-v.false
 
 pub returns : goal.returns
 returns c = search seek_ends

@@ -1,6 +1,6 @@
 -- `order_take::chain_edge`. What the three stores leave is one law of Chaining.
 -- Assumes nothing.
-use Rattle.order_take.proofs.Chaining.{from_low, from_in, to_low, to_in, few-waits, chained}
+use Rattle.order_take.proofs.Chaining.{from_low, from_in, to_low, to_in, few_waits, chained}
 use borrow.Author.Rules.{rules}
 use Rattle.order_take.proofs.chain_edge.Goals as goal
 
@@ -23,7 +23,7 @@ pub bounds-waits-to : goal.bounds-waits-to
 bounds-waits-to c = search (rules, to_in)
 
 pub overflow_add-waits : goal.overflow_add-waits
-overflow_add-waits c = search (rules, few-waits)
+overflow_add-waits c = search (rules, few_waits)
 
 pub bounds-waits-to-2 : goal.bounds-waits-to-2
 bounds-waits-to-2 c = search (rules, to_in)

@@ -1,6 +1,6 @@
 -- `scan_header::read_field`. A refused value is the answer; after a value the answer is that of what is due there.
 -- Assumes nothing.
-use Rattle.scan_header.proofs.StatementLaws.{field-refused, field-other, field-read, field_stored}
+use Rattle.scan_header.proofs.StatementLaws.{field_refused, field_other, field_read, field_stored}
 use Rattle.text_value.proofs.ArgumentLaws.{argument_far}
 use mathlib.Core.Path.{sym, ◌∙◌}
 use native.Mathlib.Omega.{arith}
@@ -10,7 +10,7 @@ pub returns-in_default : goal.returns-in_default
 returns-in_default c =
     let a = c.args in
     let v = c.read_value-got in (
-      field-refused a.whole a.s.now a.here.at a.keyword a.used v.ensures.0 c.in_default.field-0 c.in_default.is c.argument_refusal.ensures,
+      field_refused a.whole a.s.now a.here.at a.keyword a.used v.ensures.0 c.in_default.field-0 c.in_default.is c.argument_refusal.ensures,
       field_stored a.whole a.s.now
           a.here.at a.keyword a.used a.store.now v.ensures.1,
     )
@@ -19,7 +19,7 @@ pub returns-in_default-due : goal.returns-in_default-due
 returns-in_default-due c =
     let a = c.args in
     let v = c.read_value-got in (
-      field-other a.whole a.s.now a.here.at a.keyword a.used v.ensures.0 c.in-Read.next c.in-Read.n c.in-Read.is
+      field_other a.whole a.s.now a.here.at a.keyword a.used v.ensures.0 c.in-Read.next c.in-Read.n c.in-Read.is
           c.after_value-due.ensures c.in_default-due.field-0 c.in_default-due.is c.refusal_of.ensures,
       field_stored a.whole a.s.now a.here.at a.keyword a.used a.store.now v.ensures.1,
     )
@@ -34,7 +34,7 @@ pub returns : goal.returns
 returns c =
     let a = c.args in
     let v = c.read_value-got in (
-      field-read a.whole a.s.now a.here.at a.keyword a.used v.ensures.0 c.in-Read.next c.in-Read.n c.in-Read.is
+      field_read a.whole a.s.now a.here.at a.keyword a.used v.ensures.0 c.in-Read.next c.in-Read.n c.in-Read.is
           c.after_value-due.ensures c.in-After.end c.in-After.is c.held.ensures,
       field_stored a.whole a.s.now a.here.at a.keyword a.used a.store.now v.ensures.1,
     )

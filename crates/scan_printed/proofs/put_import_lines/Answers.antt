@@ -1,7 +1,7 @@
 use Prim.Native.Nat.{◌-◌}
 use Rattle.scan_line.proofs.Going.{puts, fits, long}
 use Rattle.scan_printed.proofs.Laws.{imports_begin}
-use Rattle.scan_printed.proofs.Lines.{lines_more, lines-done}
+use Rattle.scan_printed.proofs.Lines.{lines_more, lines_done}
 use Rattle.scan_printed.specs.Printed.{import_line}
 use Rattle.scan_rows.specs.Rows.{import_size, import_at}
 use native.Mathlib.Omega.{arith}
@@ -38,4 +38,4 @@ shape_of-page c = long c.loop-row.invariant
 pub returns : goal.returns
 returns c =
     let a = c.args in
-    lines-done (import_at a.table.now) import_size (import_line a.store.now) a.count c.loop-row.row c.loop-row.invariant c.loop-row-test.false
+    lines_done (import_at a.table.now) import_size (import_line a.store.now) a.count c.loop-row.row c.loop-row.invariant c.loop-row-test.false
