@@ -135,7 +135,7 @@ def turned(line, new, fields, code):
 
 
 def turn_antt(t, new, fields):
-    for n in LEMMAS:
+    for n in LEMMAS if DEPTH == 2 else []:
         if re.search(rf"(?m)^ *(pub )?{n} ", t) or re.search(rf"(?m)^\s*use [^\n]*[{{ ]{n}[,}}]", t):
             t = re.sub(rf"(?<![\w.'-]){n}(?![\w.'-])", n + "_lem", t)
     out = []

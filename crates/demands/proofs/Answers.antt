@@ -29,7 +29,7 @@ use Rattle.library_image.specs.Library.{Library}
 use Rattle.library_lists.specs.Lists.{done, read_seen}
 use Rattle.library_lists.specs.declared.Read.{Read}
 use Rattle.library_lists.specs.declared.Read.TheVariants.{End, Wrong}
-use Rattle.library_read.specs.Reading.{read_number_lem}
+use Rattle.library_read.specs.Reading.{read_number}
 use Rattle.library_items.specs.Table.{Reads}
 use Rattle.graph.specs.Limits.{most_nodes}
 use Rattle.graph.specs.Nodes.{Mode}
@@ -89,8 +89,8 @@ module _ (D : Refusal → Type 0) (numbered : (r : Refusal) → D r → r.number
 
 -- ---- images, nodes and look-ups
 
-read_number_lem : (r : Read) (x : Ans Library) → read_seen r ≡ done x → ((read_number_lem r ≡ 0) ↔ Reads x) × ((read_number_lem r ≡ 20) ↔ ((p : ℕ) × (x ≡ bad p)))
-unfolding read_number_lem
+read_number_lem : (r : Read) (x : Ans Library) → read_seen r ≡ done x → ((read_number r ≡ 0) ↔ Reads x) × ((read_number r ≡ 20) ↔ ((p : ℕ) × (x ≡ bad p)))
+unfolding read_number
 read_number_lem (End n) (good l m) e = (
   (λ h. record { value = l; end = m; read = refl }, λ h. refl),
   (λ h. absurd (omega (arith, h)), λ h. let f = h.1 in let z : ◌≡◌ {A = ℕ} 0 1 = cc in absurd (omega arith)),

@@ -25,7 +25,7 @@ use Rattle.graph_build.specs.declared.Graphed.TheVariants.{Built, Refused}
 use Rattle.text.specs.Class.{class_of}
 use Rattle.text.specs.Due.{due_number, due_here, due_at}
 use Rattle.text.specs.Keyword.{starts_ident, ends_keyword, same, part, keyword_at, match_at, or_match}
-use Rattle.text.specs.Scan.{in_ident, in_run, span, run_end_lem, pair_at, closing, block_end, comment_end, after_white, gap_turn, gap_end}
+use Rattle.text.specs.Scan.{in_ident, in_run, span, run_end, pair_at, closing, block_end, comment_end, after_white, gap_turn, gap_end}
 use Rattle.text.specs.Turns.{turns}
 use Rattle.text_value.specs.Argument.{argument_of, breaks_off, argument_at, after_due}
 use Rattle.text_string.specs.Str.{is_quote}
@@ -36,7 +36,7 @@ use Rattle.text_utf8.specs.Utf8.{wrong_from, char_turn, seq_len, char_len, one, 
 use Rattle.text_lent.specs.Lent.{lent_at}
 use Rattle.scan_block.specs.Block.{or_line}
 use Rattle.scan_imports.specs.Statement.{plain_of, block_of, open_or_plain, after_value, include_at}
-use Rattle.yangparser.specs.Dependencies.{joined, import_step, include_step, unless_full, import_here, include_here, moved_to, after_token, head_step_lem, step_here, step_at}
+use Rattle.yangparser.specs.Dependencies.{joined, import_step, include_step, unless_full, import_here, include_here, moved_to, after_token, head_step, step_here, step_at}
 use Rattle.yangparser.specs.Dependencies.{after_step, scan_turn, scan_from, scanned, if_fit, dependencies}
 use Rattle.scan_head.specs.Head.{last_at, or_head, head_at}
 use Rattle.library_form.specs.Form.{Ans, good, bad, groups, number_at, many, printable_at, name_body, name_at}
@@ -113,10 +113,10 @@ pub computed : Computed
 unfolding with_s with_t texts_read entries_read walk_read includes_read walk_once includes_once codes_at each_o mem_r graphed is_too_short words_at number_of graph_of walk_from
     run add_by mem_e text_steps nodes_by add_groups add_all among text_of scan_text import_names include_names value_in longest_text longest_of look_up bundle_at texts_at
     filed_at body_at library_of image_at library_at set_at import_only_at module_at counted count_at new_name name_at name_body printable_at many number_at groups modules_of
-    import_only_of submodules_of flat_map joined import_step include_step unless_full import_here include_here moved_to after_token head_step_lem step_here step_at after_step
+    import_only_of submodules_of flat_map joined import_step include_step unless_full import_here include_here moved_to after_token head_step step_here step_at after_step
     scan_turn scan_from scanned lent_at if_fit dependencies or_match last_at or_head head_at or_line plain_of block_of open_or_plain after_value include_at argument_of
     breaks_off argument_at after_due is_quote starts_name added_by after_plus joined_with joinedValue of_string value_here value_at value_bytes closed_token token_here
-    statement_at due_number due_here due_at starts_ident ends_keyword same part keyword_at match_at gap_end gap_turn after_white comment_end block_end closing pair_at run_end_lem
+    statement_at due_number due_here due_at starts_ident ends_keyword same part keyword_at match_at gap_end gap_turn after_white comment_end block_end closing pair_at run_end
     span in_run in_ident class_of turns refused_at is_high
     wrong_from char_turn seq_len char_len one two three second3 four second4 tail
 computed = record {

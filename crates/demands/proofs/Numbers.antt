@@ -40,7 +40,7 @@ use Rattle.graph_build.specs.declared.Graphed.{Graphed}
 use Rattle.graph_build.specs.declared.Graphed.TheVariants.{Built, Refused}
 use Rattle.nuvaleta.specs.Words.{graph_words}
 use Rattle.demands.specs.Demand1.{GraphCause, image, bundle, lent, graph, GraphNumbers, Buildable, Demand1}
-use Rattle.demands_scans.proofs.ScanNumbers.{is_one_lem, one_of, is_one_lem, dependencies_first}
+use Rattle.demands_scans.proofs.ScanNumbers.{is_one, one_of, is_one_lem, dependencies_first}
 use Rattle.demands.proofs.Graphing.{graph_here, before, graph_reached, drawn}
 use Rattle.demands_scans.proofs.MetadataNumbers.{metadata_first}
 use Rattle.demands_scans.proofs.WholeNumbers.{dependencies_mode_refused, metadata_mode_refused}
@@ -87,10 +87,10 @@ abbrev early : List ℕ
 early = 20 ∷ 21 ∷ 22 ∷ 30 ∷ []
 
 -- before the walk, and at an entry of it
-before_walk : (n place : ℕ) → is_one_lem n every ≡ true → is_one_lem n early ≡ true → (place ≡ 0) ⊎ Memᴰ n (20 ∷ 21 ∷ []) → GraphNumbers n 0 no_refusal place
+before_walk : (n place : ℕ) → is_one n every ≡ true → is_one n early ≡ true → (place ≡ 0) ⊎ Memᴰ n (20 ∷ 21 ∷ []) → GraphNumbers n 0 no_refusal place
 before_walk n place h i j = record { number_in = one_of n every h; entry_none = (λ e. one_of n early i, λ m. refl); scan_none = inl refl; place_none = j }
 
-at_entry : (n e : ℕ) (a : ScanAnswer) (k : ℕ) → e ≡ k + 1 → is_one_lem n every ≡ true → is_one_lem n early ≡ false → (a ≡ no_refusal) ⊎ (n ≡ 25) → GraphNumbers n e a 0
+at_entry : (n e : ℕ) (a : ScanAnswer) (k : ℕ) → e ≡ k + 1 → is_one n every ≡ true → is_one n early ≡ false → (a ≡ no_refusal) ⊎ (n ≡ 25) → GraphNumbers n e a 0
 at_entry n e a k q h i j = record {
   number_in = one_of n every h;
   entry_none = (λ z. absurd (omega (arith, q, z)), λ m. absurd (never i (is_one_lem m)));
@@ -100,7 +100,7 @@ at_entry n e a k q h i j = record {
 
 module _ (mode : Mode) (s b : List ℕ) where
   fault_numbers : (x : Entry) (e k : ℕ) → e ≡ k + 1 → {n : ℕ} {a : ScanAnswer} → Fault mode (text_of b) (plain_at s) x n a → GraphNumbers n e a 0
-  unfolding is_one_lem
+  unfolding is_one
   fault_numbers x e k q (entry_missing h) = at_entry 23 e no_refusal k q refl refl (inl refl)
   fault_numbers x e k q (include_missing r f h) = at_entry 24 e no_refusal k q refl refl (inl refl)
   fault_numbers x e k q (scan_refused_lem {a = a} r h) = at_entry 25 e a k q refl refl (inr refl)
@@ -111,13 +111,13 @@ module _ (mode : Mode) (s b : List ℕ) where
   fault_numbers x e k q (too_deep_lem r f) = at_entry 29 e no_refusal k q refl refl (inl refl)
 
   cause_numbers : {n e : ℕ} {a : ScanAnswer} → Cause mode (text_of b) (plain_at s) 1024 8192 n e a → GraphNumbers n e a 0
-  unfolding is_one_lem
+  unfolding is_one
   cause_numbers (names h) = before_walk 30 0 refl refl (inl refl)
   cause_numbers (by_fault {k = e} x f g) = fault_numbers x e (length f.before) f.number g
   cause_numbers (edges {k = e} x f w es d m h) = at_entry 31 e no_refusal (length f.before) f.number refl refl (inl refl)
 
   numbers : (k : Lengths) {n e place : ℕ} {a : Refusal} → GraphCause mode s b k n e a place → GraphNumbers n e a place
-  unfolding is_one_lem
+  unfolding is_one
   numbers k (image {p = p} h) = before_walk 20 p refl refl (inr (one_of 20 (20 ∷ 21 ∷ []) refl))
   numbers k (bundle {p = p} r h) = before_walk 21 p refl refl (inr (one_of 21 (20 ∷ 21 ∷ []) refl))
   numbers k (lent r o h) = before_walk 22 0 refl refl (inl refl)

@@ -5,7 +5,7 @@ use Rattle.text.specs.Refusal.{is_high, refused_at}
 use Rattle.text.specs.Class.{class_of}
 use Rattle.text.specs.Due.{due_number, due_here, due_at}
 use Rattle.text.specs.Keyword.{starts_ident, ends_keyword, same, part, keyword_at, match_at, or_match}
-use Rattle.text.specs.Scan.{in_ident, in_run, span, run_end_lem, pair_at, closing, block_end, comment_end, after_white, gap_turn, gap_end}
+use Rattle.text.specs.Scan.{in_ident, in_run, span, run_end, pair_at, closing, block_end, comment_end, after_white, gap_turn, gap_end}
 use Rattle.text.specs.Turns.{turns}
 use Rattle.text_value.specs.Argument.{argument_of, breaks_off, argument_at, after_due, after_argument, line_at}
 use Rattle.text_string.specs.Str.{is_quote, escaped, escapes, str_end, str_bytes, closed_by, str_at}
@@ -26,7 +26,7 @@ use Rattle.scan_metadata.specs.Metadata.{told, first_of, values_of, ended, after
 use Rattle.scan_block.specs.Block.{or_line, line_kind, kept as keptLine, with_value, with_skipped, after_kind, inside_here, inside_at, after_inside, block_turn}
 use Rattle.scan_block.specs.Block.{block_from, block_at}
 use Rattle.scan_imports.specs.Statement.{of_body, import_of, with_name, after_name, import_at, include_of, plain_of, block_of, open_or_plain, after_value, include_at}
-use Rattle.yangparser.specs.Dependencies.{joined, import_step, include_step, unless_full, import_here, include_here, moved_to, after_token, head_step_lem, step_here, step_at}
+use Rattle.yangparser.specs.Dependencies.{joined, import_step, include_step, unless_full, import_here, include_here, moved_to, after_token, head_step, step_here, step_at}
 use Rattle.yangparser.specs.Dependencies.{after_step, scan_turn, scan_from, scanned, if_fit, dependencies}
 use Rattle.scan_head.specs.Head.{last_at, or_head, head_at}
 use Rattle.library_form.specs.Form.{groups, number_at, many, printable_at, name_body, name_at}
@@ -55,12 +55,12 @@ unfolding starred all holds enough drawn graphed is_too_short node_words row_wor
     library_at set_at import_only_at module_at counted count_at new_name name_at name_body printable_at many number_at groups modules_of import_only_of submodules_of flat_map
     outcome described record_words metadata Metadata.if_fit Metadata.scanned Metadata.scan_from metadata_turn after_heard ended told first_of values_of newer
     newest_from newest less past_of past_token past_statement breaks_off due_for after_revision afterHeaderValue passed kept with_rest field_at later_prefix statement_said
-    tag_said said_here said_at data_at last_tag or_tag tag_at joined import_step include_step unless_full import_here include_here moved_to after_token head_step_lem step_here
+    tag_said said_here said_at data_at last_tag or_tag tag_at joined import_step include_step unless_full import_here include_here moved_to after_token head_step step_here
     step_at after_step scan_turn scan_from scanned lent_at if_fit dependencies or_match last_at or_head head_at or_line line_kind with_value keptLine with_skipped after_kind
     inside_here inside_at after_inside block_turn block_from block_at of_body import_of with_name after_name import_at include_of plain_of block_of open_or_plain after_value
     include_at argument_of argument_at after_due after_argument line_at escaped escapes str_end str_bytes closed_by str_at is_quote starts_name added_by after_plus after_gap
     more_at add_to join_turn joined_with joinedValue of_string value_here value_at value_bytes closed_token token_here token_at closes quoted_len quoted_end at_semicolon
     at_close part_of part_at of_part statement_turn statement_from statement_at due_number due_here due_at starts_ident ends_keyword same part keyword_at match_at gap_end
-    gap_turn after_white comment_end block_end closing pair_at run_end_lem span in_run in_ident class_of turns refused_at is_high at_other
+    gap_turn after_white comment_end block_end closing pair_at run_end span in_run in_ident class_of turns refused_at is_high at_other
     wrong_from char_turn seq_len char_len one two three second3 four second4 tail
 right = tt

@@ -1,5 +1,5 @@
 -- The answers of inner functions in document 01's numbers. Where the answer is an enum, a definition gives the number of every case: `lent_refusal`,
--- `import_refusal`, `include_refusal` and `heard_refusal` with keyword and position, `read_number_lem`, `nodes_number`, and of a find or look-up `told_words`. Here
+-- `import_refusal`, `include_refusal` and `heard_refusal` with keyword and position, `read_number`, `nodes_number`, and of a find or look-up `told_words`. Here
 -- stands which number is given when: 0 exactly where nothing is refused, else the number of a refusal that can come.
 -- Assumes nothing.
 use Rattle.std.specs.Prelude.{ℕ, ◌≤◌, ◌<◌, ◌≡◌, Bool, ◌↔◌, List, length, get_or}
@@ -18,7 +18,7 @@ use Rattle.library_form.specs.declared.LookUp.TheVariants.{Broken}
 use Rattle.library_image.specs.Image.{image_at}
 use Rattle.library_lists.specs.Lists.{done, read_seen}
 use Rattle.library_lists.specs.declared.Read.{Read}
-use Rattle.library_read.specs.Reading.{read_number_lem}
+use Rattle.library_read.specs.Reading.{read_number}
 use Rattle.library_items.specs.Table.{Reads}
 use Rattle.graph.specs.Limits.{most_nodes}
 use Rattle.graph.specs.Nodes.{Mode}
@@ -47,8 +47,8 @@ pub record Answers : Type 0 where
   pub heard : (whole : Bool) (s : List ℕ) (at used : ℕ) (prefixed : Bool)
       → Refuses Refused heard_refusal (ModeRefusal whole HeaderRefusal s) (said_at whole s at used prefixed).answer
   -- read_image: 0 exactly if the image has its form, 20 exactly if it is wrong somewhere
-  pub read : (s : List ℕ) (r : Read) → read_seen r ≡ done (image_at s) → (read_number_lem r ≡ 0) ↔ Reads (image_at s)
-  pub read_wrong : (s : List ℕ) (r : Read) → read_seen r ≡ done (image_at s) → (read_number_lem r ≡ 20) ↔ ((p : ℕ) × (image_at s ≡ bad p))
+  pub read : (s : List ℕ) (r : Read) → read_seen r ≡ done (image_at s) → (read_number r ≡ 0) ↔ Reads (image_at s)
+  pub read_wrong : (s : List ℕ) (r : Read) → read_seen r ≡ done (image_at s) → (read_number r ≡ 20) ↔ ((p : ℕ) × (image_at s ≡ bad p))
   -- construct_nodes: 0 exactly if there are few enough names, 30 exactly if there are too many
   pub nodes : (mode : Mode) (s tab : List ℕ) {r : Nodes} {after : List ℕ} → Constructed mode s tab r after
       → (nodes_number r ≡ 0) ↔ (length (words_at mode s) ≤ most_nodes)

@@ -11,7 +11,7 @@ use Rattle.text.specs.Class.{class_of}
 use Rattle.text.specs.Due.{due_number, due_here, due_at}
 use Rattle.text.specs.Keyword.{starts_ident, ends_keyword, same, part, keyword_at, match_at, or_match}
 use Rattle.text.specs.Refusal.{is_high, refused_at}
-use Rattle.text.specs.Scan.{in_ident, in_run, span, run_end_lem, pair_at, closing, block_end, comment_end, after_white, gap_turn, gap_end}
+use Rattle.text.specs.Scan.{in_ident, in_run, span, run_end, pair_at, closing, block_end, comment_end, after_white, gap_turn, gap_end}
 use Rattle.text.specs.Turns.{turns}
 use Rattle.text_past.specs.Past.{past_of}
 use Rattle.text_string.specs.Str.{is_quote, escaped, escapes, str_end, str_bytes, closed_by, str_at}
@@ -31,7 +31,7 @@ use Rattle.scan_rows.specs.declared.YangImport.{YangImport}
 use Rattle.scan_block.specs.Block.{or_line, line_kind, kept, with_value, with_skipped, after_kind, inside_here, inside_at, after_inside, block_turn, block_from, block_at}
 use Rattle.scan_imports.specs.Statement.{of_body, import_of, with_name, after_name, import_at, include_of, plain_of, block_of, open_or_plain, after_value, include_at}
 use Rattle.scan_head.specs.Head.{last_at, or_head, head_at}
-use Rattle.yangparser.specs.Dependencies.{import_words_of, joined, import_step, include_step, unless_full, import_here, include_here, moved_to, after_token, head_step_lem}
+use Rattle.yangparser.specs.Dependencies.{import_words_of, joined, import_step, include_step, unless_full, import_here, include_here, moved_to, after_token, head_step}
 use Rattle.yangparser.specs.Dependencies.{step_here, step_at, good, after_step, scan_turn, scan_from, scanned, if_fit, dependencies, parsed_of, Dependencies, kept_of}
 use Rattle.yangparser.specs.Promises.{Extracts}
 use Rattle.yangparser.specs.declared.Parsed.{Parsed}
@@ -57,13 +57,13 @@ abbrev read : Dependencies
 read = record { imports = row ∷ []; includes = []; bytes = stored }
 
 scan : dependencies false text false ≡ good read
-unfolding joined import_step include_step unless_full import_here include_here moved_to after_token past_of past_token past_statement head_step_lem step_here step_at after_step
+unfolding joined import_step include_step unless_full import_here include_here moved_to after_token past_of past_token past_statement head_step step_here step_at after_step
     scan_turn scan_from scanned lent_at if_fit dependencies or_match last_at or_head head_at or_line line_kind with_value kept with_skipped after_kind inside_here inside_at
     after_inside block_turn block_from block_at of_body import_of with_name after_name import_at include_of plain_of block_of open_or_plain after_value include_at argument_of
     breaks_off argument_at after_due after_argument line_at escaped escapes str_end str_bytes closed_by str_at is_quote starts_name added_by after_plus after_gap more_at add_to
     join_turn joined_with joinedValue of_string value_here value_at value_bytes closed_token token_here token_at closes quoted_len quoted_end at_semicolon at_close part_of
     part_at of_part statement_turn statement_from statement_at due_number due_here due_at starts_ident ends_keyword same part keyword_at match_at gap_end gap_turn after_white
-    comment_end block_end closing pair_at run_end_lem span in_run in_ident class_of turns refused_at is_high at_other wrong_from char_turn seq_len char_len one two three second3
+    comment_end block_end closing pair_at run_end span in_run in_ident class_of turns refused_at is_high at_other wrong_from char_turn seq_len char_len one two three second3
     four second4 tail
 scan = refl
 
@@ -101,7 +101,7 @@ behind_backslash = 34 ∷ 92 ∷ 195 ∷ 169 ∷ 34 ∷ []
 
 whole_character : value_at behind_backslash 0 ≡ value (195 ∷ 169 ∷ []) 5
 unfolding value_at value_here of_string joinedValue joined_with join_turn add_to more_at after_gap after_plus added_by is_quote starts_name str_at closed_by str_bytes str_end
-    escaped escapes part gap_end gap_turn after_white comment_end block_end closing pair_at run_end_lem span in_run in_ident class_of turns
+    escaped escapes part gap_end gap_turn after_white comment_end block_end closing pair_at run_end span in_run in_ident class_of turns
 whole_character = refl
 
 -- ---- the text has to be valid: a string with the first byte of é alone
@@ -111,7 +111,7 @@ cut_text = 34 ∷ 195 ∷ 34 ∷ []
 
 cut_read : value_at cut_text 0 ≡ value (195 ∷ []) 3
 unfolding value_at value_here of_string joinedValue joined_with join_turn add_to more_at after_gap after_plus added_by is_quote starts_name str_at closed_by str_bytes str_end
-    escaped escapes part gap_end gap_turn after_white comment_end block_end closing pair_at run_end_lem span in_run in_ident class_of turns
+    escaped escapes part gap_end gap_turn after_white comment_end block_end closing pair_at run_end span in_run in_ident class_of turns
 cut_read = refl
 
 cut_wrong : (wrong_from cut_text 0 ≡ 1) × (wrong_from (195 ∷ []) 0 ≡ 0)

@@ -27,7 +27,7 @@ use Rattle.scan_imports.specs.declared.ParsedInclude.TheVariants.{Include as Rea
 use Rattle.scan_head.specs.Head.{head_at}
 use Rattle.scan_head.specs.declared.Head.{Head}
 use Rattle.scan_head.specs.declared.Head.TheVariants.{Import, Include, Last, Other as Token}
-use Rattle.yangparser.specs.Dependencies.{Dependencies, joined, import_step, include_step, unless_full, import_here, include_here, head_step_lem, step_here, step_at}
+use Rattle.yangparser.specs.Dependencies.{Dependencies, joined, import_step, include_step, unless_full, import_here, include_here, head_step, step_here, step_at}
 use Rattle.yangparser.specs.Dependencies.{Scanning, Scan, good, after_step, scan_turn, scan_from, scanned, none, Step, read_of}
 use Rattle.yangparser.specs.declared.Next.{Next}
 use Rattle.yangparser.specs.declared.Next.TheVariants.{On, Done, Stop}
@@ -127,8 +127,8 @@ module _ (whole : Bool) {s : List ℕ} (c : Chars s) where
   include_adds far bs k (ReadInclude n m i) = k
   include_adds far bs k (NoInclude r) = k
 
-  head_chars : (far : Sofar) (at : ℕ) (h : Head) → AllAdded (head_step_lem whole s far at h)
-  unfolding head_step_lem import_here include_here unless_full
+  head_chars : (far : Sofar) (at : ℕ) (h : Head) → AllAdded (head_step whole s far at h)
+  unfolding head_step import_here include_here unless_full
   head_chars far at (Import n) =
       test_chars (λ (x : Step). x.adds.bytes) (leb 256 far.imports) _ _ C.none (import_adds far _ (import_chars n.at far.used) _)
   head_chars far at (Include n) =

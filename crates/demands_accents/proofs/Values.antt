@@ -13,7 +13,7 @@ use lib.ListN.{length, take, drop}
 use borrow.Author.Tests.{ne_eqb, eqb-true, eqb-false, ltb-true}
 use Rattle.text.specs.Bytes.{look}
 use Rattle.text.specs.Keyword.{part}
-use Rattle.text.specs.Scan.{in_ident, in_run, span, run_end_lem, gap_end}
+use Rattle.text.specs.Scan.{in_ident, in_run, span, run_end, gap_end}
 use Rattle.text.specs.declared.Run.TheVariants.{Name}
 use Rattle.text.proofs.ClassLaws.{class_high}
 use Rattle.text.proofs.Here.{by_test, never}
@@ -154,8 +154,8 @@ unfolding span
 span_chars p low [] = C.none
 span_chars p low (b ∷ xs) = by_test (p b) (λ t. rw t (char1 (one_low b (low b t)) (span_chars p low xs))) (λ t. rw t C.none)
 
-name_chars : (s : List ℕ) (at : ℕ) → Chars (part s at (run_end_lem Name s at))
-unfolding part run_end_lem
+name_chars : (s : List ℕ) (at : ℕ) → Chars (part s at (run_end Name s at))
+unfolding part run_end
 name_chars s at =
     let n = span (in_run Name) (drop at s) in
     let e : at + n - at ≡ n = omega arith in

@@ -14,7 +14,7 @@ use lib.Dec.{eqb}
 use borrow.Author.Tests.{eqb-true, eqb-false}
 use Rattle.text.specs.Class.{class_of}
 use Rattle.text.specs.Keyword.{part}
-use Rattle.text.specs.Scan.{in_run, span, run_end_lem, pair_at, comment_end, gap_end}
+use Rattle.text.specs.Scan.{in_run, span, run_end, pair_at, comment_end, gap_end}
 use Rattle.text.specs.Turns.{stop, on, after}
 use Rattle.text.specs.declared.Run.TheVariants.{White, Line}
 use Rattle.text.proofs.Here.{by_test, never, both}
@@ -38,8 +38,8 @@ unfolding span
 span_end p [] h = h
 span_end p (b ∷ xs) h = by_test (p b) (λ t. rw t (span_end p xs h)) (λ t. rw t t)
 
-run_end_lem : (s : List ℕ) (i : ℕ) → in_run White (get_or s (run_end_lem White s i) 256) ≡ false
-unfolding run_end_lem in_run class_of
+run_end_lem : (s : List ℕ) (i : ℕ) → in_run White (get_or s (run_end White s i) 256) ≡ false
+unfolding run_end in_run class_of
 run_end_lem s i = ap (in_run White) (sym (get_or-drop i s (span (in_run White) (drop i s)) 256)) ∙ span_end (in_run White) (drop i s) refl
 
 -- neither a white byte nor a comment stands there
@@ -50,7 +50,7 @@ gap_ends : (s : List ℕ) (n i : ℕ) → length s - i < n → Ends s (gap_end s
 unfolding Ends
 gap_ends s zero i h = absurd (not-suc-le-zero h)
 gap_ends s (suc n) i h =
-    let w = run_end_lem White s i in
+    let w = run_end White s i in
     by_test (eqb (comment_end s w) w)
     (λ e. rw (gap_stop s i refl refl (eqb-true _ _ e)) (run_end_lem s i, eqb-true _ _ e))
     (λ e. rw (gap_more s i refl refl (eqb-false _ _ e)) (gap_ends s n (comment_end s w) (omega (arith, gap_on s i refl refl (eqb-false _ _ e)))))

@@ -6,7 +6,7 @@ use Prim.Native.Nat.{ℕ}
 use lib.Dec.{T}
 use Rattle.text.specs.Class.{class_of}
 use Rattle.text.specs.Keyword.{part}
-use Rattle.text.specs.Scan.{in_ident, in_run, span, run_end_lem, pair_at, closing, block_end, comment_end, after_white, gap_turn, gap_end}
+use Rattle.text.specs.Scan.{in_ident, in_run, span, run_end, pair_at, closing, block_end, comment_end, after_white, gap_turn, gap_end}
 use Rattle.text_string.specs.Str.{is_quote, escaped, escapes, str_end, str_bytes, closed_by, str_at}
 use Rattle.text_value.specs.Value.{starts_name, added_by, after_plus, after_gap, more_at, add_to, join_turn, joined_with, joined, of_string, value_here, value_at}
 use Rattle.text_value.specs.Value.{value}
@@ -65,7 +65,7 @@ examples =
 
 holds : T (all examples)
 unfolding examples all right value_at value_here of_string joined joined_with join_turn add_to more_at after_gap after_plus added_by is_quote starts_name str_at closed_by
-    str_bytes str_end escaped escapes part gap_end gap_turn after_white comment_end block_end closing pair_at run_end_lem span in_run in_ident class_of turns is_blank are_at
+    str_bytes str_end escaped escapes part gap_end gap_turn after_white comment_end block_end closing pair_at run_end span in_run in_ident class_of turns is_blank are_at
     break_at to_line_end comment_close past_comment separator past_gap with first single_body double_body width column_after column_of string_at gap_to gap_at gap_and_string
     plus_and_string added_strings more_strings pieces_at blank_to_break unless trim_ends trim_starts trimmed escape joining unescaped meaning meanings ending_at meant
     rfc_value odd_white one_line legal plain legal_in every found plain_at legal_at
@@ -96,7 +96,7 @@ silences =
 
 still : T (all_silent silences)
 unfolding silences all_silent silent value_at value_here of_string joined joined_with join_turn add_to more_at after_gap after_plus added_by is_quote starts_name str_at
-    closed_by str_bytes str_end escaped escapes part gap_end gap_turn after_white comment_end block_end closing pair_at run_end_lem span in_run in_ident class_of turns is_blank
+    closed_by str_bytes str_end escaped escapes part gap_end gap_turn after_white comment_end block_end closing pair_at run_end span in_run in_ident class_of turns is_blank
     are_at break_at to_line_end comment_close past_comment separator past_gap with first single_body double_body width column_after column_of string_at gap_to gap_at
     gap_and_string plus_and_string added_strings more_strings pieces_at blank_to_break unless trim_ends trim_starts trimmed escape joining unescaped meaning meanings
     ending_at meant rfc_value

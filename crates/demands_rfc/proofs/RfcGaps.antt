@@ -13,7 +13,7 @@ use lib.ListN.{length, get_or, drop}
 use lib.Dec.{eqb, leb}
 use borrow.Author.Tests.{eqb-true, eqb-false, leb-true}
 use Rattle.text.specs.Class.{class_of, letter, digit, white}
-use Rattle.text.specs.Scan.{in_run, span, run_end_lem, pair_at, closing, block_end, comment_end, gap_end}
+use Rattle.text.specs.Scan.{in_run, span, run_end, pair_at, closing, block_end, comment_end, gap_end}
 use Rattle.text.specs.Turns.{Turn, stop, on, after, turns}
 use Rattle.text.specs.declared.Run.TheVariants.{White, Line}
 use Rattle.text.proofs.Here.{by_test, here, never, both, neither}
@@ -61,13 +61,13 @@ module _ (s : List ℕ) (i : ℕ) where
 
   on_white : in_run White (get_or s i 256) ≡ true → gap_end s i ≡ gap_end s (i + 1)
   on_white h =
-      let w = run_end_lem White s i in
-      let r : w ≡ run_end_lem White s (i + 1) = run_more White s i (white_inside h) refl refl h in
+      let w = run_end White s i in
+      let r : w ≡ run_end White s (i + 1) = run_more White s i (white_inside h) refl refl h in
       by_test (eqb (comment_end s w) w)
       (λ e. gap_stop s i refl refl (eqb-true _ _ e) ∙ sym (gap_stop s (i + 1) r refl (eqb-true _ _ e)))
       (λ e. gap_more s i refl refl (eqb-false _ _ e) ∙ sym (gap_more s (i + 1) r refl (eqb-false _ _ e)))
 
-  no_white : in_run White (get_or s i 256) ≡ false → run_end_lem White s i ≡ i
+  no_white : in_run White (get_or s i 256) ≡ false → run_end White s i ≡ i
   no_white h = elim (dec_le (length s) i) [ yes p ↦ run_past White s i p | no p ↦ run_stop White s i (lt_of_not-le p) refl refl h ]
 
   on_comment : in_run White (get_or s i 256) ≡ false → i < comment_end s i → gap_end s i ≡ gap_end s (comment_end s i)
@@ -98,7 +98,7 @@ close_same (b ∷ xs) at e h =
 
 module _ (s : List ℕ) (i : ℕ) where
   on_line : are_at s i 47 47 ≡ true → gap_end s i ≡ gap_end s (i + 2 + to_line_end (drop (i + 2) s))
-  unfolding are_at pair_at run_end_lem
+  unfolding are_at pair_at run_end
   on_line h =
       let c : comment_end s i ≡ i + 2 + to_line_end (drop (i + 2) s) = comment_line s i h ∙ ap (λ n. i + 2 + n) (line_same (drop (i + 2) s)) in
       on_comment s i (slash s i 47 h) (omega arith) ∙ ap (gap_end s) c

@@ -5,7 +5,7 @@ use mathlib.Core.List.{List, [], ◌∷◌}
 use Prim.Native.Nat.{ℕ}
 use Rattle.text.specs.Class.{class_of}
 use Rattle.text.specs.Keyword.{part}
-use Rattle.text.specs.Scan.{in_ident, in_run, span, run_end_lem, pair_at, closing, block_end, comment_end, after_white, gap_turn, gap_end}
+use Rattle.text.specs.Scan.{in_ident, in_run, span, run_end, pair_at, closing, block_end, comment_end, after_white, gap_turn, gap_end}
 use Rattle.text_string.specs.Str.{is_quote, escaped, escapes, str_end, str_bytes, closed_by, str_at}
 use Rattle.text_value.specs.Value.{starts_name, added_by, after_plus, after_gap, more_at, add_to, join_turn, joined_with, joined, of_string, value_here, value_at}
 use Rattle.text_value.specs.Value.{value}
@@ -21,7 +21,7 @@ text = 34 ∷ 97 ∷ 34 ∷ 32 ∷ 47 ∷ 42 ∷ 99 ∷ 42 ∷ 47 ∷ 10 ∷ 43 
 
 quoted : Quoted text 0
 unfolding value_at value_here of_string joined joined_with join_turn add_to more_at after_gap after_plus added_by is_quote starts_name str_at closed_by str_bytes str_end
-    escaped escapes part gap_end gap_turn after_white comment_end block_end closing pair_at run_end_lem span in_run in_ident class_of turns is_blank are_at break_at to_line_end
+    escaped escapes part gap_end gap_turn after_white comment_end block_end closing pair_at run_end span in_run in_ident class_of turns is_blank are_at break_at to_line_end
     comment_close plain_white one_line legal
 quoted =
     record {
@@ -39,5 +39,5 @@ same = rfc_equality.same text 0 quoted
 
 read : value_at text 0 ≡ value (97 ∷ 98 ∷ []) 18
 unfolding value_at value_here of_string joined joined_with join_turn add_to more_at after_gap after_plus added_by is_quote starts_name str_at closed_by str_bytes str_end
-    escaped escapes part gap_end gap_turn after_white comment_end block_end closing pair_at run_end_lem span in_run in_ident class_of turns
+    escaped escapes part gap_end gap_turn after_white comment_end block_end closing pair_at run_end span in_run in_ident class_of turns
 read = refl

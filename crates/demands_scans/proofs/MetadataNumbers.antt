@@ -41,7 +41,7 @@ use Rattle.scan_metadata.specs.Metadata.{Metadata, nothing, Scan, good, bad, end
 use Rattle.demands_scans.specs.Refusals.{FirstRefusal, Fits, RefusedAs, first, read, HeaderRefusal, no_value, no_byte, MetadataRefusal, header, no_name}
 use Rattle.demands_scans.specs.Refusals.{MetRefusal, high, other}
 use Rattle.demands_scans.proofs.Loops.{turns_all}
-use Rattle.demands_scans.proofs.ScanNumbers.{is_one_lem, are_read, FourToTen, read_number_lem, refusal, of, DueIs, ArgumentIs, due_is, value_is, past_is}
+use Rattle.demands_scans.proofs.ScanNumbers.{is_one, are_read, FourToTen, read_number_lem, refusal, of, DueIs, ArgumentIs, due_is, value_is, past_is}
 use Rattle.demands_scans.proofs.ScanNumbers.{LentIs, lent_is, first_unfit}
 
 pub header_number : (q : Refusal) → HeaderRefusal q → FourToTen q.number
@@ -60,10 +60,10 @@ module _ (s : List ℕ) where
   abbrev pub M : Refusal → Type 0
   M r = MetRefusal HeaderRefusal s r
 
-  byte_is : (k : ℕ) → is_one_lem k (1 ∷ 2 ∷ 4 ∷ 5 ∷ 6 ∷ 7 ∷ []) ≡ true → (at b : ℕ) → DueIs M (due_at s at b k)
-  unfolding is_one_lem
+  byte_is : (k : ℕ) → is_one k (1 ∷ 2 ∷ 4 ∷ 5 ∷ 6 ∷ 7 ∷ []) ≡ true → (at b : ℕ) → DueIs M (due_at s at b k)
+  unfolding is_one
   byte_is k h =
-      let of_number : (n : ℕ) → is_one_lem n (5 ∷ 6 ∷ []) ≡ true → (at : ℕ) → HeaderRefusal (refusal n k at)
+      let of_number : (n : ℕ) → is_one n (5 ∷ 6 ∷ []) ≡ true → (at : ℕ) → HeaderRefusal (refusal n k at)
       = λ n i at. no_byte (of (5 ∷ 6 ∷ []) (1 ∷ 2 ∷ 4 ∷ 5 ∷ 6 ∷ 7 ∷ []) n k at i h) in
       due_is s HeaderRefusal k (of_number 5 refl) (of_number 6 refl)
 
@@ -72,10 +72,10 @@ module _ (s : List ℕ) where
   past_statement_is at = past_is s HeaderRefusal (length s) (statement_at s at) (statement_refused s at)
 
   revision_is : (at : ℕ) → DueIs M (after_revision false s at)
-  unfolding after_revision is_one_lem
+  unfolding after_revision is_one
   revision_is at = by_test (eqb (look s at) 123) (λ t. rw t (past_statement_is at)) (λ t. rw t (byte_is 7 refl at 59))
 
-  rest_is : (at k : ℕ) → (eqb k 3 ≡ false → is_one_lem k (1 ∷ 2 ∷ 4 ∷ 5 ∷ 6 ∷ 7 ∷ []) ≡ true) → DueIs M (after_value false s at k)
+  rest_is : (at k : ℕ) → (eqb k 3 ≡ false → is_one k (1 ∷ 2 ∷ 4 ∷ 5 ∷ 6 ∷ 7 ∷ []) ≡ true) → DueIs M (after_value false s at k)
   unfolding after_value
   rest_is at k h =
       by_test (eqb k 3) (λ t. rw t (past_statement_is at))
@@ -99,7 +99,7 @@ unfolding kept
 kept_is P k u n (After c) h = tt
 kept_is P k u n (Not r) h = h
 
-module _ (s : List ℕ) (k : ℕ) (after : eqb k 3 ≡ false → is_one_lem k (1 ∷ 2 ∷ 4 ∷ 5 ∷ 6 ∷ 7 ∷ []) ≡ true) where
+module _ (s : List ℕ) (k : ℕ) (after : eqb k 3 ≡ false → is_one k (1 ∷ 2 ∷ 4 ∷ 5 ∷ 6 ∷ 7 ∷ []) ≡ true) where
   with_is : (u : ℕ) (a : Argument) → ArgumentIs (M s) a → HeardIs (M s) (with_rest false s k u a)
   unfolding with_rest
   with_is u (Read c n) h = kept_is (M s) k u n (after_value false s c.at k) (rest_is s c.at k after)
@@ -110,9 +110,9 @@ module _ (s : List ℕ) (k : ℕ) (after : eqb k 3 ≡ false → is_one_lem k (1
   skipped_is (After c) h = passed_is (M s) (after_value false s c.at k) (rest_is s c.at k after)
   skipped_is (Not r) h = h
 
-  statement_is : (eqb k 6 ≡ false → is_one_lem k (1 ∷ 2 ∷ 3 ∷ 4 ∷ 5 ∷ 7 ∷ []) ≡ true) → (at u : ℕ) (p : Bool)
+  statement_is : (eqb k 6 ≡ false → is_one k (1 ∷ 2 ∷ 3 ∷ 4 ∷ 5 ∷ 7 ∷ []) ≡ true) → (at u : ℕ) (p : Bool)
       → HeardIs (M s) (statement_said false s at k u p).answer
-  unfolding statement_said field_at is_one_lem past_value
+  unfolding statement_said field_at is_one past_value
   statement_is own at u p =
       by_test (eqb k 6)
       (λ t. rw t (skipped_is (past_value false s at)
@@ -138,7 +138,7 @@ module _ (s : List ℕ) (at u : ℕ) (p : Bool) where
   last_is Unmatched = passed_is (M s) (past_token false s at) (past_is s HeaderRefusal (length s) (token_at s at) (token_refused s at))
 
   tag_is : TagIs (tag_at s at)
-  unfolding tag_at tag_said is_one_lem
+  unfolding tag_at tag_said is_one
   tag_is =
       or_is 1 (λ c. statement_is s 1 (λ h. refl) (λ h. refl) c.at u p) _ _
       (or_is 2 (λ c. statement_is s 2 (λ h. refl) (λ h. refl) c.at u p) _ _
@@ -160,7 +160,7 @@ module _ (s : List ℕ) where
   ScanIs (bad r bs) = MetRefusal MetadataRefusal s r
 
   ended_is : (m : Metadata) (at : ℕ) → ScanIs (ended m at)
-  unfolding ended is_one_lem
+  unfolding ended is_one
   ended_is m at = by_test m.name.present (λ t. rw t tt) (λ t. rw t (other (no_name (of (9 ∷ []) (0 ∷ []) 9 0 at refl refl))))
 
   of_header : (r : Refusal) → M s r → MetRefusal MetadataRefusal s r

@@ -61,7 +61,7 @@ use Rattle.scan_imports.specs.declared.ParsedInclude.{ParsedInclude}
 use Rattle.scan_imports.specs.declared.ParsedInclude.TheVariants.{Include as ReadInclude, NoInclude}
 use Rattle.scan_block.proofs.BlockLaws.{block_falls}
 use Rattle.yangparser.specs.Dependencies as Deps
-use Rattle.yangparser.specs.Dependencies.{Step, import_step, include_step, unless_full, import_here, include_here, after_token, head_step_lem, step_here, step_at, after_step}
+use Rattle.yangparser.specs.Dependencies.{Step, import_step, include_step, unless_full, import_here, include_here, after_token, head_step, step_here, step_at, after_step}
 use Rattle.yangparser.specs.Dependencies.{scan_turn}
 use Rattle.scan_head.specs.Head.{head_at}
 use Rattle.yangparser.specs.declared.Next.{Next}
@@ -75,21 +75,21 @@ use Rattle.demands_scans.proofs.Loops.{turns_all}
 
 -- ---- membership of numerals, by test
 
-unfoldable pub is_one_lem : ℕ → List ℕ → Bool
-is_one_lem n [] = false
-is_one_lem n (k ∷ ks) = cond (eqb n k) true (is_one_lem n ks)
+unfoldable pub is_one : ℕ → List ℕ → Bool
+is_one n [] = false
+is_one n (k ∷ ks) = cond (eqb n k) true (is_one n ks)
 
-pub one_of : (n : ℕ) (ks : List ℕ) → is_one_lem n ks ≡ true → Memᴰ n ks
-unfolding is_one_lem
+pub one_of : (n : ℕ) (ks : List ℕ) → is_one n ks ≡ true → Memᴰ n ks
+unfolding is_one
 one_of n [] h = let z : ◌≡◌ {A = ℕ} 0 1 = cc in absurd (omega arith)
 one_of n (k ∷ ks) h = go (eqb n k) refl (one_of n ks) h
   where
-    go : (t : Bool) → eqb n k ≡ t → (is_one_lem n ks ≡ true → Memᴰ n ks) → cond t true (is_one_lem n ks) ≡ true → Memᴰ n (k ∷ ks)
+    go : (t : Bool) → eqb n k ≡ t → (is_one n ks ≡ true → Memᴰ n ks) → cond t true (is_one n ks) ≡ true → Memᴰ n (k ∷ ks)
     go true q f h = Memᴰ.head (eqb-true n k q)
     go false q f h = Memᴰ.tail (f h)
 
-pub is_one_lem : {n : ℕ} {ks : List ℕ} → Memᴰ n ks → is_one_lem n ks ≡ true
-unfolding is_one_lem
+pub is_one_lem : {n : ℕ} {ks : List ℕ} → Memᴰ n ks → is_one n ks ≡ true
+unfolding is_one
 is_one_lem {n} (Memᴰ.head {x = k} e) = rw (eq-eqb n k e)
 is_one_lem {n} (Memᴰ.tail {x = k} m) = go (eqb n k) (is_one_lem m)
   where
@@ -115,7 +115,7 @@ read_number_lem {n} (k ∷ ks) (Memᴰ.tail m) f = read_number_lem ks m (both (w
 abbrev pub refusal : ℕ → ℕ → ℕ → Refusal
 refusal n k at = record { number = n; keyword = k; at = at }
 
-pub of : (numbers keywords : List ℕ) (n k at : ℕ) → is_one_lem n numbers ≡ true → is_one_lem k keywords ≡ true → OneOf numbers keywords (refusal n k at)
+pub of : (numbers keywords : List ℕ) (n k at : ℕ) → is_one n numbers ≡ true → is_one k keywords ≡ true → OneOf numbers keywords (refusal n k at)
 of numbers keywords n k at h i = record { number = one_of n numbers h; keyword = one_of k keywords i }
 
 -- ---- what is refused for a value and the byte due after it has the keyword, and 4, 5 or 6; or it is a byte of 128 or more
@@ -194,7 +194,7 @@ dependencies_number q (rows o) = read_number_lem (10 ∷ []) o.number refl
 
 -- in the statement of the keyword k, a value with the keyword j may be refused by 4, 5 and 6
 abbrev Refusable : ℕ → ℕ → Type 0
-Refusable k j = (n : ℕ) → is_one_lem n (4 ∷ 5 ∷ 6 ∷ []) ≡ true → (at : ℕ) → StatementRefusal k (refusal n j at)
+Refusable k j = (n : ℕ) → is_one n (4 ∷ 5 ∷ 6 ∷ []) ≡ true → (at : ℕ) → StatementRefusal k (refusal n j at)
 
 name_refusable : (k : ℕ) → Refusable k k
 name_refusable k n h at = argument (record { number = one_of n (4 ∷ 5 ∷ 6 ∷ []) h; keyword = Memᴰ.head refl })
@@ -211,7 +211,7 @@ module _ (s : List ℕ) (k : ℕ) where
   Stated r = MetRefusal (StatementRefusal k) s r
 
   argument_is : (j : ℕ) → Refusable k j → (at u b : ℕ) → ArgumentIs Stated (line_at false s at u j b)
-  unfolding is_one_lem
+  unfolding is_one
   argument_is j f = line_is s (StatementRefusal k) j (f 5 refl) (f 6 refl) (f 4 refl)
 
   abbrev InsideIs : Inside → Type 0
@@ -288,7 +288,7 @@ IncludedIs P (NoInclude r) = P r
 
 module _ (s : List ℕ) where
   body_is : (name : Span) (b : Block) → BlockIs s 8 b → ImportedIs (Stated s 8) (import_of name b)
-  unfolding import_of of_body is_one_lem
+  unfolding import_of of_body is_one
   body_is name (Whole b) h =
       by_test b.prefix.present (λ t. rw t tt) (λ t. rw t (other (no_prefix refl (of (7 ∷ []) (8 ∷ []) 7 8 b.at refl refl))))
   body_is name (Broken r) h = h
@@ -313,7 +313,7 @@ module _ (s : List ℕ) where
   import_is at u = name_is u _ (line_at false s at u 8 123) (argument_is s 8 8 (name_refusable 8) at u 123)
 
   rest_is : (at n : ℕ) (name : Span) (bytes : List ℕ) → IncludedIs (Stated s 9) (open_or_plain false s at n name bytes).answer
-  unfolding open_or_plain block_of is_one_lem
+  unfolding open_or_plain block_of is_one
   rest_is at n name bytes =
       by_test (eqb (look s at) 123) (λ t. rw t (included_is name (block_at false s (at + 1) n 9).answer (block_is s 9 (at + 1) n)))
       (λ t. let f = name_refusable 9 in
@@ -326,7 +326,7 @@ module _ (s : List ℕ) where
   value_read_is u bytes (NoArgument r) h = h
 
   pub include_is : (at u : ℕ) → IncludedIs (Stated s 9) (include_at false s at u).answer
-  unfolding include_at is_one_lem
+  unfolding include_at is_one
   include_is at u = value_read_is u _ (argument_at false s at u 9) (value_is s (StatementRefusal 9) 9 (name_refusable 9 4 refl) at u)
 
 -- ---- a step, and all of them
@@ -345,8 +345,8 @@ module _ (s : List ℕ) where
   NextIs Done = Unit {0}
   NextIs (Stop r) = Met_here r
 
-  full_is : (n k at : ℕ) (x : Step) → is_one_lem k (8 ∷ 9 ∷ []) ≡ true → NextIs x.answer → NextIs (unless_full n k at x).answer
-  unfolding unless_full is_one_lem
+  full_is : (n k at : ℕ) (x : Step) → is_one k (8 ∷ 9 ∷ []) ≡ true → NextIs x.answer → NextIs (unless_full n k at x).answer
+  unfolding unless_full is_one
   full_is n k at x own h =
       by_test (leb 256 n) (λ t. rw t (other (rows (of (10 ∷ []) (8 ∷ 9 ∷ []) 10 k at refl own)))) (λ t. rw t h)
 
@@ -365,8 +365,8 @@ module _ (s : List ℕ) where
   token_is far (After c) h = tt
   token_is far (Not r) h = h
 
-  head_is : (far : Sofar) (at : ℕ) (w : Head) → NextIs (head_step_lem false s far at w).answer
-  unfolding head_step_lem import_here include_here is_one_lem past_token
+  head_is : (far : Sofar) (at : ℕ) (w : Head) → NextIs (head_step false s far at w).answer
+  unfolding head_step import_here include_here is_one past_token
   head_is far at (Import c) =
       full_is far.imports 8 c.at _ refl (import_step_is far _ (import_at false s c.at far.used).answer (import_is s c.at far.used))
   head_is far at (Include c) =

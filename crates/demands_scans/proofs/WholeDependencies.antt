@@ -55,7 +55,7 @@ use Rattle.scan_head.specs.Head.{head_at}
 use Rattle.scan_head.specs.declared.Head.{Head}
 use Rattle.scan_head.specs.declared.Head.TheVariants.{Import, Include, Last, Other}
 use Rattle.yangparser.specs.Dependencies as Deps
-use Rattle.yangparser.specs.Dependencies.{Step, adding, import_step, include_step, full, unless_full, import_here, include_here, moved_to, after_token, head_step_lem}
+use Rattle.yangparser.specs.Dependencies.{Step, adding, import_step, include_step, full, unless_full, import_here, include_here, moved_to, after_token, head_step}
 use Rattle.yangparser.specs.Dependencies.{step_at}
 use Rattle.yangparser.specs.Dependencies.{Scanning, scan_from}
 use Rattle.yangparser.specs.declared.Next.{Next}
@@ -316,8 +316,8 @@ unfolding after_token moved_to
 token_step s far x y (inl e) = inl (ap (λ d. adding (after_token far d) Deps.none) e)
 token_step s far x y (inr e) = inr (ap (after_token far) e.0, subst (λ d. OldNext s (after_token far d)) (sym e.2) e.3)
 
-head_modes : (s : List ℕ) (far : Sofar) (g : ℕ) (h : Head) → g < length s → StepModes s (head_step_lem true s far g h) (head_step_lem false s far g h)
-unfolding head_step_lem import_here include_here
+head_modes : (s : List ℕ) (far : Sofar) (g : ℕ) (h : Head) → g < length s → StepModes s (head_step true s far g h) (head_step false s far g h)
+unfolding head_step import_here include_here
 head_modes s far g (Import c) i =
     full_modes s far.imports 8 c.at _ _
     (import_step_lem s far (import_at true s c.at far.used) (import_at false s c.at far.used) (import_modes s c.at far.used))

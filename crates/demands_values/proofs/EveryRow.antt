@@ -22,7 +22,7 @@ use Rattle.scan_imports.specs.declared.ParsedImport.{ParsedImport}
 use Rattle.scan_imports.specs.declared.ParsedImport.TheVariants.{Import as ReadImport, NoImport}
 use Rattle.scan_imports.specs.declared.ParsedInclude.{ParsedInclude}
 use Rattle.scan_imports.specs.declared.ParsedInclude.TheVariants.{Include as ReadInclude, NoInclude}
-use Rattle.yangparser.specs.Dependencies.{Dependencies, none, joined, Step, import_step, include_step, unless_full, import_here, include_here, head_step_lem, step_at}
+use Rattle.yangparser.specs.Dependencies.{Dependencies, none, joined, Step, import_step, include_step, unless_full, import_here, include_here, head_step, step_at}
 use Rattle.yangparser.specs.Dependencies.{Scanning, good, bad, scan_turn, scan_from, start, scanned}
 use Rattle.yangparser.specs.declared.Next.{Next}
 use Rattle.yangparser.specs.declared.Next.TheVariants.{On, Done, Stop}
@@ -108,7 +108,7 @@ differ e = omega (arith, ap (λ l. get_or l 1 0) e)
 
 module _ (s : List ℕ) (far : Sofar) (c : Cursor) where
   met_import : match_at s (gap_end s far.at) import_word ≡ After c → OneMore far (λ n. n.imports) (step_at false s far).answer
-  unfolding head_step_lem import_here
+  unfolding head_step import_here
   met_import m =
       let x = import_at false s c.at far.used in
       subst (λ z. OneMore far (λ n. n.imports) z.answer)
@@ -116,7 +116,7 @@ module _ (s : List ℕ) (far : Sofar) (c : Cursor) where
       (unless_full_lem far (λ n. n.imports) far.imports 8 c.at (import_step far x.bytes x.answer) (import_one far x.bytes x.answer))
 
   met_include : match_at s (gap_end s far.at) include_word ≡ After c → OneMore far (λ n. n.includes) (step_at false s far).answer
-  unfolding head_step_lem include_here
+  unfolding head_step include_here
   met_include m =
       let p = gap_end s far.at in
       let x = include_at false s c.at far.used in

@@ -15,7 +15,7 @@ use Rattle.text.specs.Refusal.{is_high, refused_at}
 use Rattle.text.specs.Class.{class_of}
 use Rattle.text.specs.Due.{due_number, due_here, due_at}
 use Rattle.text.specs.Keyword.{starts_ident, ends_keyword, same, part, keyword_at, match_at, or_match}
-use Rattle.text.specs.Scan.{in_ident, in_run, span, run_end_lem, pair_at, closing, block_end, comment_end, after_white, gap_turn, gap_end}
+use Rattle.text.specs.Scan.{in_ident, in_run, span, run_end, pair_at, closing, block_end, comment_end, after_white, gap_turn, gap_end}
 use Rattle.text.specs.Turns.{on, turns}
 use Rattle.text.specs.Words.{import_word, prefix_word}
 use Rattle.text.specs.declared.Cursor.{Cursor}
@@ -44,7 +44,7 @@ use Rattle.scan_block.specs.Block.{Stored, begun}
 use Rattle.scan_block.specs.Block.{or_line, line_kind, kept, with_value, with_skipped, after_kind, inside_here, inside_at, after_inside, block_turn, block_from, block_at}
 use Rattle.scan_imports.specs.Statement.{of_body, import_of, with_name, after_name, import_at, include_of, plain_of, block_of, open_or_plain, after_value, include_at}
 use Rattle.yangparser.specs.Dependencies.{import_words_of, include_words_of, joined, import_step, include_step, unless_full, import_here, include_here, moved_to}
-use Rattle.yangparser.specs.Dependencies.{after_token, head_step_lem, step_here, step_at, good, after_step, scan_turn, scan_from, scanned, if_fit, dependencies, parsed_of}
+use Rattle.yangparser.specs.Dependencies.{after_token, head_step, step_here, step_at, good, after_step, scan_turn, scan_from, scanned, if_fit, dependencies, parsed_of}
 use Rattle.yangparser.specs.Dependencies.{Dependencies, kept_of}
 use Rattle.yangparser.specs.Promises.{Extracts}
 use Rattle.yangparser.specs.declared.Parsed.{Parsed}
@@ -81,13 +81,13 @@ abbrev read : Dependencies
 read = record { imports = row_with (held 0 2) (held 3 1) ∷ []; includes = include_row ∷ []; bytes = stored }
 
 scan : dependencies false text false ≡ good read
-unfolding joined import_step include_step unless_full import_here include_here moved_to after_token past_of past_token past_statement head_step_lem step_here step_at after_step
+unfolding joined import_step include_step unless_full import_here include_here moved_to after_token past_of past_token past_statement head_step step_here step_at after_step
     scan_turn scan_from scanned lent_at if_fit dependencies or_match last_at or_head head_at or_line line_kind with_value kept with_skipped after_kind inside_here inside_at
     after_inside block_turn block_from block_at of_body import_of with_name after_name import_at include_of plain_of block_of open_or_plain after_value include_at argument_of
     breaks_off argument_at after_due after_argument line_at escaped escapes str_end str_bytes closed_by str_at is_quote starts_name added_by after_plus after_gap more_at add_to
     join_turn joined_with joinedValue of_string value_here value_at value_bytes closed_token token_here token_at closes quoted_len quoted_end at_semicolon at_close part_of
     part_at of_part statement_turn statement_from statement_at due_number due_here due_at starts_ident ends_keyword same part keyword_at match_at gap_end gap_turn after_white
-    comment_end block_end closing pair_at run_end_lem span in_run in_ident class_of turns refused_at is_high at_other
+    comment_end block_end closing pair_at run_end span in_run in_ident class_of turns refused_at is_high at_other
     wrong_from char_turn seq_len char_len one two three second3 four second4 tail
 scan = refl
 
@@ -128,7 +128,7 @@ module _ (d t u : List ℕ) (long : is_too_short false (length text) (length d) 
 -- ---- the name
 
 import_once : (p : ℕ) (c : Cursor) → match_at text p import_word ≡ After c → c.at ≡ 6
-unfolding below unmatched starts_ident ends_keyword same part keyword_at match_at run_end_lem span in_run in_ident class_of
+unfolding below unmatched starts_ident ends_keyword same part keyword_at match_at run_end span in_run in_ident class_of
 import_once p c m =
     let e : p ≡ 0 = eqb-true p 0 (met_where text import_word (λ p. eqb p 0) refl p c m) in
     let q : After (record { at = 6 }) ≡ After c = ap (λ z. match_at text z import_word) (sym e) ∙ m in
@@ -137,7 +137,7 @@ import_once p c m =
 -- it is read up to the place 14, whatever the span and the store
 name_read : {p : ℕ} {store : List ℕ} {x : Span} (b : Behind text import_word p store x) → (value_in store x ≡ 97 ∷ 98 ∷ []) × (b.end ≡ 14)
 unfolding value_at value_here of_string joinedValue joined_with join_turn add_to more_at after_gap after_plus added_by is_quote starts_name str_at closed_by str_bytes
-    str_end escaped escapes part gap_end gap_turn after_white comment_end block_end closing pair_at run_end_lem span in_run in_ident class_of turns
+    str_end escaped escapes part gap_end gap_turn after_white comment_end block_end closing pair_at run_end span in_run in_ident class_of turns
 name_read {p} {store} {x} b =
     let q : value (97 ∷ 98 ∷ []) 14 ≡ value (value_in store x) b.end = ap (value_at text) (sym (import_once p b.after b.matched)) ∙ b.read in
     (cc, cc)
@@ -150,13 +150,13 @@ short_refused r = omega (arith, ap length (name_read r.name).0)
 -- ---- a row with the first prefix
 
 prefix_twice : (p : ℕ) (c : Cursor) → match_at text p prefix_word ≡ After c → (p ≡ 15) ⊎ (p ≡ 24)
-unfolding below unmatched starts_ident ends_keyword same part keyword_at match_at run_end_lem span in_run in_ident class_of
+unfolding below unmatched starts_ident ends_keyword same part keyword_at match_at run_end span in_run in_ident class_of
 prefix_twice p c m =
     let f = met_where text prefix_word (λ p. eqb p 15 || eqb p 24) refl p c m in
     by_test (eqb p 15) (λ t. inl (eqb-true p 15 t)) (λ t. inr (eqb-true p 24 (ap (λ z. z || eqb p 24) (sym t) ∙ f)))
 
 second_read : {store : List ℕ} {x : Span} → Behind text prefix_word 24 store x → value_in store x ≡ 112 ∷ []
-unfolding value_at value_here is_quote starts_name part gap_end gap_turn after_white comment_end block_end closing pair_at run_end_lem span in_run in_ident class_of turns
+unfolding value_at value_here is_quote starts_name part gap_end gap_turn after_white comment_end block_end closing pair_at run_end span in_run in_ident class_of turns
     starts_ident ends_keyword same keyword_at match_at
 second_read {store} {x} b =
     let e : After (record { at = 30 }) ≡ After b.after = b.matched in
@@ -169,17 +169,17 @@ abbrev second : ℕ → Stored
 second u = record { body = record { at = 24; used = u + 1; prefix = held u (u + 1 - u); revision = missing }; bytes = 111 ∷ [] }
 
 block_opens : {end : ℕ} {c : Cursor} → end ≡ 14 → due_at text end 123 8 ≡ Stands c → c.at ≡ 15
-unfolding due_at due_here gap_end gap_turn after_white comment_end block_end closing pair_at run_end_lem span in_run in_ident class_of turns refused_at is_high
+unfolding due_at due_here gap_end gap_turn after_white comment_end block_end closing pair_at run_end span in_run in_ident class_of turns refused_at is_high
 block_opens {c = c} e h = let q : Stands (record { at = 15 }) ≡ Stands c = ap (λ z. due_at text z 123 8) (sym e) ∙ h in cc
 
 block_turn_lem : (u : ℕ) → block_turn false text 8 (record { body = begun 15 u; bytes = [] }) ≡ on (second u)
 unfolding or_line line_kind with_value kept after_kind inside_here inside_at after_inside block_turn argument_of breaks_off argument_at after_due after_argument line_at
     is_quote starts_name value_here value_at value_bytes due_number due_here due_at starts_ident ends_keyword same part keyword_at match_at gap_end gap_turn after_white
-    comment_end block_end closing pair_at run_end_lem span in_run in_ident class_of turns refused_at is_high
+    comment_end block_end closing pair_at run_end span in_run in_ident class_of turns refused_at is_high
 block_turn_lem u = refl
 
 second_met : match_at text (gap_end text 24) prefix_word ≡ After (record { at = 30 })
-unfolding starts_ident ends_keyword same part keyword_at match_at gap_end gap_turn after_white comment_end block_end closing pair_at run_end_lem span in_run in_ident
+unfolding starts_ident ends_keyword same part keyword_at match_at gap_end gap_turn after_white comment_end block_end closing pair_at run_end span in_run in_ident
     class_of turns
 second_met = refl
 
@@ -202,7 +202,7 @@ first_refused r =
 -- ---- the name is the RFC's value: its conditions are met
 
 quoted : Quoted text 6
-unfolding is_quote str_at closed_by str_bytes str_end escaped escapes part gap_end gap_turn after_white comment_end block_end closing pair_at run_end_lem span in_run
+unfolding is_quote str_at closed_by str_bytes str_end escaped escapes part gap_end gap_turn after_white comment_end block_end closing pair_at run_end span in_run
     in_ident class_of turns plain_white one_line legal
 quoted =
     record {

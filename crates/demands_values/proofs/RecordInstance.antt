@@ -14,7 +14,7 @@ use Rattle.text.specs.Refusal.{is_high, refused_at}
 use Rattle.text.specs.Class.{class_of}
 use Rattle.text.specs.Due.{due_number, due_here, due_at}
 use Rattle.text.specs.Keyword.{starts_ident, ends_keyword, same, part, keyword_at, match_at, or_match}
-use Rattle.text.specs.Scan.{in_ident, in_run, span, run_end_lem, pair_at, closing, block_end, comment_end, after_white, gap_turn, gap_end}
+use Rattle.text.specs.Scan.{in_ident, in_run, span, run_end, pair_at, closing, block_end, comment_end, after_white, gap_turn, gap_end}
 use Rattle.text.specs.Turns.{turns}
 use Rattle.text.specs.Words.{module_word, submodule_word}
 use Rattle.text.specs.declared.Cursor.{Cursor}
@@ -77,7 +77,7 @@ scan : metadata false text false ≡ good read
 unfolding metadata if_fit scanned scan_from metadata_turn after_heard ended told past_of past_token past_statement due_for after_revision after_value passed kept with_rest
     field_at later_prefix statement_said tag_said said_here said_at data_at last_tag or_tag tag_at lent_at or_match argument_of breaks_off argument_at is_quote starts_name
     value_here value_at value_bytes closed_token token_here token_at closes quoted_len quoted_end at_semicolon at_close part_of part_at of_part statement_turn statement_from
-    statement_at due_number due_here due_at starts_ident ends_keyword same part keyword_at match_at gap_end gap_turn after_white comment_end block_end closing pair_at run_end_lem
+    statement_at due_number due_here due_at starts_ident ends_keyword same part keyword_at match_at gap_end gap_turn after_white comment_end block_end closing pair_at run_end
     span in_run in_ident class_of turns refused_at is_high at_other
     wrong_from char_turn seq_len char_len one two three second3 four second4 tail
 scan = refl
@@ -107,18 +107,18 @@ module _ (d : List ℕ) (long : ltb (length d) (length text) ≡ false) {n : ℕ
 -- ---- a record whose name is one byte shorter
 
 module_once : (p : ℕ) (c : Cursor) → match_at text p module_word ≡ After c → c.at ≡ 6
-unfolding below unmatched starts_ident ends_keyword same part keyword_at match_at run_end_lem span in_run in_ident class_of
+unfolding below unmatched starts_ident ends_keyword same part keyword_at match_at run_end span in_run in_ident class_of
 module_once p c m =
     let e : p ≡ 0 = eqb-true p 0 (met_where text module_word (λ p. eqb p 0) refl p c m) in
     let q : After (record { at = 6 }) ≡ After c = ap (λ z. match_at text z module_word) (sym e) ∙ m in
     cc
 
 submodule_never : (p : ℕ) (c : Cursor) → match_at text p submodule_word ≡ After c → ⊥
-unfolding below unmatched starts_ident ends_keyword same part keyword_at match_at run_end_lem span in_run in_ident class_of
+unfolding below unmatched starts_ident ends_keyword same part keyword_at match_at run_end span in_run in_ident class_of
 submodule_never p c m = never refl (met_where text submodule_word (λ p. false) refl p c m)
 
 name_read : value_at text 6 ≡ value (97 ∷ 98 ∷ []) 9
-unfolding value_at value_here is_quote starts_name part gap_end gap_turn after_white comment_end block_end closing pair_at run_end_lem span in_run in_ident class_of turns
+unfolding value_at value_here is_quote starts_name part gap_end gap_turn after_white comment_end block_end closing pair_at run_end span in_run in_ident class_of turns
 name_read = refl
 
 refused : RecordRead text stored (values_with (held 0 1)) → ⊥

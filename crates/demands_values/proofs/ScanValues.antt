@@ -26,7 +26,7 @@ use Rattle.scan_imports.specs.declared.ParsedImport.{ParsedImport}
 use Rattle.scan_imports.specs.declared.ParsedImport.TheVariants.{Import as ReadImport, NoImport}
 use Rattle.scan_imports.specs.declared.ParsedInclude.{ParsedInclude}
 use Rattle.scan_imports.specs.declared.ParsedInclude.TheVariants.{Include as ReadInclude, NoInclude}
-use Rattle.yangparser.specs.Dependencies.{Dependencies, none, joined, Step, import_step, include_step, unless_full, import_here, include_here, head_step_lem, step_here}
+use Rattle.yangparser.specs.Dependencies.{Dependencies, none, joined, Step, import_step, include_step, unless_full, import_here, include_here, head_step, step_here}
 use Rattle.yangparser.specs.Dependencies.{step_at, Scanning, Scan, good, bad, after_step, scan_turn, scan_from, start, scanned}
 use Rattle.yangparser.specs.declared.Next.{Next}
 use Rattle.yangparser.specs.declared.Next.TheVariants.{On, Done, Stop}
@@ -113,8 +113,8 @@ module _ (s : List ℕ) (g : Scanning) (reached : Reaches (scan_turn false s) (r
   include_adds bs (ReadInclude c n i) h = (tt, (record { state = g; reached = reached; before = refl; name = h.0; revision = h.1 }, tt))
   include_adds bs (NoInclude r) h = (tt, tt)
 
-  head_adds : (w : Head) → HeadIs s (gap_end s g.far.at) w → Adds (head_step_lem false s g.far (gap_end s g.far.at) w).adds
-  unfolding head_step_lem import_here include_here
+  head_adds : (w : Head) → HeadIs s (gap_end s g.far.at) w → Adds (head_step false s g.far (gap_end s g.far.at) w).adds
+  unfolding head_step import_here include_here
   head_adds (Import c) m =
       let x = import_at false s c.at g.far.used in
       unless_adds g.far.imports 8 c.at (import_step g.far x.bytes x.answer)

@@ -6,7 +6,7 @@ use mathlib.Core.List.{List, [], ◌∷◌, map, Nodup}
 use lib.ListN.{get_or}
 use Rattle.text.specs.Refusal.{no_refusal}
 use Rattle.graph.specs.Graph.{no_entry_text, scan_refused, too_deep, too_many_edges, deepest, add_by}
-use Rattle.graph.specs.Numbers.{row, mem_r, Codes, no_text_lem, refused_scan, codes, each_o, Drawing, drawn, faulty, EntryCode, draw_from}
+use Rattle.graph.specs.Numbers.{row, mem_r, Codes, no_text, refused_scan, codes, each_o, Drawing, drawn, faulty, EntryCode, draw_from}
 use Rattle.graph.specs.Once.{nothing_read, Went, walked, halted, includes_once, walk_once, draw_once, includes_read, walk_read, entries_read}
 use Rattle.graph.proofs.ReadOnce.{once_demand}
 
@@ -33,7 +33,7 @@ record Example : Type 0 where
   read : List ℕ
 
 abbrev at : List Codes → ℕ → Codes
-at ts v = get_or ts v no_text_lem
+at ts v = get_or ts v no_text
 
 -- two entries that include one submodule
 abbrev shared : Example

@@ -18,7 +18,7 @@ use Rattle.graph.specs.Meaning.{Revised}
 use Rattle.graph.specs.Graph.{Text, missing, refusing, deps, World, world, entries}
 use Rattle.graph.specs.Graph.{no_entry_text, no_included_text, too_deep, deepest, Out, built, refused, on_out}
 use Rattle.graph.specs.Numbers.{number_of, submodule_code, codes_of, codes_at, entry_code}
-use Rattle.graph.specs.Numbers.{Row, row, add_row, Codes, no_text_lem, refused_scan, codes, each_o, import_code, given_code, EntryCode}
+use Rattle.graph.specs.Numbers.{Row, row, add_row, Codes, no_text, refused_scan, codes, each_o, import_code, given_code, EntryCode}
 use Rattle.graph.specs.Once.{reading, Marks, nothing_read, mark, Went, walked, halted, Below, walk_once, on_walked, is_unread, ReadsBelow, includes_read}
 use Rattle.graph.specs.Once.{visit_read, walk_read, entries_read}
 use Rattle.graph.proofs.Demand.{no_longer}
@@ -65,7 +65,7 @@ module _ (P : ℕ → Type 0) where
         go (refused n a) ih = none
 
     visit_all : P v → (c : Codes) → ((is us : List ℕ) → c ≡ codes is us → Included us) → (rs : List Row) (m : Marks) → All (visit_read limit f t v c rs m)
-    visit_all p no_text_lem i rs m = none
+    visit_all p no_text i rs m = none
     visit_all p (refused_scan a) i rs m = first v [] p none
     visit_all p (codes is us) i rs m = first v _ p (go (each_o (import_code limit v) is rs))
       where
@@ -134,12 +134,12 @@ down_has (suc n) u l = go (eqb u n) refl (down_has n u)
 
 abbrev is_codes : Codes → Bool
 is_codes (codes is us) = false
-is_codes no_text_lem = true
+is_codes no_text = true
 is_codes (refused_scan a) = true
 
 abbrev includes_of : Codes → List ℕ
 includes_of (codes is us) = us
-includes_of no_text_lem = []
+includes_of no_text = []
 includes_of (refused_scan a) = []
 
 pub read_few : (at : ℕ → Codes) (limit n : ℕ) (es : List EntryCode) → AllNodes at n es → length (entries_read at limit [] nothing_read es) ≤ n

@@ -10,7 +10,7 @@ use mathlib.Mathlib.Data.List.Nodup.{cons as Nodup-cons}
 use lib.Dec.{eqb, leb}
 use Rattle.text.specs.Refusal.{no_refusal}
 use Rattle.graph.specs.Graph.{no_entry_text, no_included_text, too_deep, deepest, Out, built, refused, then_o, on_out}
-use Rattle.graph.specs.Numbers.{Row, row, add_row, Codes, no_text_lem, refused_scan, codes, each_o, import_code, given_code, walk_codes, walk_entry_codes, faulty}
+use Rattle.graph.specs.Numbers.{Row, row, add_row, Codes, no_text, refused_scan, codes, each_o, import_code, given_code, walk_codes, walk_entry_codes, faulty}
 use Rattle.graph.specs.Numbers.{EntryCode, draw_from}
 use Rattle.graph.specs.Once.{Mark, unread, reading, below, Marks, nothing_read, mark, Went, walked, halted, then_rows, then_w, Below, includes_once, ended}
 use Rattle.graph.specs.Once.{visit_once, met, walk_once, on_walked, draw_once, is_unread, ReadsBelow, includes_read, visit_read, walk_read, entries_read, Grows}
@@ -115,7 +115,7 @@ module _ (limit : ℕ) (f : Below) (t : ReadsBelow) (right : (u : ℕ) (rs : Lis
   visit_read_lem : (absent : ℕ) (c : Codes) (rs : List Row) (m : Marks) → is_unread (m v) ≡ true
       → ReadBy m (visit_read limit f t v c rs m) (visit_once limit f absent v c rs m)
   unfolding InTurn
-  visit_read_lem absent no_text_lem rs m q = (m, nothing m)
+  visit_read_lem absent no_text rs m q = (m, nothing m)
   visit_read_lem absent (refused_scan a) rs m q = (mark m v reading, (q, nothing (mark m v reading)))
   visit_read_lem absent (codes imports includes) rs m q = go (each_o (import_code limit v) imports rs)
     where

@@ -9,7 +9,7 @@ use lib.Dec.{eqb, leb}
 use borrow.Author.Tests.{eqb-true, eqb-false, eq-eqb, ne_eqb}
 use Rattle.text.specs.Refusal.{no_refusal}
 use Rattle.graph.specs.Graph.{no_included_text, too_deep, Out, built, refused, then_o}
-use Rattle.graph.specs.Numbers.{Row, row, add_row, Codes, no_text_lem, refused_scan, codes, each_o, import_code, include_code, visit_codes, walk_codes}
+use Rattle.graph.specs.Numbers.{Row, row, add_row, Codes, no_text, refused_scan, codes, each_o, import_code, include_code, visit_codes, walk_codes}
 use Rattle.graph.specs.Once.{Mark, unread, reading, below, Marks, nothing_read, mark, Went, walked, halted, then_rows, then_w, includes_once, ended}
 use Rattle.graph.specs.Once.{raised, visit_once, met, walk_once, below_once, Grows, Done, Between}
 use Rattle.graph.proofs.Tests.{both_bools}
@@ -249,7 +249,7 @@ module _ (at : ℕ → Codes) (limit : ℕ) where
 
   visited : (left : ℕ) → RightBelow left → (absent v : ℕ) (rs : List Row) (m : Marks) → m v ≡ unread → AllDone m rs → Open m rs v → (c : Codes) → at v ≡ c
       → Right m rs v (visit_once limit (below_once at limit left) absent v c rs m) (visit_codes limit (under at limit left) absent v c rs)
-  visited left right absent v rs m f s o no_text_lem e = refl
+  visited left right absent v rs m f s o no_text e = refl
   visited left right absent v rs m f s o (refused_scan a) e = refl
   visited left right absent v rs m f s o (codes imports includes) e = go (each_o (import_code limit v) imports rs) (imports_done limit v imports rs)
     where

@@ -44,12 +44,12 @@ abbrev pub submodule_code : World → List Name → Name → ℕ
 submodule_code W ns u = cond (W.listed u) (cond (W.node u) (suc (suc (number_of ns u))) 1) 0
 
 pub data Codes : Type 0 where
-  no_text_lem : Codes
+  no_text : Codes
   refused_scan : ScanAnswer → Codes
   codes : (imports includes : List ℕ) → Codes
 
 abbrev pub codes_of : World → List Name → Text → Codes
-codes_of W ns missing = no_text_lem
+codes_of W ns missing = no_text
 codes_of W ns (refusing a) = refused_scan a
 codes_of W ns (deps imports includes) = codes (map (module_code W ns) imports) (map (submodule_code W ns) includes)
 
@@ -75,7 +75,7 @@ include_code limit below v (suc zero) rs = refused no_node no_refusal
 include_code limit below v (suc (suc u)) rs = then_o (add_row limit rs (row u v)) (below u)
 
 abbrev pub visit_codes : (limit : ℕ) → (ℕ → List Row → Out Row) → (absent v : ℕ) → Codes → List Row → Out Row
-visit_codes limit below absent v no_text_lem rs = refused absent no_refusal
+visit_codes limit below absent v no_text rs = refused absent no_refusal
 visit_codes limit below absent v (refused_scan a) rs = refused scan_refused a
 visit_codes limit below absent v (codes imports includes) rs =
     then_o (each_o (import_code limit v) imports rs) (each_o (include_code limit below v) includes)

@@ -7,7 +7,7 @@ use mathlib.Core.List.{List, [], ◌∷◌, ◌++◌, Nodup}
 use Rattle.text.specs.Refusal.{no_refusal}
 use Rattle.graph.specs.Graph.{ScanAnswer, no_entry_text, no_included_text, scan_refused, unknown_submodule, no_node, too_deep, deepest, Out, built, refused}
 use Rattle.graph.specs.Graph.{on_out}
-use Rattle.graph.specs.Numbers.{Row, row, mem_r, add_row, Codes, no_text_lem, refused_scan, codes, each_o, import_code, given_code, walk_codes, Drawing, drawn}
+use Rattle.graph.specs.Numbers.{Row, row, mem_r, add_row, Codes, no_text, refused_scan, codes, each_o, import_code, given_code, walk_codes, Drawing, drawn}
 use Rattle.graph.specs.Numbers.{faulty, EntryCode, draw_from}
 
 -- ---- the marks: what is remembered of each node's text; they are not the marks of graph_marks, which say what a node may be
@@ -65,7 +65,7 @@ ended v rs m h = walked rs (mark m v (below h)) h
 
 -- a text that is not read yet
 abbrev pub visit_once : (limit : ℕ) → Below → (absent v : ℕ) → Codes → List Row → Marks → Went
-visit_once limit f absent v no_text_lem rs m = halted absent no_refusal
+visit_once limit f absent v no_text rs m = halted absent no_refusal
 visit_once limit f absent v (refused_scan a) rs m = halted scan_refused a
 visit_once limit f absent v (codes imports includes) rs m =
     then_rows (each_o (import_code limit v) imports rs) (λ rs₁. then_w (includes_once limit f v includes rs₁ (mark m v reading) 0) (ended v))
@@ -118,7 +118,7 @@ includes_read limit f t v (suc (suc u) ∷ cs) rs m =
     (λ n a. [])
 
 abbrev pub visit_read : (limit : ℕ) → Below → ReadsBelow → (v : ℕ) → Codes → List Row → Marks → List ℕ
-visit_read limit f t v no_text_lem rs m = []
+visit_read limit f t v no_text rs m = []
 visit_read limit f t v (refused_scan a) rs m = v ∷ []
 visit_read limit f t v (codes imports includes) rs m =
     v ∷ on_out (each_o (import_code limit v) imports rs) (λ rs₁. includes_read limit f t v includes rs₁ (mark m v reading)) (λ n a. [])

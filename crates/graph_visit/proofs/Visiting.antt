@@ -13,7 +13,7 @@ use Rattle.scan_rows.specs.Rows.{most_rows}
 use Rattle.library_image.specs.Library.{Name}
 use Rattle.text.specs.Refusal.{no_refusal}
 use Rattle.graph.specs.Graph.{Text, built, refused}
-use Rattle.graph.specs.Numbers.{Row, Codes, no_text_lem, refused_scan, codes, codes_of, codes_at, each_o, import_code}
+use Rattle.graph.specs.Numbers.{Row, Codes, no_text, refused_scan, codes, codes_of, codes_at, each_o, import_code}
 use Rattle.graph.specs.Limits.{most_edges, most_nodes}
 use Rattle.graph.specs.Once.{Mark, unread, reading, below, Marks, mark, Went, walked, halted, Below, met}
 use Rattle.graph_edges.specs.Edges.{rows_in, Filed}
@@ -60,7 +60,7 @@ module _ (s b : List ℕ) (ns : List Name) (v : ℕ) (name : List ℕ) (p : name
   under = rw p
 
   module _ (d f₀ g₀ : List ℕ) (r : Seen) (e f g : List ℕ) (l : SeenAs (text_of b name) d f₀ g₀ r e f g) where
-    no_text_lem : r ≡ Missing → codes_here s b ns v ≡ no_text_lem
+    no_text_lem : r ≡ Missing → codes_here s b ns v ≡ no_text
     no_text_lem z = under ∙ ap (codes_of (world_of s b ns) ns) (sym l.seen ∙ ap (λ r. text_seen r e f g) z)
 
     refused_text : (a : Refusal) → r ≡ Unscanned a → codes_here s b ns v ≡ refused_scan a

@@ -50,6 +50,6 @@ pub record ReadAs (r : Read) (expected : Ans Unit) (tab after : List ℕ) : Type
   pub kept : length after ≡ length tab
 
 -- of an image: its refusal's number, or 0
-unfoldable pub read_number_lem : Read → ℕ
-read_number_lem (End n) = 0
-read_number_lem (Wrong p) = image_broken
+unfoldable pub read_number : Read → ℕ
+read_number (End n) = 0
+read_number (Wrong p) = image_broken

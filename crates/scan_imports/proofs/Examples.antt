@@ -8,7 +8,7 @@ use Rattle.text.specs.Class.{class_of}
 use Rattle.text.specs.Due.{due_number, due_here, due_at}
 use Rattle.text.specs.Refusal.{no_value, other_byte, end_of_text, cut_short, is_high, refused_at}
 use Rattle.text.specs.Keyword.{starts_ident, ends_keyword, same, part, keyword_at, match_at}
-use Rattle.text.specs.Scan.{in_ident, in_run, span, run_end_lem, pair_at, closing, block_end, comment_end, after_white, gap_turn, gap_end}
+use Rattle.text.specs.Scan.{in_ident, in_run, span, run_end, pair_at, closing, block_end, comment_end, after_white, gap_turn, gap_end}
 use Rattle.text.specs.Turns.{turns}
 use Rattle.text.specs.Words.{prefix_keyword, import_keyword, include_keyword, revision_date_keyword}
 use Rattle.text.specs.declared.Refusal.{Refusal}
@@ -140,6 +140,6 @@ unfolding examples all holds is_refusal is_import is_no_import is_include is_no_
     past_statement past_of broke_off line_kind or_line statement_at statement_from statement_turn of_part part_at part_of at_semicolon at_close quoted_end quoted_len closes
     match_at keyword_at starts_ident ends_keyword line_at after_argument after_due argument_at breaks_off argument_of due_at due_here due_number same value_at value_bytes
     value_here of_string closed_at closed_here closed_string closed_from closed_turn closed_more joined joined_with join_turn add_to more_at after_gap after_plus added_by
-    is_quote starts_name str_at closed_by str_bytes str_end escaped escapes part gap_end gap_turn after_white comment_end block_end closing pair_at run_end_lem span in_run
+    is_quote starts_name str_at closed_by str_bytes str_end escaped escapes part gap_end gap_turn after_white comment_end block_end closing pair_at run_end span in_run
     in_ident class_of turns refused_at is_high at_other
 right = tt

@@ -8,7 +8,7 @@ use Rattle.text.specs.Class.{class_of}
 use Rattle.text.specs.Due.{due_number, due_here, due_at}
 use Rattle.text.specs.Refusal.{high_byte_met, other_byte, end_of_text, is_high, refused_at}
 use Rattle.text.specs.Keyword.{starts_ident, ends_keyword, same, part, keyword_at}
-use Rattle.text.specs.Scan.{in_ident, in_run, span, run_end_lem, pair_at, closing, block_end, comment_end, after_white, gap_turn, gap_end}
+use Rattle.text.specs.Scan.{in_ident, in_run, span, run_end, pair_at, closing, block_end, comment_end, after_white, gap_turn, gap_end}
 use Rattle.text.specs.Turns.{turns}
 use Rattle.text.specs.declared.Due.{Due}
 use Rattle.text.specs.declared.Due.TheVariants.{After, Not}
@@ -79,5 +79,5 @@ examples =
 
 right : T (all examples)
 unfolding examples all holds same_bool is_past is_refused due_at due_here due_number refused_at is_high keyword_at starts_ident ends_keyword same part gap_end gap_turn
-    after_white comment_end block_end closing pair_at run_end_lem span in_run in_ident class_of turns
+    after_white comment_end block_end closing pair_at run_end span in_run in_ident class_of turns
 right = tt

@@ -14,7 +14,7 @@ use lib.Seq.{get_or-drop}
 use lib.Dec.{eqb, T}
 use borrow.Author.Tests.{eq-eqb, ne_eqb, eqb-true, le-leb, lt-leb}
 use Rattle.text.specs.Class.{class_of, class_table}
-use Rattle.text.specs.Scan.{in_ident, in_run, span, run_end_lem}
+use Rattle.text.specs.Scan.{in_ident, in_run, span, run_end}
 use Rattle.text.specs.Keyword.{ends_keyword, starts_ident, same, part, keyword_at, match_at, or_match, first_byte, next_byte, word_rest, wordly, begins}
 use Rattle.text.specs.declared.Cursor.{Cursor}
 use Rattle.text.specs.declared.Match.{Match}
@@ -233,15 +233,15 @@ get_d_here s at = rw (get_or-drop, add-zero) refl
 
 module _ (s : List ℕ) (at : ℕ) (word : List ℕ) where
   abbrev run : ℕ
-  run = run_end_lem Ident s at
+  run = run_end Ident s at
 
   run_is : span (in_run Ident) (drop at s) ≡ length word → run ≡ at + length word
-  unfolding run_end_lem
+  unfolding run_end
   run_is e = ap (λ i. at + i) e
 
   -- what the document says of a keyword gives what the code tests
   keyword_gives : keyword_at s at word ≡ true → (begins word (drop at s) ≡ true) × (run ≡ at + length word) × (ends_keyword (get_or s run 256) ≡ true)
-  unfolding keyword_at part run_end_lem
+  unfolding keyword_at part run_end
   keyword_gives h =
       let n = span (in_run Ident) (drop at s) in
       let k = both (starts_ident (get_or s at 256) && same (part s at run) word) (ends_keyword (get_or s run 256)) h in
@@ -313,7 +313,7 @@ unfolding starts_ident class_of
 starts_here s at h = here s at (λ e. never (ap starts_ident e) h)
 
 -- an identifier takes a byte at least
-pub ident_far : (s : List ℕ) (at : ℕ) → starts_ident (get_or s at 256) ≡ true → (at < run_end_lem Ident s at) × (run_end_lem Ident s at ≤ length s)
+pub ident_far : (s : List ℕ) (at : ℕ) → starts_ident (get_or s at 256) ≡ true → (at < run_end Ident s at) × (run_end Ident s at ≤ length s)
 ident_far s at y =
     let l = starts_here s at y in
     let e = in_ident_lem (get_or s at 256) ∙ starts_in (get_or s at 256) y in
@@ -326,24 +326,24 @@ not_after : {m : Match} {a : Cursor} → m ≡ Not → m ≡ After a → ⊥
 not_after e f = let z : ◌≡◌ {A = ℕ} 0 1 = cc in omega arith
 
 -- what a match says
-match_given : (s : List ℕ) (at : ℕ) (word : List ℕ) (c : Cursor) → match_at s at word ≡ After c → (keyword_at s at word ≡ true) × (c.at ≡ run_end_lem Ident s at)
+match_given : (s : List ℕ) (at : ℕ) (word : List ℕ) (c : Cursor) → match_at s at word ≡ After c → (keyword_at s at word ≡ true) × (c.at ≡ run_end Ident s at)
 unfolding match_at
 match_given s at word c h =
     by_test (keyword_at s at word)
-    (λ t. (t, after_is c (record { at = run_end_lem Ident s at }) (rw t at h) refl))
+    (λ t. (t, after_is c (record { at = run_end Ident s at }) (rw t at h) refl))
     (λ t. absurd (not_after refl (rw t at h)))
 
 keyword_starts : (s : List ℕ) (at : ℕ) (word : List ℕ) → keyword_at s at word ≡ true → starts_ident (get_or s at 256) ≡ true
 unfolding keyword_at
 keyword_starts s at word h =
-    let k = both (starts_ident (get_or s at 256) && same (part s at (run_end_lem Ident s at)) word) (ends_keyword (get_or s (run_end_lem Ident s at) 256)) h in
-    (both (starts_ident (get_or s at 256)) (same (part s at (run_end_lem Ident s at)) word) k.0).0
+    let k = both (starts_ident (get_or s at 256) && same (part s at (run_end Ident s at)) word) (ends_keyword (get_or s (run_end Ident s at) 256)) h in
+    (both (starts_ident (get_or s at 256)) (same (part s at (run_end Ident s at)) word) k.0).0
 
-keyword_word : (s : List ℕ) (at : ℕ) (word : List ℕ) → keyword_at s at word ≡ true → part s at (run_end_lem Ident s at) ≡ word
+keyword_word : (s : List ℕ) (at : ℕ) (word : List ℕ) → keyword_at s at word ≡ true → part s at (run_end Ident s at) ≡ word
 unfolding keyword_at
 keyword_word s at word h =
-    let k = both (starts_ident (get_or s at 256) && same (part s at (run_end_lem Ident s at)) word) (ends_keyword (get_or s (run_end_lem Ident s at) 256)) h in
-    same_eq _ _ (both (starts_ident (get_or s at 256)) (same (part s at (run_end_lem Ident s at)) word) k.0).1
+    let k = both (starts_ident (get_or s at 256) && same (part s at (run_end Ident s at)) word) (ends_keyword (get_or s (run_end Ident s at) 256)) h in
+    same_eq _ _ (both (starts_ident (get_or s at 256)) (same (part s at (run_end Ident s at)) word) k.0).1
 
 -- one that matched ends behind its first byte and within the text
 abbrev pub Far : List ℕ → ℕ → Match → Type 0

@@ -11,7 +11,7 @@ use lib.ListN.{length, get_or, drop, drop_of_length-le, length-drop}
 use lib.Seq.{get_or-drop, drop-drop}
 use lib.Dec.{eqb}
 use borrow.Author.Tests.{eq-eqb, ne_eqb, eqb-true, eqb-false}
-use Rattle.text.specs.Scan.{in_ident, in_run, span, run_end_lem, pair_at, closing, block_end, comment_end, after_white, gap_turn, gap_end}
+use Rattle.text.specs.Scan.{in_ident, in_run, span, run_end, pair_at, closing, block_end, comment_end, after_white, gap_turn, gap_end}
 use Rattle.text.specs.Class.{class_of}
 use Rattle.text.specs.declared.Run.{Run}
 use Rattle.text.specs.declared.Run.TheVariants.{White, Line, Ident, Name}
@@ -64,17 +64,17 @@ module _ {k : Run} (b : ℕ) where
 -- Both laws take what the calls on the way answered: b stands here, t whether it belongs to the run.
 module _ (k : Run) (s : List ℕ) (i : ℕ) (h : i < length s) {b : ℕ} {t : Bool} (be : b ≡ get_or s i 256) (te : t ≡ in_run k b) where
   -- a byte of the run: the run ends where it ends from the next place
-  pub run_more : t ≡ true → run_end_lem k s i ≡ run_end_lem k s (i + 1)
-  unfolding run_end_lem span
+  pub run_more : t ≡ true → run_end k s i ≡ run_end k s (i + 1)
+  unfolding run_end span
   run_more y = let e : in_run k (get_or s i 256) ≡ true = cc in rw (rest s i h) (simp e (omega arith))
 
   -- any other byte: it ends here
-  pub run_stop : t ≡ false → run_end_lem k s i ≡ i
-  unfolding run_end_lem span
+  pub run_stop : t ≡ false → run_end k s i ≡ i
+  unfolding run_end span
   run_stop n = let e : in_run k (get_or s i 256) ≡ false = cc in rw (rest s i h) (simp e (omega arith))
 
-pub run_past : (k : Run) (s : List ℕ) (i : ℕ) → length s ≤ i → run_end_lem k s i ≡ i
-unfolding run_end_lem span
+pub run_past : (k : Run) (s : List ℕ) (i : ℕ) → length s ≤ i → run_end k s i ≡ i
+unfolding run_end span
 run_past k s i h = rw (drop_of_length-le s h) (omega arith)
 
 -- a run ends once: from its end on there is none
@@ -83,15 +83,15 @@ unfolding span
 span_twice p [] = refl
 span_twice p (b ∷ xs) = by_test (p b) (λ t. rw t (span_twice p xs)) (λ t. rw t (rw t refl))
 
-pub run_twice : (k : Run) (s : List ℕ) (i : ℕ) → run_end_lem k s (run_end_lem k s i) ≡ run_end_lem k s i
-unfolding run_end_lem
+pub run_twice : (k : Run) (s : List ℕ) (i : ℕ) → run_end k s (run_end k s i) ≡ run_end k s i
+unfolding run_end
 run_twice k s i =
     let n = span (in_run k) (drop i s) in
     let e : drop (i + n) s ≡ drop n (drop i s) = sym (drop-drop n i s) in
     rw e (rw (span_twice (in_run k) (drop i s)) (omega arith))
 
-pub run_from : (k : Run) (s : List ℕ) (i : ℕ) → i ≤ run_end_lem k s i
-unfolding run_end_lem
+pub run_from : (k : Run) (s : List ℕ) (i : ℕ) → i ≤ run_end k s i
+unfolding run_end
 run_from k s i = omega arith
 
 pub span_most : (p : ℕ → Bool) (xs : List ℕ) → span p xs ≤ length xs
@@ -103,8 +103,8 @@ span_most p (b ∷ xs) = pick (p b) (span_most p xs)
     pick true h = omega arith
     pick false h = omega arith
 
-pub run_within : (k : Run) (s : List ℕ) (i : ℕ) → i ≤ length s → run_end_lem k s i ≤ length s
-unfolding run_end_lem
+pub run_within : (k : Run) (s : List ℕ) (i : ℕ) → i ≤ length s → run_end k s i ≤ length s
+unfolding run_end
 run_within k s i h = omega (arith, span_most (in_run k) (drop i s), length-drop i s)
 
 -- ---- two bytes
@@ -175,7 +175,7 @@ block_within s i h = omega (arith, closing_most (drop i s), length-drop i s)
 
 -- ---- a comment
 
-pub comment_line : (s : List ℕ) (i : ℕ) → pair_at s i 47 47 ≡ true → comment_end s i ≡ run_end_lem Line s (i + 2)
+pub comment_line : (s : List ℕ) (i : ℕ) → pair_at s i 47 47 ≡ true → comment_end s i ≡ run_end Line s (i + 2)
 unfolding comment_end
 comment_line s i h = simp h
 
@@ -251,10 +251,10 @@ white_stopped s i r e =
 
 gap_falls : (s : List ℕ) (i j : ℕ) → gap_turn s i ≡ on j → length s - j < length s - i
 unfolding gap_turn
-gap_falls s i j e = omega (arith, white_ons s (run_end_lem White s i) j e, run_from White s i)
+gap_falls s i j e = omega (arith, white_ons s (run_end White s i) j e, run_from White s i)
 
 -- Both laws take what the calls on the way answered: w after the white bytes, n after a comment there.
-module _ (s : List ℕ) (i : ℕ) {w n : ℕ} (we : w ≡ run_end_lem White s i) (ne : n ≡ comment_end s w) where
+module _ (s : List ℕ) (i : ℕ) {w n : ℕ} (we : w ≡ run_end White s i) (ne : n ≡ comment_end s w) where
   -- no comment after the white bytes: the gap ends there
   pub gap_stop : n ≡ w → gap_end s i ≡ w
   unfolding gap_end gap_turn
@@ -278,25 +278,25 @@ pub gap_from : (s : List ℕ) (i : ℕ) → i ≤ gap_end s i
 unfolding gap_end gap_turn
 gap_from s i =
     turns_rule (gap_turn s) 0 (λ k. length s - k) (gap_falls s) (λ a r. a ≤ r)
-    (λ a r e. omega (arith, white_stops s (run_end_lem White s a) r e, run_from White s a))
-    (λ a b r e h. omega (arith, white_ons s (run_end_lem White s a) b e, run_from White s a))
+    (λ a r e. omega (arith, white_stops s (run_end White s a) r e, run_from White s a))
+    (λ a b r e h. omega (arith, white_ons s (run_end White s a) b e, run_from White s a))
     (suc (length s)) i (omega arith)
 
 pub gap_within : (s : List ℕ) (i : ℕ) → i ≤ length s → gap_end s i ≤ length s
 unfolding gap_end gap_turn
 gap_within s i =
     turns_rule (gap_turn s) 0 (λ k. length s - k) (gap_falls s) (λ a r. a ≤ length s → r ≤ length s)
-    (λ a r e h. omega (arith, white_stops s (run_end_lem White s a) r e, run_within White s a h))
-    (λ a b r e k h. k (omega (arith, white_ons s (run_end_lem White s a) b e, comment_within s (run_end_lem White s a) (run_within White s a h))))
+    (λ a r e h. omega (arith, white_stops s (run_end White s a) r e, run_within White s a h))
+    (λ a b r e k h. k (omega (arith, white_ons s (run_end White s a) b e, comment_within s (run_end White s a) (run_within White s a h))))
     (suc (length s)) i (omega arith)
 
 -- a gap ends once: from its end on there is none
 stop_done : (s : List ℕ) (a r : ℕ) → gap_turn s a ≡ stop r → gap_end s r ≡ r
 unfolding gap_turn
 stop_done s a r e =
-    let w = run_end_lem White s a in
+    let w = run_end White s a in
     let q : r ≡ w = white_stops s w r e in
-    gap_stop s r (q ∙ sym (run_twice White s a) ∙ ap (run_end_lem White s) (sym q)) (q ∙ sym (white_stopped s w r e) ∙ ap (comment_end s) (sym q)) refl
+    gap_stop s r (q ∙ sym (run_twice White s a) ∙ ap (run_end White s) (sym q)) (q ∙ sym (white_stopped s w r e) ∙ ap (comment_end s) (sym q)) refl
 
 pub gap_twice : (s : List ℕ) (i : ℕ) → gap_end s (gap_end s i) ≡ gap_end s i
 gap_twice s i =

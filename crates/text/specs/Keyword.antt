@@ -4,7 +4,7 @@
 use Rattle.std.specs.Prelude.{ℕ, ◌-◌, Bool, true, false, cond, ◌&&◌, ◌||◌, List, [], ◌∷◌, take, drop, eqb}
 use Rattle.text.specs.Bytes.{quote, apostrophe, hyphen, dot, semicolon, underscore, open_brace, the_end, look}
 use Rattle.text.specs.Class.{letter, digit, class_of, white_class, letter_class}
-use Rattle.text.specs.Scan.{run_end_lem}
+use Rattle.text.specs.Scan.{run_end}
 use Rattle.text.specs.declared.Match.{Match}
 use Rattle.text.specs.declared.Match.TheVariants.{After, Not}
 use Rattle.text.specs.declared.Run.TheVariants.{Ident}
@@ -30,10 +30,10 @@ part s at end = take (end - at) (drop at s)
 -- the identifier at a place is the word, and a keyword can end there
 unfoldable pub keyword_at : List ℕ → ℕ → List ℕ → Bool
 keyword_at s at word =
-    starts_ident (look s at) && same (part s at (run_end_lem Ident s at)) word && ends_keyword (look s (run_end_lem Ident s at))
+    starts_ident (look s at) && same (part s at (run_end Ident s at)) word && ends_keyword (look s (run_end Ident s at))
 
 unfoldable pub match_at : List ℕ → ℕ → List ℕ → Match
-match_at s at word = cond (keyword_at s at word) (After (record { at = run_end_lem Ident s at })) Not
+match_at s at word = cond (keyword_at s at word) (After (record { at = run_end Ident s at })) Not
 
 -- the first of two that matched
 unfoldable pub or_match : Match → Match → Match

@@ -27,8 +27,8 @@ span p [] = 0
 span p (b ∷ xs) = cond (p b) (suc (span p xs)) 0
 
 -- the place after the run that stands at a place
-unfoldable pub run_end_lem : Run → List ℕ → ℕ → ℕ
-run_end_lem k s at = at + span (in_run k) (drop at s)
+unfoldable pub run_end : Run → List ℕ → ℕ → ℕ
+run_end k s at = at + span (in_run k) (drop at s)
 
 -- whether the two bytes at a place are b and c
 unfoldable pub pair_at : List ℕ → ℕ → ℕ → ℕ → Bool
@@ -44,14 +44,14 @@ block_end s at = at + closing (drop at s)
 
 -- the place after the comment that stands at a place, or that place where none does
 unfoldable pub comment_end : List ℕ → ℕ → ℕ
-comment_end s at = cond (pair_at s at slash slash) (run_end_lem Line s (at + 2)) (cond (pair_at s at slash star) (block_end s (at + 2)) at)
+comment_end s at = cond (pair_at s at slash slash) (run_end Line s (at + 2)) (cond (pair_at s at slash star) (block_end s (at + 2)) at)
 
 -- a gap: white bytes, then a comment, again and again until there is no comment
 unfoldable pub after_white : List ℕ → ℕ → Turn ℕ ℕ
 after_white s at = cond (eqb (comment_end s at) at) (stop at) (on (comment_end s at))
 
 unfoldable pub gap_turn : List ℕ → ℕ → Turn ℕ ℕ
-gap_turn s at = after_white s (run_end_lem White s at)
+gap_turn s at = after_white s (run_end White s at)
 
 unfoldable pub gap_end : List ℕ → ℕ → ℕ
 gap_end s at = turns (gap_turn s) 0 (suc (length s)) at

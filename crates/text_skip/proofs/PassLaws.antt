@@ -8,7 +8,7 @@ use Prim.Native.Nat.{ℕ, ◌+◌, ◌-◌, ◌<◌, ◌≤◌}
 use native.Mathlib.Omega.{arith}
 use lib.ListN.{length, get_or}
 use borrow.Author.Tests.{lt-leb}
-use Rattle.text.specs.Scan.{gap_end, run_end_lem}
+use Rattle.text.specs.Scan.{gap_end, run_end}
 use Rattle.text.specs.declared.Cursor.{Cursor}
 use Rattle.text.specs.declared.Refusal.{Refusal}
 use Rattle.text.specs.declared.Run.TheVariants.{Name}
@@ -169,7 +169,7 @@ module _ (s : List ℕ) (at : ℕ) {g b : ℕ} {t : Bool} (ge : g ≡ gap_end s 
           past_is (ap place_of (value_cut s at ge be te y w)) (closed_cut s at ge be te y w) ∙ token_cut s g be te y ke c h m oe n ∙ m
 
   module _ (f : t ≡ false) {n : Bool} (ne : n ≡ starts_name b) where
-    pub passed_name : n ≡ true → {e : ℕ} → e ≡ run_end_lem Name s g → skipped_at s at ≡ past_whole e
+    pub passed_name : n ≡ true → {e : ℕ} → e ≡ run_end Name s g → skipped_at s at ≡ past_whole e
     unfolding skipped_at place_of
     passed_name m ee = past_is (ap place_of (value_name s at ge be te f ne m ee)) (closed_name s at ge be te f)
 

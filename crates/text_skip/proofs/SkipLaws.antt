@@ -11,7 +11,7 @@ use borrow.Author.Tests.{ne_eqb, le-leb, lt-leb, leb-true, leb-false, eqb-true}
 use Rattle.text.specs.Class.{class_of}
 use Rattle.text.specs.Keyword.{starts_ident}
 use Rattle.text.specs.Refusal.{is_high, high_at, MetHigh}
-use Rattle.text.specs.Scan.{run_end_lem}
+use Rattle.text.specs.Scan.{run_end}
 use Rattle.text.specs.declared.Cursor.{Cursor}
 use Rattle.text.specs.declared.Refusal.{Refusal}
 use Rattle.text.specs.declared.Run.TheVariants.{Name}
@@ -69,7 +69,7 @@ module _ (s : List ℕ) (at : ℕ) (h : at < length s) {b : ℕ} (be : b ≡ get
     token_cut m = token_string ∙ ap (closed_token s) m
 
   module _ {n : Bool} (ne : n ≡ starts_ident b) where
-    pub token_name : n ≡ true → {e : ℕ} → e ≡ run_end_lem Name s at → token_at s at ≡ past_whole e
+    pub token_name : n ≡ true → {e : ℕ} → e ≡ run_end Name s at → token_at s at ≡ past_whole e
     unfolding token_at token_here
     token_name m ee =
         let r : starts_ident (get_or s at 256) ≡ true = cc in
@@ -126,7 +126,7 @@ token_tells s at =
         (λ q. by_test (starts_ident (get_or s at 256))
         (λ n. let e = in_name (get_or s at 256) (starts_in (get_or s at 256) n) in
         rw (token_name s at h refl refl n refl)
-        (whole_tells s at (run_end_lem Name s at)
+        (whole_tells s at (run_end Name s at)
         (λ l. omega (arith, run_more Name s at h refl (sym e) refl, run_from Name s (at + 1), run_within Name s at (omega arith)))))
         (λ n. by_test (is_high (get_or s at 256))
         (λ o. rw (token_high s at h refl refl n refl o refl) (refl, o))

@@ -6,7 +6,7 @@ use Rattle.std.specs.Prelude.{ℕ, ◌+◌, Bool, false, cond, List, length, dro
 use Rattle.text.specs.Bytes.{look}
 use Rattle.text.specs.Keyword.{starts_ident}
 use Rattle.text.specs.Refusal.{is_high, high_at}
-use Rattle.text.specs.Scan.{run_end_lem}
+use Rattle.text.specs.Scan.{run_end}
 use Rattle.text.specs.declared.Due.{Due}
 use Rattle.text.specs.declared.Run.TheVariants.{Name}
 use Rattle.text_string.specs.Str.{is_quote, str_end}
@@ -39,7 +39,7 @@ closed_token s Open = past_text (length s)
 unfoldable pub token_here : List ℕ → ℕ → Skipped
 token_here s at =
     cond (is_quote (look s at)) (closed_token s (str_end (look s at) false (drop (at + 1) s) (at + 1)))
-    (cond (starts_ident (look s at)) (past_whole (run_end_lem Name s at))
+    (cond (starts_ident (look s at)) (past_whole (run_end Name s at))
     (cond (is_high (look s at)) (Refused (high_at at)) (past_whole (at + 1))))
 
 -- at the end nothing is skipped

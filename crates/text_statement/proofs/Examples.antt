@@ -8,7 +8,7 @@ use lib.Dec.{eqb, T}
 use Rattle.text.specs.Class.{class_of}
 use Rattle.text.specs.Keyword.{starts_ident}
 use Rattle.text.specs.Refusal.{is_high, high_at}
-use Rattle.text.specs.Scan.{in_ident, in_run, span, run_end_lem, pair_at, closing, block_end, comment_end, after_white, gap_turn, gap_end}
+use Rattle.text.specs.Scan.{in_ident, in_run, span, run_end, pair_at, closing, block_end, comment_end, after_white, gap_turn, gap_end}
 use Rattle.text.specs.Turns.{turns}
 use Rattle.text_string.specs.Str.{is_quote, escapes, str_end, str_bytes, closed_by, str_at}
 use Rattle.text_value.specs.Value.{starts_name, added_by, after_plus, after_gap, more_at, add_to, join_turn, joined_with, joined, of_string, value_here, value_at}
@@ -93,5 +93,5 @@ right : T (all examples)
 unfolding examples all holds same kind skipped_at place_of value_at value_here of_string joined joined_with join_turn add_to more_at after_gap after_plus added_by str_at
     closed_by str_bytes closed_at closed_here closed_string closed_from closed_turn closed_more starts_name token_at token_here closed_token str_end escapes starts_ident
     statement_at statement_from statement_turn of_part part_at part_of at_other at_close at_semicolon is_high quoted_end quoted_len closes is_quote gap_end gap_turn after_white comment_end
-    block_end closing pair_at run_end_lem span in_run in_ident class_of turns
+    block_end closing pair_at run_end span in_run in_ident class_of turns
 right = tt

@@ -9,7 +9,7 @@ use Rattle.text.specs.Class.{class_of}
 use Rattle.text.specs.Due.{due_number, due_here, due_at}
 use Rattle.text.specs.Refusal.{high_byte_met, no_value, other_byte, end_of_text, cut_short, is_high, refused_at}
 use Rattle.text.specs.Keyword.{same, part}
-use Rattle.text.specs.Scan.{in_ident, in_run, span, run_end_lem, pair_at, closing, block_end, comment_end, after_white, gap_turn, gap_end}
+use Rattle.text.specs.Scan.{in_ident, in_run, span, run_end, pair_at, closing, block_end, comment_end, after_white, gap_turn, gap_end}
 use Rattle.text.specs.Turns.{turns}
 use Rattle.text_value.specs.Argument.{argument_of, breaks_off, argument_at, after_due, after_argument, line_at}
 use Rattle.text_string.specs.Str.{is_quote, escaped, escapes, str_end, str_bytes, closed_by, str_at}
@@ -115,6 +115,6 @@ examples =
 right : T (all examples)
 unfolding examples all holds same_val same_more is_read is_refused line_at after_argument after_due argument_at argument_of due_at due_here due_number refused_at is_high same value_at
     value_here of_string joined joined_with join_turn add_to more_at after_gap after_plus added_by is_quote starts_name breaks_off closed_at closed_here closed_string
-    closed_from closed_turn closed_more str_at closed_by str_bytes str_end escaped escapes part gap_end gap_turn after_white comment_end block_end closing pair_at run_end_lem
+    closed_from closed_turn closed_more str_at closed_by str_bytes str_end escaped escapes part gap_end gap_turn after_white comment_end block_end closing pair_at run_end
     span in_run in_ident class_of turns
 right = tt

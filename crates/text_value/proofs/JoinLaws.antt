@@ -10,7 +10,7 @@ use lib.ListN.{length, get_or, length-append}
 use lib.Seq.{sets, length-sets}
 use lib.Dec.{eqb}
 use borrow.Author.Tests.{eqb-true, eqb-false}
-use Rattle.text.specs.Scan.{in_ident, gap_end, run_end_lem}
+use Rattle.text.specs.Scan.{in_ident, gap_end, run_end}
 use Rattle.text.specs.Class.{class_of}
 use Rattle.text.specs.Keyword.{part}
 use Rattle.text.specs.declared.Run.TheVariants.{Name}
@@ -215,7 +215,7 @@ module _ {s d : List ℕ} {u from : ℕ} where
 
 -- b stands here, n whether a name begins so
 module _ (s : List ℕ) (g : ℕ) {b : ℕ} {n : Bool} (be : b ≡ get_or s g 256) (ne : n ≡ starts_name b) where
-  pub name_read : n ≡ true → {e : ℕ} → e ≡ run_end_lem Name s g → name_at s g ≡ value (part s g e) e
+  pub name_read : n ≡ true → {e : ℕ} → e ≡ run_end Name s g → name_at s g ≡ value (part s g e) e
   name_read m ee = let r : starts_name (get_or s g 256) ≡ true = cc in rw r (rw (← ee) refl)
 
   pub name_none : n ≡ false → name_at s g ≡ none g
@@ -239,7 +239,7 @@ module _ (s : List ℕ) (at : ℕ) {g b : ℕ} {t : Bool} (ge : g ≡ gap_end s 
   value_other f = let q : is_quote (get_or s g 256) ≡ false = cc in rw (← ge) (rw q refl)
 
   module _ (f : t ≡ false) {n : Bool} (ne : n ≡ starts_name b) where
-    pub value_name : n ≡ true → {e : ℕ} → e ≡ run_end_lem Name s g → value_at s at ≡ value (part s g e) e
+    pub value_name : n ≡ true → {e : ℕ} → e ≡ run_end Name s g → value_at s at ≡ value (part s g e) e
     value_name m ee = value_other f ∙ name_read s g be ne m ee
 
     pub value_none : n ≡ false → value_at s at ≡ none g
@@ -346,7 +346,7 @@ value_size s at bs e h =
     (λ q. by_str (str_at s g) refl q)
     (λ q. by_test (starts_name (get_or s g 256))
     (λ n. let i = name_here s g refl refl n in
-    let r = run_end_lem Name s g in
+    let r = run_end Name s g in
     let m = value_is bs (part s g r) e r h (value_name s at refl refl refl q refl n refl) in
     omega (
       arith,
@@ -385,7 +385,7 @@ starts_name_in b h =
     (λ t. by_test (eqb (class_of b) 3) (λ u. simp (t, u)) (λ u. let k : eqb b 95 ≡ true = simp (t, u) at h in simp (t, u, k)))
 
 -- a name takes a byte at least
-pub name_far : (s : List ℕ) (g : ℕ) → starts_name (get_or s g 256) ≡ true → g < run_end_lem Name s g
+pub name_far : (s : List ℕ) (g : ℕ) → starts_name (get_or s g 256) ≡ true → g < run_end Name s g
 name_far s g y =
     let l = name_here s g refl refl y in
     let e = in_name (get_or s g 256) (starts_name_in (get_or s g 256) y) in
@@ -399,7 +399,7 @@ value_far s at bs e h =
     by_test (is_quote (get_or s g 256))
     (λ q. by_str (str_at s g) refl q)
     (λ q. by_test (starts_name (get_or s g 256))
-    (λ n. let m = value_is bs (part s g (run_end_lem Name s g)) e (run_end_lem Name s g) h (value_name s at refl refl refl q refl n refl) in
+    (λ n. let m = value_is bs (part s g (run_end Name s g)) e (run_end Name s g) h (value_name s at refl refl refl q refl n refl) in
     omega (arith, m.1, z, gap_from s at, name_far s g n))
     (λ n. absurd (none_not (value_none s at refl refl refl q refl n) h)))
   where

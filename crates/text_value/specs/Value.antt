@@ -6,7 +6,7 @@ use Rattle.std.specs.Prelude.{ℕ, suc, ◌+◌, Bool, true, false, cond, ◌||�
 use Rattle.text.specs.Bytes.{plus, underscore, look}
 use Rattle.text.specs.Class.{class_of, letter_class, digit_class}
 use Rattle.text.specs.Keyword.{part}
-use Rattle.text.specs.Scan.{run_end_lem, gap_end}
+use Rattle.text.specs.Scan.{run_end, gap_end}
 use Rattle.text.specs.Turns.{Turn, stop, on, turns}
 use Rattle.text.specs.declared.Run.TheVariants.{Name}
 use Rattle.text_string.specs.Str.{is_quote, Str, whole, cut, str_at}
@@ -79,7 +79,7 @@ of_string s cut = none (length s)
 
 -- the name at a place
 abbrev pub name_at : List ℕ → ℕ → Val
-name_at s at = cond (starts_name (look s at)) (value (part s at (run_end_lem Name s at)) (run_end_lem Name s at)) (none at)
+name_at s at = cond (starts_name (look s at)) (value (part s at (run_end Name s at)) (run_end Name s at)) (none at)
 
 unfoldable pub value_here : List ℕ → ℕ → Val
 value_here s at = cond (is_quote (look s at)) (of_string s (str_at s at)) (name_at s at)

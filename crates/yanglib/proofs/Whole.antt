@@ -16,7 +16,7 @@ use Rattle.library_bundle.specs.declared.Opened.TheVariants.{Wrong as WrongBundl
 use Rattle.library_lists.specs.Lists.{done, read_seen}
 use Rattle.library_lists.specs.declared.Read.{Read}
 use Rattle.library_lists.specs.declared.Read.TheVariants.{End, Wrong}
-use Rattle.library_read.specs.Reading.{read_number_lem}
+use Rattle.library_read.specs.Reading.{read_number}
 use Rattle.graph.specs.Nodes.{Mode}
 use Rattle.text.specs.Refusal.{no_refusal}
 use Rattle.graph_tables.specs.Tables.{node_words, row_words}
@@ -70,9 +70,9 @@ module _ (mode : Mode) (s b nodes edges store imports includes levels : List ℕ
     kept = same_long store imports includes levels;
   }
 
-  pub no_image : {r : Read} {p number : ℕ} {a : Refusal} → r ≡ Wrong p → read_seen r ≡ done (image_at s) → number ≡ read_number_lem (Wrong p) → a ≡ no_refusal
+  pub no_image : {r : Read} {p number : ℕ} {a : Refusal} → r ≡ Wrong p → read_seen r ≡ done (image_at s) → number ≡ read_number (Wrong p) → a ≡ no_refusal
       → Holds (graphed mode s b k) nodes edges store imports includes levels (Refused number 0 a p) nodes edges store imports includes levels
-  unfolding read_number_lem
+  unfolding read_number
   no_image {r} {p} e q n z = refusing z (image_wrong mode s b k r e q ∙ ap (λ (i : ℕ). refusal i 0 no_refusal p) (sym n))
 
   pub no_bundle : {r : Read} {j : ℕ} {o : Opened} {tab : List ℕ} {p : ℕ} {a : Refusal} → r ≡ End j → read_seen r ≡ done (image_at s) → OpenedAs b o tab

@@ -25,7 +25,7 @@ use Rattle.scan_imports.specs.declared.ParsedInclude.{ParsedInclude}
 use Rattle.scan_imports.specs.declared.ParsedInclude.TheVariants.{Include as ReadInclude, NoInclude}
 use Rattle.scan_imports.proofs.ReachLaws.{ImportSaid, import_said, IncludeSaid, include_said}
 use Rattle.yangparser.specs.Dependencies.{Dependencies, none, Step, import_step, include_step, full, unless_full, import_here, include_here, moved_to}
-use Rattle.yangparser.specs.Dependencies.{after_token, head_step_lem, step_at}
+use Rattle.yangparser.specs.Dependencies.{after_token, head_step, step_at}
 use Rattle.scan_head.specs.Head.{head_at}
 use Rattle.yangparser.specs.declared.Next.{Next}
 use Rattle.yangparser.specs.declared.Next.TheVariants.{On, Done, Stop}
@@ -130,8 +130,8 @@ token_went whole s far g from in-text (After c) e =
 token_went whole s far g from in-text (Not r) e = λ i. refused_within s r (past_token_not whole s g r e)
 
 head_said : (whole : Bool) (s : List ℕ) (far : Sofar) (g : ℕ) → far.at ≤ g → g < length s → (w : Head) → head_at s g ≡ w
-    → Said s far (head_step_lem whole s far g w)
-unfolding head_step_lem
+    → Said s far (head_step whole s far g w)
+unfolding head_step
 head_said whole s far g from in-text (Import c) h =
     let f = head_import_far s g c h in import_here_lem s far c.at (omega (arith, f.0)) f.1 whole
 head_said whole s far g from in-text (Include c) h =

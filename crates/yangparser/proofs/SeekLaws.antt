@@ -33,7 +33,7 @@ use Rattle.scan_head.specs.declared.Head.{Head}
 use Rattle.scan_head.specs.declared.Head.TheVariants.{Import as ImportHead, Include as IncludeHead, Last, Other}
 use Rattle.scan_head.proofs.HeadLaws.{head_import_far, head_include_far}
 use Rattle.yangparser.specs.Dependencies.{Dependencies, none, import_words_of, include_words_of, joined, Step, adding, import_step, include_step, unless_full}
-use Rattle.yangparser.specs.Dependencies.{import_here, include_here, moved_to, after_token, head_step_lem, step_here, step_at, Scanning, good, bad, scan_from}
+use Rattle.yangparser.specs.Dependencies.{import_here, include_here, moved_to, after_token, head_step, step_here, step_at, Scanning, good, bad, scan_from}
 use Rattle.yangparser.specs.Promises.{AddsImport, AddsInclude, Steps}
 use Rattle.yangparser.specs.Seek.{look_past, look_head, look_here, look_at, of_look, seek_turn, sought_at, sought_step, step_from}
 use Rattle.yangparser.specs.declared.Look.{Look}
@@ -239,8 +239,8 @@ unfolding look_step look_past after_token sought_step
 past_step whole s far (After c) = refl
 past_step whole s far (Not r) = refl
 
-head_step_lem : (whole : Bool) (s : List ℕ) (far : Sofar) (g : ℕ) (w : Head) → head_step_lem whole s far g w ≡ look_step whole s far (look_head whole s g w)
-unfolding head_step_lem look_step look_head sought_step
+head_step_lem : (whole : Bool) (s : List ℕ) (far : Sofar) (g : ℕ) (w : Head) → head_step whole s far g w ≡ look_step whole s far (look_head whole s g w)
+unfolding head_step look_step look_head sought_step
 head_step_lem whole s far g (ImportHead c) = refl
 head_step_lem whole s far g (IncludeHead c) = refl
 head_step_lem whole s far g (Last c) = refl

@@ -15,7 +15,7 @@ use Rattle.scan_imports.specs.declared.ParsedImport.{ParsedImport}
 use Rattle.scan_imports.specs.declared.ParsedImport.TheVariants.{Import as ReadImport, NoImport}
 use Rattle.scan_imports.specs.declared.ParsedInclude.{ParsedInclude}
 use Rattle.scan_imports.specs.declared.ParsedInclude.TheVariants.{Include as ReadInclude, NoInclude}
-use Rattle.yangparser.specs.Dependencies.{Dependencies, none, Step, import_step, include_step, unless_full, import_here, include_here, head_step_lem, step_here}
+use Rattle.yangparser.specs.Dependencies.{Dependencies, none, Step, import_step, include_step, unless_full, import_here, include_here, head_step, step_here}
 use Rattle.yangparser.specs.Dependencies.{step_at}
 use Rattle.scan_head.specs.Head.{head_at}
 use Rattle.yangparser.specs.declared.Next.TheVariants.{Done}
@@ -61,6 +61,6 @@ module _ (whole : Bool) (s : List ℕ) (far : Sofar) {g : ℕ} (ge : g ≡ gap_e
   unfolding step_at step_here
   step_past h = rw (← ge) (rw (le-leb (length s) g h) refl)
 
-  pub step_head : g < length s → {w y : Head} → w ≡ head_at s g → w ≡ y → step_at whole s far ≡ head_step_lem whole s far g y
+  pub step_head : g < length s → {w y : Head} → w ≡ head_at s g → w ≡ y → step_at whole s far ≡ head_step whole s far g y
   unfolding step_at step_here
-  step_head h we q = rw (← ge) (rw (lt-leb (length s) g h) (ap (head_step_lem whole s far g) (sym we ∙ q)))
+  step_head h we q = rw (← ge) (rw (lt-leb (length s) g h) (ap (head_step whole s far g) (sym we ∙ q)))

@@ -104,15 +104,15 @@ unfoldable pub after_token : Sofar → Due → Next
 after_token far (After c) = On (moved_to far c.at)
 after_token far (Not r) = Stop r
 
-unfoldable pub head_step_lem : Bool → List ℕ → Sofar → ℕ → Head → Step
-head_step_lem whole s far at (Import c) = import_here whole s far c.at
-head_step_lem whole s far at (Include c) = include_here whole s far c.at
-head_step_lem whole s far at (Last c) = adding Done none
-head_step_lem whole s far at Other = adding (after_token far (past_token whole s at)) none
+unfoldable pub head_step : Bool → List ℕ → Sofar → ℕ → Head → Step
+head_step whole s far at (Import c) = import_here whole s far c.at
+head_step whole s far at (Include c) = include_here whole s far c.at
+head_step whole s far at (Last c) = adding Done none
+head_step whole s far at Other = adding (after_token far (past_token whole s at)) none
 
 -- at the place after the gap
 unfoldable pub step_here : Bool → List ℕ → Sofar → ℕ → Step
-step_here whole s far at = cond (leb (length s) at) (adding Done none) (head_step_lem whole s far at (head_at s at))
+step_here whole s far at = cond (leb (length s) at) (adding Done none) (head_step whole s far at (head_at s at))
 
 unfoldable pub step_at : Bool → List ℕ → Sofar → Step
 step_at whole s far = step_here whole s far (gap_end s far.at)
