@@ -127,7 +127,8 @@ def turned(line, new, fields, code):
         name, before = m[0], line[: m.start()]
         if name not in new or name.endswith("-spec"):
             return name
-        if before.endswith(".") and name not in fields and not re.match(r"\s*(pub )?(ghost )?use\b", line) and "-" in name:
+        of_value = before.endswith(".") and not re.search(r"(^|[^\w.])[A-Z]\w*\.$", before)
+        if of_value and name not in fields and not re.match(r"\s*(pub )?(ghost )?use\b", line) and "-" in name:
             return name
         return new[name]
 

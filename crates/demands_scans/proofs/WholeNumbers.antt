@@ -99,7 +99,7 @@ module _ (s : List ℕ) (short : Bool) where
   module _ (r : Refusal) (d : Deps.Dependencies) where
     scan_read : (x : Deps.Scan) → WholeOrOld told_dependencies old_dependencies s x (Deps.scanned false s) → x ≡ Deps.bad r d
         → WholeRefusal (MetRefusal DependenciesRefusal s) s r
-    scan_read x (same e) h = as_before (subst (Scans.ScanIs s) (sym e ∙ h) (Scans.scanned-is s))
+    scan_read x (same e) h = as_before (subst (Scans.ScanIs s) (sym e ∙ h) (Scans.scanned_is s))
     scan_read x (cut e m) h = cut_short (sym (ap told_dependencies h) ∙ e)
 
     dependencies_whole_refused : Deps.dependencies true s short ≡ Deps.bad r d → RefusedAs (WholeRefusal (MetRefusal DependenciesRefusal s) s) s short r
@@ -107,7 +107,7 @@ module _ (s : List ℕ) (short : Bool) where
     dependencies_whole_refused h = go (lent_at s short) (lent_is s short) h
       where
         go : (x : Lent) → LentIs s short x → Deps.if_fit x (Deps.scanned true s) ≡ Deps.bad r d → RefusedAs (WholeRefusal (MetRefusal DependenciesRefusal s) s) s short r
-        go Fit f h = read f (scan_read (Deps.scanned true s) (Dependencies.scanned-whole s) h)
+        go Fit f h = read f (scan_read (Deps.scanned true s) (Dependencies.scanned_whole s) h)
         go (Unfit q) f h = let e : q ≡ r = cc in first (subst (FirstRefusal s short) e f)
 
     -- in either mode
@@ -118,7 +118,7 @@ module _ (s : List ℕ) (short : Bool) where
 
   module _ (r : Refusal) (bs : List ℕ) where
     header_read : (x : Meta.Scan) → WholeOrOld told_metadata old_metadata s x (Meta.scanned false s) → x ≡ Meta.bad r bs → WholeRefusal (MetRefusal MetadataRefusal s) s r
-    header_read x (same e) h = as_before (subst (Headers.ScanIs s) (sym e ∙ h) (Headers.scanned-is s))
+    header_read x (same e) h = as_before (subst (Headers.ScanIs s) (sym e ∙ h) (Headers.scanned_is s))
     header_read x (cut e m) h = cut_short (sym (ap told_metadata h) ∙ e)
 
     metadata_whole_refused : Meta.metadata true s short ≡ Meta.bad r bs → RefusedAs (WholeRefusal (MetRefusal MetadataRefusal s) s) s short r
@@ -126,7 +126,7 @@ module _ (s : List ℕ) (short : Bool) where
     metadata_whole_refused h = go (lent_at s short) (lent_is s short) h
       where
         go : (x : Lent) → LentIs s short x → Meta.if_fit x (Meta.scanned true s) ≡ Meta.bad r bs → RefusedAs (WholeRefusal (MetRefusal MetadataRefusal s) s) s short r
-        go Fit f h = read f (header_read (Meta.scanned true s) (Metadata.scanned-whole s) h)
+        go Fit f h = read f (header_read (Meta.scanned true s) (Metadata.scanned_whole s) h)
         go (Unfit q) f h = let e : q ≡ r = cc in first (subst (FirstRefusal s short) e f)
 
     pub metadata_mode_refused : (whole : Bool) → Meta.metadata whole s short ≡ Meta.bad r bs → RefusedAs (ModeRefusal whole MetadataRefusal s) s short r

@@ -193,8 +193,8 @@ module _ {at : ℕ → Codes} {n left v base k : ℕ} {levels₀ edges₀ chains
           record {
             seen = ap₂ (λ (m : Marks) (h : ℕ). walked (rows_in total edges) m h) y.marks own ∙ sym (all_words ∙ ap (λ (w : Went). then_w w (ended v)) all);
             ready = record { filed = g.filed; low = omega (arith, own, g.high) };
-            kept_edges = g.long-edges ∙ d.kept_edges;
-            kept_chains = g.long-chains ∙ d.kept_chains;
+            kept_edges = g.long_edges ∙ d.kept_edges;
+            kept_chains = g.long_chains ∙ d.kept_chains;
           }
 
     module _ {x : Stepping} {edges₁ chains₁ : List ℕ} (s : Stepped (get_or levels (base + i) 0) left v (rows_in total edges) edges chains x edges₁ chains₁)
@@ -207,8 +207,8 @@ module _ {at : ℕ → Codes} {n left v base k : ℕ} {levels₀ edges₀ chains
           record {
             seen = ap (λ a. halted number a) y ∙ sym (all_words ∙ ap (λ (w : Went). then_w w (ended v)) (turn h ∙ ap (λ (w : Went). then_w w onwards) q));
             ready = tt;
-            kept_edges = s.kept_edges ∙ g.long-edges ∙ d.kept_edges;
-            kept_chains = s.kept_chains ∙ g.long-chains ∙ d.kept_chains;
+            kept_edges = s.kept_edges ∙ g.long_edges ∙ d.kept_edges;
+            kept_chains = s.kept_chains ∙ g.long_chains ∙ d.kept_chains;
           }
 
   pub kept_end : {store imports includes levelsE store₀ imports₀ includes₀ store₁ imports₁ includes₁ : List ℕ}
@@ -266,8 +266,8 @@ module _ {at : ℕ → Codes} {n left v base k : ℕ} {levels₀ edges₀ chains
               seen = ap (λ w. walked_seen v w levels₂ edges₂) y
                   ∙ sym (all_words d z ∙ ap (λ (w : Went). then_w w (ended v)) (turn h ∙ ap (λ (w : Went). then_w w onwards) q));
               ready = rw y tt;
-              kept_edges = o.kept_edges ∙ s.kept_edges ∙ g.long-edges ∙ d.kept_edges;
-              kept_chains = o.kept_chains ∙ s.kept_chains ∙ g.long-chains ∙ d.kept_chains;
+              kept_edges = o.kept_edges ∙ s.kept_edges ∙ g.long_edges ∙ d.kept_edges;
+              kept_chains = o.kept_chains ∙ s.kept_chains ∙ g.long_chains ∙ d.kept_chains;
             }
 
         module _ {store imports includes store₁ imports₁ includes₁ : List ℕ}
@@ -295,8 +295,8 @@ module _ {at : ℕ → Codes} {n left v base k : ℕ} {levels₀ edges₀ chains
                 low = g.low;
                 filed = c.filed;
                 high = omega (arith, f, child_height y, g.high);
-                long_edges = o.kept_edges ∙ s.kept_edges ∙ g.long-edges;
-                long_chains = o.kept_chains ∙ s.kept_chains ∙ g.long-chains;
+                long_edges = o.kept_edges ∙ s.kept_edges ∙ g.long_edges;
+                long_chains = o.kept_chains ∙ s.kept_chains ∙ g.long_chains;
                 rest = turn h ∙ ap (λ (w : Went). then_w w onwards) q
                     ∙ ap (λ (j : ℕ). ahead at left v (words_from levels₀ (base + (i + 1)) (k - (i + 1))) (rows_in t edges₂) (remembered levels₂) j) (sym f);
               }

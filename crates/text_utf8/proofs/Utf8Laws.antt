@@ -303,7 +303,7 @@ low_behind s (suc k) n at most l h =
     let e : suc k + n ≡ suc (k + n) = omega arith in
     let f : drop at s ≡ b ∷ drop (at + 1) s = rest s at (omega arith) in
     let i : largest most (b ∷ xs) < 128 =
-        omega (arith, h, ap (λ m. largest most (take m (drop at s))) e, ap (λ ys. largest most (take (suc (k + n)) ys)) f) in
+    omega (arith, h, ap (λ m. largest most (take m (drop at s))) e, ap (λ ys. largest most (take (suc (k + n)) ys)) f) in
     ap (wrong_from s) (omega arith)
     ∙ low_behind s k n (at + 1) (larger most b) (omega arith) (omega (arith, i, largest_rest most b xs))
     ∙ ap (wrong_from s) (omega arith)

@@ -1,4 +1,3 @@
-use Prim.Native.Nat.{◌-◌}
 use Rattle.text.proofs.Laws.{gap_from, gap_done}
 use Rattle.text_statement.proofs.StatementLaws.{statement_is, statement_stop, statement_high, statement_more, statement_on, statement_room, statement_gap}
 use mathlib.Core.Path.{sym, ◌∙◌}

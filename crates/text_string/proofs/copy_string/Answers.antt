@@ -1,8 +1,6 @@
-use Prim.Native.Nat.{◌-◌}
 use Rattle.text.proofs.Writing.{begun, said, put, written, counted}
 use Rattle.text_string.proofs.StrLaws.{bytes_past, bytes_skip, bytes_quote, bytes_escape, bytes_more}
 use lib.ListN.{length-set}
-use mathlib.Core.Bool.{false}
 use native.Mathlib.Omega.{arith}
 use Rattle.text_string.proofs.copy_string.Goals as goal
 

@@ -1,4 +1,3 @@
-use Prim.Native.Nat.{◌-◌}
 use Rattle.text_value.proofs.JoinLaws.{join_begun, join_long, join_nearer, join_more, join_done, join_cut}
 use mathlib.Core.Path.{◌∙◌}
 use native.Mathlib.Omega.{arith}
