@@ -1,10 +1,10 @@
 -- The demand on the order, from its parts.
 -- Assumes nothing.
 use Prim.Native.Nat.{ℕ, ◌<◌}
-use mathlib.Core.Path.{◌≡◌, refl, ap}
+use mathlib.Core.Path.{◌≡◌, refl, sym, ap, ◌∙◌}
 use mathlib.Core.Logic.{⊎_elim}
 use mathlib.Core.Bool.{true}
-use mathlib.Core.List.{List, ◌∷◌}
+use mathlib.Core.List.{List, [], ◌∷◌}
 use native.Mathlib.Omega.{arith}
 use native.Mathlib.Nat.{eq-or-lt_of_le}
 use lib.ListN.{length}
@@ -29,7 +29,7 @@ behind_front [] = []
 behind_front (x ∷ xs) = xs
 
 -- of two lists of which neither comes after the other, both are the same; the other way round is told of two lists that are these
-neither_of : {xs ys : List ℕ} → NotAfter xs ys → {as bs : List ℕ} → NotAfter as bs → as ≡ ys → bs ≡ xs → xs ≡ ys
+neither_of : {xs ys : List ℕ} → NotAfter xs ys → {us vs : List ℕ} → NotAfter us vs → us ≡ ys → vs ≡ xs → xs ≡ ys
 neither_of same k e f = refl
 neither_of (lower l) same e f = sym f ∙ e
 neither_of (lower l) (lower m) e f = absurd (omega (arith, l, m, ap front_of e, ap front_of f))
