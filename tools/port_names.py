@@ -1,10 +1,11 @@
 #!/usr/bin/env python3
 """Brings the repository's own definitions and lemmas to one spelling: words in snake case, types and modules in camel case.
 
-usage: python3 tools/port_names.py [--list]      at the top of the repository, once, after /opt/rattle/port/port.py
+usage: python3 tools/port_names.py [--nested] [--list]      at the top of the repository, once, after /opt/rattle/port/port.py
 
 A definition `gapEnd` becomes `gap_end`, a lemma `gap-from` becomes `gap_from`. Names of src/ keep their spelling, and so do names that Rattle makes, as the
 goals of a function. Where a lemma would have a definition's name, it ends in `_lem`. Names in strings stay as they are.
+--nested turns the names of lemmas that stand further in, in a module of a file; it ran when the proofs were today's already.
 --list prints the names and writes nothing."""
 
 import collections
@@ -38,24 +39,30 @@ def snake(name):
     return out if name[0].isupper() else out.lower()
 
 
+DEPTH = 2  # how far in a declaration stands at most
+
+
 def declared():
     """Each name that a file of specs/ or proofs/ declares, with the files; and the names of records' fields."""
     found, fields = collections.defaultdict(set), set()
     for path in files(".antt"):
         own = path.endswith("/Proof.antt")
-        in_record = False
+        if re.search(r"/proofs/.+/(Answers|Invariants)\.antt$", path):
+            continue
+        in_record = 0  # how far in the fields of the record stand that is read
         for line in text(path).split("\n"):
-            if re.match(r"(pub )?(record|data)\b", line):
-                in_record = line.rstrip().endswith("where")
-            elif line and not line[0].isspace() and not line.startswith("--"):
-                in_record = False
+            here = len(line) - len(line.lstrip())
+            if re.match(r"\s*(pub )?(record|data)\b", line):
+                in_record = here + 2 if line.rstrip().endswith("where") else 0
+            elif line.strip() and here < in_record and not line.lstrip().startswith("--"):
+                in_record = 0
             m = DECLARED.match(line)
-            if not m or len(m[1]) > 2 or m[2] in KEYWORDS or m[2].startswith(("--", "\u03bb")):
+            if not m or len(m[1]) > DEPTH or m[2] in KEYWORDS or m[2].startswith(("--", "\u03bb")):
                 continue
             if own and (re.match(r"(tie|lts)\.", m[4]) or m[2].endswith(("-spec", "_spec"))):
                 continue
             found[m[2]].add(path)
-            if in_record and len(m[1]) == 2:
+            if in_record and len(m[1]) == in_record:
                 fields.add(m[2])
         for line in re.findall(r"(?m)^ *(?:pub )?ruleset (" + WORD + ")", text(path)):
             found[line].add(path)
@@ -120,7 +127,8 @@ def turned(line, new, fields, code):
         name, before = m[0], line[: m.start()]
         if name not in new or name.endswith("-spec"):
             return name
-        if before.endswith(".") and name not in fields and not re.match(r"\s*(pub )?(ghost )?use\b", line) and "-" in name:
+        of_value = before.endswith(".") and not re.search(r"(^|[^\w.])[A-Z]\w*\.$", before)
+        if of_value and name not in fields and not re.match(r"\s*(pub )?(ghost )?use\b", line) and "-" in name:
             return name
         return new[name]
 
@@ -128,7 +136,7 @@ def turned(line, new, fields, code):
 
 
 def turn_antt(t, new, fields):
-    for n in LEMMAS:
+    for n in LEMMAS if DEPTH == 2 else []:
         if re.search(rf"(?m)^ *(pub )?{n} ", t) or re.search(rf"(?m)^\s*use [^\n]*[{{ ]{n}[,}}]", t):
             t = re.sub(rf"(?<![\w.'-]){n}(?![\w.'-])", n + "_lem", t)
     out = []
@@ -176,6 +184,9 @@ def turn_edit(t, new, fields):
 
 
 def main(argv):
+    global DEPTH
+    if "--nested" in argv:
+        DEPTH = 12
     new, fields, together, tokens = names()
     for to in together:
         print(f"falls together: {to}: {' '.join(sorted(n for n, x in new.items() if x in (to, to + '_lem')))}")

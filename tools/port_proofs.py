@@ -14,7 +14,7 @@ import sys
 import tempfile
 
 WORD = r"[^\s(){};,.:=|\[\]\u03bb]+"
-START = {"args", "requires", "ranges", "well_formed", "lifetimes", "utf8"}
+START = {"args", "requires", "ranges", "well_formed", "lifetimes", "utf8", "pre"}
 
 
 def plain(name):
@@ -38,7 +38,7 @@ def blocks(t):
             continue
         m = re.match(r"(?:(?:abbrev|pub|unfoldable|opaque) )*(" + WORD + r")(?: [^:=]*)?\s*:(?: |$)", line)
         starts = m and not line[0].isspace()
-        if starts or re.match(r"(module|mutual|record|data|pub data|pub record)\b", line):
+        if starts or re.match(r"(module|mutual|record|data|pub data|pub record)(\s|$)", line):
             cur = note + [line]
             note = []
             out.append(cur)
@@ -131,10 +131,8 @@ def turn_body(body, names, place, left):
         parts = rest.split(".")[1:]
         cur = bound[var]
         while parts and parts[0] == "before":
-            cur = names.parent.get(cur)
+            cur = names.parent.get(cur) or cur  # behind the start there is nothing
             parts = parts[1:]
-            if cur is None:
-                return None, []
         return cur, parts
 
     def path(m):
@@ -150,6 +148,7 @@ def turn_body(body, names, place, left):
         if cur is None or not parts:
             left.append(m[0])
             return m[0]
+        parts[0] = "requires" if parts[0] == "pre" else parts[0].replace("well-formed", "well_formed")
         if parts[0] in START:
             return "c." + ".".join(parts)
         arm = names.arm(cur, parts) or names.arm(place, parts)
@@ -174,8 +173,8 @@ def turn_body(body, names, place, left):
         parts = rest.split(".")[1:]
         if parts and any(p != "before" for p in parts):
             cur, parts = resolve(var, rest)
-            if cur is not None and names.arm_step(cur, parts[0]) and parts[1:] in (["given"], ["given", "0"], ["given", "0", "1"]):
-                whole[v] = (cur, parts)
+            if cur is not None and names.arm_step(place, parts[0]) and parts[1:] in (["given"], ["given", "0"], ["given", "0", "1"]):
+                whole[v] = (place, parts)
                 return ""
             if cur is not None and len(parts) == 1 and names.up(cur, parts[0]):
                 steps[v] = names.up(cur, parts[0])

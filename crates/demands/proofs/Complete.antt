@@ -18,7 +18,7 @@ use Rattle.graph.specs.Meaning.{Revised}
 use Rattle.graph.specs.Demand3.{all_names, Once}
 use Rattle.graph.specs.Complete.{EachOnce}
 use Rattle.graph.specs.Limits.{most_edges, most_nodes}
-use Rattle.graph.proofs.Complete.{nodes_each, as_many, cause-many, complete_demand3}
+use Rattle.graph.proofs.Complete.{nodes_each, as_many, cause_many, complete_demand3}
 use Rattle.graph_nodes.specs.Adding.{plain_at, words_at}
 use Rattle.graph_texts.specs.Texts.{text_of}
 use Rattle.graph_tables.specs.Lengths.{Lengths, is_too_short}
@@ -49,7 +49,7 @@ module _ (s b : List ℕ) (k : Lengths) (ws : List Name) (o : EachOnce ws (all_n
   many_names (lent r i h) q = absurd (omega (arith, q))
   many_names (graph r i h c) q =
       let l = plain_at s in
-      (r, i, h, omega (arith, cause-many (text_of b) l 1024 8192 c q, as_many ws (nodes_of complete l) (all_names l) o (nodes_each l)))
+      (r, i, h, omega (arith, cause_many (text_of b) l 1024 8192 c q, as_many ws (nodes_of complete l) (all_names l) o (nodes_each l)))
 
   names_many : TooMany → (entry place : ℕ) × (a : Refusal) × ((graphed complete s b k).answer ≡ Refused 30 entry a place)
   names_many t =

@@ -37,7 +37,7 @@ use Rattle.graph_build.specs.declared.Graphed.TheVariants.{Built}
 use Rattle.graph_build.proofs.Outcome.{revised_here}
 use Rattle.demands.specs.Demand3.{name_of, names, table_names, table_edges, named, between, edges, RightGraph, WellFormed, Alike, both_refused, both_built}
 use Rattle.demands.specs.Demand3.{AlikeCalls, BytesDemand3}
-use Rattle.demands.proofs.Standing.{names-read}
+use Rattle.demands.proofs.Standing.{names_read}
 use Rattle.demands.proofs.TablesRead.{edges_read, nodes_read}
 
 abbrev pub graph_here : Mode → (image bundle : List ℕ) → Graph
@@ -73,7 +73,7 @@ module _ (mode : Mode) (s b : List ℕ) (k : Lengths) where
     pub long : is_too_short (longest_text b) k ≡ false
     pub ns : List Name
     pub es : List Edge
-    pub graphIs : graph_here mode s b ≡ graph ns es
+    pub graph_is : graph_here mode s b ≡ graph ns es
 
   pub drawn : (n m : ℕ) → (graphed mode s b k).answer ≡ Built n m → Drawn
   unfolding graphed
@@ -91,7 +91,7 @@ module _ (mode : Mode) (s b : List ℕ) (k : Lengths) where
         long = t;
         ns = ns;
         es = es;
-        graphIs = q;
+        graph_is = q;
       }
 
 -- ---- names and edges of a result
@@ -108,7 +108,7 @@ module _ (mode : Mode) (s b : List ℕ) (bytes : AllBytes s) (reads : Reads (ima
   result = result_of (words_at mode s) (graph ns es)
 
   names_are : names s result ≡ ns
-  names_are = names-read s bytes reads mode ∙ sym right.nodes
+  names_are = names_read s bytes reads mode ∙ sym right.nodes
 
   edge_back : (d : Edge) → Memᴰ d es → between ns (row_of ns d) ≡ d
   edge_back d m =
@@ -147,14 +147,14 @@ right_graph : (mode : Mode) (s b : List ℕ) (k : Lengths) (n m : ℕ) → AllBy
 right_graph mode s b k n m bytes h =
     let d = drawn mode s b k n m h in
     let q : graphed mode s b k ≡ result_of (words_at mode s) (graph d.ns d.es)
-    = graph_reached mode s b k d.reads d.bundle d.long ∙ ap (result_of (words_at mode s)) d.graphIs in
+    = graph_reached mode s b k d.reads d.bundle d.long ∙ ap (result_of (words_at mode s)) d.graph_is in
     let a : Built (length d.ns) (length d.es) ≡ Built n m = sym (ap (λ (x : Result). x.answer) q) ∙ h in
     let i : length d.ns ≡ n = cc in
     let j : length d.es ≡ m = cc in
-    let e = names_are mode s b bytes d.reads d.graphIs in
+    let e = names_are mode s b bytes d.reads d.graph_is in
     subst (λ (x : Result). RightGraph mode (text_of b) (plain_at s) n m (names s x) x.rows) (sym q)
     (subst (λ l. RightGraph mode (text_of b) (plain_at s) n m l (map (row_of d.ns) d.es)) (sym e)
-    (subst₂ (λ x y. RightGraph mode (text_of b) (plain_at s) x y d.ns (map (row_of d.ns) d.es)) i j (right_here mode s b bytes d.reads d.graphIs)))
+    (subst₂ (λ x y. RightGraph mode (text_of b) (plain_at s) x y d.ns (map (row_of d.ns) d.es)) i j (right_here mode s b bytes d.reads d.graph_is)))
 
 -- and of what a call leaves
 module _ (mode : Mode) (s b n e d f g l : List ℕ) {r : Graphed} {n₁ e₁ d₁ f₁ g₁ l₁ : List ℕ} (bytes : AllBytes s)
@@ -163,21 +163,21 @@ module _ (mode : Mode) (s b n e d f g l : List ℕ) {r : Graphed} {n₁ e₁ d�
   left = graphed mode s b (lengths_of n e d f g l)
 
   module _ (i j : ℕ) (a : left.answer ≡ Built i j) where
-    right-left : RightGraph mode (text_of b) (plain_at s) i j (names s left) left.rows
-    right-left = right_graph mode s b (lengths_of n e d f g l) i j bytes a
+    right_left : RightGraph mode (text_of b) (plain_at s) i j (names s left) left.rows
+    right_left = right_graph mode s b (lengths_of n e d f g l) i j bytes a
 
-    names-left : table_names s i n₁ ≡ names s left
-    names-left =
-        ap₂ (table_names s) (right-left.node_count ∙ length-map left.nodes (name_of s)) h.nodes ∙ nodes_read s (length n) left.nodes
+    names_left : table_names s i n₁ ≡ names s left
+    names_left =
+        ap₂ (table_names s) (right_left.node_count ∙ length-map left.nodes (name_of s)) h.nodes ∙ nodes_read s (length n) left.nodes
 
     rows_left : rows_in j e₁ ≡ left.rows
-    rows_left = ap₂ rows_in right-left.edge_count h.edges ∙ edges_read (length e) left.rows
+    rows_left = ap₂ rows_in right_left.edge_count h.edges ∙ edges_read (length e) left.rows
 
-    edges-left : table_edges s i j n₁ e₁ ≡ edges s left
-    edges-left = ap₂ (λ ns rs. map (between ns) rs) names-left rows_left
+    edges_left : table_edges s i j n₁ e₁ ≡ edges s left
+    edges_left = ap₂ (λ ns rs. map (between ns) rs) names_left rows_left
 
-    right-tables : RightGraph mode (text_of b) (plain_at s) i j (table_names s i n₁) (rows_in j e₁)
-    right-tables = subst₂ (λ ns rs. RightGraph mode (text_of b) (plain_at s) i j ns rs) (sym names-left) (sym rows_left) right-left
+    right_tables : RightGraph mode (text_of b) (plain_at s) i j (table_names s i n₁) (rows_in j e₁)
+    right_tables = subst₂ (λ ns rs. RightGraph mode (text_of b) (plain_at s) i j ns rs) (sym names_left) (sym rows_left) right_left
 
 -- ---- second part
 
@@ -212,13 +212,13 @@ module _ (mode : Mode) (s s₁ b n e d f g l n' e' d' f' g' l' : List ℕ) (ks :
   tables_alike (both_refused a a₁) = subst₂ Calls (sym (h.answer ∙ a)) (sym (h₁.answer ∙ a₁)) both_refused
   tables_alike (both_built {n = i} {m = j} a a₁ p q) =
       subst₂ Calls (sym (h.answer ∙ a)) (sym (h₁.answer ∙ a₁)) (both_built
-      (subst₂ Perm (sym (names-left mode s b n e d f g l w.bytes h i j a)) (sym (names-left mode s₁ b n' e' d' f' g' l' w₁.bytes h₁ i j a₁)) p)
-      (subst₂ Perm (sym (edges-left mode s b n e d f g l w.bytes h i j a)) (sym (edges-left mode s₁ b n' e' d' f' g' l' w₁.bytes h₁ i j a₁)) q))
+      (subst₂ Perm (sym (names_left mode s b n e d f g l w.bytes h i j a)) (sym (names_left mode s₁ b n' e' d' f' g' l' w₁.bytes h₁ i j a₁)) p)
+      (subst₂ Perm (sym (edges_left mode s b n e d f g l w.bytes h i j a)) (sym (edges_left mode s₁ b n' e' d' f' g' l' w₁.bytes h₁ i j a₁)) q))
 
 pub bytes_demand3 : (mode : Mode) → BytesDemand3 mode
 bytes_demand3 mode = record {
   right = right_graph mode;
-  called = λ s b n e d f g l i j bytes h. right-tables mode s b n e d f g l bytes h i j (sym h.answer);
+  called = λ s b n e d f g l i j bytes h. right_tables mode s b n e d f g l bytes h i j (sym h.answer);
   permuted = λ s s₁ b k f f₁ p o. alike mode s s₁ b k f f₁ ((demand3 mode most_nodes most_edges (text_of b)).permuted (plain_at s) (plain_at s₁) p o);
   spread = λ s s₁ b k f f₁ p o o₁. alike mode s s₁ b k f f₁ ((demand3 mode most_nodes most_edges (text_of b)).spread (plain_at s) (plain_at s₁) p o o₁);
   called_alike = λ s s₁ b n e d f g l n' e' d' f' g' l' ks w w₁ a h h₁.

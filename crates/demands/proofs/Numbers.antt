@@ -26,10 +26,10 @@ use Rattle.library_bundle.specs.declared.TextPlace.TheVariants.{At as PlaceAt, N
 use Rattle.graph.specs.Nodes.{Mode, complete}
 use Rattle.text.specs.Refusal.{no_refusal}
 use Rattle.graph.specs.Graph.{ScanAnswer, refusing, Entry, Graph, graph as drawing, fault}
-use Rattle.graph.specs.Meaning.{Fault, entry-missing, include-missing, scan_refused_lem, import-unknown, listed-unknown, include-unknown, include-no-node, too_deep_lem}
-use Rattle.graph.specs.Meaning.{Cause, names, by-fault, edges}
+use Rattle.graph.specs.Meaning.{Fault, entry_missing, include_missing, scan_refused_lem, import_unknown, listed_unknown, include_unknown, include_no_node, too_deep_lem}
+use Rattle.graph.specs.Meaning.{Cause, names, by_fault, edges}
 use Rattle.graph.proofs.Demand.{demand3}
-use Rattle.graph.proofs.Complete.{cause-has-node}
+use Rattle.graph.proofs.Complete.{cause_has_node}
 use Rattle.graph_nodes.specs.Adding.{plain_at, words_at}
 use Rattle.graph_texts.specs.Texts.{scan_seen, scan_text, look_text, text_of}
 use Rattle.yangparser.specs.Dependencies.{Dependencies, Scan, good as scanGood, bad as scanBad, dependencies}
@@ -43,7 +43,7 @@ use Rattle.demands.specs.Demand1.{GraphCause, image, bundle, lent, graph, GraphN
 use Rattle.demands_scans.proofs.ScanNumbers.{is_one, one_of, is_one_lem, dependencies_first}
 use Rattle.demands.proofs.Graphing.{graph_here, before, graph_reached, drawn}
 use Rattle.demands_scans.proofs.MetadataNumbers.{metadata_first}
-use Rattle.demands_scans.proofs.WholeNumbers.{dependencies-mode-refused, metadata-mode-refused}
+use Rattle.demands_scans.proofs.WholeNumbers.{dependencies_mode_refused, metadata_mode_refused}
 use Rattle.demands.proofs.Zeros.{zeros_left}
 
 -- ---- finds and texts
@@ -101,19 +101,19 @@ at_entry n e a k q h i j = record {
 module _ (mode : Mode) (s b : List ℕ) where
   fault_numbers : (x : Entry) (e k : ℕ) → e ≡ k + 1 → {n : ℕ} {a : ScanAnswer} → Fault mode (text_of b) (plain_at s) x n a → GraphNumbers n e a 0
   unfolding is_one
-  fault_numbers x e k q (entry-missing h) = at_entry 23 e no_refusal k q refl refl (inl refl)
-  fault_numbers x e k q (include-missing r f h) = at_entry 24 e no_refusal k q refl refl (inl refl)
+  fault_numbers x e k q (entry_missing h) = at_entry 23 e no_refusal k q refl refl (inl refl)
+  fault_numbers x e k q (include_missing r f h) = at_entry 24 e no_refusal k q refl refl (inl refl)
   fault_numbers x e k q (scan_refused_lem {a = a} r h) = at_entry 25 e a k q refl refl (inr refl)
-  fault_numbers x e k q (import-unknown r i u) = at_entry 26 e no_refusal k q refl refl (inl refl)
-  fault_numbers x e k q (listed-unknown m u) = at_entry 26 e no_refusal k q refl refl (inl refl)
-  fault_numbers x e k q (include-unknown r i u) = at_entry 27 e no_refusal k q refl refl (inl refl)
-  fault_numbers x e k q (include-no-node r i m u) = at_entry 28 e no_refusal k q refl refl (inl refl)
+  fault_numbers x e k q (import_unknown r i u) = at_entry 26 e no_refusal k q refl refl (inl refl)
+  fault_numbers x e k q (listed_unknown m u) = at_entry 26 e no_refusal k q refl refl (inl refl)
+  fault_numbers x e k q (include_unknown r i u) = at_entry 27 e no_refusal k q refl refl (inl refl)
+  fault_numbers x e k q (include_no_node r i m u) = at_entry 28 e no_refusal k q refl refl (inl refl)
   fault_numbers x e k q (too_deep_lem r f) = at_entry 29 e no_refusal k q refl refl (inl refl)
 
   cause_numbers : {n e : ℕ} {a : ScanAnswer} → Cause mode (text_of b) (plain_at s) 1024 8192 n e a → GraphNumbers n e a 0
   unfolding is_one
   cause_numbers (names h) = before_walk 30 0 refl refl (inl refl)
-  cause_numbers (by-fault {k = e} x f g) = fault_numbers x e (length f.before) f.number g
+  cause_numbers (by_fault {k = e} x f g) = fault_numbers x e (length f.before) f.number g
   cause_numbers (edges {k = e} x f w es d m h) = at_entry 31 e no_refusal (length f.before) f.number refl refl (inl refl)
 
   numbers : (k : Lengths) {n e place : ℕ} {a : Refusal} → GraphCause mode s b k n e a place → GraphNumbers n e a place
@@ -144,18 +144,18 @@ module _ (mode : Mode) (s b : List ℕ) where
   RefusedText a = (v : Name) × (text_of b v ≡ refusing a)
 
   fault_scan : (x : Entry) {n : ℕ} {a : ScanAnswer} → Fault mode (text_of b) (plain_at s) x n a → n ≡ 25 → RefusedText a
-  fault_scan x (entry-missing h) e = absurd (omega (arith, e))
-  fault_scan x (include-missing r f h) e = absurd (omega (arith, e))
+  fault_scan x (entry_missing h) e = absurd (omega (arith, e))
+  fault_scan x (include_missing r f h) e = absurd (omega (arith, e))
   fault_scan x (scan_refused_lem {v = v} r h) e = (v, h)
-  fault_scan x (import-unknown r i u) e = absurd (omega (arith, e))
-  fault_scan x (listed-unknown m u) e = absurd (omega (arith, e))
-  fault_scan x (include-unknown r i u) e = absurd (omega (arith, e))
-  fault_scan x (include-no-node r i m u) e = absurd (omega (arith, e))
+  fault_scan x (import_unknown r i u) e = absurd (omega (arith, e))
+  fault_scan x (listed_unknown m u) e = absurd (omega (arith, e))
+  fault_scan x (include_unknown r i u) e = absurd (omega (arith, e))
+  fault_scan x (include_no_node r i m u) e = absurd (omega (arith, e))
   fault_scan x (too_deep_lem r f) e = absurd (omega (arith, e))
 
   cause_scan : {n e : ℕ} {a : ScanAnswer} → Cause mode (text_of b) (plain_at s) 1024 8192 n e a → n ≡ 25 → RefusedText a
   cause_scan (names h) q = absurd (omega (arith, q))
-  cause_scan (by-fault x f g) q = fault_scan x g q
+  cause_scan (by_fault x f g) q = fault_scan x g q
   cause_scan (edges x f w es d m h) q = absurd (omega (arith, q))
 
   carried : (k : Lengths) {n e place : ℕ} {a : Refusal} → GraphCause mode s b k n e a place → n ≡ 25 → RefusedText a
@@ -195,7 +195,7 @@ module _ (mode : Mode) (s b : List ℕ) (k : Lengths) where
   buildable : (n m : ℕ) → (graphed mode s b k).answer ≡ Built n m → Buildable mode s b k
   buildable n m h =
       let d = drawn mode s b k n m h in
-      let o = ((demand3 mode 1024 8192 (text_of b)).built (plain_at s)).0 (d.ns, d.es, d.graphIs) in
+      let o = ((demand3 mode 1024 8192 (text_of b)).built (plain_at s)).0 (d.ns, d.es, d.graph_is) in
       record { image = d.reads; bundle = d.bundle; lent = d.long; sound = o }
 
   built : Buildable mode s b k → (n : ℕ) × (m : ℕ) × ((graphed mode s b k).answer ≡ Built n m)
@@ -216,7 +216,7 @@ pub never_28 : (s b : List ℕ) (k : Lengths) {number entry place : ℕ} {a : Re
 never_28 s b k (image h) q = omega (arith, q)
 never_28 s b k (bundle r h) q = omega (arith, q)
 never_28 s b k (lent r o h) q = omega (arith, q)
-never_28 s b k (graph r o h c) q = cause-has-node (text_of b) (plain_at s) 1024 8192 c q
+never_28 s b k (graph r o h c) q = cause_has_node (text_of b) (plain_at s) 1024 8192 c q
 
 never_begun : (s b : List ℕ) (k : Lengths) → get_or (graph_words (graphed complete s b k).answer) 0 0 ≡ 28 → ⊥
 never_begun s b k h =
@@ -226,8 +226,8 @@ never_begun s b k h =
 pub demand1 : Demand1
 unfolding find_module find_submodule find_import_module
 demand1 = record {
-  dependencies = λ whole s short r d h. dependencies-mode-refused s short r d whole h;
-  metadata = λ whole s short r bs h. metadata-mode-refused s short r bs whole h;
+  dependencies = λ whole s short r d h. dependencies_mode_refused s short r d whole h;
+  metadata = λ whole s short r bs h. metadata_mode_refused s short r bs whole h;
   first_refused = λ whole s short r f. (dependencies_first s short whole r f, metadata_first s short whole r f);
   module_found = λ s t p.
       find_broken (first_module t) (λ l. never_broken (λ (m : Module). m.name) (λ m. m.name.place) (λ m. 0) t (modules_of l)) s p;

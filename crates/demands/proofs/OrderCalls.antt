@@ -51,27 +51,27 @@ module _ (nodes n : ℕ) (edges : List ℕ) (m : ℕ) where
   does_not_fit table f = rw f
 
   module _ (f : fits nodes n edges m ≡ true) where
-    right-order : RightOrder n es
-    right-order = order_demand n es (fitting nodes n edges m f).inside
+    right_order : RightOrder n es
+    right_order = order_demand n es (fitting nodes n edges m f).inside
 
-    all-or-less : (length (taken n es) ≡ n) ⊎ (length (taken n es) < n)
-    all-or-less = eq-or-lt_of_le {n = length (taken n es)} {m = n} (taken_short n es)
+    all_or_less : (length (taken n es) ≡ n) ⊎ (length (taken n es) < n)
+    all_or_less = eq-or-lt_of_le {n = length (taken n es)} {m = n} (taken_short n es)
 
     no_room : (table : ℕ) → table < n → order_of nodes n edges m table ≡ sorted 41 []
     unfolding order_of
     no_room table l = rw (f, lt-leb n table l)
 
     module _ (table : ℕ) (l : n ≤ table) where
-      all-taken : length (taken n es) ≡ n → order_of nodes n edges m table ≡ sorted 0 (taken n es)
+      all_taken : length (taken n es) ≡ n → order_of nodes n edges m table ≡ sorted 0 (taken n es)
       unfolding order_of sorted_of
-      all-taken e = rw (f, le-leb n table l, eq-eqb (length (taken n es)) n e)
+      all_taken e = rw (f, le-leb n table l, eq-eqb (length (taken n es)) n e)
 
       some_left : length (taken n es) < n → order_of nodes n edges m table ≡ sorted 40 (ring_of n es (taken n es))
       unfolding order_of sorted_of
       some_left h = rw (f, le-leb n table l, ne_eqb (length (taken n es)) n (λ e. omega arith))
 
       no_return : length (taken n es) ≡ n → Returns es → ⊥
-      no_return e r = omega (arith, right-order.chain_refused r)
+      no_return e r = omega (arith, right_order.chain_refused r)
 
   module _ (table : ℕ) where
     -- the number that there is, and why
@@ -80,10 +80,10 @@ module _ (nodes n : ℕ) (edges : List ℕ) (m : ℕ) where
         (λ f. by_test (leb n table)
         (λ t. let l = leb-true n table t in
         ⊎_elim
-        (λ e. subst (OrderCause nodes n edges m table) (sym (ap (λ x. x.number) (all-taken f table l e))) (in_order f l (no_return f table l e)))
+        (λ e. subst (OrderCause nodes n edges m table) (sym (ap (λ x. x.number) (all_taken f table l e))) (in_order f l (no_return f table l e)))
         (λ h. subst (OrderCause nodes n edges m table) (sym (ap (λ x. x.number) (some_left f table l h)))
-        (chain_back f l ((right-order f).refused_chain h)))
-        (all-or-less f))
+        (chain_back f l ((right_order f).refused_chain h)))
+        (all_or_less f))
         (λ t. let l = leb-false n table t in
         subst (OrderCause nodes n edges m table) (sym (ap (λ x. x.number) (no_room f table l))) (too_short f l)))
         (λ f. subst (OrderCause nodes n edges m table) (sym (ap (λ x. x.number) (does_not_fit table f))) (unfit f))
@@ -91,9 +91,9 @@ module _ (nodes n : ℕ) (edges : List ℕ) (m : ℕ) where
     caused : (k : ℕ) → OrderCause nodes n edges m table k → (order_of nodes n edges m table).number ≡ k
     caused k (unfit f) = ap (λ x. x.number) (does_not_fit table f)
     caused k (too_short f l) = ap (λ x. x.number) (no_room f table l)
-    caused k (chain_back f l r) = ap (λ x. x.number) (some_left f table l ((right-order f).chain_refused r))
+    caused k (chain_back f l r) = ap (λ x. x.number) (some_left f table l ((right_order f).chain_refused r))
     caused k (in_order f l d) =
-        ap (λ x. x.number) (all-taken f table l (⊎_elim (λ e. e) (λ h. absurd (d ((right-order f).refused_chain h))) (all-or-less f)))
+        ap (λ x. x.number) (all_taken f table l (⊎_elim (λ e. e) (λ h. absurd (d ((right_order f).refused_chain h))) (all_or_less f)))
 
     nothing : (k : ℕ) → OrderCause nodes n edges m table k → 40 < k → (order_of nodes n edges m table).nodes ≡ []
     nothing k (unfit f) l = ap (λ x. x.nodes) (does_not_fit table f)
@@ -107,26 +107,26 @@ module _ (nodes n : ℕ) (edges : List ℕ) (m : ℕ) where
       less : length (taken n es) < n
       is : (order_of nodes n edges m table).nodes ≡ ring_of n es (taken n es)
 
-    a-ring : (k : ℕ) → OrderCause nodes n edges m table k → k ≡ 40 → Ring
-    a-ring k (unfit f) e = absurd (omega arith)
-    a-ring k (too_short f h) e = absurd (omega arith)
-    a-ring k (chain_back f h r) e =
-        let l = (right-order f).chain_refused r in
+    a_ring : (k : ℕ) → OrderCause nodes n edges m table k → k ≡ 40 → Ring
+    a_ring k (unfit f) e = absurd (omega arith)
+    a_ring k (too_short f h) e = absurd (omega arith)
+    a_ring k (chain_back f h r) e =
+        let l = (right_order f).chain_refused r in
         record { fit = f; less = l; is = ap (λ x. x.nodes) (some_left f table h l) }
-    a-ring k (in_order f h d) e = absurd (omega arith)
+    a_ring k (in_order f h d) e = absurd (omega arith)
 
     record Whole : Type 0 where
       fit : fits nodes n edges m ≡ true
       all : length (taken n es) ≡ n
       is : (order_of nodes n edges m table).nodes ≡ taken n es
 
-    an-order : (k : ℕ) → OrderCause nodes n edges m table k → k ≡ 0 → Whole
-    an-order k (unfit f) e = absurd (omega arith)
-    an-order k (too_short f h) e = absurd (omega arith)
-    an-order k (chain_back f h r) e = absurd (omega arith)
-    an-order k (in_order f h d) e =
-        let l = ⊎_elim (λ e. e) (λ h. absurd (d ((right-order f).refused_chain h))) (all-or-less f) in
-        record { fit = f; all = l; is = ap (λ x. x.nodes) (all-taken f table h l) }
+    an_order : (k : ℕ) → OrderCause nodes n edges m table k → k ≡ 0 → Whole
+    an_order k (unfit f) e = absurd (omega arith)
+    an_order k (too_short f h) e = absurd (omega arith)
+    an_order k (chain_back f h r) e = absurd (omega arith)
+    an_order k (in_order f h d) e =
+        let l = ⊎_elim (λ e. e) (λ h. absurd (d ((right_order f).refused_chain h))) (all_or_less f) in
+        record { fit = f; all = l; is = ap (λ x. x.nodes) (all_taken f table h l) }
 
     right_told : fits nodes n edges m ≡ true → (list : List ℕ) → place_of n es list ≡ Right → check_of nodes n edges m list ≡ checked 0 0
     unfolding check_of told_place
@@ -136,10 +136,10 @@ module _ (nodes n : ℕ) (edges : List ℕ) (m : ℕ) where
     answers = record {
       given = λ k. (λ e. subst (OrderCause nodes n edges m table) e cause, caused k);
       nothing = nothing;
-      ring = λ e. let r = a-ring _ cause e in rw r.is ((right-order r.fit).ring r.less);
-      taking = λ e i l. let w = an-order _ cause e in rw w.is ((right-order w.fit).taking i (omega (arith, l, w.all)));
-      order = λ e. let w = an-order _ cause e in rw w.is ((right-order w.fit).ordered w.all);
-      accepted = λ e. let w = an-order _ cause e in rw w.is (right_told w.fit (taken n es) ((right-order w.fit).accepts_own w.all));
+      ring = λ e. let r = a_ring _ cause e in rw r.is ((right_order r.fit).ring r.less);
+      taking = λ e i l. let w = an_order _ cause e in rw w.is ((right_order w.fit).taking i (omega (arith, l, w.all)));
+      order = λ e. let w = an_order _ cause e in rw w.is ((right_order w.fit).ordered w.all);
+      accepted = λ e. let w = an_order _ cause e in rw w.is (right_told w.fit (taken n es) ((right_order w.fit).accepts_own w.all));
     }
 
   -- ---- the check
@@ -153,27 +153,27 @@ module _ (nodes n : ℕ) (edges : List ℕ) (m : ℕ) where
     unfolding check_of
     check_told f q = rw (f, q)
 
-    check-here : CheckCause nodes n edges m list (check_of nodes n edges m list).number (check_of nodes n edges m list).place
+    check_here : CheckCause nodes n edges m list (check_of nodes n edges m list).number (check_of nodes n edges m list).place
     unfolding told_place
-    check-here = by_test (fits nodes n edges m)
+    check_here = by_test (fits nodes n edges m)
         (λ f. at_place f (place_of n es list) refl)
         (λ f. subst (λ c. CheckCause nodes n edges m list c.number c.place) (sym (check_unfit f)) (unfit f))
       where
         at_place : fits nodes n edges m ≡ true → (p : Verdict) → place_of n es list ≡ p
             → CheckCause nodes n edges m list (check_of nodes n edges m list).number (check_of nodes n edges m list).place
         at_place f Right q =
-            subst (λ c. CheckCause nodes n edges m list c.number c.place) (sym (check_told f q)) (right f ((right-order f).accepts list q))
+            subst (λ c. CheckCause nodes n edges m list c.number c.place) (sym (check_told f q)) (right f ((right_order f).accepts list q))
         at_place f (WrongAt i) q =
-            subst (λ c. CheckCause nodes n edges m list c.number c.place) (sym (check_told f q)) (wrong f ((right-order f).first_wrong list i q))
+            subst (λ c. CheckCause nodes n edges m list c.number c.place) (sym (check_told f q)) (wrong f ((right_order f).first_wrong list i q))
 
-    checked-so : (k p : ℕ) → CheckCause nodes n edges m list k p → check_of nodes n edges m list ≡ checked k p
+    checked_so : (k p : ℕ) → CheckCause nodes n edges m list k p → check_of nodes n edges m list ≡ checked k p
     unfolding told_place
-    checked-so k p (unfit f) = check_unfit f
-    checked-so k p (wrong {i = i} f w) = check_told f ((right-order f).wrong_first list i w)
-    checked-so k p (right f v) = check_told f ((right-order f).accepted list v)
+    checked_so k p (unfit f) = check_unfit f
+    checked_so k p (wrong {i = i} f w) = check_told f ((right_order f).wrong_first list i w)
+    checked_so k p (right f v) = check_told f ((right_order f).accepted list v)
 
-    check-given : (k p : ℕ) → (check_of nodes n edges m list ≡ checked k p) ↔ CheckCause nodes n edges m list k p
-    check-given k p = (λ e. subst (λ c. CheckCause nodes n edges m list c.number c.place) e check-here, checked-so k p)
+    check_given : (k p : ℕ) → (check_of nodes n edges m list ≡ checked k p) ↔ CheckCause nodes n edges m list k p
+    check_given k p = (λ e. subst (λ c. CheckCause nodes n edges m list c.number c.place) e check_here, checked_so k p)
 
 -- ---- a built graph
 
@@ -218,7 +218,7 @@ module _ (mode : Mode) (s b n e d f g l : List ℕ) (i j : ℕ) {n₁ e₁ d₁ 
 pub order_calls : OrderCalls
 order_calls = record {
   ordered = answers;
-  check = check-given;
+  check = check_given;
   tables_fit = tables_fit;
   registered = λ mode s b n e d f g l i j table {n₁} {e₁} bytes h z u v p q k.
       let r = (bytes_demand3 mode).called s b n e d f g l i j bytes h in

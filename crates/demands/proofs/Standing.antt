@@ -118,21 +118,21 @@ module _ (s : List ℕ) where
   items_added c (x ∷ xs) a f h = items_added c xs (add_item c a x) (item_added c a x f (h x (Memᴰ.head refl))) (λ y m. h y (Memᴰ.tail m))
 
   module _ (bytes : AllBytes s) (reads : Reads (image_at s)) where
-    gathered-stand : (c : Bool) → AllStand (words_at (mode_of c) s)
+    gathered_stand : (c : Bool) → AllStand (words_at (mode_of c) s)
     unfolding words_at
-    gathered-stand c =
+    gathered_stand c =
         let e : sets_read s 0 ≡ good (items_of reads.value) reads.end = library_told s 0 (accepted s reads.read).read in
         let h : Standing (items_of (library_of s))
         = subst (λ l. Standing (items_of l)) (sym (image_here s reads)) (sets_sure (items_of reads.value) reads.end e) in
         subst AllStand (added c (library_of s) (revised_here s reads bytes)) (items_added c (items_of (library_of s)) (so [] false) none_stand h)
 
-    words-stand : (mode : Mode) → AllStand (words_at mode s)
-    words-stand pass_over = gathered-stand false
-    words-stand complete = gathered-stand true
+    words_stand : (mode : Mode) → AllStand (words_at mode s)
+    words_stand pass_over = gathered_stand false
+    words_stand complete = gathered_stand true
 
     -- read from the bytes at place and length, the names are the nodes of the library
-    pub names-read : (mode : Mode) → map (name_of s) (words_at mode s) ≡ nodes_of mode (plain_at s)
-    names-read mode = go (words_at mode s) (words-stand mode) ∙ nodes_named mode s
+    pub names_read : (mode : Mode) → map (name_of s) (words_at mode s) ≡ nodes_of mode (plain_at s)
+    names_read mode = go (words_at mode s) (words_stand mode) ∙ nodes_named mode s
       where
         go : (ws : List PlacedName) → AllStand ws → map (name_of s) ws ≡ map plain_name ws
         go [] f = refl

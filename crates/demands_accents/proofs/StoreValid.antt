@@ -38,21 +38,21 @@ module _ (mode : Bool) (s : List ℕ) (z : Bool) where
   good_chars x h = subst (λ y. Chars (read_of y).bytes) (entry_good mode s z x h).0 (scan_chars mode (chars s (good_text mode s z x h)))
 
   module _ (d t u : List ℕ) {e f g : List ℕ} where
-    left-stored : {r : Parsed} → Leaves (dependencies mode s z) d t u r e f g → (i j n : ℕ) → r ≡ Good i j n → Valid (take n e)
+    left_stored : {r : Parsed} → Leaves (dependencies mode s z) d t u r e f g → (i j n : ℕ) → r ≡ Good i j n → Valid (take n e)
     unfolding kept_of
-    left-stored l i j n h =
+    left_stored l i j n h =
         let k = parsed_good (dependencies mode s z) i j n (sym l.answer ∙ h) in
         let x = k.0 in
         used_valid (length d) n x.bytes (l.stored ∙ ap (λ y. padded (length d) (kept_of y).bytes) k.1) k.4 (good_chars x k.1)
 
     -- the count is the sixth word of the answer, with more words behind
-    told-stored : Leaves (dependencies mode s z) d t u (parsed_of (dependencies mode s z)) e f g → (more : List ℕ) {a : List ℕ}
+    told_stored : Leaves (dependencies mode s z) d t u (parsed_of (dependencies mode s z)) e f g → (more : List ℕ) {a : List ℕ}
         → a ≡ answer_words (parsed_of (dependencies mode s z)) ++ more → Valid (take (get_or a 5 0) e)
     unfolding answer_words
-    told-stored l more h = subst (λ w. Valid (take (get_or w 5 0) e)) (sym h) (of (parsed_of (dependencies mode s z)) refl)
+    told_stored l more h = subst (λ w. Valid (take (get_or w 5 0) e)) (sym h) (of (parsed_of (dependencies mode s z)) refl)
       where
         of : (p : Parsed) → parsed_of (dependencies mode s z) ≡ p → Valid (take (get_or (answer_words p ++ more) 5 0) e)
-        of (Good i j n) q = left-stored l i j n q
+        of (Good i j n) q = left_stored l i j n q
         of (Refused y) q = valid none
 
 -- scan_over writes over what the buffers held
@@ -100,13 +100,13 @@ short_page s d t u p = short s (page_short (length s) (length p)) d t u
 
 pub store_valid : StoreValid
 store_valid = record {
-  dependencies = λ mode s b d t u l i j n h. left-stored mode s (short s b d t u) d t u l i j n h;
+  dependencies = λ mode s b d t u l i j n h. left_stored mode s (short s b d t u) d t u l i j n h;
   over = λ mode s b d t u l i j n h. over_stored mode s b d t u l i j n h;
-  printed = λ mode s d t u p l i j n h. left-stored mode s (short_page s d t u p) d t u l.scan i j n h;
+  printed = λ mode s d t u p l i j n h. left_stored mode s (short_page s d t u p) d t u l.scan i j n h;
   metadata = λ mode s d {r} {e} l. let z = ltb (length d) (length s) in
       used_valid (length d) r.used _ l.stored (ap (λ y. y.used) l.answer ∙ kept_used mode s z) (kept_chars mode s z);
-  host_dependencies = λ mode s d t u l. told-stored mode s (short s false d t u) d t u l.scan [] (l.answer ∙ sym (append-nil _));
-  host_printed = λ mode s d t u p l. told-stored mode s (short_page s d t u p) d t u l.scan _ l.answer;
+  host_dependencies = λ mode s d t u l. told_stored mode s (short s false d t u) d t u l.scan [] (l.answer ∙ sym (append-nil _));
+  host_printed = λ mode s d t u p l. told_stored mode s (short_page s d t u p) d t u l.scan _ l.answer;
   host_metadata = λ mode s d {n} {e} {w} {a} l. let z = ltb (length d) (length s) in
       used_valid (length d) (get_or a 3 0) _ l.stored (ap (λ y. get_or y 3 0) l.answer ∙ kept_used mode s z) (kept_chars mode s z);
 }

@@ -21,8 +21,8 @@ use Rattle.text_string.specs.Str.{is_quote, escaped, escapes, str_end, str_bytes
 use Rattle.text_string.proofs.StrLaws.{closed_end}
 use Rattle.text_utf8.proofs.Utf8Laws.{one_low, one_is}
 use Rattle.text_value.specs.Value.{More, added, ends, broken, added_by, more_at, Bytes, add_to, join_turn, joined_with, joined, starts_name, value_at, value_bytes}
-use Rattle.text_value.proofs.JoinLaws.{value-string, value-cut, value-name, value_none}
-use Rattle.text_value.proofs.ValueLaws.{more_plain, more-bare, more-string}
+use Rattle.text_value.proofs.JoinLaws.{value_string, value_cut, value_name, value_none}
+use Rattle.text_value.proofs.ValueLaws.{more_plain, more_bare, more_string}
 use Rattle.demands_accents.proofs.Chars as C
 use Rattle.demands_accents.proofs.Kept.{Keeps, turns_kept}
 use Rattle.demands_accents.proofs.Chars.{Chars, char1, char2, char3, char4, two_high, three_high, four_high}
@@ -184,8 +184,8 @@ module _ {s : List ℕ} (c : Chars s) where
       let w = gap_end s (g + 1) in
       by_test (eqb (look s g) 43)
       (λ p. by_test (is_quote (look s w))
-      (λ y. string_chars w y cs e (added_is s (str_at s w) cs e (sym (more-string s at refl refl (eqb-true _ _ p) refl refl refl y) ∙ h)))
-      (λ y. absurd (ends_not (more-bare s at refl refl (eqb-true _ _ p) refl refl refl y) h)))
+      (λ y. string_chars w y cs e (added_is s (str_at s w) cs e (sym (more_string s at refl refl (eqb-true _ _ p) refl refl refl y) ∙ h)))
+      (λ y. absurd (ends_not (more_bare s at refl refl (eqb-true _ _ p) refl refl refl y) h)))
       (λ p. absurd (ends_not (more_plain s at refl refl (eqb-false _ _ p)) h))
 
   -- all that is added; m: what follows a string
@@ -209,11 +209,11 @@ module _ {s : List ℕ} (c : Chars s) where
       by_test (is_quote (look s g))
       (λ y. of (str_at s g) refl y)
       (λ y. by_test (starts_name (look s g))
-      (λ n. subst (λ v. Chars (value_bytes v)) (sym (value-name s at refl refl refl y refl n refl)) (name_chars s g))
+      (λ n. subst (λ v. Chars (value_bytes v)) (sym (value_name s at refl refl refl y refl n refl)) (name_chars s g))
       (λ n. subst (λ v. Chars (value_bytes v)) (sym (value_none s at refl refl refl y refl n)) C.none))
     where
       of : (t : Str) → str_at s (gap_end s at) ≡ t → is_quote (look s (gap_end s at)) ≡ true → Chars (value_bytes (value_at s at))
       of (whole bs e) k y =
-          subst (λ v. Chars (value_bytes v)) (sym (value-string s at refl refl refl y bs e k))
+          subst (λ v. Chars (value_bytes v)) (sym (value_string s at refl refl refl y bs e k))
           (append_chars (string_chars (gap_end s at) y bs e k) (joined_chars e))
-      of cut k y = subst (λ v. Chars (value_bytes v)) (sym (value-cut s at refl refl refl y k)) C.none
+      of cut k y = subst (λ v. Chars (value_bytes v)) (sym (value_cut s at refl refl refl y k)) C.none

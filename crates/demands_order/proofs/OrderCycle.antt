@@ -11,7 +11,7 @@ use borrow.Author.Tests.{not-true}
 use Rattle.graph.specs.Numbers.{Row, row, mem_r}
 use Rattle.order_tables.specs.Free.{Stuck}
 use Rattle.order_tables.specs.Tables.{all_within}
-use Rattle.order_tables.proofs.Lowest.{lowest-has, lowest-low}
+use Rattle.order_tables.proofs.Lowest.{lowest_has, lowest_low}
 use Rattle.order_ring.specs.Ring.{left, first_left, before, go_back, ring_of}
 use Rattle.order_ring.proofs.Round.{Along, Round, Led, Reached, first, further, Ringed, ring_ringed, first_lowest}
 use Rattle.demands_order.specs.Order as Order
@@ -64,19 +64,19 @@ module _ (n : ℕ) (es : List Row) (done : List ℕ) where
   led_lowest {u} {v} l = record {
     edge = l.edge;
     left_over = l.over;
-    lowest = λ w e m. omega (arith, l.is, lowest-low (λ x. left done x && mem_r (row x v) es) n w (rw (m, e)));
+    lowest = λ w e m. omega (arith, l.is, lowest_low (λ x. left done x && mem_r (row x v) es) n w (rw (m, e)));
   }
 
   module _ (stuck : Stuck n es done) where
-    first-left : LowestLeft n done (first_left n done)
-    first-left = record {
+    first_left_lem : LowestLeft n done (first_left n done)
+    first_left_lem = record {
       node = stuck.some;
-      left_over = not-true _ (lowest-has (left done) n stuck.some);
-      lowest = λ w b k. lowest-low (left done) n w (rw k);
+      left_over = not-true _ (lowest_has (left done) n stuck.some);
+      lowest = λ w b k. lowest_low (left done) n w (rw k);
     }
 
     reached : {v : ℕ} → Reached n es done v → Order.Reached n es done v
-    reached (first {v = v} e) = Order.first {v = v} (rw e first-left)
+    reached (first {v = v} e) = Order.first {v = v} (rw e first_left_lem)
     reached (further r l) = Order.further (reached r) (led_lowest l)
 
     module _ (inside : all_within n es ≡ true) where
@@ -86,24 +86,24 @@ module _ (n : ℕ) (es : List Row) (done : List ℕ) where
       pub ringed : Ringed n es done ring
       ringed = ring_ringed n es done stuck inside
 
-      led-next : (i : ℕ) → i + 1 < length ring → Led n es done (get_or ring i 0) (get_or ring (i + 1) 0)
-      led-next = round_next (Led n es done) ring ringed.round
+      led_next : (i : ℕ) → i + 1 < length ring → Led n es done (get_or ring i 0) (get_or ring (i + 1) 0)
+      led_next = round_next (Led n es done) ring ringed.round
 
-      led-first : Led n es done (get_or ring (length ring - 1) 0) (get_or ring 0 0)
-      led-first = round_first (Led n es done) ring ringed.round
+      led_first : Led n es done (get_or ring (length ring - 1) 0) (get_or ring 0 0)
+      led_first = round_first (Led n es done) ring ringed.round
 
-      pub back-cycle : BackCycle n es done ring
-      back-cycle = record {
+      pub back_cycle : BackCycle n es done ring
+      back_cycle = record {
         cycle = record {
           some = round_some (Led n es done) ring ringed.round;
           differ = distinct_nodup ringed.differ;
-          to_next = λ i l. (led-next i l).edge;
-          to_first = led-first.edge;
+          to_next = λ i l. (led_next i l).edge;
+          to_first = led_first.edge;
         };
         nodes = λ v h. (ringed.way v h).below;
         left_over = λ v h. (ringed.way v h).over;
         reached = λ v h. reached (ringed.way v h).reached;
-        back_next = λ i l. led_lowest (led-next i l);
-        back_first = led_lowest led-first;
+        back_next = λ i l. led_lowest (led_next i l);
+        back_first = led_lowest led_first;
         lowest_first = first_lowest (go_back (before n es done) (suc n) [] (first_left n done));
       }

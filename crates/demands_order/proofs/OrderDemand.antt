@@ -17,8 +17,8 @@ use Rattle.demands_order.specs.Order.{Returns, Valid, NotAfter, same, lower, lat
 use Rattle.demands_order.proofs.OrderValid.{turn_valid, valid_no_chain}
 use Rattle.demands_order.proofs.OrderPlaces.{right_in_turn, valid_right, wrong_first_wrong, first_wrong_wrong}
 use Rattle.demands_order.proofs.OrderLeast.{taken_lowest, taken_all, taken_least}
-use Rattle.demands_order.proofs.OrderCycle.{round_returns, ringed, back-cycle}
-use Rattle.demands_order.proofs.OrderOnly.{one-cycle}
+use Rattle.demands_order.proofs.OrderCycle.{round_returns, ringed, back_cycle}
+use Rattle.demands_order.proofs.OrderOnly.{one_cycle}
 
 -- of two lists of which neither comes after the other, both are the same
 neither_after : {xs ys : List ℕ} → NotAfter xs ys → NotAfter ys xs → xs ≡ ys
@@ -38,7 +38,7 @@ module _ (n : ℕ) (es : List Row) (inside : all_within n es ≡ true) where
   returns l = round_returns n es (taken n es) (ring_of n es (taken n es)) (ringed n es (taken n es) (taken_stuck n es l) inside).round
 
   cycle : length (taken n es) < n → BackCycle n es (taken n es) (ring_of n es (taken n es))
-  cycle l = back-cycle n es (taken n es) (taken_stuck n es l) inside
+  cycle l = back_cycle n es (taken n es) (taken_stuck n es l) inside
 
   not_refused : (length (taken n es) < n → ⊥) → length (taken n es) ≡ n
   not_refused f = ⊎_elim (λ e. e) (λ l. absurd (f l)) (eq-or-lt_of_le {n = length (taken n es)} {m = n} (taken_short n es))
@@ -62,7 +62,7 @@ module _ (n : ℕ) (es : List Row) (inside : all_within n es ≡ true) where
     chain_refused = λ r. refused (λ e. valid_no_chain n es (taken n es) (taken_valid e) r.node r.chain);
     refused_chain = returns;
     ring = cycle;
-    only_ring = λ l xs c. one-cycle n es (taken n es) xs (ring_of n es (taken n es)) c (cycle l);
+    only_ring = λ l xs c. one_cycle n es (taken n es) xs (ring_of n es (taken n es)) c (cycle l);
     accepts = λ xs h. let r = right_in_turn n es xs h in turn_valid n es inside r.0 r.1;
     accepted = valid_right n es;
     accepts_own = λ e. valid_right n es (taken n es) (taken_valid e);

@@ -15,13 +15,13 @@ use borrow.Author.Tests.{ltb-true, lt-ltb}
 use Rattle.text.proofs.Here.{by_test, never}
 use Rattle.graph.specs.Numbers.{Row}
 use Rattle.order_tables.specs.Free.{free}
-use Rattle.order_tables.proofs.Lowest.{lowest-has, lowest-low}
+use Rattle.order_tables.proofs.Lowest.{lowest_has, lowest_low}
 use Rattle.order_take.specs.Taking.{next, take_from, taken}
-use Rattle.order_take.proofs.Taken.{free-below, take_ends, taken_distinct, taken_below}
+use Rattle.order_take.proofs.Taken.{free_below, take_ends, taken_distinct, taken_below}
 use Rattle.demands_order.specs.Order.{Valid, NotAfter, same, lower, later, Good, LowestGood}
 use Rattle.demands_order.proofs.OrderLists.{all_there}
 use Rattle.demands_order.proofs.OrderValid.{valid_free, valid_length}
-use Rattle.demands_order.proofs.OrderPlaces.{free-good, good-free}
+use Rattle.demands_order.proofs.OrderPlaces.{free_good, good_free}
 
 behind_front : (front xs ys : List ℕ) → NotAfter xs ys → NotAfter (front ++ xs) (front ++ ys)
 behind_front [] xs ys h = h
@@ -49,8 +49,8 @@ module _ (n : ℕ) (es : List Row) where
     where
       here : next n es done < n → LowestGood n es done (next n es done)
       here l = record {
-        good = free-good n es done (next n es done) (lowest-has (free n es done) n l);
-        lowest = λ w g. lowest-low (free n es done) n w (good-free n es done w g);
+        good = free_good n es done (next n es done) (lowest_has (free n es done) n l);
+        lowest = λ w g. lowest_low (free n es done) n w (good_free n es done w g);
       }
 
   pub taken_lowest : (i : ℕ) → i < length (taken n es) → LowestGood n es (take i (taken n es)) (get_or (taken n es) i 0)
@@ -59,7 +59,7 @@ module _ (n : ℕ) (es : List Row) where
   pub taken_all : (v : ℕ) → Good n es (taken n es) v → ⊥
   taken_all v g = ⊎_elim
       (λ e. never g.new (all_there n (taken n es) (taken_distinct n es) (taken_below n es) (omega (arith, e)) v g.node))
-      (λ l. omega (arith, g.node, lowest-low (free n es (taken n es)) n v (good-free n es (taken n es) v g)))
+      (λ l. omega (arith, g.node, lowest_low (free n es (taken n es)) n v (good_free n es (taken n es) v g)))
       (take_ends n es n [])
 
   -- ---- no other list stands before it
@@ -93,7 +93,7 @@ module _ (n : ℕ) (es : List Row) where
   least_from zero done [] e v = rw append-nil same
   least_from zero done (y ∷ ys) e v = absurd (omega (arith, valid_length n es (done ++ (y ∷ ys)) v, length-append done (y ∷ ys)))
   least_from (suc k) done [] e v = absurd (omega (arith, valid_length n es (done ++ []) v, length-append {A = ℕ} done []))
-  least_from (suc k) done (y ∷ ys) e v = rw (lt-ltb (next n es done) n (omega (arith, low, free-below n es done y f))) (⊎_elim
+  least_from (suc k) done (y ∷ ys) e v = rw (lt-ltb (next n es done) n (omega (arith, low, free_below n es done y f))) (⊎_elim
       (λ q. as_low k done y ys q (least_from k (done ++ (y ∷ [])) ys (omega (arith, length-append done (y ∷ []))) (rw (append_snoc done y ys) v)))
       (λ l. lower_here k done y ys l)
       (eq-or-lt_of_le {n = next n es done} {m = y} low))
@@ -102,7 +102,7 @@ module _ (n : ℕ) (es : List Row) where
       f = valid_free n es done y ys v
 
       low : next n es done ≤ y
-      low = lowest-low (free n es done) n y f
+      low = lowest_low (free n es done) n y f
 
   pub taken_least : (xs : List ℕ) → Valid n es xs → NotAfter (taken n es) xs
   taken_least xs v = least_from n [] xs (omega arith) v

@@ -108,8 +108,8 @@ module _ (n : ℕ) (xs : List ℕ) where
         within : mem v xs ≡ false → (u : ℕ) → mem u (v ∷ xs) ≡ true → u < n
         within t u h = ⊎_elim (λ e. rw (← e) k) (λ c. b u (sym (mem_other u v xs c) ∙ h)) (decide v u)
 
-    pub all-perm : Perm xs (up_to n)
-    all-perm = same_perm xs (up_to n) (distinct_nodup d) (distinct_nodup (up_distinct n))
+    pub all_perm : Perm xs (up_to n)
+    all_perm = same_perm xs (up_to n) (distinct_nodup d) (distinct_nodup (up_distinct n))
         (λ v h. below_up n v (b v h))
         (λ v h. all_there v (up_below n v h))
 

@@ -82,14 +82,14 @@ module _ (n : ℕ) (es : List Row) (done : List ℕ) where
           let e : i + j + 1 ≡ suc i + j = omega arith in
           down i j (omega arith) (closed (get_or xs (i + j) 0) (get_or xs (i + j + 1) 0) t (rw e h))
 
-      holds-first : (v : ℕ) → mem v xs ≡ true → in-set v → in-set (get_or xs 0 0)
-      holds-first v m h =
+      holds_first : (v : ℕ) → mem v xs ≡ true → in-set v → in-set (get_or xs 0 0)
+      holds_first v m h =
           let p = mem_place v xs m in
           let e : p.place + 0 ≡ p.place = omega arith in
           down p.place 0 (omega (arith, p.below)) (rw (e, p.same) h)
 
-      holds-all : in-set (get_or xs 0 0) → (v : ℕ) → mem v xs ≡ true → in-set v
-      holds-all h v m =
+      holds_all : in-set (get_or xs 0 0) → (v : ℕ) → mem v xs ≡ true → in-set v
+      holds_all h v m =
           let p = mem_place v xs m in
           let l = p.below in
           let e : length xs - 1 - p.place + p.place ≡ length xs - 1 = omega arith in
@@ -98,12 +98,12 @@ module _ (n : ℕ) (es : List Row) (done : List ℕ) where
   -- ---- two cycles
 
   module _ (xs ys : List ℕ) (c : BackCycle n es done xs) (d : BackCycle n es done ys) where
-    first-in : mem (get_or xs 0 0) ys ≡ true
-    first-in = by_test (leb s.count t.count)
+    first_in : mem (get_or xs 0 0) ys ≡ true
+    first_in = by_test (leb s.count t.count)
         (λ f. let l : s.count ≤ t.count = leb-true _ _ f in
         let e : t.count - s.count + s.count ≡ t.count = omega arith in
         let h : mem (get_or ys 0 0) xs ≡ true = back_on xs c s.count (t.count - s.count) _ _ s.after here (rw e t.after) in
-        holds-first xs c (λ v. mem v ys ≡ true) (back_in ys d) (get_or ys 0 0) h there)
+        holds_first xs c (λ v. mem v ys ≡ true) (back_in ys d) (get_or ys 0 0) h there)
         (λ f. let l : t.count < s.count = leb-false _ _ f in
         let e : s.count - t.count + t.count ≡ s.count = omega arith in
         back_on ys d t.count (s.count - t.count) _ _ t.after there (rw e s.after))
@@ -121,24 +121,24 @@ module _ (n : ℕ) (es : List Row) (done : List ℕ) where
         t = steps (d.reached (get_or ys 0 0) there)
 
     all_in : (v : ℕ) → mem v xs ≡ true → mem v ys ≡ true
-    all_in = holds-all xs c (λ v. mem v ys ≡ true) (back_in ys d) first-in
+    all_in = holds_all xs c (λ v. mem v ys ≡ true) (back_in ys d) first_in
 
   module _ (xs ys : List ℕ) (c : BackCycle n es done xs) (d : BackCycle n es done ys) where
     same_length : length xs ≡ length ys
     same_length = nodup_length xs ys c.cycle.differ d.cycle.differ (all_in xs ys c d) (all_in ys xs d c)
 
     same_first : get_or xs 0 0 ≡ get_or ys 0 0
-    same_first = omega (arith, c.lowest_first (get_or ys 0 0) (first-in ys xs d c), d.lowest_first (get_or xs 0 0) (first-in xs ys c d))
+    same_first = omega (arith, c.lowest_first (get_or ys 0 0) (first_in ys xs d c), d.lowest_first (get_or xs 0 0) (first_in xs ys c d))
 
-    same-from-end : (k i : ℕ) → i + k + 1 ≡ length xs → get_or xs i 0 ≡ get_or ys i 0
-    same-from-end zero i e =
+    same_from_end : (k i : ℕ) → i + k + 1 ≡ length xs → get_or xs i 0 ≡ get_or ys i 0
+    same_from_end zero i e =
         let p : length xs - 1 ≡ i = omega arith in
         let q : length ys - 1 ≡ i = omega (arith, same_length) in
         let a : LowestTo es done (get_or xs i 0) (get_or ys 0 0) = rw (p, same_first) at c.back_first in
         one_before a (rw q at d.back_first)
-    same-from-end (suc k) i e =
-        let a : LowestTo es done (get_or xs i 0) (get_or ys (i + 1) 0) = rw (same-from-end k (i + 1) (omega arith)) at (c.back_next i (omega arith)) in
+    same_from_end (suc k) i e =
+        let a : LowestTo es done (get_or xs i 0) (get_or ys (i + 1) 0) = rw (same_from_end k (i + 1) (omega arith)) at (c.back_next i (omega arith)) in
         one_before a (d.back_next i (omega (arith, same_length)))
 
-    pub one-cycle : xs ≡ ys
-    one-cycle = ext_get_or 0 xs ys same_length (λ i l. same-from-end (length xs - 1 - i) i (omega arith))
+    pub one_cycle : xs ≡ ys
+    one_cycle = ext_get_or 0 xs ys same_length (λ i l. same_from_end (length xs - 1 - i) i (omega arith))

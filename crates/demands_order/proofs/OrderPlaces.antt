@@ -15,7 +15,7 @@ use Rattle.text.proofs.Here.{by_test, never}
 use Rattle.graph.specs.Numbers.{Row}
 use Rattle.order_tables.specs.Free.{mem, free}
 use Rattle.order_tables.proofs.Ready.{Awaited, unready, ready_edge, ready_all}
-use Rattle.order_take.proofs.Taken.{InTurn, start, then_one, free-below, free_new, free-ready}
+use Rattle.order_take.proofs.Taken.{InTurn, start, then_one, free_below, free_new, free_ready}
 use Rattle.order_places.specs.Places.{place_from, place_of}
 use Rattle.order_places.specs.declared.Verdict.TheVariants.{Right, WrongAt}
 use Rattle.demands_order.specs.Order.{Valid, Good, Fault, no_node, there_already, from_later, WrongHere, at_place, at_end, FirstWrong}
@@ -56,37 +56,37 @@ module _ (n : ℕ) (es : List Row) where
   -- ---- good places and faults
 
   module _ (done : List ℕ) (x : ℕ) where
-    pub free-good : free n es done x ≡ true → Good n es done x
-    free-good f = record {
-      node = free-below n es done x f;
+    pub free_good : free n es done x ≡ true → Good n es done x
+    free_good f = record {
+      node = free_below n es done x f;
       new = free_new n es done x f;
-      after = λ u e. ready_edge done x es u (free-ready n es done x f) e;
+      after = λ u e. ready_edge done x es u (free_ready n es done x f) e;
     }
 
-    pub good-free : Good n es done x → free n es done x ≡ true
-    good-free g = rw (lt-ltb x n g.node, g.new, ready_all done x es g.after)
+    pub good_free : Good n es done x → free n es done x ≡ true
+    good_free g = rw (lt-ltb x n g.node, g.new, ready_all done x es g.after)
 
-    unfree-fault : free n es done x ≡ false → Fault n es done x
-    unfree-fault f = by_test (ltb x n)
+    unfree_fault : free n es done x ≡ false → Fault n es done x
+    unfree_fault f = by_test (ltb x n)
         (λ b. by_test (mem x done)
         there_already
         (λ m. let a : Awaited done x es = unready done x es (rw (b, m) at f) in from_later a.from a.edge a.missing))
         (λ b. no_node (ltb-false x n b))
 
-    fault-unfree : Fault n es done x → free n es done x ≡ false
-    fault-unfree (no_node l) = rw (le-ltb x n l)
-    fault-unfree (there_already m) = by_test (free n es done x) (λ f. absurd (never (free_new n es done x f) m)) (λ f. f)
-    fault-unfree (from_later u e m) = by_test (free n es done x) (λ f. absurd (never m ((free-good f).after u e))) (λ f. f)
+    fault_unfree : Fault n es done x → free n es done x ≡ false
+    fault_unfree (no_node l) = rw (le-ltb x n l)
+    fault_unfree (there_already m) = by_test (free n es done x) (λ f. absurd (never (free_new n es done x f) m)) (λ f. f)
+    fault_unfree (from_later u e m) = by_test (free n es done x) (λ f. absurd (never m ((free_good f).after u e))) (λ f. f)
 
   -- ---- the first wrong place
 
   -- what stands at the end of what was gone through
   module _ (done : List ℕ) (x : ℕ) (xs list : List ℕ) (e : done ++ (x ∷ xs) ≡ list) where
-    front-is : take (length done) list ≡ done
-    front-is = rw (← e) (take-append_seam done (x ∷ xs))
+    front_is : take (length done) list ≡ done
+    front_is = rw (← e) (take-append_seam done (x ∷ xs))
 
-    here-is : get_or list (length done) 0 ≡ x
-    here-is = rw (← e) (get_or-append_seam done x xs 0)
+    here_is : get_or list (length done) 0 ≡ x
+    here_is = rw (← e) (get_or-append_seam done x xs 0)
 
     place_in : length done < length list
     place_in = rw (← e) (omega (arith, length-append done (x ∷ xs)))
@@ -110,13 +110,13 @@ module _ (n : ℕ) (es : List Row) where
       record {
         within = omega arith;
         good_before = λ j m. g j (omega arith);
-        wrong = at_place (omega arith) (rw (← q, front-is done x xs list e, here-is done x xs list e) (unfree-fault done x k));
+        wrong = at_place (omega arith) (rw (← q, front_is done x xs list e, here_is done x xs list e) (unfree_fault done x k));
       })
     where
       further : free n es done x ≡ true → (j : ℕ) → j < length (done ++ (x ∷ [])) → Good n es (take j list) (get_or list j 0)
       further k j l = ⊎_elim
           (λ q. subst (λ (a : ℕ). Good n es (take a list) (get_or list a 0)) (sym q)
-          (rw (front-is done x xs list e, here-is done x xs list e) (free-good done x k)))
+          (rw (front_is done x xs list e, here_is done x xs list e) (free_good done x k)))
           (g j)
           (eq-or-lt_of_le {n = j} {m = length done} (omega (arith, length-append done (x ∷ []))))
 
@@ -135,14 +135,14 @@ module _ (n : ℕ) (es : List Row) where
       go (at_end q k) = rw (lt-ltb (length done) n (omega (arith, m))) (ap WrongAt (omega (arith, m)))
   first_from (x ∷ xs) done list i e l w = ⊎_elim
       (λ q. go q w.wrong)
-      (λ k. rw (good-free done x (rw (front-is done x xs list e, here-is done x xs list e) at (w.good_before (length done) k)))
+      (λ k. rw (good_free done x (rw (front_is done x xs list e, here_is done x xs list e) at (w.good_before (length done) k)))
       (first_from xs (done ++ (x ∷ [])) list i (step_is done x xs list e) (omega (arith, length-append done (x ∷ []))) w))
       (eq-or-lt_of_le {n = length done} {m = i} l)
     where
       go : length done ≡ i → WrongHere n es list i → place_from n es done (x ∷ xs) ≡ WrongAt i
       go q (at_place k f) =
-          let f' : Fault n es done x = rw (← q, front-is done x xs list e, here-is done x xs list e) at f in
-          rw (fault-unfree done x f') (ap WrongAt q)
+          let f' : Fault n es done x = rw (← q, front_is done x xs list e, here_is done x xs list e) at f in
+          rw (fault_unfree done x f') (ap WrongAt q)
       go q (at_end r k) = absurd (omega (arith, place_in done x xs list e))
 
   pub first_wrong_wrong : (xs : List ℕ) (i : ℕ) → FirstWrong n es xs i → place_of n es xs ≡ WrongAt i

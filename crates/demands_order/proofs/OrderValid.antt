@@ -17,10 +17,10 @@ use Rattle.order_tables.specs.Tables.{all_within}
 use Rattle.order_tables.proofs.Mem.{mem_append, mem_snoc_else}
 use Rattle.order_tables.proofs.Ready.{ready_edge, ready_all, within_edge}
 use Rattle.order_tables.proofs.Distinct.{mem_head}
-use Rattle.order_take.proofs.Taken.{InTurn, start, then_one, free_new, free-ready, turn_distinct, turn_below}
+use Rattle.order_take.proofs.Taken.{InTurn, start, then_one, free_new, free_ready, turn_distinct, turn_below}
 use Rattle.order_ring.specs.Ring.{until}
 use Rattle.demands_order.specs.Order.{Edge, Chain, one, on, Valid}
-use Rattle.demands_order.proofs.OrderLists.{perm_distinct, perm_below, perm_full, all_there, all-perm, distinct_front, until_seam, until_front}
+use Rattle.demands_order.proofs.OrderLists.{perm_distinct, perm_below, perm_full, all_there, all_perm, distinct_front, until_seam, until_front}
 use Rattle.demands_order.proofs.OrderLists.{until_less}
 
 module _ (n : ℕ) (es : List Row) where
@@ -28,7 +28,7 @@ module _ (n : ℕ) (es : List Row) where
   unfolding mem
   turn_edge start u v e h = absurd (never refl h)
   turn_edge (then_one done w t f) u v e h = ⊎_elim
-      (λ q. let k : mem u done ≡ true = ready_edge done w es u (free-ready n es done w f) (rw q at e) in
+      (λ q. let k : mem u done ≡ true = ready_edge done w es u (free_ready n es done w f) (rw q at e) in
       let b : until w (done ++ (w ∷ [])) ≡ done = until_seam w done [] (free_new n es done w f) in
       ap (λ z. mem u (until z (done ++ (w ∷ [])))) q ∙ ap (mem u) b ∙ k)
       (λ d. let m : mem v done ≡ true = sym (mem_snoc_else v w done d) ∙ h in rw (until_front v done (w ∷ []) m) (turn_edge t u v e m))
@@ -36,7 +36,7 @@ module _ (n : ℕ) (es : List Row) where
 
   pub turn_valid : {xs : List ℕ} → all_within n es ≡ true → InTurn n es xs → n ≤ length xs → Valid n es xs
   turn_valid {xs} inside t l = record {
-    once = all-perm n xs (turn_distinct n es t) (turn_below n es t) l;
+    once = all_perm n xs (turn_distinct n es t) (turn_below n es t) l;
     unbroken = λ u v e. turn_edge t u v e (all_there n xs (turn_distinct n es t) (turn_below n es t) l v (within_edge n es u v inside e).1);
   }
 

@@ -93,11 +93,11 @@ gap_from s at g h =
 
 gap_piece : (s : List ℕ) (at : ℕ) (p : Piece) (g : ℕ) → gap_at s at ≡ reads p g → at ≤ g
 unfolding gap_at gap_to
-gap_piece s at p g h = by-gap (past_gap s at) refl h
+gap_piece s at p g h = by_gap (past_gap s at) refl h
   where
-    by-gap : (o : Option ℕ) → past_gap s at ≡ o → gap_to s o ≡ reads p g → at ≤ g
-    by-gap none e h = absurd (nothing_read refl h)
-    by-gap (some k) e h = gap_from s at g (e ∙ ap some (read_is (gap (get_or s k 256)) p k g refl h).1)
+    by_gap : (o : Option ℕ) → past_gap s at ≡ o → gap_to s o ≡ reads p g → at ≤ g
+    by_gap none e h = absurd (nothing_read refl h)
+    by_gap (some k) e h = gap_from s at g (e ∙ ap some (read_is (gap (get_or s k 256)) p k g refl h).1)
 
 -- ---- a string
 

@@ -13,8 +13,8 @@ use Rattle.text.specs.Scan.{gap_end}
 use Rattle.text.proofs.Here.{by_test, never, both}
 use Rattle.text_string.specs.Str.{is_quote, whole, str_at}
 use Rattle.text_value.specs.Value.{added, ends, added_by, more_at, joined_with, joined, Bytes, value, value_at}
-use Rattle.text_value.proofs.ValueLaws.{more_plain, more-string}
-use Rattle.text_value.proofs.JoinLaws.{join_on, join_stop, value-string}
+use Rattle.text_value.proofs.ValueLaws.{more_plain, more_string}
+use Rattle.text_value.proofs.JoinLaws.{join_on, join_stop, value_string}
 use Rattle.demands_rfc.specs.Rfc.{Read, reads, nothing, first, Piece, double, single, gap, past_gap, string_at, gap_to, gap_at, gap_and_string, plus_and_string}
 use Rattle.demands_rfc.specs.Rfc.{added_strings, more_strings, pieces_at, escape, joining, unescaped, meaning, meanings, ending_at, meant, rfc_value}
 use Rattle.demands_rfc.specs.RfcDomain.{odd_white, legal, plain, legal_in, every, found, plain_at, legal_at}
@@ -54,11 +54,11 @@ module _ (p : Piece) (ps qs : List Piece) (e : p ∷ ps ≡ qs) where
 gap_same : (s : List ℕ) (at : ℕ) (p : Piece) (end : ℕ) (bs : List ℕ) → gap_at s at ≡ reads p end → plain p ≡ true → meaning p ≡ some bs
     → (gap_end s at ≡ end) × (bs ≡ [])
 unfolding gap_at gap_to plain meaning
-gap_same s at p end bs h l k = by-gap (past_gap s at) refl h
+gap_same s at p end bs h l k = by_gap (past_gap s at) refl h
   where
-    by-gap : (o : Option ℕ) → past_gap s at ≡ o → gap_to s o ≡ reads p end → (gap_end s at ≡ end) × (bs ≡ [])
-    by-gap none e h = absurd (nothing_read refl h)
-    by-gap (some g) e h =
+    by_gap : (o : Option ℕ) → past_gap s at ≡ o → gap_to s o ≡ reads p end → (gap_end s at ≡ end) × (bs ≡ [])
+    by_gap none e h = absurd (nothing_read refl h)
+    by_gap (some g) e h =
         let r = read_is (gap (get_or s g 256)) p g end refl h in
         let o = not-true (odd_white (get_or s g 256)) (ap plain r.0 ∙ l) in
         (past_same s at g e o ∙ r.1, some_is bs [] (ap meaning r.0 ∙ k) refl)
@@ -115,7 +115,7 @@ strung s at rest ps end bs h l k =
 added_here : (s : List ℕ) (at g h e : ℕ) (bs : List ℕ) → gap_end s at ≡ g → eqb (get_or s g 256) 43 ≡ true → gap_end s (g + 1) ≡ h
     → is_quote (get_or s h 256) ≡ true → str_at s h ≡ whole bs e → more_at s at ≡ added bs e
 unfolding added_by
-added_here s at g h e bs ge p he q k = more-string s at (sym ge) refl (eqb-true _ _ p) (sym he) refl refl q ∙ ap (added_by s) k
+added_here s at g h e bs ge p he q k = more_string s at (sym ge) refl (eqb-true _ _ p) (sym he) refl refl q ∙ ap (added_by s) k
 
 ended_here : (s : List ℕ) (at g : ℕ) → gap_end s at ≡ g → eqb (get_or s g 256) 43 ≡ false → more_at s at ≡ ends g
 ended_here s at g ge p = more_plain s at (sym ge) refl (eqb-false _ _ p)
@@ -129,12 +129,12 @@ added_same s (suc n) at ps end bs cs h l k =
     let al = every_first a.piece a.others ps a.all plain l in
     let ak = meanings_first a.piece a.others ps a.all cs k in
     let g = gap_same s at a.piece a.next ak.0 a.one al.0 ak.2 in
-    after-gap a.next a.others g.0 a.more al.1 (ak.3 ∙ ap some (no_bytes ak.4 g.1)) (added_same s n)
+    after_gap a.next a.others g.0 a.more al.1 (ak.3 ∙ ap some (no_bytes ak.4 g.1)) (added_same s n)
   where
-    after-gap : (g : ℕ) (qs : List Piece) → gap_end s at ≡ g → plus_and_string (λ e. added_strings n s e) s g ≡ reads qs end → every plain qs ≡ true
+    after_gap : (g : ℕ) (qs : List Piece) → gap_end s at ≡ g → plus_and_string (λ e. added_strings n s e) s g ≡ reads qs end → every plain qs ≡ true
         → meanings qs ≡ some cs → ((e : ℕ) (rs : List Piece) (f : ℕ) (ds es : List ℕ) → added_strings n s e ≡ reads rs f → every plain rs ≡ true
         → meanings rs ≡ some es → joined_with s ds e ≡ record { bytes = ds ++ es; end = f }) → joined_with s bs at ≡ record { bytes = bs ++ cs; end = end }
-    after-gap g qs ge h l k go =
+    after_gap g qs ge h l k go =
         by_test (eqb (get_or s g 256) 43)
         (λ p. let t = strung s (g + 1) (λ e. added_strings n s e) qs end cs (rw p at h) l k in
         let m = added_here s at g t.here t.next t.own ge p t.gapped t.quoted t.string in
@@ -151,12 +151,12 @@ added_same s (suc n) at ps end bs cs h l k =
 
 meant_is : (r : Read (List Piece)) (bs : List ℕ) (end : ℕ) → meant r ≡ reads bs end → (ps : List Piece) × (r ≡ reads ps end) × (meanings ps ≡ some bs)
 unfolding meant ending_at
-meant_is (reads ps e) bs end h = by-meaning (meanings ps) refl h
+meant_is (reads ps e) bs end h = by_meaning (meanings ps) refl h
   where
-    by-meaning : (o : Option (List ℕ)) → meanings ps ≡ o → ending_at e o ≡ reads bs end
+    by_meaning : (o : Option (List ℕ)) → meanings ps ≡ o → ending_at e o ≡ reads bs end
         → (qs : List Piece) × (reads ps e ≡ reads qs end) × (meanings qs ≡ some bs)
-    by-meaning none k h = absurd (nothing_read refl h)
-    by-meaning (some cs) k h = let r = read_is cs bs e end refl h in (ps, ap (reads ps) r.1, k ∙ ap some r.0)
+    by_meaning none k h = absurd (nothing_read refl h)
+    by_meaning (some cs) k h = let r = read_is cs bs e end refl h in (ps, ap (reads ps) r.1, k ∙ ap some r.0)
 meant_is nothing bs end h = absurd (nothing_read refl h)
 
 pub value_same : (s : List ℕ) (at : ℕ) (bs : List ℕ) (end : ℕ) → rfc_value s at ≡ reads bs end → plain_at s at ≡ true → value_at s at ≡ value bs end
@@ -166,7 +166,7 @@ value_same s at bs end h l =
     let t = strung s at (λ e. more_strings s e) m.0 end bs m.1 (ap (found plain) (sym m.1) ∙ l) m.2 in
     let j : joined s t.next ≡ record { bytes = t.adds; end = end }
     = added_same s (suc (length s)) t.next t.others end [] t.adds t.more t.plainly t.mean in
-    value-string s at (sym t.gapped) refl refl t.quoted t.own t.next t.string
+    value_string s at (sym t.gapped) refl refl t.quoted t.own t.next t.string
     ∙ ap (λ (b : Bytes). value (t.own ++ b.bytes) b.end) j
     ∙ ap (λ cs. value cs end) (sym t.all)
 
@@ -216,8 +216,8 @@ pieces_some (p ∷ ps) l h =
 
 pub value_given : (s : List ℕ) (at : ℕ) → plain_at s at ≡ true → legal_at s at ≡ true → (bs : List ℕ) × (end : ℕ) × (rfc_value s at ≡ reads bs end)
 unfolding plain_at legal_at rfc_value found meant ending_at
-value_given s at l h = by-pieces (pieces_at s at) l h
+value_given s at l h = by_pieces (pieces_at s at) l h
   where
-    by-pieces : (r : Read (List Piece)) → found plain r ≡ true → found legal_in r ≡ true → (bs : List ℕ) × (end : ℕ) × (meant r ≡ reads bs end)
-    by-pieces (reads ps end) l h = let m = pieces_some ps l h in (m.0, end, ap (ending_at end) m.1)
-    by-pieces nothing l h = absurd (never refl l)
+    by_pieces : (r : Read (List Piece)) → found plain r ≡ true → found legal_in r ≡ true → (bs : List ℕ) × (end : ℕ) × (meant r ≡ reads bs end)
+    by_pieces (reads ps end) l h = let m = pieces_some ps l h in (m.0, end, ap (ending_at end) m.1)
+    by_pieces nothing l h = absurd (never refl l)

@@ -20,7 +20,7 @@ use Rattle.demands_scans.specs.Refusals.{FirstRefusal, too_long, too_little, not
 use Rattle.demands_scans.specs.Refusals.{WholeRefusal, cut_short, as_before, ModeRefusal}
 use Rattle.demands_scans.proofs.ScanNumbers.{FourToTen, dependencies_number}
 use Rattle.demands_scans.proofs.MetadataNumbers.{metadata_number}
-use Rattle.demands_scans.proofs.WholeNumbers.{dependencies-mode-refused, metadata-mode-refused}
+use Rattle.demands_scans.proofs.WholeNumbers.{dependencies_mode_refused, metadata_mode_refused}
 
 -- ---- 3 and 12
 
@@ -63,8 +63,8 @@ module _ {Read : Refusal → Type 0} (f : (q : Refusal) → Read q → FourToTen
 
 pub met : Met
 met = record {
-  dependencies = λ whole s short r d e. tells dependencies_number s r short whole (dependencies-mode-refused s short r d whole e);
-  metadata = λ whole s short r bs e. tells metadata_number s r short whole (metadata-mode-refused s short r bs whole e);
+  dependencies = λ whole s short r d e. tells dependencies_number s r short whole (dependencies_mode_refused s short r d whole e);
+  metadata = λ whole s short r bs e. tells metadata_number s r short whole (metadata_mode_refused s short r bs whole e);
 }
 
 -- ---- a text of bytes below 128

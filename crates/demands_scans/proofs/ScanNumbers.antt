@@ -40,7 +40,7 @@ use Rattle.text_statement.proofs.StatementLaws.{statement_refused}
 use Rattle.text_utf8.specs.Utf8.{wrong_from}
 use Rattle.text_utf8.proofs.Utf8Laws.{wrong_within}
 use Rattle.text_lent.specs.Lent.{lent_at}
-use Rattle.text_lent.proofs.LentLaws.{lent_long, lent-short, lent-wrong, lent-fit}
+use Rattle.text_lent.proofs.LentLaws.{lent_long, lent_short, lent_wrong, lent_fit}
 use Rattle.text_lent.specs.declared.Lent.{Lent}
 use Rattle.text_lent.specs.declared.Lent.TheVariants.{Fit, Unfit}
 use Rattle.scan_rows.specs.declared.Span.{Span}
@@ -141,19 +141,19 @@ module _ (s : List ℕ) (Q : Refusal → Type 0) where
 
   module _ (k : ℕ) where
     module _ (five : (at : ℕ) → Q (refusal 5 k at)) (six : (at : ℕ) → Q (refusal 6 k at)) where
-      pub due-here-is : (at b : ℕ) → DueIs Met (due_here s at b k)
+      pub due_here_is : (at b : ℕ) → DueIs Met (due_here s at b k)
       unfolding due_here due_number
-      due-here-is at b =
+      due_here_is at b =
           by_test (eqb (look s at) b) (λ t. rw t tt)
           (λ t. rw t (by_test (eqb (look s at) 256) (λ v. rw v (refused_is 6 k at (six at))) (λ v. rw v (refused_is 5 k at (five at)))))
 
       pub due_is : (at b : ℕ) → DueIs Met (due_at s at b k)
       unfolding due_at
-      due_is at b = due-here-is (gap_end s at) b
+      due_is at b = due_here_is (gap_end s at) b
 
-      pub line-is : (four : (at : ℕ) → Q (refusal 4 k at)) → (at u b : ℕ) → ArgumentIs Met (line_at false s at u k b)
+      pub line_is : (four : (at : ℕ) → Q (refusal 4 k at)) → (at u b : ℕ) → ArgumentIs Met (line_at false s at u k b)
       unfolding line_at argument_at breaks_off after_due after_argument argument_of
-      line-is four at u b = go (value_at s at)
+      line_is four at u b = go (value_at s at)
         where
           behind : (n : ℕ) (d : Due) → DueIs Met d → ArgumentIs Met (after_due n d)
           behind n (After c) h = tt
@@ -212,7 +212,7 @@ module _ (s : List ℕ) (k : ℕ) where
 
   argument_is : (j : ℕ) → Refusable k j → (at u b : ℕ) → ArgumentIs Stated (line_at false s at u j b)
   unfolding is_one
-  argument_is j f = line-is s (StatementRefusal k) j (f 5 refl) (f 6 refl) (f 4 refl)
+  argument_is j f = line_is s (StatementRefusal k) j (f 5 refl) (f 6 refl) (f 4 refl)
 
   abbrev InsideIs : Inside → Type 0
   InsideIs (OnInside b) = Unit {0}
@@ -317,7 +317,7 @@ module _ (s : List ℕ) where
   rest_is at n name bytes =
       by_test (eqb (look s at) 123) (λ t. rw t (included_is name (block_at false s (at + 1) n 9).answer (block_is s 9 (at + 1) n)))
       (λ t. let f = name_refusable 9 in
-      rw t (plain_is name n (due_here s at 59 9) (due-here-is s (StatementRefusal 9) 9 (f 5 refl) (f 6 refl) at 59)))
+      rw t (plain_is name n (due_here s at 59 9) (due_here_is s (StatementRefusal 9) 9 (f 5 refl) (f 6 refl) at 59)))
 
   value_read_is : (u : ℕ) (bytes : List ℕ) (a : Argument) → ArgumentIs (Stated s 9) a
       → IncludedIs (Stated s 9) (after_value false s u bytes a).answer
@@ -409,16 +409,16 @@ module _ (s : List ℕ) (short : Bool) where
       by_test (ltb 1048576 (length s))
       (λ t. let h = ltb-true 1048576 (length s) t in subst LentIs (lent_long s short h) (too_long h refl))
       (λ t. let f = ltb-false 1048576 (length s) t in
-      by_test short (λ v. subst LentIs (lent-short s short f v) (too_little f v refl))
-      (λ v. by_test (ltb at (length s)) (λ w. let h = ltb-true at (length s) w in subst LentIs (lent-wrong s short f v refl h) (not_utf8 f v h refl))
+      by_test short (λ v. subst LentIs (lent_short s short f v) (too_little f v refl))
+      (λ v. by_test (ltb at (length s)) (λ w. let h = ltb-true at (length s) w in subst LentIs (lent_wrong s short f v refl h) (not_utf8 f v h refl))
       (λ w. let h = ltb-false at (length s) w in
       let e : at ≡ length s = omega (arith, wrong_within s 0 (omega arith)) in
-      subst LentIs (lent-fit s short f v refl h) (record { few = f; enough = v; utf8 = e }))))
+      subst LentIs (lent_fit s short f v refl h) (record { few = f; enough = v; utf8 = e }))))
 
   pub first_unfit : (r : Refusal) → FirstRefusal s short r → lent_at s short ≡ Unfit r
   first_unfit r (too_long h e) = sym (lent_long s short h) ∙ ap Unfit (sym e)
-  first_unfit r (too_little f h e) = sym (lent-short s short f h) ∙ ap Unfit (sym e)
-  first_unfit r (not_utf8 f v h e) = sym (lent-wrong s short f v refl h) ∙ ap Unfit (sym e)
+  first_unfit r (too_little f h e) = sym (lent_short s short f h) ∙ ap Unfit (sym e)
+  first_unfit r (not_utf8 f v h e) = sym (lent_wrong s short f v refl h) ∙ ap Unfit (sym e)
 
   pub first_number : (r : Refusal) → FirstRefusal s short r → r.number ≡ 0 → ⊥
   first_number r (too_long h e) z = omega (arith, z, ap (λ q. q.number) e)

@@ -43,7 +43,7 @@ use Rattle.scan_block.specs.declared.Inside.{Inside}
 use Rattle.scan_block.specs.declared.Inside.TheVariants.{On as OnInside, Closed, Refused as RefusedInside}
 use Rattle.scan_block.specs.declared.Line.{Line}
 use Rattle.scan_block.specs.declared.Line.TheVariants.{Value as ValueLine, Other as OtherLine}
-use Rattle.scan_block.proofs.InsideLaws.{inside_end, inside-close, inside-kind}
+use Rattle.scan_block.proofs.InsideLaws.{inside_end, inside_close, inside_kind}
 use Rattle.scan_block.proofs.FarLaws.{Went, inside_went}
 use Rattle.scan_block.proofs.BlockLaws.{block_on, block_close, block_broken}
 use Rattle.scan_imports.specs.Statement.{import_of, with_name, after_name, import_at, include_of, plain_of, block_of, open_or_plain, after_value, include_at}
@@ -116,10 +116,10 @@ inside_modes s k b =
     (λ t. let e = eqb-true (get_or s g 256) 256 t in inl (inside_end true s k b refl refl e ∙ sym (inside_end false s k b refl refl e)))
     (λ t. let n : (get_or s g 256 ≡ 256 → ⊥) = eqb-false _ _ t in
     by_test (eqb (get_or s g 256) 125)
-    (λ v. let e = eqb-true (get_or s g 256) 125 v in inl (inside-close true s k b refl refl n e ∙ sym (inside-close false s k b refl refl n e)))
+    (λ v. let e = eqb-true (get_or s g 256) 125 v in inl (inside_close true s k b refl refl n e ∙ sym (inside_close false s k b refl refl n e)))
     (λ v. let m : (get_or s g 256 ≡ 125 → ⊥) = eqb-false _ _ v in
     let i = here s g n in
-    of (inside-kind true s k b refl refl n m refl) (inside-kind false s k b refl refl n m refl) (kind_modes s g b (line_kind s g k) (omega arith))))
+    of (inside_kind true s k b refl refl n m refl) (inside_kind false s k b refl refl n m refl) (kind_modes s g b (line_kind s g k) (omega arith))))
   where
     of : {x y v w : Left Inside} → x ≡ v → y ≡ w → InsideModes s v w → InsideModes s x y
     of {x} p q (inl e) = inl (p ∙ e ∙ sym q)
@@ -171,9 +171,9 @@ module _ (s : List ℕ) (k : ℕ) where
         ∙ sym (block_broken false s k g r (ap (λ z. z.answer) q ∙ h)))
 
     -- the whole-text mode is 11
-    block-cut : (inside_at true s k g.body).answer ≡ RefusedInside (cut_at (length s)) → (i : Inside) → (inside_at false s k g.body).answer ≡ i
+    block_cut : (inside_at true s k g.body).answer ≡ RefusedInside (cut_at (length s)) → (i : Inside) → (inside_at false s k g.body).answer ≡ i
         → OldInside s i → BothBlocks g
-    block-cut c i h o =
+    block_cut c i h o =
         let e = ap (λ x. x.answer) (block_broken true s k g (cut_at (length s)) c) in
         let q = old i h o in
         inr (e, q.0, q.1, q.2)
@@ -188,7 +188,7 @@ module _ (s : List ℕ) (k : ℕ) where
     block_one : BothBlocks g
     block_one =
         ⊎_elim (λ e. block_same (inside_at false s k g.body) e refl (inside_at false s k g.body).answer refl)
-        (λ e. block-cut e.0 (inside_at false s k g.body).answer refl e.1) (inside_modes s k g.body)
+        (λ e. block_cut e.0 (inside_at false s k g.body).answer refl e.1) (inside_modes s k g.body)
 
   block_modes : (g : Stored) → BothBlocks g
   block_modes =
@@ -362,40 +362,40 @@ module _ (s : List ℕ) where
       ap told_dependencies (scan_done false s g h)
 
   module _ (g : Scanning) (later : (n : Sofar) → (step_at false s g.far).answer ≡ On n → BothScans (after g n)) where
-    scan-same : (x : Step) → step_at true s g.far ≡ x → step_at false s g.far ≡ x → (r : Next) → x.answer ≡ r → BothScans g
-    scan-same x p q (On n) h =
+    scan_same : (x : Step) → step_at true s g.far ≡ x → step_at false s g.far ≡ x → (r : Next) → x.answer ≡ r → BothScans g
+    scan_same x p q (On n) h =
         let m = ap (λ z. z.answer) q ∙ h in
         scans_are
         (scan_on true s g n (ap (λ z. z.answer) p ∙ h)
         ∙ ap (λ z. scan_from true s (record { far = n; read = Deps.joined g.read z.adds })) (p ∙ sym q))
         (scan_on false s g n m) (later n m)
-    scan-same x p q Done h =
+    scan_same x p q Done h =
         same (scan_done true s g (ap (λ z. z.answer) p ∙ h)
         ∙ ap (λ z. Deps.good (Deps.joined g.read z.adds)) (p ∙ sym q)
         ∙ sym (scan_done false s g (ap (λ z. z.answer) q ∙ h)))
-    scan-same x p q (Stop r) h =
+    scan_same x p q (Stop r) h =
         same (scan_stop true s g r (ap (λ z. z.answer) p ∙ h)
         ∙ ap (λ z. Deps.bad r (Deps.joined g.read z.adds)) (p ∙ sym q)
         ∙ sym (scan_stop false s g r (ap (λ z. z.answer) q ∙ h)))
 
-    scan-cut : (step_at true s g.far).answer ≡ Stop (cut_at (length s)) → (r : Next) → (step_at false s g.far).answer ≡ r → OldNext s r → BothScans g
-    scan-cut c (On n) h o =
+    scan_cut : (step_at true s g.far).answer ≡ Stop (cut_at (length s)) → (r : Next) → (step_at false s g.far).answer ≡ r → OldNext s r → BothScans g
+    scan_cut c (On n) h o =
         cut (ap told_dependencies (scan_stop true s g (cut_at (length s)) c))
         (Memᴰ.head (ap (λ x. x.number) (ap told_dependencies (scan_on false s g n h) ∙ scan_past (after g n) o)))
-    scan-cut c Done h o = absurd o
-    scan-cut c (Stop r) h o =
+    scan_cut c Done h o = absurd o
+    scan_cut c (Stop r) h o =
         cut (ap told_dependencies (scan_stop true s g (cut_at (length s)) c))
         (subst (λ z. Memᴰ (told_dependencies z).number old_dependencies) (sym (scan_stop false s g r h)) (Memᴰ.tail o))
 
-    scan-one : BothScans g
-    scan-one =
-        ⊎_elim (λ e. scan-same (step_at false s g.far) e refl (step_at false s g.far).answer refl)
-        (λ e. scan-cut e.0 (step_at false s g.far).answer refl e.1) (step_modes s g.far)
+    scan_one : BothScans g
+    scan_one =
+        ⊎_elim (λ e. scan_same (step_at false s g.far) e refl (step_at false s g.far).answer refl)
+        (λ e. scan_cut e.0 (step_at false s g.far).answer refl e.1) (step_modes s g.far)
 
   scan_modes : (g : Scanning) → BothScans g
   scan_modes =
       by_falling (λ g. length s - g.far.at) BothScans
-      (λ g later. scan-one g
+      (λ g later. scan_one g
       (λ n h. let f = subst (StepWent s g.far (step_at false s g.far).adds) h (step_said false s g.far).went in
       later (after g n) (omega (arith, f.0, f.1))))
 

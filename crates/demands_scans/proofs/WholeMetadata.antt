@@ -228,24 +228,24 @@ module _ (s : List ℕ) where
       subst Among (sym (scan_done false s g c (said_past s g.at (length g.read.bytes) g.read.prefix.present e))) (ended_number g.read c.at)
 
   module _ (g : Reading) (later : (h : Reading) → length s - h.at < length s - g.at → BothScans h) where
-    scan-same : (x : Said) → heard true s g ≡ x → heard false s g ≡ x → (r : Heard) → x.answer ≡ r → BothScans g
-    scan-same x p q (Value k y c n) h =
+    scan_same : (x : Said) → heard true s g ≡ x → heard false s g ≡ x → (r : Heard) → x.answer ≡ r → BothScans g
+    scan_same x p q (Value k y c n) h =
         let m = ap (λ z. z.answer) q ∙ h in
         scans_are
         (scan_value true s g k y c n (ap (λ z. z.answer) p ∙ h)
         ∙ ap (λ z. scan_from true s (record { at = c.at; read = told g.read k y z.bytes })) (p ∙ sym q))
         (scan_value false s g k y c n m) (later _ (told_nearer false s g k y c n m))
-    scan-same x p q (Passed c) h =
+    scan_same x p q (Passed c) h =
         let m = ap (λ z. z.answer) q ∙ h in
         scans_are (scan_passed true s g c (ap (λ z. z.answer) p ∙ h)) (scan_passed false s g c m) (later _ (passed_nearer false s g c m))
-    scan-same x p q (Done c) h = same (scan_done true s g c (ap (λ z. z.answer) p ∙ h) ∙ sym (scan_done false s g c (ap (λ z. z.answer) q ∙ h)))
-    scan-same x p q (Refused r) h =
+    scan_same x p q (Done c) h = same (scan_done true s g c (ap (λ z. z.answer) p ∙ h) ∙ sym (scan_done false s g c (ap (λ z. z.answer) q ∙ h)))
+    scan_same x p q (Refused r) h =
         same (scan_refused_lem true s g r (ap (λ z. z.answer) p ∙ h)
         ∙ ap (λ z. Meta.bad r (g.read.bytes ++ z.bytes)) (p ∙ sym q)
         ∙ sym (scan_refused_lem false s g r (ap (λ z. z.answer) q ∙ h)))
 
-    scan-cut : (heard true s g).answer ≡ Refused (cut_at (length s)) → (r : Heard) → (heard false s g).answer ≡ r → OldHeard s r → BothScans g
-    scan-cut c r h o = cut (ap told_metadata (scan_refused_lem true s g (cut_at (length s)) c)) (old r h o)
+    scan_cut : (heard true s g).answer ≡ Refused (cut_at (length s)) → (r : Heard) → (heard false s g).answer ≡ r → OldHeard s r → BothScans g
+    scan_cut c r h o = cut (ap told_metadata (scan_refused_lem true s g (cut_at (length s)) c)) (old r h o)
       where
         old : (r : Heard) → (heard false s g).answer ≡ r → OldHeard s r → Among (scan_from false s g)
         old (Value k y c n) h o = subst Among (sym (scan_value false s g k y c n h)) (scan_past _ o)
@@ -257,14 +257,14 @@ module _ (s : List ℕ) where
             number (inl e) = Memᴰ.tail (Memᴰ.head e)
             number (inr e) = Memᴰ.tail (Memᴰ.tail (Memᴰ.head e))
 
-    scan-one : BothScans g
-    scan-one =
-        ⊎_elim (λ e. scan-same (heard false s g) e refl (heard false s g).answer refl)
-        (λ e. scan-cut e.0 (heard false s g).answer refl e.1)
+    scan_one : BothScans g
+    scan_one =
+        ⊎_elim (λ e. scan_same (heard false s g) e refl (heard false s g).answer refl)
+        (λ e. scan_cut e.0 (heard false s g).answer refl e.1)
         (said_modes s g.at (length g.read.bytes) g.read.prefix.present)
 
   scan_modes : (g : Reading) → BothScans g
-  scan_modes = by_falling (λ g. length s - g.at) BothScans scan-one
+  scan_modes = by_falling (λ g. length s - g.at) BothScans scan_one
 
   pub scanned_whole : ScanModes (Meta.scanned true s) (Meta.scanned false s)
   unfolding Meta.scanned

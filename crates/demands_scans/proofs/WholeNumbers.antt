@@ -97,38 +97,38 @@ module _ (s : List ℕ) (at u : ℕ) where
 
 module _ (s : List ℕ) (short : Bool) where
   module _ (r : Refusal) (d : Deps.Dependencies) where
-    scan-read : (x : Deps.Scan) → WholeOrOld told_dependencies old_dependencies s x (Deps.scanned false s) → x ≡ Deps.bad r d
+    scan_read : (x : Deps.Scan) → WholeOrOld told_dependencies old_dependencies s x (Deps.scanned false s) → x ≡ Deps.bad r d
         → WholeRefusal (MetRefusal DependenciesRefusal s) s r
-    scan-read x (same e) h = as_before (subst (Scans.ScanIs s) (sym e ∙ h) (Scans.scanned-is s))
-    scan-read x (cut e m) h = cut_short (sym (ap told_dependencies h) ∙ e)
+    scan_read x (same e) h = as_before (subst (Scans.ScanIs s) (sym e ∙ h) (Scans.scanned_is s))
+    scan_read x (cut e m) h = cut_short (sym (ap told_dependencies h) ∙ e)
 
-    dependencies-whole-refused : Deps.dependencies true s short ≡ Deps.bad r d → RefusedAs (WholeRefusal (MetRefusal DependenciesRefusal s) s) s short r
+    dependencies_whole_refused : Deps.dependencies true s short ≡ Deps.bad r d → RefusedAs (WholeRefusal (MetRefusal DependenciesRefusal s) s) s short r
     unfolding Deps.dependencies Deps.if_fit
-    dependencies-whole-refused h = go (lent_at s short) (lent_is s short) h
+    dependencies_whole_refused h = go (lent_at s short) (lent_is s short) h
       where
         go : (x : Lent) → LentIs s short x → Deps.if_fit x (Deps.scanned true s) ≡ Deps.bad r d → RefusedAs (WholeRefusal (MetRefusal DependenciesRefusal s) s) s short r
-        go Fit f h = read f (scan-read (Deps.scanned true s) (Dependencies.scanned-whole s) h)
+        go Fit f h = read f (scan_read (Deps.scanned true s) (Dependencies.scanned_whole s) h)
         go (Unfit q) f h = let e : q ≡ r = cc in first (subst (FirstRefusal s short) e f)
 
     -- in either mode
-    pub dependencies-mode-refused : (whole : Bool) → Deps.dependencies whole s short ≡ Deps.bad r d
+    pub dependencies_mode_refused : (whole : Bool) → Deps.dependencies whole s short ≡ Deps.bad r d
         → RefusedAs (ModeRefusal whole DependenciesRefusal s) s short r
-    dependencies-mode-refused true h = dependencies-whole-refused h
-    dependencies-mode-refused false h = dependencies_refused s short r d h
+    dependencies_mode_refused true h = dependencies_whole_refused h
+    dependencies_mode_refused false h = dependencies_refused s short r d h
 
   module _ (r : Refusal) (bs : List ℕ) where
     header_read : (x : Meta.Scan) → WholeOrOld told_metadata old_metadata s x (Meta.scanned false s) → x ≡ Meta.bad r bs → WholeRefusal (MetRefusal MetadataRefusal s) s r
-    header_read x (same e) h = as_before (subst (Headers.ScanIs s) (sym e ∙ h) (Headers.scanned-is s))
+    header_read x (same e) h = as_before (subst (Headers.ScanIs s) (sym e ∙ h) (Headers.scanned_is s))
     header_read x (cut e m) h = cut_short (sym (ap told_metadata h) ∙ e)
 
-    metadata-whole-refused : Meta.metadata true s short ≡ Meta.bad r bs → RefusedAs (WholeRefusal (MetRefusal MetadataRefusal s) s) s short r
+    metadata_whole_refused : Meta.metadata true s short ≡ Meta.bad r bs → RefusedAs (WholeRefusal (MetRefusal MetadataRefusal s) s) s short r
     unfolding Meta.metadata Meta.if_fit
-    metadata-whole-refused h = go (lent_at s short) (lent_is s short) h
+    metadata_whole_refused h = go (lent_at s short) (lent_is s short) h
       where
         go : (x : Lent) → LentIs s short x → Meta.if_fit x (Meta.scanned true s) ≡ Meta.bad r bs → RefusedAs (WholeRefusal (MetRefusal MetadataRefusal s) s) s short r
-        go Fit f h = read f (header_read (Meta.scanned true s) (Metadata.scanned-whole s) h)
+        go Fit f h = read f (header_read (Meta.scanned true s) (Metadata.scanned_whole s) h)
         go (Unfit q) f h = let e : q ≡ r = cc in first (subst (FirstRefusal s short) e f)
 
-    pub metadata-mode-refused : (whole : Bool) → Meta.metadata whole s short ≡ Meta.bad r bs → RefusedAs (ModeRefusal whole MetadataRefusal s) s short r
-    metadata-mode-refused true h = metadata-whole-refused h
-    metadata-mode-refused false h = metadata_refused s short r bs h
+    pub metadata_mode_refused : (whole : Bool) → Meta.metadata whole s short ≡ Meta.bad r bs → RefusedAs (ModeRefusal whole MetadataRefusal s) s short r
+    metadata_mode_refused true h = metadata_whole_refused h
+    metadata_mode_refused false h = metadata_refused s short r bs h

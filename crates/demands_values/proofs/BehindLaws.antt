@@ -23,7 +23,7 @@ use Rattle.text_value.specs.declared.Argument.TheVariants.{Read}
 use Rattle.scan_rows.specs.Span.{held, value_in}
 use Rattle.scan_rows.specs.declared.Span.{Span}
 use Rattle.scan_rows.proofs.Values.{value_more}
-use Rattle.scan_metadata.proofs.ScanLaws.{within_new, value-new}
+use Rattle.scan_metadata.proofs.ScanLaws.{within_new, value_new}
 use Rattle.demands_values.specs.Behind.{Behind, Either, Met, MetFirst, MetLast, InBlock}
 
 -- ---- a keyword's value, and the byte that is due behind it
@@ -39,19 +39,19 @@ module _ (s : List ℕ) (at u k : ℕ) where
   argument_value c n h = value_of (value_at s at) c n h
 
   module _ (b : ℕ) (c : Cursor) (n : ℕ) where
-    due-of : (m : ℕ) (d : Due) → after_due m d ≡ Read c n → d ≡ Stands c
+    due_of : (m : ℕ) (d : Due) → after_due m d ≡ Read c n → d ≡ Stands c
     unfolding after_due
-    due-of m (Stands e) h = let q : e ≡ c = cc in ap Stands q
-    due-of m (NotDue r) h = let z : ◌≡◌ {A = ℕ} 0 1 = cc in absurd (omega arith)
+    due_of m (Stands e) h = let q : e ≡ c = cc in ap Stands q
+    due_of m (NotDue r) h = let z : ◌≡◌ {A = ℕ} 0 1 = cc in absurd (omega arith)
 
     line_of : (w : Val) → after_argument s k b (argument_of s u k w) ≡ Read c n → (e : ℕ) × (w ≡ value (value_bytes w) e) × (due_at s e b k ≡ Stands c)
     unfolding argument_of after_argument value_bytes
-    line_of (value bs e) h = (e, refl, due-of (u + length bs) (due_at s e b k) h)
+    line_of (value bs e) h = (e, refl, due_of (u + length bs) (due_at s e b k) h)
     line_of (none e) h = let z : ◌≡◌ {A = ℕ} 0 1 = cc in absurd (omega arith)
 
-    pub line-value : line_at false s at u k b ≡ Read c n → (e : ℕ) × (value_at s at ≡ value (value_bytes (value_at s at)) e) × (due_at s e b k ≡ Stands c)
+    pub line_value : line_at false s at u k b ≡ Read c n → (e : ℕ) × (value_at s at ≡ value (value_bytes (value_at s at)) e) × (due_at s e b k ≡ Stands c)
     unfolding line_at argument_at breaks_off
-    line-value h = line_of (value_at s at) h
+    line_value h = line_of (value_at s at) h
 
 -- ---- at one place no other keyword matches
 
@@ -80,14 +80,14 @@ module _ {s : List ℕ} (bytes zs : List ℕ) {word : List ℕ} {x : Span} where
 
   -- a scan by its step and its places
   module _ {A R : Type 0} {step : A → Turn A R} {at : A → ℕ} {g : A} where
-    abbrev pub met-more : Met step at s word bytes g x → Met step at s word (bytes ++ zs) g x
-    met-more m = record { state = m.state; reached = m.reached; value = behind_more m.value }
+    abbrev pub met_more : Met step at s word bytes g x → Met step at s word (bytes ++ zs) g x
+    met_more m = record { state = m.state; reached = m.reached; value = behind_more m.value }
 
     pub last_more : MetLast step at s word bytes g x → MetLast step at s word (bytes ++ zs) g x
-    last_more m = (met-more m.0, m.1)
+    last_more m = (met_more m.0, m.1)
 
     pub first_more : MetFirst step at s word bytes g x → MetFirst step at s word (bytes ++ zs) g x
-    first_more m = (met-more m.0, m.1)
+    first_more m = (met_more m.0, m.1)
 
   pub block_more : {k end : ℕ} → InBlock s k end word bytes x → InBlock s k end word (bytes ++ zs) x
   block_more b = record { opens = b.opens; brace = b.brace; used = b.used; holds = last_more b.holds }
@@ -103,7 +103,7 @@ behind_new bytes bs {c} {e} x m h q = record {
   after = c;
   matched = m;
   end = e;
-  read = h ∙ ap (λ v. value v e) (sym (value-new bytes bs x q));
+  read = h ∙ ap (λ v. value v e) (sym (value_new bytes bs x q));
   present = ap (λ y. y.present) q;
   within = within_new bytes bs x q;
 }

@@ -43,8 +43,8 @@ use Rattle.scan_block.specs.declared.Line.{Line}
 use Rattle.scan_block.specs.declared.Line.TheVariants.{Value, Other}
 use Rattle.scan_block.proofs.BlockLaws.{turn_far, block_falls, block_on, block_close, block_broken}
 use Rattle.demands_values.specs.Behind.{Behind}
-use Rattle.demands_values.proofs.BehindLaws.{line-value, other_not, held_new, behind_new}
-use Rattle.demands_values.proofs.Walks.{Gives, Won, won-stop, won-on}
+use Rattle.demands_values.proofs.BehindLaws.{line_value, other_not, held_new, behind_new}
+use Rattle.demands_values.proofs.Walks.{Gives, Won, won_stop, won_on}
 
 -- ---- which keyword matched; an import's block has both, an include's the second
 
@@ -109,7 +109,7 @@ module _ (s : List ℕ) (k : ℕ) (g : Stored) (store : List ℕ) (count : g.bod
       let b = g.body in
       let bs = value_bytes (value_at s c.at) in
       let f = line_far false s c.at b.used j 59 d n (omega arith) h in
-      let w = line-value s c.at b.used j 59 d n h in
+      let w = line_value s c.at b.used j 59 d n h in
       let x = held b.used (n - b.used) in
       let end : n ≡ length (store ++ bs) = omega (arith, count, f.2, length-append store bs) in
       let new : (word : List ℕ) → match_at s place word ≡ After c → Behind s word place (store ++ bs) x
@@ -180,10 +180,10 @@ module _ (s : List ℕ) (k : ℕ) (pre : List ℕ) where
             rest = i.bytes ++ w.rest;
             grown = behind ∙ append_assoc (pre ++ g.bytes) i.bytes w.rest;
             prefix = λ e.
-                won-on (block_turn false s k) (λ b. b.body.at) (block_forward s k) s prefix_word turn (pre ++ cs) (pre ++ g.bytes ++ i.bytes) w.rest behind
+                won_on (block_turn false s k) (λ b. b.body.at) (block_forward s k) s prefix_word turn (pre ++ cs) (pre ++ g.bytes ++ i.bytes) w.rest behind
                 g.body.prefix h.body.prefix y.prefix (has.1 e) (w.prefix e);
             revision =
-                won-on (block_turn false s k) (λ b. b.body.at) (block_forward s k) s revision_date_word turn (pre ++ cs) (pre ++ g.bytes ++ i.bytes)
+                won_on (block_turn false s k) (λ b. b.body.at) (block_forward s k) s revision_date_word turn (pre ++ cs) (pre ++ g.bytes ++ i.bytes)
                 w.rest behind
                 g.body.revision h.body.revision y.revision has.2 w.revision;
           }
@@ -204,8 +204,8 @@ module _ (s : List ℕ) (k : ℕ) (pre : List ℕ) where
           (record {
             rest = i.bytes;
             grown = sym assoc;
-            prefix = λ e. won-stop (block_turn false s k) (λ b. b.body.at) (block_forward s k) s prefix_word turn has.0.0 (pre ++ bs) has.0.1;
-            revision = won-stop (block_turn false s k) (λ b. b.body.at) (block_forward s k) s revision_date_word turn has.1.0 (pre ++ bs) has.1.1;
+            prefix = λ e. won_stop (block_turn false s k) (λ b. b.body.at) (block_forward s k) s prefix_word turn has.0.0 (pre ++ bs) has.0.1;
+            revision = won_stop (block_turn false s k) (λ b. b.body.at) (block_forward s k) s revision_date_word turn has.1.0 (pre ++ bs) has.1.1;
           })
       of (Refused r) e has go = subst (λ (z : Left Block). BlockHas g z.bytes z.answer) (sym (block_broken false s k g r e)) tt
 

@@ -29,7 +29,7 @@ use Rattle.yangparser.specs.Dependencies.{Dependencies, import_words_of, include
 use Rattle.yangparser.specs.Promises.{Holds, Leaves, Parses, lent_scan}
 use Rattle.yangparser.specs.declared.Parsed.{Parsed}
 use Rattle.yangparser.specs.declared.Parsed.TheVariants.{Good, Refused}
-use Rattle.yangparser.proofs.KeptLaws.{entry_good, parsed_good, parsed_refused, held-imports, held-includes, padded_imports, padded_includes}
+use Rattle.yangparser.proofs.KeptLaws.{entry_good, parsed_good, parsed_refused, held_imports, held_includes, padded_imports, padded_includes}
 use Rattle.yangparser.proofs.ScanLaws.{Sound, scan_sound}
 use Rattle.scan_metadata.specs.Metadata as Metadata
 use Rattle.scan_metadata.specs.Metadata.{Metadata, first_of, values_of, Reading, metadata_turn, metadata, answer_of, refused_with}
@@ -42,7 +42,7 @@ use Rattle.demands_scans.proofs.MetadataNumbers.{metadata_number}
 use Rattle.demands_scans.proofs.ScanNumbers.{dependencies_number, first_number}
 use Rattle.demands_scans.proofs.WholeDependencies.{dependencies_whole}
 use Rattle.demands_scans.proofs.WholeMetadata.{metadata_whole}
-use Rattle.demands_scans.proofs.WholeNumbers.{mode_number, dependencies-mode-refused, metadata-mode-refused}
+use Rattle.demands_scans.proofs.WholeNumbers.{mode_number, dependencies_mode_refused, metadata_mode_refused}
 use Rattle.demands_rfc.specs.Rfc.{reads, rfc_value}
 use Rattle.demands_rfc.specs.RfcDomain.{plain_at}
 use Rattle.demands_rfc.specs.RfcQuoted.{Quoted}
@@ -50,9 +50,9 @@ use Rattle.demands_rfc.proofs.RfcEquality.{rfc_equality}
 use Rattle.demands_values.specs.Behind.{Behind, Either, Met, ImportRead, IncludeRead, begin, NoHeader, HeaderFirst, HeaderLast, NameRead, RecordRead}
 use Rattle.demands_values.specs.Demand2.{RowsRead, record_in, Demand2}
 use Rattle.demands_values.proofs.EveryRow.{import_has_row, include_has_row}
-use Rattle.demands_values.proofs.BehindLaws.{met-more, last_more, first_more, behind_size, shorter_refused}
+use Rattle.demands_values.proofs.BehindLaws.{met_more, last_more, first_more, behind_size, shorter_refused}
 use Rattle.demands_values.proofs.HeaderValues.{Revised, Ends, scan_ends}
-use Rattle.demands_values.proofs.RowLaws.{EachFrom, from_of, rows-each}
+use Rattle.demands_values.proofs.RowLaws.{EachFrom, from_of, rows_each}
 use Rattle.demands_values.proofs.ScanValues.{import_more, include_more, scan_rows}
 
 -- ---- dependencies
@@ -69,8 +69,8 @@ rows_read s x h zs {e} {f} {g} p q r =
     let includes = from_of (IncludeRead s x.bytes) (IncludeRead s store) (include_more s x.bytes zs) 0 x.includes rows.includes in
     subst (λ l. RowsRead s l f (length x.imports) g (length x.includes)) (sym p)
     (record {
-      imports = rows-each (ImportRead s store) (import_at f) 7 (length x.imports) (subst (EachFrom (ImportRead s store) 0) (sym q) imports);
-      includes = rows-each (IncludeRead s store) (include_at g) 5 (length x.includes) (subst (EachFrom (IncludeRead s store) 0) (sym r) includes);
+      imports = rows_each (ImportRead s store) (import_at f) 7 (length x.imports) (subst (EachFrom (ImportRead s store) 0) (sym q) imports);
+      includes = rows_each (IncludeRead s store) (include_at g) 5 (length x.includes) (subst (EachFrom (IncludeRead s store) 0) (sym r) includes);
       every_import = import_has_row s x h;
       every_include = include_has_row s x h;
     })
@@ -95,9 +95,9 @@ module _ (mode : Bool) (s : List ℕ) (short : Bool) where
         → RowsRead s e f i g j
     counted x p q w = subst (λ m. RowsRead s e f m g j) (sym p) (subst (λ m. RowsRead s e f (length x.imports) g m) (sym q) w)
 
-    pub left-rows : Leaves (dependencies mode s short) d t u r e f g → RowsRead s e f i g j
+    pub left_rows : Leaves (dependencies mode s short) d t u r e f g → RowsRead s e f i g j
     unfolding kept_of padded
-    left-rows l =
+    left_rows l =
         let k = parsed_good (dependencies mode s short) i j n (sym l.answer ∙ h) in
         let x = k.0 in
         let good-scan = (entry_good false s short x (old_good mode s short x k.1)).0 in
@@ -124,7 +124,7 @@ over_rows mode s short d t u {r} {e} {f} {g} l i j n h =
     counted mode s long d t u i j n h x k.2 k.3
     (rows_read s x entry.0 (drop (0 + length x.bytes) d)
     (holds.stored ∙ sets-eq x.bytes d 0 (omega (arith, sound.short, room.0)))
-    (held-imports x sound holds room.1) (held-includes x sound holds room.2))
+    (held_imports x sound holds room.1) (held_includes x sound holds room.2))
 
 -- a refusal's number is not 0
 refused_number : {Read : Refusal → Type 0} {s : List ℕ} {short : Bool} {r : Refusal} → ((q : Refusal) → Read q → q.number ≡ 0 → ⊥)
@@ -142,10 +142,10 @@ module _ (mode : Bool) (s : List ℕ) (short : Bool) (d t u : List ℕ) {e f g :
     where
       of : (p : Parsed) → parsed_of (dependencies mode s short) ≡ p → number_of p ≡ 0
           → RowsRead s e f (get_or (answer_words p ++ more) 3 0) g (get_or (answer_words p ++ more) 4 0)
-      of (Good i j n) q z = left-rows mode s short d t u i j n q l
+      of (Good i j n) q z = left_rows mode s short d t u i j n q l
       of (Refused r) q z =
           let k = parsed_refused (dependencies mode s short) r q in
-          absurd (refused_number (mode_number dependencies_number s mode) (dependencies-mode-refused s short r k.0 mode k.1) z)
+          absurd (refused_number (mode_number dependencies_number s mode) (dependencies_mode_refused s short r k.0 mode k.1) z)
 
 -- ---- metadata
 
@@ -154,7 +154,7 @@ name_more : (s bytes zs : List ℕ) {g : Reading} {x : Span} → NameRead s byte
 name_more s bytes zs n = record {
   word = n.word;
   either = n.either;
-  met = met-more bytes zs n.met;
+  met = met_more bytes zs n.met;
   no_module = n.no_module;
   no_submodule = n.no_submodule;
 }
@@ -186,7 +186,7 @@ module _ (s : List ℕ) (m : Metadata) (h : Metadata.scanned false s ≡ Metadat
       let Q : Revision → Type 0 = λ q. q.span.present ≡ true → MetRevision q.span in
       let all : Each P (r ∷ rs) = (w.0.0, w.1) in
       let present = newest_present r rs (each_of P Present (λ q k. k.value.present) (r ∷ rs) all) in
-      inr (newest_keeps Q (r ∷ rs) (λ t. absurd (never refl t)) (each_of P Q (λ q k t. met-more m.bytes zs k) (r ∷ rs) all) present)
+      inr (newest_keeps Q (r ∷ rs) (λ t. absurd (never refl t)) (each_of P Q (λ q k t. met_more m.bytes zs k) (r ∷ rs) all) present)
 
   values_read : RecordRead s (m.bytes ++ zs) (values_of m)
   unfolding values_of
@@ -261,7 +261,7 @@ module _ (mode : Bool) (s : List ℕ) (short : Bool) (n : ℕ) where
       of (Metadata.good m) h z =
           let r = values_read s m (metadata_good mode s short m h) (zeros (n - length m.bytes)) in
           (r, words_read s (padded n m.bytes) _ _ _ _ _ _ r)
-      of (Metadata.bad r bs) h z = absurd (refused_number (mode_number metadata_number s mode) (metadata-mode-refused s short r bs mode h) z)
+      of (Metadata.bad r bs) h z = absurd (refused_number (mode_number metadata_number s mode) (metadata_mode_refused s short r bs mode h) z)
 
 -- ---- the RFC's values
 
@@ -289,9 +289,9 @@ short_page s d t u p = short s (page_short (length s) (length p)) d t u
 
 pub demand2 : Demand2
 demand2 = record {
-  dependencies = λ mode s b d t u l i j n h. left-rows mode s (short s b d t u) d t u i j n h l;
+  dependencies = λ mode s b d t u l i j n h. left_rows mode s (short s b d t u) d t u i j n h l;
   over = over_rows;
-  printed = λ mode s d t u p l i j n h. left-rows mode s (short_page s d t u p) d t u i j n h l.scan;
+  printed = λ mode s d t u p l i j n h. left_rows mode s (short_page s d t u p) d t u i j n h l.scan;
   metadata = λ mode s d {r} {e} l z. let b = ltb (length d) (length s) in
       subst (λ v. RecordRead s e v.values) (sym l.answer)
       (subst (λ w. RecordRead s w (answer_of (metadata mode s b)).values) (sym l.stored)

@@ -16,7 +16,7 @@ use Rattle.text.specs.declared.Match.TheVariants.{After}
 use Rattle.text.specs.declared.Refusal.{Refusal}
 use Rattle.text.proofs.Here.{by_test}
 use Rattle.text.proofs.KeywordLaws.{match_far}
-use Rattle.scan_head.proofs.HeadLaws.{head_import, head-include}
+use Rattle.scan_head.proofs.HeadLaws.{head_import, head_include}
 use Rattle.scan_imports.specs.Statement.{import_at, include_at}
 use Rattle.scan_imports.specs.declared.ParsedImport.{ParsedImport}
 use Rattle.scan_imports.specs.declared.ParsedImport.TheVariants.{Import as ReadImport, NoImport}
@@ -122,7 +122,7 @@ module _ (s : List ℕ) (far : Sofar) (c : Cursor) where
       let x = include_at false s c.at far.used in
       subst (λ z. OneMore far (λ n. n.includes) z.answer)
       (sym (step_head false s far refl (omega (arith, match_far s p include_word c m)) refl
-      (head-include s p refl (other_not s p include_word import_word m differ) refl c m)))
+      (head_include s p refl (other_not s p include_word import_word m differ) refl c m)))
       (unless_full_lem far (λ n. n.includes) far.includes 9 c.at (include_step far x.bytes x.answer) (include_one far x.bytes x.answer))
 
 -- ---- so each has its row

@@ -165,15 +165,15 @@ module _ (s : List ℕ) (g : Reading) where
 
     -- of any other keyword the name stays
     module _ (n₁ : same v module_word ≡ false) (n₂ : same v submodule_word ≡ false) where
-      name-stays : NameGives s place (g.read.bytes ++ bs) g.read.name g.read.name
-      name-stays = inr (no module_word n₁, no submodule_word n₂, refl)
+      name_stays : NameGives s place (g.read.bytes ++ bs) g.read.name g.read.name
+      name_stays = inr (no module_word n₁, no submodule_word n₂, refl)
 
       belongs : v ≡ belongs_to_word → same v namespace_word ≡ false → same v prefix_word ≡ false → same v revision_word ≡ false → Turns s g (told g.read 3 x bs)
       unfolding told
       belongs e n p r = record {
         part = bs;
         grown = refl;
-        name = name-stays;
+        name = name_stays;
         namespace = inr (no namespace_word n, refl);
         parent = inl (subst (λ w. Behind s w place (g.read.bytes ++ bs) x) e new);
         prefix_kept = λ t. refl;
@@ -186,7 +186,7 @@ module _ (s : List ℕ) (g : Reading) where
       spaced e b p r = record {
         part = bs;
         grown = refl;
-        name = name-stays;
+        name = name_stays;
         namespace = inl (subst (λ w. Behind s w place (g.read.bytes ++ bs) x) e new);
         parent = inr (no belongs_to_word b, refl);
         prefix_kept = λ t. refl;
@@ -200,7 +200,7 @@ module _ (s : List ℕ) (g : Reading) where
       prefixed e f n b r = record {
         part = bs;
         grown = refl;
-        name = name-stays;
+        name = name_stays;
         namespace = inr (no namespace_word n, refl);
         parent = inr (no belongs_to_word b, refl);
         prefix_kept = λ t. absurd (never f t);
@@ -213,7 +213,7 @@ module _ (s : List ℕ) (g : Reading) where
       revised e n b p = record {
         part = bs;
         grown = refl;
-        name = name-stays;
+        name = name_stays;
         namespace = inr (no namespace_word n, refl);
         parent = inr (no belongs_to_word b, refl);
         prefix_kept = λ t. refl;
@@ -246,11 +246,11 @@ module _ (s : List ℕ) (g : Reading) where
   module _ (k : ℕ) (v : List ℕ) (c : Cursor) (m : match_at s place v ≡ After c)
       (tell : later_prefix k has_prefix ≡ false → (bs : List ℕ) (x : Span) → Behind s v place (g.read.bytes ++ bs) x → Turns s g (told g.read k x bs))
       (later : later_prefix k has_prefix ≡ true → Turns s g g.read) (six : eqb k 6 ≡ false) where
-    kept-has : later_prefix k has_prefix ≡ false → (bs : List ℕ) (u n : ℕ) (d : Due) → Behind s v place (g.read.bytes ++ bs) (held u (n - u))
+    kept_has : later_prefix k has_prefix ≡ false → (bs : List ℕ) (u n : ℕ) (d : Due) → Behind s v place (g.read.bytes ++ bs) (held u (n - u))
         → HeardHas bs (kept k u n d)
     unfolding kept
-    kept-has f bs u n (Stands e) h = tell f bs (held u (n - u)) h
-    kept-has f bs u n (NotDue r) h = tt
+    kept_has f bs u n (Stands e) h = tell f bs (held u (n - u)) h
+    kept_has f bs u n (NotDue r) h = tt
 
     rest_has : later_prefix k has_prefix ≡ false → (u : ℕ) → u ≡ length g.read.bytes → (a : Argument) → argument_at false s c.at u k ≡ a
         → HeardHas (value_bytes (value_at s c.at)) (with_rest false s k u a)
@@ -258,14 +258,14 @@ module _ (s : List ℕ) (g : Reading) where
     rest_has f u count (Read e n) h =
         let bs = value_bytes (value_at s c.at) in
         let far = argument_far false s c.at u k e n h in
-        kept-has f bs u n (after_value false s e.at k)
+        kept_has f bs u n (after_value false s e.at k)
         (behind_new g.read.bytes bs (held u (n - u)) m (argument_value s c.at u k e n h) (held_new g.read.bytes bs count far.3))
     rest_has f u count (NoArgument r) h = tt
 
-    statement-has : (u : ℕ) → u ≡ length g.read.bytes
+    statement_has : (u : ℕ) → u ≡ length g.read.bytes
         → HeardHas (statement_said false s c.at k u has_prefix).bytes (statement_said false s c.at k u has_prefix).answer
     unfolding statement_said field_at
-    statement-has u count =
+    statement_has u count =
         rw six (by_test (later_prefix k has_prefix) (λ t. rw t (passed_has (later t) (past_statement false s c.at)))
         (λ t. rw t (rest_has t u count (argument_at false s c.at u k) refl)))
 
@@ -275,47 +275,47 @@ module _ (s : List ℕ) (g : Reading) where
     abbrev TagHas : Tag → Type 0
     TagHas t = HeardHas (tag_said false s place u has_prefix t).bytes (tag_said false s place u has_prefix t).answer
 
-    or-has : (k : ℕ) (word : List ℕ) (t : Tag) → ((c : Cursor) → match_at s place word ≡ After c → TagHas (Statement k c))
+    or_has : (k : ℕ) (word : List ℕ) (t : Tag) → ((c : Cursor) → match_at s place word ≡ After c → TagHas (Statement k c))
         → (match_at s place word ≡ Not → TagHas t) → TagHas (or_tag k (match_at s place word) t)
     unfolding or_tag
-    or-has k word t f h = of (match_at s place word) refl
+    or_has k word t f h = of (match_at s place word) refl
       where
         of : (m : Match) → match_at s place word ≡ m → TagHas (or_tag k m t)
         of (After c) e = f c e
         of Not e = h e
 
     -- a keyword that is always read
-    word-has : (k : ℕ) (word : List ℕ) → eqb k 6 ≡ false → eqb k 5 ≡ false
+    word_has : (k : ℕ) (word : List ℕ) → eqb k 6 ≡ false → eqb k 5 ≡ false
         → ((c : Cursor) → match_at s place word ≡ After c → (bs : List ℕ) (x : Span) → Behind s word place (g.read.bytes ++ bs) x
         → Turns s g (told g.read k x bs)) → (t : Tag) → (match_at s place word ≡ Not → TagHas t) → TagHas (or_tag k (match_at s place word) t)
     unfolding tag_said later_prefix
-    word-has k word six five tell t h =
-        or-has k word t (λ c m. statement-has k word c m (λ f. tell c m) (λ e. absurd (never five (both (eqb k 5) has_prefix e).0)) six u count) h
+    word_has k word six five tell t h =
+        or_has k word t (λ c m. statement_has k word c m (λ f. tell c m) (λ e. absurd (never five (both (eqb k 5) has_prefix e).0)) six u count) h
 
-    prefix-has : (c : Cursor) → match_at s place prefix_word ≡ After c → TagHas (Statement 5 c)
+    prefix_has : (c : Cursor) → match_at s place prefix_word ≡ After c → TagHas (Statement 5 c)
     unfolding tag_said later_prefix same
-    prefix-has c m =
-        statement-has 5 prefix_word c m (λ f bs x b. prefixed prefix_word c m bs x b refl refl refl f refl refl refl) (later_turn m) refl u count
+    prefix_has c m =
+        statement_has 5 prefix_word c m (λ f bs x b. prefixed prefix_word c m bs x b refl refl refl f refl refl refl) (later_turn m) refl u count
 
-    version-has : (c : Cursor) → match_at s place yang_version_word ≡ After c → TagHas (Statement 6 c)
+    version_has : (c : Cursor) → match_at s place yang_version_word ≡ After c → TagHas (Statement 6 c)
     unfolding tag_said statement_said
-    version-has c m = skipped_has (passed_turn (frees_version s place m)) 6 (past_value false s c.at)
+    version_has c m = skipped_has (passed_turn (frees_version s place m)) 6 (past_value false s c.at)
 
     last_has : Frees s place → (m : Match) → TagHas (last_tag m)
     unfolding last_tag tag_said
     last_has f (After c) = f
     last_has f Not = passed_has (passed_turn f) (past_token false s place)
 
-    tag-has : TagHas (tag_at s place)
+    tag_has : TagHas (tag_at s place)
     unfolding tag_at same
-    tag-has =
-        word-has 1 module_word refl refl (λ c m bs x b. named module_word c m bs x b 1 refl refl refl refl (inl refl) refl refl refl refl) _
-        (λ n₁. word-has 2 submodule_word refl refl (λ c m bs x b. named submodule_word c m bs x b 2 refl refl refl refl (inr refl) refl refl refl refl) _
-        (λ n₂. word-has 3 belongs_to_word refl refl (λ c m bs x b. belongs belongs_to_word c m bs x b refl refl refl refl refl refl) _
-        (λ n₃. word-has 4 namespace_word refl refl (λ c m bs x b. spaced namespace_word c m bs x b refl refl refl refl refl refl) _
-        (λ n₄. or-has 5 prefix_word _ prefix-has
-        (λ n₅. or-has 6 yang_version_word _ version-has
-        (λ n₆. word-has 7 revision_word refl refl (λ c m bs x b. revised revision_word c m bs x b refl refl refl refl refl refl) _
+    tag_has =
+        word_has 1 module_word refl refl (λ c m bs x b. named module_word c m bs x b 1 refl refl refl refl (inl refl) refl refl refl refl) _
+        (λ n₁. word_has 2 submodule_word refl refl (λ c m bs x b. named submodule_word c m bs x b 2 refl refl refl refl (inr refl) refl refl refl refl) _
+        (λ n₂. word_has 3 belongs_to_word refl refl (λ c m bs x b. belongs belongs_to_word c m bs x b refl refl refl refl refl refl) _
+        (λ n₃. word_has 4 namespace_word refl refl (λ c m bs x b. spaced namespace_word c m bs x b refl refl refl refl refl refl) _
+        (λ n₄. or_has 5 prefix_word _ prefix_has
+        (λ n₅. or_has 6 yang_version_word _ version_has
+        (λ n₆. word_has 7 revision_word refl refl (λ c m bs x b. revised revision_word c m bs x b refl refl refl refl refl refl) _
         (λ n₇. last_has (record {
           module_not = n₁;
           submodule_not = n₂;
@@ -328,4 +328,4 @@ module _ (s : List ℕ) (g : Reading) where
     pub said_has : HeardHas (said_at false s g.at u has_prefix).bytes (said_at false s g.at u has_prefix).answer
     unfolding said_at said_here
     said_has =
-        by_test (leb (length s) place) (λ t. rw t (frees_past s place (leb-true (length s) place t))) (λ t. rw t tag-has)
+        by_test (leb (length s) place) (λ t. rw t (frees_past s place (leb-true (length s) place t))) (λ t. rw t tag_has)

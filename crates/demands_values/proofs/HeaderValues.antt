@@ -24,8 +24,8 @@ use Rattle.scan_header.specs.declared.Heard.TheVariants.{Value, Passed, Done, Re
 use Rattle.scan_metadata.specs.Metadata.{Metadata, told, Reading, Scan, good, bad, ended, after_heard, metadata_turn, scan_from, scanned}
 use Rattle.scan_metadata.proofs.ScanLaws.{heard, turn_falls, scan_value, scan_passed, scan_done, scan_refused_lem}
 use Rattle.demands_values.specs.Behind.{Behind, begin, Unmet, Met, MetFirst, NameRead}
-use Rattle.demands_values.proofs.Walks.{Won, unmet-stop, unmet-on, met-on, behind-here, behind-later}
-use Rattle.demands_values.proofs.Walks.{met-here, won-on, first_here, first_on, reach_at}
+use Rattle.demands_values.proofs.Walks.{Won, unmet_stop, unmet_on, met_on, behind_here, behind_later}
+use Rattle.demands_values.proofs.Walks.{met_here, won_on, first_here, first_on, reach_at}
 use Rattle.demands_values.proofs.HeaderTurns.{Frees, WordGives, Turns, HeardHas, said_has}
 
 -- ---- all of them; d: what was told at the end
@@ -65,7 +65,7 @@ module _ (s : List ℕ) where
   unfolding Revised
   ends_stop g x t f =
       let unmet : (word : List ℕ) → match_at s (gap_end s g.at) word ≡ Not → WordUnmet word g
-      = λ word. unmet-stop (metadata_turn false s) (λ b. b.at) forward s word t in
+      = λ word. unmet_stop (metadata_turn false s) (λ b. b.at) forward s word t in
       record {
         rest = [];
         grown = sym (append-nil g.read.bytes);
@@ -85,11 +85,11 @@ module _ (s : List ℕ) where
     Free word = match_at s (gap_end s g.at) word ≡ Not
 
     unmet : (word : List ℕ) → Free word → WordUnmet word h → WordUnmet word g
-    unmet word = unmet-on (metadata_turn false s) (λ b. b.at) forward s word t
+    unmet word = unmet_on (metadata_turn false s) (λ b. b.at) forward s word t
 
     won : (word : List ℕ) (x y z : Span) → WordGives s word g h.read.bytes x y → Won (metadata_turn false s) (λ b. b.at) s word h d.bytes y z
         → Won (metadata_turn false s) (λ b. b.at) s word g d.bytes x z
-    won word = won-on (metadata_turn false s) (λ b. b.at) forward s word t d.bytes h.read.bytes ends.rest ends.grown
+    won word = won_on (metadata_turn false s) (λ b. b.at) forward s word t d.bytes h.read.bytes ends.rest ends.grown
 
     here : (word : List ℕ) (z : Span) → Behind s word (gap_end s g.at) h.read.bytes z → WordFirst word d.bytes g z
     here word = first_here (metadata_turn false s) (λ b. b.at) forward s word t d.bytes h.read.bytes ends.rest ends.grown
@@ -98,38 +98,38 @@ module _ (s : List ℕ) where
     later word = first_on (metadata_turn false s) (λ b. b.at) forward s word t d.bytes h.read.bytes ends.rest ends.grown
 
     -- the name, behind either keyword
-    name-given : (d.name ≡ h.read.name) × WordUnmet module_word h × WordUnmet submodule_word h → (word : List ℕ) → (word ≡ module_word) ⊎ (word ≡ submodule_word)
+    name_given : (d.name ≡ h.read.name) × WordUnmet module_word h × WordUnmet submodule_word h → (word : List ℕ) → (word ≡ module_word) ⊎ (word ≡ submodule_word)
         → Behind s word (gap_end s g.at) h.read.bytes h.read.name → NameRead s d.bytes g d.name
-    name-given stays word either b = record {
+    name_given stays word either b = record {
       word = word;
       either = either;
       met =
-          met-here (metadata_turn false s) (λ b. b.at) forward s word t d.bytes h.read.bytes ends.rest ends.grown d.name
+          met_here (metadata_turn false s) (λ b. b.at) forward s word t d.bytes h.read.bytes ends.rest ends.grown d.name
           (subst (Behind s word (gap_end s g.at) h.read.bytes) (sym stays.0) b);
-      no_module = behind-here (metadata_turn false s) (λ b. b.at) forward s module_word t stays.1;
-      no_submodule = behind-here (metadata_turn false s) (λ b. b.at) forward s submodule_word t stays.2;
+      no_module = behind_here (metadata_turn false s) (λ b. b.at) forward s module_word t stays.1;
+      no_submodule = behind_here (metadata_turn false s) (λ b. b.at) forward s submodule_word t stays.2;
     }
 
-    name-later : NameRead s d.bytes h d.name → NameRead s d.bytes g d.name
-    name-later n =
+    name_later : NameRead s d.bytes h d.name → NameRead s d.bytes g d.name
+    name_later n =
         let l = reach_at (metadata_turn false s) (λ b. b.at) forward n.met.reached in
         record {
           word = n.word;
           either = n.either;
-          met = met-on (metadata_turn false s) (λ b. b.at) forward s n.word t n.met;
-          no_module = behind-later (metadata_turn false s) (λ b. b.at) forward s module_word t l n.no_module;
-          no_submodule = behind-later (metadata_turn false s) (λ b. b.at) forward s submodule_word t l n.no_submodule;
+          met = met_on (metadata_turn false s) (λ b. b.at) forward s n.word t n.met;
+          no_module = behind_later (metadata_turn false s) (λ b. b.at) forward s module_word t l n.no_module;
+          no_submodule = behind_later (metadata_turn false s) (λ b. b.at) forward s submodule_word t l n.no_submodule;
         }
 
-    name-on : ((d.name ≡ g.read.name) × WordUnmet module_word g × WordUnmet submodule_word g) ⊎ NameRead s d.bytes g d.name
-    name-on =
-        ⊎_elim (λ stays. ⊎_elim (λ b. inr (name-given stays b.0 b.1 b.2))
+    name_on : ((d.name ≡ g.read.name) × WordUnmet module_word g × WordUnmet submodule_word g) ⊎ NameRead s d.bytes g d.name
+    name_on =
+        ⊎_elim (λ stays. ⊎_elim (λ b. inr (name_given stays b.0 b.1 b.2))
         (λ n. inl (stays.0 ∙ n.2, unmet module_word n.0 stays.1, unmet submodule_word n.1 stays.2)) has.name)
-        (λ n. inr (name-later n)) ends.name
+        (λ n. inr (name_later n)) ends.name
 
     -- the prefix, if none was read before
-    prefix-on : g.read.prefix.present ≡ false → ((d.prefix ≡ g.read.prefix) × WordUnmet prefix_word g) ⊎ WordFirst prefix_word d.bytes g d.prefix
-    prefix-on f =
+    prefix_on : g.read.prefix.present ≡ false → ((d.prefix ≡ g.read.prefix) × WordUnmet prefix_word g) ⊎ WordFirst prefix_word d.bytes g d.prefix
+    prefix_on f =
         ⊎_elim (λ b. inr (here prefix_word d.prefix
         (subst (Behind s prefix_word (gap_end s g.at) h.read.bytes) (sym (ends.prefix_kept b.present)) b)))
         (λ n. ⊎_elim (λ e. inl (e.0 ∙ n.1, unmet prefix_word n.0 e.1)) (λ m. inr (later prefix_word n.0 d.prefix m))
@@ -139,12 +139,12 @@ module _ (s : List ℕ) where
     mets : (rs : List Revision) → Each (λ q. WordMet revision_word d.bytes h q.span) rs → Each (λ q. WordMet revision_word d.bytes g q.span) rs
     mets rs m =
         each_of (λ q. WordMet revision_word d.bytes h q.span) (λ q. WordMet revision_word d.bytes g q.span)
-        (λ q w. met-on (metadata_turn false s) (λ b. b.at) forward s revision_word t w) rs m
+        (λ q w. met_on (metadata_turn false s) (λ b. b.at) forward s revision_word t w) rs m
 
-    revised-later : Free revision_word → (rs : List Revision) → Revised d.bytes h rs → Revised d.bytes g rs
+    revised_later : Free revision_word → (rs : List Revision) → Revised d.bytes h rs → Revised d.bytes g rs
     unfolding Revised
-    revised-later n [] u = unmet revision_word n u
-    revised-later n (r ∷ rs) w = (later revision_word n r.span w.0, mets rs w.1)
+    revised_later n [] u = unmet revision_word n u
+    revised_later n (r ∷ rs) w = (later revision_word n r.span w.0, mets rs w.1)
 
     revised_here : (r : Revision) → Behind s revision_word (gap_end s g.at) h.read.bytes r.span → (rs : List Revision) → Revised d.bytes h rs
         → Revised d.bytes g (r ∷ rs)
@@ -152,30 +152,30 @@ module _ (s : List ℕ) where
     revised_here r b [] u = (here revision_word r.span b, tt)
     revised_here r b (q ∷ rs) w = (
       here revision_word r.span b,
-      (met-on (metadata_turn false s) (λ b. b.at) forward s revision_word t w.0.0, mets rs w.1),
+      (met_on (metadata_turn false s) (λ b. b.at) forward s revision_word t w.0.0, mets rs w.1),
     )
 
-    revisions-on : (new : List Revision) × (d.revisions ≡ g.read.revisions ++ new) × Revised d.bytes g new
-    revisions-on =
+    revisions_on : (new : List Revision) × (d.revisions ≡ g.read.revisions ++ new) × Revised d.bytes g new
+    revisions_on =
         ⊎_elim
         (λ b. (
           b.0 ∷ ends.new,
           ends.revisions ∙ ap (λ l. l ++ ends.new) b.1 ∙ append_assoc g.read.revisions (b.0 ∷ []) ends.new,
           revised_here b.0 b.2 ends.new ends.revised,
         ))
-        (λ n. (ends.new, ends.revisions ∙ ap (λ l. l ++ ends.new) n.0, revised-later n.1 ends.new ends.revised)) has.revision
+        (λ n. (ends.new, ends.revisions ∙ ap (λ l. l ++ ends.new) n.0, revised_later n.1 ends.new ends.revised)) has.revision
 
     ends_on : Ends d g
     ends_on =
-        let r = revisions-on in
+        let r = revisions_on in
         record {
           rest = has.part ++ ends.rest;
           grown = ends.grown ∙ ap (λ l. l ++ ends.rest) has.grown ∙ append_assoc g.read.bytes has.part ends.rest;
-          name = name-on;
+          name = name_on;
           namespace = won namespace_word g.read.namespace h.read.namespace d.namespace has.namespace ends.namespace;
           parent = won belongs_to_word g.read.parent h.read.parent d.parent has.parent ends.parent;
           prefix_kept = λ e. let k = has.prefix_kept e in ends.prefix_kept (ap (λ x. x.present) k ∙ e) ∙ k;
-          prefix = prefix-on;
+          prefix = prefix_on;
           new = r.0;
           revisions = r.1;
           revised = r.2;

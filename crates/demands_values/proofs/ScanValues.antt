@@ -36,7 +36,7 @@ use Rattle.yangparser.proofs.ScanLaws.{Stands, stands_first, stands_step}
 use Rattle.demands_values.specs.Behind.{Either, Reaches, first, next, InBlock, NotInBlock, ImportRead, IncludeRead}
 use Rattle.demands_values.proofs.BehindLaws.{either_map, behind_more, block_more}
 use Rattle.demands_scans.proofs.Loops.{turns_keep}
-use Rattle.demands_values.proofs.RowLaws.{EachFrom, from_of, from-append}
+use Rattle.demands_values.proofs.RowLaws.{EachFrom, from_of, from_append}
 use Rattle.demands_values.proofs.StatementValues.{ImportHas, import_has, NoRevision, IncludeHas, include_has}
 
 -- ---- which keyword matched
@@ -141,17 +141,17 @@ pub record Rows (s : List ℕ) (d : Dependencies) : Type 0 where
 module _ (s : List ℕ) where
   -- more rows behind
   module _ (g : Scanning) (f : Stands s g) (rows : Rows s g.read) (d : Dependencies) where
-    rows-joined : (reached : Reaches (scan_turn false s) (record { far = start; read = none }) g) → Adds s g reached f.used d → Rows s (joined g.read d)
+    rows_joined : (reached : Reaches (scan_turn false s) (record { far = start; read = none }) g) → Adds s g reached f.used d → Rows s (joined g.read d)
     unfolding joined
-    rows-joined reached a =
+    rows_joined reached a =
         let bytes = g.read.bytes in
         record {
           imports =
-              from-append (ImportRead s (bytes ++ d.bytes)) 0 g.read.imports d.imports
+              from_append (ImportRead s (bytes ++ d.bytes)) 0 g.read.imports d.imports
               (from_of (ImportRead s bytes) (ImportRead s (bytes ++ d.bytes)) (import_more s bytes d.bytes) 0 g.read.imports rows.imports)
               (subst (λ n. EachFrom (ImportRead s (bytes ++ d.bytes)) n d.imports) (f.imports ∙ from_zero (length g.read.imports)) a.0);
           includes =
-              from-append (IncludeRead s (bytes ++ d.bytes)) 0 g.read.includes d.includes
+              from_append (IncludeRead s (bytes ++ d.bytes)) 0 g.read.includes d.includes
               (from_of (IncludeRead s bytes) (IncludeRead s (bytes ++ d.bytes)) (include_more s bytes d.bytes) 0 g.read.includes rows.includes)
               (subst (λ n. EachFrom (IncludeRead s (bytes ++ d.bytes)) n d.includes) (f.includes ∙ from_zero (length g.read.includes)) a.1);
         }
@@ -182,14 +182,14 @@ module _ (s : List ℕ) where
   ScanHas (bad r d) = Unit {0}
 
   module _ (g : Scanning) (i : Stays g) where
-    step-rows : Rows s (joined g.read (step_at false s g.far).adds)
-    step-rows = rows-joined g i.1 i.2 (step_at false s g.far).adds i.0 (step_adds s g i.0 i.1.used)
+    step_rows : Rows s (joined g.read (step_at false s g.far).adds)
+    step_rows = rows_joined g i.1 i.2 (step_at false s g.far).adds i.0 (step_adds s g i.0 i.1.used)
 
     turn_on : (h : Scanning) → scan_turn false s g ≡ on h → Stands s h × Rows s h.read
     turn_on h t =
         let w = turn_is g h t in
         subst (λ (z : Scanning). Stands s z × Rows s z.read) w.2
-        (stands_step s g i.1 (step_at false s g.far) (step_said false s g.far) w.0 w.1, step-rows)
+        (stands_step s g i.1 (step_at false s g.far) (step_said false s g.far) w.0 w.1, step_rows)
 
     turn_stop : (x : Scan) → scan_turn false s g ≡ stop x → ScanHas x
     unfolding scan_turn after_step
@@ -200,7 +200,7 @@ module _ (s : List ℕ) where
 
         of : (r : Next) → after_step d r ≡ stop x → ScanHas x
         of (On n) t = let z : ◌≡◌ {A = ℕ} 0 1 = cc in absurd (omega arith)
-        of Done t = let q : good d ≡ x = cc in subst ScanHas q step-rows
+        of Done t = let q : good d ≡ x = cc in subst ScanHas q step_rows
         of (Stop r) t = let q : bad r d ≡ x = cc in subst ScanHas q tt
 
   rows_none : Rows s none

@@ -35,7 +35,7 @@ use Rattle.scan_imports.specs.declared.ParsedInclude.{ParsedInclude}
 use Rattle.scan_imports.specs.declared.ParsedInclude.TheVariants.{Include, NoInclude}
 use Rattle.scan_imports.proofs.StatementLaws.{of_prefixed, of_bare}
 use Rattle.demands_values.specs.Behind.{Behind, Either, Unmet, MetLast, Opened, Ended, InBlock, NotInBlock}
-use Rattle.demands_values.proofs.BehindLaws.{argument_value, line-value, behind_more, held_new, behind_new}
+use Rattle.demands_values.proofs.BehindLaws.{argument_value, line_value, behind_more, held_new, behind_new}
 use Rattle.demands_values.proofs.BlockValues.{LineWon, BlockHas, block_has}
 
 -- what is said of the first state of the block that opens at c; u: the store's place there
@@ -56,12 +56,12 @@ module _ (s : List ℕ) (k end : ℕ) (c : Cursor) (brace : due_at s end 123 k �
     not_in : Unmet (block_turn false s k) (λ b. b.body.at) s word begin → NotInBlock s k end word
     not_in u = opened (Unmet (block_turn false s k) (λ b. b.body.at) s word) u
 
-    either-in : LineWon s k pre word begin store missing x → Either (NotInBlock s k end word) (InBlock s k end word store) x
-    either-in w = ⊎_elim (λ e. inl (e.0, not_in e.1)) (λ l. inr (in_block l)) w
+    either_in : LineWon s k pre word begin store missing x → Either (NotInBlock s k end word) (InBlock s k end word store) x
+    either_in w = ⊎_elim (λ e. inl (e.0, not_in e.1)) (λ l. inr (in_block l)) w
 
     -- a present one is there
-    present-in : x.present ≡ true → LineWon s k pre word begin store missing x → InBlock s k end word store x
-    present-in t w = ⊎_elim (λ e. absurd (never (ap (λ y. y.present) e.0) t)) in_block w
+    present_in : x.present ≡ true → LineWon s k pre word begin store missing x → InBlock s k end word store x
+    present_in t w = ⊎_elim (λ e. absurd (never (ap (λ y. y.present) e.0) t)) in_block w
 
 -- ---- an import; p: its keyword's place, which ends at c
 
@@ -93,15 +93,15 @@ module _ (s : List ℕ) (p : ℕ) (c : Cursor) (m : match_at s p import_word ≡
           → ImportHas s p (pre ++ bs ++ cs) (import_of (held u (n - u)) b)
       of cs (Broken r) w = tt
       of cs (Whole y) w =
-          let v = line-value s c.at u 8 123 d n h in
+          let v = line_value s c.at u 8 123 d n h in
           let name = behind_more (pre ++ bs) cs (behind_new pre bs (held u (n - u)) m v.1 (held_new pre bs count f.2)) in
           let e = v.0 in
           let store = pre ++ bs ++ cs in
           by_test y.prefix.present
           (λ t. subst (ImportHas s p store) (of_prefixed (held u (n - u)) y t) (
             name,
-            present-in s 8 e d v.2 n (pre ++ bs) prefix_word store y.prefix t (w.prefix refl),
-            either-in s 8 e d v.2 n (pre ++ bs) revision_date_word store y.revision w.revision,
+            present_in s 8 e d v.2 n (pre ++ bs) prefix_word store y.prefix t (w.prefix refl),
+            either_in s 8 e d v.2 n (pre ++ bs) revision_date_word store y.revision w.revision,
           ))
           (λ t. subst (ImportHas s p store) (of_bare (held u (n - u)) y t) tt)
 
@@ -130,7 +130,7 @@ module _ (s : List ℕ) (p : ℕ) (store : List ℕ) (x : Span) (n : ℕ) (count
       → BlockHas s 9 store (record { body = begun c.at n; bytes = [] }) cs b → IncludeHas s p (store ++ cs) (include_of x b)
   unfolding include_of
   block_included c h cs (Whole y) w =
-      let revision = either-in s 9 name.end c h n store revision_date_word (store ++ cs) y.revision w.revision in
+      let revision = either_in s 9 name.end c h n store revision_date_word (store ++ cs) y.revision w.revision in
       (behind_more store cs name, ⊎_elim (λ e. inl (e.0, inr e.1)) (λ l. inr l) revision)
   block_included c h cs (Broken r) w = tt
 

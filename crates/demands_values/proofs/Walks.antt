@@ -28,14 +28,14 @@ module _ {A R : Type 0} (step : A → Turn A R) where
 
   -- what holds of a state and of all that come behind it; where the loop stops, none does
   module _ (P : A → Type 0) {a : A} (p : P a) where
-    pub all-stop : {r : R} → step a ≡ stop r → (c : A) → Reaches step a c → P c
-    all-stop {r} t c h = ⊎_elim (λ e. subst P (sym e) p) (λ w. absurd (on-stop (sym w.1 ∙ t))) (reach_front h)
+    pub all_stop : {r : R} → step a ≡ stop r → (c : A) → Reaches step a c → P c
+    all_stop {r} t c h = ⊎_elim (λ e. subst P (sym e) p) (λ w. absurd (on_stop (sym w.1 ∙ t))) (reach_front h)
       where
-        on-stop : {b : A} → ◌≡◌ {A = Turn A R} (on b) (stop r) → ⊥
-        on-stop e = let z : ◌≡◌ {A = ℕ} 0 1 = cc in omega arith
+        on_stop : {b : A} → ◌≡◌ {A = Turn A R} (on b) (stop r) → ⊥
+        on_stop e = let z : ◌≡◌ {A = ℕ} 0 1 = cc in omega arith
 
-    pub all-on : {b : A} → step a ≡ on b → ((c : A) → Reaches step b c → P c) → (c : A) → Reaches step a c → P c
-    all-on {b} t behind c h =
+    pub all_on : {b : A} → step a ≡ on b → ((c : A) → Reaches step b c → P c) → (c : A) → Reaches step a c → P c
+    all_on {b} t behind c h =
         ⊎_elim (λ e. subst P (sym e) p) (λ w. behind c (subst (λ z. Reaches step z c) (same (sym w.1 ∙ t)) w.2)) (reach_front h)
       where
         same : {d : A} → ◌≡◌ {A = Turn A R} (on d) (on b) → d ≡ b
@@ -63,25 +63,25 @@ module _ {A R : Type 0} (step : A → Turn A R) (at : A → ℕ) (forward : (a b
     Free b = match_at s (gap_end s (at b)) word ≡ Not
 
     -- nothing is met where it stops; over a turn
-    pub unmet-stop : {g : A} {r : R} → step g ≡ stop r → Free g → Unmet step at s word g
-    unmet-stop t f = all-stop step Free f t
+    pub unmet_stop : {g : A} {r : R} → step g ≡ stop r → Free g → Unmet step at s word g
+    unmet_stop t f = all_stop step Free f t
 
-    pub unmet-on : {g h : A} → step g ≡ on h → Free g → Unmet step at s word h → Unmet step at s word g
-    unmet-on t f u = all-on step Free f t u
+    pub unmet_on : {g h : A} → step g ≡ on h → Free g → Unmet step at s word h → Unmet step at s word g
+    unmet_on t f u = all_on step Free f t u
 
     module _ {g h : A} (turn : step g ≡ on h) where
-      abbrev pub met-on : {store : List ℕ} {x : Span} → Met step at s word store h x → Met step at s word store g x
-      met-on m = record { state = m.state; reached = reach_on step turn m.reached; value = m.value }
+      abbrev pub met_on : {store : List ℕ} {x : Span} → Met step at s word store h x → Met step at s word store g x
+      met_on m = record { state = m.state; reached = reach_on step turn m.reached; value = m.value }
 
       -- behind g, and behind a place that is met later
-      pub behind-here : Unmet step at s word h → UnmetBehind step at s word g (at g)
-      behind-here u = all-on step (λ b. at g < at b → Free b) (λ l. absurd (omega arith)) turn (λ b r l. u b r)
+      pub behind_here : Unmet step at s word h → UnmetBehind step at s word g (at g)
+      behind_here u = all_on step (λ b. at g < at b → Free b) (λ l. absurd (omega arith)) turn (λ b r l. u b r)
 
-      pub behind-later : {p : ℕ} → at h ≤ p → UnmetBehind step at s word h p → UnmetBehind step at s word g p
-      behind-later {p} l u = all-on step (λ b. p < at b → Free b) (λ k. absurd (omega (arith, forward g h turn))) turn u
+      pub behind_later : {p : ℕ} → at h ≤ p → UnmetBehind step at s word h p → UnmetBehind step at s word g p
+      behind_later {p} l u = all_on step (λ b. p < at b → Free b) (λ k. absurd (omega (arith, forward g h turn))) turn u
 
-      before-later : {p : ℕ} → Free g → UnmetBefore step at s word h p → UnmetBefore step at s word g p
-      before-later {p} f u = all-on step (λ b. at b < p → Free b) (λ l. f) turn u
+      before_later : {p : ℕ} → Free g → UnmetBefore step at s word h p → UnmetBefore step at s word g p
+      before_later {p} f u = all_on step (λ b. at b < p → Free b) (λ l. f) turn u
 
     -- before the first state
     before_here : (g : A) → UnmetBefore step at s word g (at g)
@@ -89,34 +89,34 @@ module _ {A R : Type 0} (step : A → Turn A R) (at : A → ℕ) (forward : (a b
 
     -- ---- last wins
 
-    pub won-stop : {g : A} {r : R} → step g ≡ stop r → Free g → (store : List ℕ) {x z : Span} → z ≡ x → Won step at s word g store x z
-    won-stop t f store e = inl (e, unmet-stop t f)
+    pub won_stop : {g : A} {r : R} → step g ≡ stop r → Free g → (store : List ℕ) {x z : Span} → z ≡ x → Won step at s word g store x z
+    won_stop t f store e = inl (e, unmet_stop t f)
 
     -- the store at the end begins with what is stored behind the turn
     module _ {g h : A} (turn : step g ≡ on h) (store part rest : List ℕ) (grown : store ≡ part ++ rest) where
-      abbrev pub met-here : (z : Span) → Behind s word (gap_end s (at g)) part z → Met step at s word store g z
-      met-here z b = record {
+      abbrev pub met_here : (z : Span) → Behind s word (gap_end s (at g)) part z → Met step at s word store g z
+      met_here z b = record {
         state = g;
         reached = first;
         value = subst (λ l. Behind s word (gap_end s (at g)) l z) (sym grown) (behind_more part rest b);
       }
 
-      pub won-on : (x y z : Span) → Gives step at s word g part x y → Won step at s word h store y z → Won step at s word g store x z
-      won-on x y z gives won = ⊎_elim (λ stays. ⊎_elim (given stays) (kept stays) gives) (λ m. inr (later m)) won
+      pub won_on : (x y z : Span) → Gives step at s word g part x y → Won step at s word h store y z → Won step at s word g store x z
+      won_on x y z gives won = ⊎_elim (λ stays. ⊎_elim (given stays) (kept stays) gives) (λ m. inr (later m)) won
         where
           given : (z ≡ y) × Unmet step at s word h → Behind s word (gap_end s (at g)) part y → Won step at s word g store x z
-          given stays b = inr (met-here z (subst (Behind s word (gap_end s (at g)) part) (sym stays.0) b), behind-here turn stays.1)
+          given stays b = inr (met_here z (subst (Behind s word (gap_end s (at g)) part) (sym stays.0) b), behind_here turn stays.1)
 
           kept : (z ≡ y) × Unmet step at s word h → Free g × (y ≡ x) → Won step at s word g store x z
-          kept stays not = inl (stays.0 ∙ not.1, unmet-on turn not.0 stays.1)
+          kept stays not = inl (stays.0 ∙ not.1, unmet_on turn not.0 stays.1)
 
           later : MetLast step at s word store h z → MetLast step at s word store g z
-          later m = (met-on turn m.0, behind-later turn (reach_at m.0.reached) m.1)
+          later m = (met_on turn m.0, behind_later turn (reach_at m.0.reached) m.1)
 
       -- ---- first wins
 
       pub first_here : (z : Span) → Behind s word (gap_end s (at g)) part z → MetFirst step at s word store g z
-      first_here z b = (met-here z b, before_here g)
+      first_here z b = (met_here z b, before_here g)
 
       pub first_on : Free g → (z : Span) → MetFirst step at s word store h z → MetFirst step at s word store g z
-      first_on f z m = (met-on turn m.0, before-later turn f m.1)
+      first_on f z m = (met_on turn m.0, before_later turn f m.1)

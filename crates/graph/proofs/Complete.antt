@@ -16,8 +16,8 @@ use Rattle.library_index.specs.Names.{add_new, add_all}
 use Rattle.graph.specs.Nodes.{Mode, pass_over, complete, Group, groups, add_groups, nodes_by, itself, nodes_of, word_nodes}
 use Rattle.graph.specs.Graph.{ScanAnswer, Text, no_node, too_many_nodes, Entry, entries, entry_steps, submodule_names, world_over, fault}
 use Rattle.graph.specs.Graph.{walk_from, graph_of}
-use Rattle.graph.specs.Meaning.{Fault, entry-missing, include-missing, scan_refused_lem, import-unknown, listed-unknown, include-unknown}
-use Rattle.graph.specs.Meaning.{include-no-node, too_deep_lem, Cause, names, by-fault, edges}
+use Rattle.graph.specs.Meaning.{Fault, entry_missing, include_missing, scan_refused_lem, import_unknown, listed_unknown, include_unknown}
+use Rattle.graph.specs.Meaning.{include_no_node, too_deep_lem, Cause, names, by_fault, edges}
 use Rattle.graph.specs.Demand3.{group_names, all_names, Once}
 use Rattle.graph.specs.Complete.{EachOnce, CompleteDemand3}
 use Rattle.graph.proofs.Tests.{each_in}
@@ -79,29 +79,29 @@ module _ (text : Name → Text) (l : PlainLibrary) where
   submodule_named v m = let q = submodule_out (modules_of l) m in each_in group_names (module_group_lem l q.1) (Memᴰ.tail q.2)
 
   fault_has_node : (x : Entry) {n : ℕ} {a : ScanAnswer} → Fault complete text l x n a → n ≡ 28 → ⊥
-  fault_has_node x (entry-missing h) e = omega (arith, e)
-  fault_has_node x (include-missing r f h) e = omega (arith, e)
+  fault_has_node x (entry_missing h) e = omega (arith, e)
+  fault_has_node x (include_missing r f h) e = omega (arith, e)
   fault_has_node x (scan_refused_lem r h) e = omega (arith, e)
-  fault_has_node x (import-unknown r i u) e = omega (arith, e)
-  fault_has_node x (listed-unknown m u) e = omega (arith, e)
-  fault_has_node x (include-unknown r i u) e = omega (arith, e)
-  fault_has_node x (include-no-node {u = v} r i m u) e = u (name_node l v (submodule_named v m))
+  fault_has_node x (import_unknown r i u) e = omega (arith, e)
+  fault_has_node x (listed_unknown m u) e = omega (arith, e)
+  fault_has_node x (include_unknown r i u) e = omega (arith, e)
+  fault_has_node x (include_no_node {u = v} r i m u) e = u (name_node l v (submodule_named v m))
   fault_has_node x (too_deep_lem r f) e = omega (arith, e)
 
   module _ (node_limit edge_limit : ℕ) where
-    pub cause-has-node : {n k : ℕ} {a : ScanAnswer} → Cause complete text l node_limit edge_limit n k a → n ≡ 28 → ⊥
-    cause-has-node (names h) e = omega (arith, e)
-    cause-has-node (by-fault x f g) e = fault_has_node x g e
-    cause-has-node (edges x f w es d m h) e = omega (arith, e)
+    pub cause_has_node : {n k : ℕ} {a : ScanAnswer} → Cause complete text l node_limit edge_limit n k a → n ≡ 28 → ⊥
+    cause_has_node (names h) e = omega (arith, e)
+    cause_has_node (by_fault x f g) e = fault_has_node x g e
+    cause_has_node (edges x f w es d m h) e = omega (arith, e)
 
-    pub cause-many : {n k : ℕ} {a : ScanAnswer} → Cause complete text l node_limit edge_limit n k a → n ≡ 30 → node_limit < length (nodes_of complete l)
-    cause-many (names h) e = h
-    cause-many (by-fault x f g) e = absurd (omega (arith, e, fault_below complete text l x g))
-    cause-many (edges x f w es d m h) e = absurd (omega (arith, e))
+    pub cause_many : {n k : ℕ} {a : ScanAnswer} → Cause complete text l node_limit edge_limit n k a → n ≡ 30 → node_limit < length (nodes_of complete l)
+    cause_many (names h) e = h
+    cause_many (by_fault x f g) e = absurd (omega (arith, e, fault_below complete text l x g))
+    cause_many (edges x f w es d m h) e = absurd (omega (arith, e))
 
-    many-refused : node_limit < length (nodes_of complete l) → graph_of complete node_limit edge_limit text l ≡ fault too_many_nodes 0 no_refusal
+    many_refused : node_limit < length (nodes_of complete l) → graph_of complete node_limit edge_limit text l ≡ fault too_many_nodes 0 no_refusal
     unfolding graph_of
-    many-refused h = rw (lt-ltb node_limit (length (nodes_of complete l)) h)
+    many_refused h = rw (lt-ltb node_limit (length (nodes_of complete l)) h)
 
     -- what is built and what is refused goes by the nodes alone
     by_nodes : {ns : List Name} (mode : Mode) → nodes_of mode l ≡ ns
@@ -124,11 +124,11 @@ complete_demand3 nl el text = record {
   right = λ l ns es h.
       let r = (demand3 complete nl el text).right l ns es h in
       (r, subst (λ ws. EachOnce ws (all_names l)) (sym r.nodes) (nodes_each l));
-  has_node = λ l k a h. cause-has-node text l nl el ((demand3 complete nl el text).refused l no_node k a h) refl;
+  has_node = λ l k a h. cause_has_node text l nl el ((demand3 complete nl el text).refused l no_node k a h) refl;
   too_many = λ l ws o.
       let q = as_many ws (nodes_of complete l) (all_names l) o (nodes_each l) in (
-        λ x. let h = cause-many text l nl el ((demand3 complete nl el text).refused l too_many_nodes x.0 x.1 x.2) refl in omega (arith, h, q),
-        λ h. (0, no_refusal, many-refused text l nl el (omega (arith, h, q))),
+        λ x. let h = cause_many text l nl el ((demand3 complete nl el text).refused l too_many_nodes x.0 x.1 x.2) refl in omega (arith, h, q),
+        λ h. (0, no_refusal, many_refused text l nl el (omega (arith, h, q))),
       );
   spread = λ l l₁ alike revised revised₁.
       nodes_agree complete nl el text l l₁ alike (all_nodes_in l l₁ (names_in alike.there revised₁)) (all_nodes_in l₁ l (names_in alike.back revised));

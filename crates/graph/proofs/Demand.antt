@@ -19,15 +19,15 @@ use Rattle.text.specs.Refusal.{no_refusal}
 use Rattle.graph.specs.Graph.{ScanAnswer, Text, too_many_nodes, Edge, edge, Step, arc, stop, Entry, entries, entry_steps, world, graph, fault, walk_of}
 use Rattle.graph.specs.Graph.{graph_of}
 use Rattle.graph.specs.Numbers.{row_of}
-use Rattle.graph.specs.Meaning.{Revised, IsEdge, Gives, GivenBy, AllGivenBy, Sound, FirstAt, Cause, names, edges, by-fault}
+use Rattle.graph.specs.Meaning.{Revised, IsEdge, Gives, GivenBy, AllGivenBy, Sound, FirstAt, Cause, names, edges, by_fault}
 use Rattle.graph.specs.Demand3.{all_names, Right, Demand3}
 use Rattle.graph.proofs.Tests.{each_in, each_out}
 use Rattle.graph.proofs.Runs.{Clean, adds, adds_new, adds_only, adds_nodup, Ran, run_ran, ran_run, Over, run_refused, walk_run, run_walk, Stopped}
 use Rattle.graph.proofs.Runs.{walk_refused}
-use Rattle.graph.proofs.Meaning.{trace, arcs-given, arcs_meant, meant-arcs, ends-nodes}
+use Rattle.graph.proofs.Meaning.{trace, arcs_given, arcs_meant, meant_arcs, ends_nodes}
 use Rattle.graph.proofs.Nodes.{nodes_differ, nodes_only, nodes_whole, entry_node}
 use Rattle.graph.proofs.Numbers.{small_rows, rows_differ, row_edge}
-use Rattle.graph.proofs.Faults.{stop-fault, fault_stop, given_arcs}
+use Rattle.graph.proofs.Faults.{stop_fault, fault_stop, given_arcs}
 use Rattle.graph.proofs.Spread.{graphs_agree}
 use Rattle.graph.proofs.Permuted.{permuted_agree}
 
@@ -91,13 +91,13 @@ module _ (mode : Mode) (node_limit edge_limit : ℕ) (text : Name → Text) (l :
     meant e m = edge_meant e (subst (λ t. Memᴰ e t) b.ran.all m)
 
     edge_of : (u v : Name) → IsEdge text l u v → Memᴰ (edge u v) es
-    edge_of u v k = subst (λ t. Memᴰ (edge u v) t) (sym b.ran.all) (adds_new all [] (edge u v) (meant-arcs mode text l b.ran.clean u v k))
+    edge_of u v k = subst (λ t. Memᴰ (edge u v) t) (sym b.ran.all) (adds_new all [] (edge u v) (meant_arcs mode text l b.ran.clean u v k))
 
     both_ends : Revised l → (e : Edge) → Memᴰ e es → Memᴰ e.from ns × Memᴰ e.to ns
     both_ends revised e m =
         subst
         (λ t. Memᴰ e.from t × Memᴰ e.to t) b.nodes
-        (ends-nodes mode text l b.ran.clean (entry_node mode l revised) e.from e.to (meant e m))
+        (ends_nodes mode text l b.ran.clean (entry_node mode l revised) e.from e.to (meant e m))
 
     once : Nodup es
     once = subst (λ t. Nodup t) (sym b.ran.all) (adds_nodup all [] Nodup-nil)
@@ -129,7 +129,7 @@ module _ (mode : Mode) (node_limit edge_limit : ℕ) (text : Name → Text) (l :
 
   build : Sound mode text l node_limit edge_limit → (ns : List Name) × (es : List Edge) × (graph_of mode node_limit edge_limit text l ≡ graph ns es)
   build s =
-      let clean : Clean all = λ n a m. let p = each_out of_entry (entries l) m in s.faults p.0 p.1 n a (stop-fault mode text l p.0 n a p.2) in
+      let clean : Clean all = λ n a m. let p = each_out of_entry (entries l) m in s.faults p.0 p.1 n a (stop_fault mode text l p.0 n a p.2) in
       (nodes_of mode l, adds [] all, closed s.nodes clean (s.edges (adds [] all) (adds_nodup all [] Nodup-nil) edge_meant))
 
   -- ---- a graph that is refused
@@ -137,8 +137,8 @@ module _ (mode : Mode) (node_limit edge_limit : ℕ) (text : Name → Text) (l :
     until : Ran edge_limit [] (flat_map of_entry r.before) r.sofar
     until = run_ran edge_limit (flat_map of_entry r.before) [] r.sofar r.through
 
-    first-at : FirstAt mode text l k r.at
-    first-at = record {
+    first_at : FirstAt mode text l k r.at
+    first_at = record {
       before = r.before;
       after = r.after;
       order = r.order;
@@ -147,41 +147,41 @@ module _ (mode : Mode) (node_limit edge_limit : ℕ) (text : Name → Text) (l :
     }
 
     -- the edges so far are those that the entries before give
-    asked-before : (e : Edge) → Memᴰ e r.sofar → (y : Entry) × Memᴰ y r.before × Gives mode text l y e.from e.to
-    asked-before e m =
+    asked_before : (e : Edge) → Memᴰ e r.sofar → (y : Entry) × Memᴰ y r.before × Gives mode text l y e.from e.to
+    asked_before e m =
         let o = adds_only (flat_map of_entry r.before) [] e (subst (λ t. Memᴰ e t) until.all m) in
         let p = each_out of_entry r.before (⊎_elim (λ n. absurd (Memᴰ.not-nil n)) (λ n. n) o) in
-        (p.0, p.1, arcs-given mode text l p.0 e p.2)
+        (p.0, p.1, arcs_given mode text l p.0 e p.2)
 
-    given-before : (e : Edge) → GivenBy mode text l r.before e → Memᴰ e r.sofar
-    given-before e g =
+    given_before : (e : Edge) → GivenBy mode text l r.before e → Memᴰ e r.sofar
+    given_before e g =
         let m = each_in of_entry g.one (given_arcs mode text l g.giver g.gives) in
         subst (λ t. Memᴰ e t) (sym until.all) (adds_new (flat_map of_entry r.before) [] e m)
 
-    few-before : (es : List Edge) → Nodup es → AllGivenBy mode text l r.before es → length es ≤ edge_limit
-    few-before es d f =
-        let k = no_longer es r.sofar d (λ e m. given-before e (f e m)) in
+    few_before : (es : List Edge) → Nodup es → AllGivenBy mode text l r.before es → length es ≤ edge_limit
+    few_before es d f =
+        let k = no_longer es r.sofar d (λ e m. given_before e (f e m)) in
         let i : length r.sofar ≤ edge_limit = until.fits (omega arith) in
         omega arith
 
-    given-here : (e : Edge) → Memᴰ e r.sofar ⊎ Memᴰ (arc e) (of_entry r.at) → GivenBy mode text l (r.before ++ (r.at ∷ [])) e
-    given-here e (inl m) = let p = asked-before e m in record { giver = p.0; one = Memᴰ.append_left (r.at ∷ []) p.1; gives = p.2 }
-    given-here e (inr m) =
-        record { giver = r.at; one = Memᴰ.append_right r.before (Memᴰ.head refl); gives = arcs-given mode text l r.at e m }
+    given_here : (e : Edge) → Memᴰ e r.sofar ⊎ Memᴰ (arc e) (of_entry r.at) → GivenBy mode text l (r.before ++ (r.at ∷ [])) e
+    given_here e (inl m) = let p = asked_before e m in record { giver = p.0; one = Memᴰ.append_left (r.at ∷ []) p.1; gives = p.2 }
+    given_here e (inr m) =
+        record { giver = r.at; one = Memᴰ.append_right r.before (Memᴰ.head refl); gives = arcs_given mode text l r.at e m }
 
     caused : Cause mode text l node_limit edge_limit n k a
-    unfolding first-at
+    unfolding first_at
     caused =
         let d : Nodup r.sofar = subst (λ t. Nodup t) (sym until.all) (adds_nodup (flat_map of_entry r.before) [] Nodup-nil) in
         go (run_refused edge_limit (of_entry r.at) r.sofar n a d r.stopped)
       where
         go : Memᴰ (stop n a) (of_entry r.at) ⊎ Over edge_limit r.sofar (of_entry r.at) n a → Cause mode text l node_limit edge_limit n k a
-        go (inl m) = by-fault r.at first-at (stop-fault mode text l r.at n a m)
+        go (inl m) = by_fault r.at first_at (stop_fault mode text l r.at n a m)
         go (inr o) =
             subst₂
             (λ m b. Cause mode text l node_limit edge_limit m k b) o.number
             o.answer
-            (edges r.at first-at few-before o.edges o.differ (λ e m. given-here e (o.asked e m)) o.many)
+            (edges r.at first_at few_before o.edges o.differ (λ e m. given_here e (o.asked e m)) o.many)
 
   refused_for : (n k : ℕ) (a : ScanAnswer) → graph_of mode node_limit edge_limit text l ≡ fault n k a → Cause mode text l node_limit edge_limit n k a
   unfolding graph_of

@@ -79,9 +79,9 @@ module _ (ns : List Name) where
 
   module _ (W : World) (limit : ℕ) (known : (u : Name) → W.known u ≡ true → Memᴰ u ns) (node : (u : Name) → W.node u ≡ true → Memᴰ u ns) where
     -- ---- one name
-    import-same : (v : Name) → Memᴰ v ns → (u : Name) (es : List Edge) → Joined es
+    import_same : (v : Name) → Memᴰ v ns → (u : Name) (es : List Edge) → Joined es
         → Same (import_code limit (number_of ns v) (module_code W ns u) (rows es)) (import_o W limit v u es)
-    import-same v m u es j = go (W.known u) refl
+    import_same v m u es j = go (W.known u) refl
       where
         go : (b : Bool) → W.known u ≡ b
             → Same (import_code limit (number_of ns v) (cond b (suc (number_of ns u)) 0) (rows es))
@@ -89,9 +89,9 @@ module _ (ns : List Name) where
         go true q = add_same limit (edge u v) (known u q, m) es j
         go false q = record { same = refl; fine = tt }
 
-    given-same : (v : Name) → Memᴰ v ns → (u : Name) (es : List Edge) → Joined es
+    given_same : (v : Name) → Memᴰ v ns → (u : Name) (es : List Edge) → Joined es
         → Same (given_code limit (number_of ns v) (module_code W ns u) (rows es)) (given_o W limit v u es)
-    given-same v m u es j = go (W.known u) refl
+    given_same v m u es j = go (W.known u) refl
       where
         go : (b : Bool) → W.known u ≡ b
             → Same (given_code limit (number_of ns v) (cond b (suc (number_of ns u)) 0) (rows es))
@@ -103,10 +103,10 @@ module _ (ns : List Name) where
     abbrev Below : (ℕ → List Row → Out Row) → (Name → List Edge → Out Edge) → Type 0
     Below f g = (u : Name) → Memᴰ u ns → (es : List Edge) → Joined es → Same (f (number_of ns u) (rows es)) (g u es)
 
-    include-same : (f : ℕ → List Row → Out Row) (g : Name → List Edge → Out Edge) → Below f g → (v : Name) → Memᴰ v ns → (u : Name) (es : List Edge)
+    include_same : (f : ℕ → List Row → Out Row) (g : Name → List Edge → Out Edge) → Below f g → (v : Name) → Memᴰ v ns → (u : Name) (es : List Edge)
         → Joined es
         → Same (include_code limit f (number_of ns v) (submodule_code W ns u) (rows es)) (include_o W limit g v u es)
-    include-same f g h v m u es j = go (W.listed u) (W.node u) refl
+    include_same f g h v m u es j = go (W.listed u) (W.node u) refl
       where
         go : (b c : Bool) → W.node u ≡ c → Same (include_code limit f (number_of ns v) (cond b (cond c (suc (suc (number_of ns u))) 1) 0) (rows es))
             (cond b (cond c (then_o (add_by mem_e limit es (edge u v)) (g u)) (refused no_node no_refusal)) (refused unknown_submodule no_refusal))
@@ -115,28 +115,28 @@ module _ (ns : List Name) where
         go false c q = record { same = refl; fine = tt }
 
     -- ---- a text, an entry
-    visit-same : (f : ℕ → List Row → Out Row) (g : Name → List Edge → Out Edge) → Below f g → (absent : ℕ) (v : Name) → Memᴰ v ns
+    visit_same : (f : ℕ → List Row → Out Row) (g : Name → List Edge → Out Edge) → Below f g → (absent : ℕ) (v : Name) → Memᴰ v ns
         → (x : Text) (es : List Edge) → Joined es
         → Same (visit_codes limit f absent (number_of ns v) (codes_of W ns x) (rows es)) (visit W limit g absent v x es)
-    visit-same f g h absent v m missing es j = record { same = refl; fine = tt }
-    visit-same f g h absent v m (refusing a) es j = record { same = refl; fine = tt }
-    visit-same f g h absent v m (deps xs ys) es j =
+    visit_same f g h absent v m missing es j = record { same = refl; fine = tt }
+    visit_same f g h absent v m (refusing a) es j = record { same = refl; fine = tt }
+    visit_same f g h absent v m (deps xs ys) es j =
         then_same (eachE (import_o W limit v) xs es) (each_o (include_code limit f (number_of ns v)) (map (submodule_code W ns) ys))
         (eachE (include_o W limit g v) ys)
-        (each_same (module_code W ns) (import_code limit (number_of ns v)) (import_o W limit v) (import-same v m) xs es j)
-        (each_same (submodule_code W ns) (include_code limit f (number_of ns v)) (include_o W limit g v) (include-same f g h v m) ys)
+        (each_same (module_code W ns) (import_code limit (number_of ns v)) (import_o W limit v) (import_same v m) xs es j)
+        (each_same (submodule_code W ns) (include_code limit f (number_of ns v)) (include_o W limit g v) (include_same f g h v m) ys)
 
-    under-name : (v : Name) → Memᴰ v ns → codes_at W ns (number_of ns v) ≡ codes_of W ns (W.text v)
+    under_name : (v : Name) → Memᴰ v ns → codes_at W ns (number_of ns v) ≡ codes_of W ns (W.text v)
     unfolding codes_at
-    under-name v m = ap (λ u. codes_of W ns (W.text u)) (number_at ns v [] m)
+    under_name v m = ap (λ u. codes_of W ns (W.text u)) (number_at ns v [] m)
 
     walk_same : (left absent : ℕ) → Below (walk_codes (codes_at W ns) limit left absent) (walk W limit left absent)
     unfolding walk_codes walk
     walk_same zero absent v m es j =
-        rw (under-name v m) (visit-same (λ u rs. refused too_deep no_refusal) (λ u es₁. refused too_deep no_refusal)
+        rw (under_name v m) (visit_same (λ u rs. refused too_deep no_refusal) (λ u es₁. refused too_deep no_refusal)
         (λ u k es₁ i. record { same = refl; fine = tt }) absent v m (W.text v) es j)
     walk_same (suc left) absent v m es j =
-        rw (under-name v m) (visit-same (walk_codes (codes_at W ns) limit left no_included_text) (walk W limit left no_included_text)
+        rw (under_name v m) (visit_same (walk_codes (codes_at W ns) limit left no_included_text) (walk W limit left no_included_text)
         (walk_same left no_included_text) absent v m (W.text v) es j)
 
     entry_same : (e : Entry) → Memᴰ e.name ns → (es : List Edge) → Joined es
@@ -148,7 +148,7 @@ module _ (ns : List Name) where
         (then_same (walk W limit deepest no_entry_text e.name es) (each_o (given_code limit (number_of ns e.name)) (map (module_code W ns) e.lists))
         (eachE (given_o W limit e.name) e.lists)
         (walk_same deepest no_entry_text e.name m es j)
-        (each_same (module_code W ns) (given_code limit (number_of ns e.name)) (given_o W limit e.name) (given-same e.name m) e.lists))
+        (each_same (module_code W ns) (given_code limit (number_of ns e.name)) (given_o W limit e.name) (given_same e.name m) e.lists))
 
     -- ---- all entries
     draw_same : (l : List Entry) → ((e : Entry) → Memᴰ e l → Memᴰ e.name ns) → (k : ℕ) (es : List Edge) → Joined es

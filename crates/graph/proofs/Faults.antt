@@ -14,8 +14,8 @@ use Rattle.text.specs.Refusal.{no_refusal}
 use Rattle.graph.specs.Graph.{ScanAnswer, Text, missing, refusing, deps, no_entry_text, no_included_text, unknown_module, unknown_submodule, no_node, too_deep}
 use Rattle.graph.specs.Graph.{deepest, Edge, edge, Step, arc, stop, halt, World, imported, given, included, reading, text_steps, Entry, entry_steps}
 use Rattle.graph.specs.Graph.{entry_names, submodule_names, world}
-use Rattle.graph.specs.Meaning.{Follows, ReadAt, entry, included as included-by, Fault, entry-missing, include-missing, scan_refused_lem, import-unknown}
-use Rattle.graph.specs.Meaning.{listed-unknown, include-unknown, include-no-node, too_deep_lem, Gives, imports, includes, lists}
+use Rattle.graph.specs.Meaning.{Follows, ReadAt, entry, included as included-by, Fault, entry_missing, include_missing, scan_refused_lem, import_unknown}
+use Rattle.graph.specs.Meaning.{listed_unknown, include_unknown, include_no_node, too_deep_lem, Gives, imports, includes, lists}
 use Rattle.graph.proofs.Tests.{both_bools, memb_mem, mem_memb, each_in, each_out}
 use Rattle.graph.proofs.Meaning.{below_of, In, Held, text_in, import_in, include_in}
 
@@ -38,13 +38,13 @@ module _ (mode : Mode) (text : Name → Text) (l : PlainLibrary) (x : Entry) whe
 
   -- ---- the numbers of faults
   pub fault_below : {n : ℕ} {a : ScanAnswer} → Fault mode text l x n a → n < 30
-  fault_below (entry-missing h) = omega arith
-  fault_below (include-missing r f h) = omega arith
+  fault_below (entry_missing h) = omega arith
+  fault_below (include_missing r f h) = omega arith
   fault_below (scan_refused_lem r h) = omega arith
-  fault_below (import-unknown r i u) = omega arith
-  fault_below (listed-unknown m u) = omega arith
-  fault_below (include-unknown r i u) = omega arith
-  fault_below (include-no-node r i m u) = omega arith
+  fault_below (import_unknown r i u) = omega arith
+  fault_below (listed_unknown m u) = omega arith
+  fault_below (include_unknown r i u) = omega arith
+  fault_below (include_no_node r i m u) = omega arith
   fault_below (too_deep_lem r f) = omega arith
 
   -- ---- a refusal is a fault
@@ -55,13 +55,13 @@ module _ (mode : Mode) (text : Name → Text) (l : PlainLibrary) (x : Entry) whe
   no_stop m = ⊎_elim (λ p. let z : ◌≡◌ {A = ℕ} 0 1 = cc in absurd (omega arith)) (λ n. n) (Memᴰ.cases_cons m)
 
   module _ (n : ℕ) (a : ScanAnswer) where
-    read-fault : (below : Name → List Step) (left absent : ℕ) (v : Name) → ReadAt mode text l x left v
+    read_fault : (below : Name → List Step) (left absent : ℕ) (v : Name) → ReadAt mode text l x left v
         → (text v ≡ missing → Fault mode text l x absent no_refusal)
         → ((u : Name) → Follows mode text l v u → Memᴰ (stop n a) (below u) → Fault mode text l x n a)
         → (y : Text) → text v ≡ y → Memᴰ (stop n a) (reading W below absent v y) → Fault mode text l x n a
-    read-fault below left absent v r f ih missing q m = fault m (f q)
-    read-fault below left absent v r f ih (refusing b) q m = fault m (scan_refused_lem r q)
-    read-fault below left absent v r f ih (deps xs ys) q m =
+    read_fault below left absent v r f ih missing q m = fault m (f q)
+    read_fault below left absent v r f ih (refusing b) q m = fault m (scan_refused_lem r q)
+    read_fault below left absent v r f ih (deps xs ys) q m =
         ⊎_elim
         (λ n. let p = each_out (imported W v) xs n in import p.0 p.1 (W.known p.0) refl p.2)
         (λ n. let p = each_out (included W below v) ys n in include p.0 p.1 (W.listed p.0) (W.node p.0) refl refl p.2)
@@ -70,7 +70,7 @@ module _ (mode : Mode) (text : Name → Text) (l : PlainLibrary) (x : Entry) whe
         import : (u : Name) → Memᴰ u xs → (b : Bool) → W.known u ≡ b → Memᴰ (stop n a) (cond b (arc (edge u v) ∷ []) (halt unknown_module))
             → Fault mode text l x n a
         import u k true e m = absurd (Memᴰ.not-nil (no_stop m))
-        import u k false e m = fault m (import-unknown r (record { imports = xs; includes = ys; scan = q; one = k }) (out e))
+        import u k false e m = fault m (import_unknown r (record { imports = xs; includes = ys; scan = q; one = k }) (out e))
 
         include : (u : Name) → Memᴰ u ys → (b c : Bool) → W.listed u ≡ b → W.node u ≡ c
             → Memᴰ (stop n a) (cond b (cond c (arc (edge u v) ∷ below u) (halt no_node)) (halt unknown_submodule)) → Fault mode text l x n a
@@ -82,27 +82,27 @@ module _ (mode : Mode) (text : Name → Text) (l : PlainLibrary) (x : Entry) whe
                   (nodes_of mode l) d;
             }) (no_stop m)
         include u k true false e d m =
-            fault m (include-no-node r (record { imports = xs; includes = ys; scan = q; one = k }) (memb_mem u (submodule_names l) e) (out d))
-        include u k false c e d m = fault m (include-unknown r (record { imports = xs; includes = ys; scan = q; one = k }) (out e))
+            fault m (include_no_node r (record { imports = xs; includes = ys; scan = q; one = k }) (memb_mem u (submodule_names l) e) (out d))
+        include u k false c e d m = fault m (include_unknown r (record { imports = xs; includes = ys; scan = q; one = k }) (out e))
 
-    text-fault : (left absent : ℕ) (v : Name) → ReadAt mode text l x left v → (text v ≡ missing → Fault mode text l x absent no_refusal)
+    text_fault : (left absent : ℕ) (v : Name) → ReadAt mode text l x left v → (text v ≡ missing → Fault mode text l x absent no_refusal)
         → Memᴰ (stop n a) (text_steps W left absent v) → Fault mode text l x n a
     unfolding text_steps
-    text-fault zero absent v r f m = read-fault (λ u. halt too_deep) zero absent v r f (λ u i m. fault m (too_deep_lem r i)) (text v) refl m
-    text-fault (suc left) absent v r f m =
-        read-fault (text_steps W left no_included_text) (suc left) absent v r f
-        (λ u i m. text-fault left no_included_text u (included-by r i) (λ q. include-missing r i q) m) (text v) refl m
+    text_fault zero absent v r f m = read_fault (λ u. halt too_deep) zero absent v r f (λ u i m. fault m (too_deep_lem r i)) (text v) refl m
+    text_fault (suc left) absent v r f m =
+        read_fault (text_steps W left no_included_text) (suc left) absent v r f
+        (λ u i m. text_fault left no_included_text u (included-by r i) (λ q. include_missing r i q) m) (text v) refl m
 
-    given-fault : (u : Name) → Memᴰ u x.lists → (b : Bool) → W.known u ≡ b
+    given_fault : (u : Name) → Memᴰ u x.lists → (b : Bool) → W.known u ≡ b
         → Memᴰ (stop n a) (cond b (arc (edge x.name u) ∷ []) (halt unknown_module)) → Fault mode text l x n a
-    given-fault u k true e m = absurd (Memᴰ.not-nil (no_stop m))
-    given-fault u k false e m = fault m (listed-unknown k (out e))
+    given_fault u k true e m = absurd (Memᴰ.not-nil (no_stop m))
+    given_fault u k false e m = fault m (listed_unknown k (out e))
 
-    pub stop-fault : Memᴰ (stop n a) steps → Fault mode text l x n a
-    stop-fault m =
+    pub stop_fault : Memᴰ (stop n a) steps → Fault mode text l x n a
+    stop_fault m =
         ⊎_elim
-        (λ m. text-fault deepest no_entry_text x.name (entry refl) (λ q. entry-missing q) m)
-        (λ m. let p = each_out (given W x.name) x.lists m in given-fault p.0 p.1 (W.known p.0) refl p.2)
+        (λ m. text_fault deepest no_entry_text x.name (entry refl) (λ q. entry_missing q) m)
+        (λ m. let p = each_out (given W x.name) x.lists m in given_fault p.0 p.1 (W.known p.0) refl p.2)
         (Memᴰ.append_cases (text_steps W deepest no_entry_text x.name) m)
 
   -- ---- a fault is a refusal
@@ -129,18 +129,18 @@ module _ (mode : Mode) (text : Name → Text) (l : PlainLibrary) (x : Entry) whe
   first {n} {a} f = f (stop n a) (Memᴰ.head refl)
 
   pub fault_stop : {n : ℕ} {a : ScanAnswer} → Fault mode text l x n a → Memᴰ (stop n a) steps
-  fault_stop (entry-missing q) = first (text_in mode text l steps deepest no_entry_text x.name entry_in missing q)
-  fault_stop (include-missing {left = left} {u = u} r i q) = first (text_in mode text l steps left no_included_text u (down (held r) i) missing q)
+  fault_stop (entry_missing q) = first (text_in mode text l steps deepest no_entry_text x.name entry_in missing q)
+  fault_stop (include_missing {left = left} {u = u} r i q) = first (text_in mode text l steps left no_included_text u (down (held r) i) missing q)
   fault_stop (scan_refused_lem {left = left} {v = v} {a = a} r q) =
       let h = held r in
       first (text_in mode text l steps left h.absent v h.steps (refusing a) q)
-  fault_stop (import-unknown {v = v} {u = u} r i f) =
+  fault_stop (import_unknown {v = v} {u = u} r i f) =
       first (pick (arc (edge u v) ∷ []) (halt unknown_module) (not_memb u (entry_names l) f) (import_in mode text l (held r) i))
-  fault_stop (listed-unknown {u = u} k f) =
+  fault_stop (listed_unknown {u = u} k f) =
       first (pick (arc (edge x.name u) ∷ []) (halt unknown_module) (not_memb u (entry_names l) f) (list_in k))
-  fault_stop (include-unknown {left = left} {v = v} {u = u} r i f) =
+  fault_stop (include_unknown {left = left} {v = v} {u = u} r i f) =
       first (pick _ (halt unknown_submodule) (not_memb u (submodule_names l) f) (include_in mode text l (held r) i))
-  fault_stop (include-no-node {left = left} {v = v} {u = u} r i s f) =
+  fault_stop (include_no_node {left = left} {v = v} {u = u} r i s f) =
       first (pick (arc (edge u v) ∷ below_of W left u) (halt no_node) (not_memb u (nodes_of mode l) f)
       (pick _ (halt unknown_submodule) (mem_memb s) (include_in mode text l (held r) i)))
   fault_stop (too_deep_lem r i) = first (down (held r) i)

@@ -18,7 +18,7 @@ use Rattle.library_index.specs.Names.{among, add_all}
 use Rattle.graph.specs.Nodes.{pass_over, complete, add_groups, nodes_by, memb}
 use Rattle.graph.specs.Graph.{ScanAnswer, Text, deps, text_steps, Edge, edge, mem_e, add_by, run, Entry, module_entry, entries, graph, fault, walk_from}
 use Rattle.graph.specs.Graph.{graph_of}
-use Rattle.graph.specs.Meaning.{Gives, imports, includes, lists, AllGivenBy, Fault, Cause, names, by-fault, edges}
+use Rattle.graph.specs.Meaning.{Gives, imports, includes, lists, AllGivenBy, Fault, Cause, names, by_fault, edges}
 use Rattle.graph.specs.Demand3.{all_names, Once, Permuted, Agree}
 use Rattle.graph.proofs.Tests.{both_bools, mem_memb}
 use Rattle.graph.proofs.Faults.{fault_below}
@@ -115,7 +115,7 @@ no_fault x f e = omega (arith, e, fault_below pass_over empty a_and_b x f)
 not_the_first : {n k : ℕ} {a : ScanAnswer} → Cause pass_over empty a_and_b 1024 1 n k a → n ≡ 31 → k ≡ 1 → ⊥
 unfolding flat_map
 not_the_first (names h) e q = omega (arith, e)
-not_the_first (by-fault x f g) e q = no_fault x g e
+not_the_first (by_fault x f g) e q = no_fault x g e
 not_the_first (edges x f few es d given many) e q = go f.before f.order (omega (arith, q, f.number)) given
   where
     go : (before : List Entry) → entries a_and_b ≡ before ++ (x ∷ f.after) → length before ≡ 0

@@ -55,12 +55,12 @@ module _ (mode : Mode) (text : Name → Text) (l : PlainLibrary) where
     is : {u v : Name} → e ≡ edge u v → Gives mode text l x u v → Given
     is q k = subst (λ a. Gives mode text l x a.from a.to) (sym q) k
 
-    read-given : (below : Name → List Step) {left : ℕ} (absent : ℕ) (v : Name) → ReadAt mode text l x left v
+    read_given : (below : Name → List Step) {left : ℕ} (absent : ℕ) (v : Name) → ReadAt mode text l x left v
         → ((u : Name) → Follows mode text l v u → Memᴰ (arc e) (below u) → Given)
         → (y : Text) → text v ≡ y → Memᴰ (arc e) (reading W below absent v y) → Given
-    read-given below absent v r ih missing q m = no_arc m
-    read-given below absent v r ih (refusing a) q m = no_arc m
-    read-given below absent v r ih (deps xs ys) q m =
+    read_given below absent v r ih missing q m = no_arc m
+    read_given below absent v r ih (refusing a) q m = no_arc m
+    read_given below absent v r ih (deps xs ys) q m =
         ⊎_elim
         (λ n. let p = each_out (imported W v) xs n in import p.0 p.1 (W.known p.0) refl p.2)
         (λ n. let p = each_out (included W below v) ys n in include p.0 p.1 (W.listed p.0) (W.node p.0) refl refl p.2)
@@ -79,23 +79,23 @@ module _ (mode : Mode) (text : Name → Text) (l : PlainLibrary) where
         include u k true false f g n = no_arc n
         include u k false c f g n = no_arc n
 
-    text-given : (left absent : ℕ) (v : Name) → ReadAt mode text l x left v → Memᴰ (arc e) (text_steps W left absent v) → Given
+    text_given : (left absent : ℕ) (v : Name) → ReadAt mode text l x left v → Memᴰ (arc e) (text_steps W left absent v) → Given
     unfolding text_steps
-    text-given zero absent v r m = read-given (λ u. halt too_deep) absent v r (λ u f n. no_arc n) (text v) refl m
-    text-given (suc left) absent v r m =
-        read-given (text_steps W left no_included_text) absent v r (λ u f n. text-given left no_included_text u (included-by r f) n) (text v) refl m
+    text_given zero absent v r m = read_given (λ u. halt too_deep) absent v r (λ u f n. no_arc n) (text v) refl m
+    text_given (suc left) absent v r m =
+        read_given (text_steps W left no_included_text) absent v r (λ u f n. text_given left no_included_text u (included-by r f) n) (text v) refl m
 
-    list-given : Memᴰ (arc e) (flat_map (given W x.name) x.lists) → Given
-    list-given m = let p = each_out (given W x.name) x.lists m in go p.0 p.1 (W.known p.0) refl p.2
+    list_given : Memᴰ (arc e) (flat_map (given W x.name) x.lists) → Given
+    list_given m = let p = each_out (given W x.name) x.lists m in go p.0 p.1 (W.known p.0) refl p.2
       where
         go : (u : Name) → Memᴰ u x.lists → (b : Bool) → W.known u ≡ b
             → Memᴰ (arc e) (cond b (arc (edge x.name u) ∷ []) (halt unknown_module)) → Given
         go u k true f n = is (one_arc n) (lists refl k (memb_mem u (entry_names l) f))
         go u k false f n = no_arc n
 
-    pub arcs-given : Memᴰ (arc e) (entry_steps W x) → Gives mode text l x e.from e.to
-    arcs-given m =
-        ⊎_elim (text-given deepest no_entry_text x.name (entry refl)) list-given (Memᴰ.append_cases (text_steps W deepest no_entry_text x.name) m)
+    pub arcs_given : Memᴰ (arc e) (entry_steps W x) → Gives mode text l x e.from e.to
+    arcs_given m =
+        ⊎_elim (text_given deepest no_entry_text x.name (entry refl)) list_given (Memᴰ.append_cases (text_steps W deepest no_entry_text x.name) m)
 
   -- ---- what an entry gives is an edge
   module _ {x : Entry} (m : Memᴰ x (entries l)) where
@@ -103,20 +103,20 @@ module _ (mode : Mode) (text : Name → Text) (l : PlainLibrary) where
     is_read (entry q) = entry (Memᴰ.cast q (entry_name l (came l m)))
     is_read (included-by r f) = included-by (is_read r) f.includes
 
-    list-edge : Came l x → {u v : Name} → u ≡ x.name → Memᴰ v x.lists → IsEdge text l u v
-    list-edge (from_import i j q) {v = v} h k = absurd (Memᴰ.not-nil (subst (λ (y : Entry). Memᴰ v y.lists) (sym q) k))
-    list-edge (from_module n j q) {v = v} h k =
+    list_edge : Came l x → {u v : Name} → u ≡ x.name → Memᴰ v x.lists → IsEdge text l u v
+    list_edge (from_import i j q) {v = v} h k = absurd (Memᴰ.not-nil (subst (λ (y : Entry). Memᴰ v y.lists) (sym q) k))
+    list_edge (from_module n j q) {v = v} h k =
         let name = h ∙ ap (λ (y : Entry). y.name) (sym q) in
         ⊎_elim (λ o. augments n j name o) (λ o. deviates n j name o)
         (Memᴰ.append_cases n.augmenting (subst (λ (y : Entry). Memᴰ v y.lists) (sym q) k))
 
-    given-edge : {u v : Name} → Gives mode text l x u v → IsEdge text l u v
-    given-edge (imports r i n) = imports (is_read r) i
-    given-edge (includes r f) = includes (is_read r) f.includes
-    given-edge (lists q k n) = list-edge (came l m) q k
+    given_edge : {u v : Name} → Gives mode text l x u v → IsEdge text l u v
+    given_edge (imports r i n) = imports (is_read r) i
+    given_edge (includes r f) = includes (is_read r) f.includes
+    given_edge (lists q k n) = list_edge (came l m) q k
 
   pub arcs_meant : (e : Edge) → Memᴰ (arc e) trace → IsEdge text l e.from e.to
-  arcs_meant e m = let p = each_out (entry_steps W) (entries l) m in given-edge p.1 (arcs-given p.0 e p.2)
+  arcs_meant e m = let p = each_out (entry_steps W) (entries l) m in given_edge p.1 (arcs_given p.0 e p.2)
 
   -- ---- what is meant is asked for, if nothing is refused
   -- the steps of v's text, with so much depth left, stand in t
@@ -153,14 +153,14 @@ module _ (mode : Mode) (text : Name → Text) (l : PlainLibrary) where
     one_in a true f = f (arc a) (Memᴰ.head refl)
     one_in a false f = refuted f
 
-    both-in : (below : List Step) (v u : Name) (b c : Bool) → In t (cond b (cond c (arc (edge u v) ∷ below) (halt no_node)) (halt unknown_submodule))
+    both_in : (below : List Step) (v u : Name) (b c : Bool) → In t (cond b (cond c (arc (edge u v) ∷ below) (halt no_node)) (halt unknown_submodule))
         → Memᴰ (arc (edge u v)) t × In t below
-    both-in below v u true true f = (f (arc (edge u v)) (Memᴰ.head refl), λ s m. f s (Memᴰ.tail m))
-    both-in below v u true false f = refuted f
-    both-in below v u false c f = refuted f
+    both_in below v u true true f = (f (arc (edge u v)) (Memᴰ.head refl), λ s m. f s (Memᴰ.tail m))
+    both_in below v u true false f = refuted f
+    both_in below v u false c f = refuted f
 
     down : {left : ℕ} {v u : Name} → Held t left v → Includes text v u → Memᴰ (arc (edge u v)) t × In t (below_of W left u)
-    down {left} {v} {u} h i = both-in (below_of W left u) v u (W.listed u) (W.node u) (include_in h i)
+    down {left} {v} {u} h i = both_in (below_of W left u) v u (W.listed u) (W.node u) (include_in h i)
 
   module _ (clean : Clean trace) where
     held : {v : Name} → Reads text l v → (left : ℕ) × Held trace left v
@@ -175,11 +175,11 @@ module _ (mode : Mode) (text : Name → Text) (l : PlainLibrary) where
         → Memᴰ (arc (edge m.name v)) trace
     listed_in {m} {v} j k = one_in clean (edge m.name v) (W.known v) (given_in j k)
 
-    pub meant-arcs : (u v : Name) → IsEdge text l u v → Memᴰ (arc (edge u v)) trace
-    meant-arcs u v (imports r i) = one_in clean (edge u v) (W.known u) (import_in (held r).1 i)
-    meant-arcs u v (includes r i) = (down clean (held r).1 i).0
-    meant-arcs u v (augments m j q k) = subst (λ w. Memᴰ (arc (edge w v)) trace) (sym q) (listed_in j (Memᴰ.append_left m.deviations k))
-    meant-arcs u v (deviates m j q k) = subst (λ w. Memᴰ (arc (edge w v)) trace) (sym q) (listed_in j (Memᴰ.append_right m.augmenting k))
+    pub meant_arcs : (u v : Name) → IsEdge text l u v → Memᴰ (arc (edge u v)) trace
+    meant_arcs u v (imports r i) = one_in clean (edge u v) (W.known u) (import_in (held r).1 i)
+    meant_arcs u v (includes r i) = (down clean (held r).1 i).0
+    meant_arcs u v (augments m j q k) = subst (λ w. Memᴰ (arc (edge w v)) trace) (sym q) (listed_in j (Memᴰ.append_left m.deviations k))
+    meant_arcs u v (deviates m j q k) = subst (λ w. Memᴰ (arc (edge w v)) trace) (sym q) (listed_in j (Memᴰ.append_right m.augmenting k))
 
     -- the ends of an edge are nodes
     known_in : (u : Name) (t : List Step) (b : Bool) → In trace (cond b t (halt unknown_module)) → b ≡ true
@@ -192,21 +192,21 @@ module _ (mode : Mode) (text : Name → Text) (l : PlainLibrary) where
     node_in t false c f = refuted clean f
 
     module _ (entry_node : (v : Name) → Memᴰ v (entry_names l) → Memᴰ v (nodes_of mode l)) where
-      included-node : {v u : Name} → Reads text l v → Includes text v u → Memᴰ u (nodes_of mode l)
-      included-node {v} {u} r i = memb_mem u (nodes_of mode l) (node_in _ (W.listed u) (W.node u) (include_in (held r).1 i))
+      included_node : {v u : Name} → Reads text l v → Includes text v u → Memᴰ u (nodes_of mode l)
+      included_node {v} {u} r i = memb_mem u (nodes_of mode l) (node_in _ (W.listed u) (W.node u) (include_in (held r).1 i))
 
-      read-node : {v : Name} → Reads text l v → Memᴰ v (nodes_of mode l)
-      read-node {v} (entry k) = entry_node v k
-      read-node {v} (included-by r i) = included-node r i
+      read_node : {v : Name} → Reads text l v → Memᴰ v (nodes_of mode l)
+      read_node {v} (entry k) = entry_node v k
+      read_node {v} (included-by r i) = included_node r i
 
       known_node : (u : Name) (t : List Step) → In trace (cond (W.known u) t (halt unknown_module)) → Memᴰ u (nodes_of mode l)
       known_node u t f = entry_node u (memb_mem u (entry_names l) (known_in u t (W.known u) f))
 
-      module-node : (m : PlainModule) → Memᴰ m (modules_of l) → Memᴰ m.name (nodes_of mode l)
-      module-node m j = entry_node m.name (Memᴰ.append_left _ (Memᴰ.map module_name j))
+      module_node : (m : PlainModule) → Memᴰ m (modules_of l) → Memᴰ m.name (nodes_of mode l)
+      module_node m j = entry_node m.name (Memᴰ.append_left _ (Memᴰ.map module_name j))
 
-      pub ends-nodes : (u v : Name) → IsEdge text l u v → Memᴰ u (nodes_of mode l) × Memᴰ v (nodes_of mode l)
-      ends-nodes u v (imports r i) = (known_node u _ (import_in (held r).1 i), read-node r)
-      ends-nodes u v (includes r i) = (included-node r i, read-node r)
-      ends-nodes u v (augments m j q k) = (Memᴰ.cast q (module-node m j), known_node v _ (given_in j (Memᴰ.append_left m.deviations k)))
-      ends-nodes u v (deviates m j q k) = (Memᴰ.cast q (module-node m j), known_node v _ (given_in j (Memᴰ.append_right m.augmenting k)))
+      pub ends_nodes : (u v : Name) → IsEdge text l u v → Memᴰ u (nodes_of mode l) × Memᴰ v (nodes_of mode l)
+      ends_nodes u v (imports r i) = (known_node u _ (import_in (held r).1 i), read_node r)
+      ends_nodes u v (includes r i) = (included_node r i, read_node r)
+      ends_nodes u v (augments m j q k) = (Memᴰ.cast q (module_node m j), known_node v _ (given_in j (Memᴰ.append_left m.deviations k)))
+      ends_nodes u v (deviates m j q k) = (Memᴰ.cast q (module_node m j), known_node v _ (given_in j (Memᴰ.append_right m.augmenting k)))

@@ -275,14 +275,14 @@ nodes_whole mode l d v m = subst (λ ns. Memᴰ v ns) (sym (nodes_new mode l d))
 -- each entry is a node
 pub entry_node : (mode : Mode) (l : PlainLibrary) → Revised l → (v : Name) → Memᴰ v (entry_names l) → Memᴰ v (nodes_of mode l)
 unfolding nodes_by
-entry_node mode l revised v m = ⊎_elim of-module of-import (Memᴰ.append_cases (map (λ (m : PlainModule). m.name) (modules_of l)) m)
+entry_node mode l revised v m = ⊎_elim of_module of_import (Memᴰ.append_cases (map (λ (m : PlainModule). m.name) (modules_of l)) m)
   where
-    of-module : Memᴰ v (map (λ (m : PlainModule). m.name) (modules_of l)) → Memᴰ v (nodes_of mode l)
-    of-module n =
+    of_module : Memᴰ v (map (λ (m : PlainModule). m.name) (modules_of l)) → Memᴰ v (nodes_of mode l)
+    of_module n =
         let q = Memᴰ.of_map (λ (m : PlainModule). m.name) (modules_of l) n in
         Memᴰ.cast (sym q.2) (groups_head mode (groups l) [] (module_group q.0) (module_group_lem l q.1))
 
-    of-import : Memᴰ v (map (λ (i : PlainImportOnly). i.name) (import_only_of l)) → Memᴰ v (nodes_of mode l)
-    of-import n = let q = Memᴰ.of_map (λ (i : PlainImportOnly). i.name) (import_only_of l) n in let r = revised q.0 q.1 in
+    of_import : Memᴰ v (map (λ (i : PlainImportOnly). i.name) (import_only_of l)) → Memᴰ v (nodes_of mode l)
+    of_import n = let q = Memᴰ.of_map (λ (i : PlainImportOnly). i.name) (import_only_of l) n in let r = revised q.0 q.1 in
         Memᴰ.cast (sym q.2) (groups_head mode (groups l) [] _ (import_group l q.1
         (Memᴰ.map (λ (subs : List Name). record { head = q.0.name; subs = subs }) r.1)))

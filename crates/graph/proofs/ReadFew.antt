@@ -47,12 +47,12 @@ module _ (P : ℕ → Type 0) where
   Included cs = (u : ℕ) → Memᴰ (suc (suc u)) cs → P u
 
   module _ (limit : ℕ) (f : Below) (t : ReadsBelow) (right : (u : ℕ) → P u → (rs : List Row) (m : Marks) → All (t u rs m)) (v : ℕ) where
-    includes-all : (cs : List ℕ) → Included cs → (rs : List Row) (m : Marks) → All (includes_read limit f t v cs rs m)
+    includes_all : (cs : List ℕ) → Included cs → (rs : List Row) (m : Marks) → All (includes_read limit f t v cs rs m)
     unfolding includes_read
-    includes-all [] i rs m = none
-    includes-all (zero ∷ cs) i rs m = none
-    includes-all (suc zero ∷ cs) i rs m = none
-    includes-all (suc (suc u) ∷ cs) i rs m = go (add_row limit rs (row u v)) (includes-all cs (λ w n. i w (Memᴰ.tail n)))
+    includes_all [] i rs m = none
+    includes_all (zero ∷ cs) i rs m = none
+    includes_all (suc zero ∷ cs) i rs m = none
+    includes_all (suc (suc u) ∷ cs) i rs m = go (add_row limit rs (row u v)) (includes_all cs (λ w n. i w (Memᴰ.tail n)))
       where
         on : (w : Went) → ((rs₂ : List Row) (m₂ : Marks) → All (includes_read limit f t v cs rs₂ m₂))
             → All (on_walked w (λ rs₂ m₂. includes_read limit f t v cs rs₂ m₂) (λ n a. []))
@@ -64,13 +64,13 @@ module _ (P : ℕ → Type 0) where
         go (built rs₁) ih = both (t u rs₁ m) _ (right u (i u (Memᴰ.head refl)) rs₁ m) (on (f u rs₁ m) ih)
         go (refused n a) ih = none
 
-    visit-all : P v → (c : Codes) → ((is us : List ℕ) → c ≡ codes is us → Included us) → (rs : List Row) (m : Marks) → All (visit_read limit f t v c rs m)
-    visit-all p no_text i rs m = none
-    visit-all p (refused_scan a) i rs m = first v [] p none
-    visit-all p (codes is us) i rs m = first v _ p (go (each_o (import_code limit v) is rs))
+    visit_all : P v → (c : Codes) → ((is us : List ℕ) → c ≡ codes is us → Included us) → (rs : List Row) (m : Marks) → All (visit_read limit f t v c rs m)
+    visit_all p no_text i rs m = none
+    visit_all p (refused_scan a) i rs m = first v [] p none
+    visit_all p (codes is us) i rs m = first v _ p (go (each_o (import_code limit v) is rs))
       where
         go : (o : Out Row) → All (on_out o (λ rs₁. includes_read limit f t v us rs₁ (mark m v reading)) (λ n a. []))
-        go (built rs₁) = includes-all us (i is us refl) rs₁ (mark m v reading)
+        go (built rs₁) = includes_all us (i is us refl) rs₁ (mark m v reading)
         go (refused n a) = none
 
   met_all : (b : Bool) (xs : List ℕ) → All xs → All (cond b xs [])
@@ -78,22 +78,22 @@ module _ (P : ℕ → Type 0) where
   met_all false xs f = none
 
   module _ (at : ℕ → Codes) (limit : ℕ) (follows : (v : ℕ) → P v → (is us : List ℕ) → at v ≡ codes is us → Included us) where
-    walk-all : (left v : ℕ) → P v → (rs : List Row) (m : Marks) → All (walk_read at limit left v rs m)
+    walk_all : (left v : ℕ) → P v → (rs : List Row) (m : Marks) → All (walk_read at limit left v rs m)
     unfolding walk_read
-    walk-all zero v p rs m =
+    walk_all zero v p rs m =
         met_all (is_unread (m v)) _
-        (visit-all limit (λ u rs₁ m₁. halted too_deep no_refusal) (λ u rs₁ m₁. []) (λ u q rs₁ m₁. none) v p (at v) (follows v p) rs m)
-    walk-all (suc left) v p rs m =
+        (visit_all limit (λ u rs₁ m₁. halted too_deep no_refusal) (λ u rs₁ m₁. []) (λ u q rs₁ m₁. none) v p (at v) (follows v p) rs m)
+    walk_all (suc left) v p rs m =
         met_all (is_unread (m v)) _
-        (visit-all limit (walk_once at limit left no_included_text) (walk_read at limit left) (walk-all left) v p (at v) (follows v p) rs m)
+        (visit_all limit (walk_once at limit left no_included_text) (walk_read at limit left) (walk_all left) v p (at v) (follows v p) rs m)
 
-    entries-all : (es : List EntryCode) → ((e : EntryCode) → Memᴰ e es → P e.number) → (rs : List Row) (m : Marks)
+    entries_all : (es : List EntryCode) → ((e : EntryCode) → Memᴰ e es → P e.number) → (rs : List Row) (m : Marks)
         → All (entries_read at limit rs m es)
     unfolding entries_read
-    entries-all [] i rs m = none
-    entries-all (e ∷ es) i rs m =
-        both (walk_read at limit deepest e.number rs m) _ (walk-all deepest e.number (i e (Memᴰ.head refl)) rs m)
-        (go (walk_once at limit deepest no_entry_text e.number rs m) (entries-all es (λ x n. i x (Memᴰ.tail n))))
+    entries_all [] i rs m = none
+    entries_all (e ∷ es) i rs m =
+        both (walk_read at limit deepest e.number rs m) _ (walk_all deepest e.number (i e (Memᴰ.head refl)) rs m)
+        (go (walk_once at limit deepest no_entry_text e.number rs m) (entries_all es (λ x n. i x (Memᴰ.tail n))))
       where
         listed : (m₁ : Marks) → ((rs₂ : List Row) (m₂ : Marks) → All (entries_read at limit rs₂ m₂ es)) → (o : Out Row)
             → All (on_out o (λ rs₂. entries_read at limit rs₂ m₁ es) (λ n a. []))
@@ -144,7 +144,7 @@ includes_of (refused_scan a) = []
 
 pub read_few : (at : ℕ → Codes) (limit n : ℕ) (es : List EntryCode) → AllNodes at n es → length (entries_read at limit [] nothing_read es) ≤ n
 read_few at limit n es w =
-    let all = entries-all (λ u. u < n) at limit w.includes es w.entries [] nothing_read in
+    let all = entries_all (λ u. u < n) at limit w.includes es w.entries [] nothing_read in
     let k = no_longer (entries_read at limit [] nothing_read es) (down n) (once_demand at limit es).once (λ u m. down_has n u (all u m)) in
     omega (arith, k, down_length n)
 

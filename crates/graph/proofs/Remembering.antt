@@ -161,12 +161,12 @@ module _ (at : ℕ → Codes) (limit : ℕ) where
       on : List Row → Marks → ℕ → Went
       on rs₂ m₂ k = includes_once limit (below_once at limit left) v cs rs₂ m₂ k
 
-      onPlain : List Row → Out Row
-      onPlain rs₂ = each_o (include_code limit (under at limit left) v) cs rs₂
+      on_plain : List Row → Out Row
+      on_plain rs₂ = each_o (include_code limit (under at limit left) v) cs rs₂
 
       Rest : Type 0
       Rest = (k : ℕ) (rs₂ : List Row) (m₂ : Marks) → At imports (before ++ (suc (suc u) ∷ [])) cs k v rs₂ m₂
-          → RightAlong imports m₂ rs₂ v ((before ++ (suc (suc u) ∷ [])) ++ cs) (on rs₂ m₂ k) (onPlain rs₂)
+          → RightAlong imports m₂ rs₂ v ((before ++ (suc (suc u) ∷ [])) ++ cs) (on rs₂ m₂ k) (on_plain rs₂)
 
       joined : (w : Went) (p : Out Row) (rs₂ : List Row) (m₂ : Marks) → Grows rs rs₂ → SameOpen m m₂
           → RightAlong imports m₂ rs₂ v ((before ++ (suc (suc u) ∷ [])) ++ cs) w p → RightAlong imports m rs v (before ++ (suc (suc u) ∷ cs)) w p
@@ -181,16 +181,16 @@ module _ (at : ℕ → Codes) (limit : ℕ) where
       joined (halted n x) p rs₂ m₂ g o r = r
 
       inside : (rs₁ : List Row) → Added (row u v) rs rs₁ → Rest → (w : Went) (p : Out Row) → Right m rs₁ u w p
-          → RightAlong imports m rs v (before ++ (suc (suc u) ∷ cs)) (then_w w (λ rs₂ m₂ k. on rs₂ m₂ (raised h k))) (then_o p onPlain)
+          → RightAlong imports m rs v (before ++ (suc (suc u) ∷ cs)) (then_w w (λ rs₂ m₂ k. on rs₂ m₂ (raised h k))) (then_o p on_plain)
       inside rs₁ d rest (walked rs₂ m₂ k) p t =
-          rw t.same (joined (on rs₂ m₂ (raised h k)) (onPlain rs₂) rs₂ m₂ (λ x q. t.grows x (d.grows x q)) t.opens
+          rw t.same (joined (on rs₂ m₂ (raised h k)) (on_plain rs₂) rs₂ m₂ (λ x q. t.grows x (d.grows x q)) t.opens
           (rest (raised h k) rs₂ m₂ (next imports before cs h v u rs m a rs₁ d rs₂ m₂ k t)))
       inside rs₁ d rest (halted n x) p t = rw t refl
 
       go : (o : Out Row) → OnBuilt o (Added (row u v) rs) → Rest
           → RightAlong imports m rs v (before ++ (suc (suc u) ∷ cs))
           (then_w (then_rows o (λ rs₁. below_once at limit left u rs₁ m)) (λ rs₂ m₂ k. on rs₂ m₂ (raised h k)))
-          (then_o (then_o o (under at limit left u)) onPlain)
+          (then_o (then_o o (under at limit left u)) on_plain)
       go (built rs₁) d rest =
           inside rs₁ d rest (below_once at limit left u rs₁ m) (under at limit left u rs₁)
           (right u rs₁ m (sound_grows m rs rs₁ d.grows a.sound) (opened imports before cs h v u rs m a rs₁ d))
@@ -256,12 +256,12 @@ module _ (at : ℕ → Codes) (limit : ℕ) where
       all : List Row → Went
       all rs₁ = includes_once limit (below_once at limit left) v includes rs₁ (mark m v reading) 0
 
-      allPlain : List Row → Out Row
-      allPlain rs₁ = each_o (include_code limit (under at limit left) v) includes rs₁
+      all_plain : List Row → Out Row
+      all_plain rs₁ = each_o (include_code limit (under at limit left) v) includes rs₁
 
-      go : (x : Out Row) → OnBuilt x (Imports imports v rs) → Right m rs v (then_rows x (λ rs₁. then_w (all rs₁) (ended v))) (then_o x allPlain)
+      go : (x : Out Row) → OnBuilt x (Imports imports v rs) → Right m rs v (then_rows x (λ rs₁. then_w (all rs₁) (ended v))) (then_o x all_plain)
       go (built rs₁) i =
-          finished imports includes v rs m e f rs₁ i.grows (all rs₁) (allPlain rs₁)
+          finished imports includes v rs m e f rs₁ i.grows (all rs₁) (all_plain rs₁)
           (along left right imports [] includes 0 v rs₁ (mark m v reading) (begun imports includes v rs m e f s o rs₁ i))
       go (refused n x) i = refl
 

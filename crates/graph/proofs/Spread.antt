@@ -88,27 +88,27 @@ module _ {l l₁ : PlainLibrary} (within : Within l l₁) where
   pub names_in : Revised l₁ → (v : Name) → Memᴰ v (all_names l) → Memᴰ v (all_names l₁)
   names_in revised v m = let q = each_out group_names (groups l) m in go q.0 (grouped l q.1) q.2
     where
-      of-import : (j : PlainImportOnly) → Memᴰ j (import_only_of l₁) → {subs : List Name} → Memᴰ subs j.revisions → Memᴰ v (j.name ∷ subs)
+      of_import : (j : PlainImportOnly) → Memᴰ j (import_only_of l₁) → {subs : List Name} → Memᴰ subs j.revisions → Memᴰ v (j.name ∷ subs)
           → Memᴰ v (all_names l₁)
-      of-import j k n o = each_in group_names (import_group l₁ k (Memᴰ.map (λ (subs : List Name). record { head = j.name; subs = subs }) n)) o
+      of_import j k n o = each_in group_names (import_group l₁ k (Memᴰ.map (λ (subs : List Name). record { head = j.name; subs = subs }) n)) o
 
-      like-import : (i : PlainImportOnly) (r : List Name) → Memᴰ r i.revisions → (v ≡ i.name) ⊎ Memᴰ v r
+      like_import : (i : PlainImportOnly) (r : List Name) → Memᴰ r i.revisions → (v ≡ i.name) ⊎ Memᴰ v r
           → (j : PlainImportOnly) × Memᴰ j (import_only_of l₁) × AlikeImport i j → Memᴰ v (all_names l₁)
-      like-import i r n (inl p) (j, k, a) = of-import j k (revised j k).1 (Memᴰ.head (p ∙ a.name))
-      like-import i r n (inr o) (j, k, a) =
+      like_import i r n (inl p) (j, k, a) = of_import j k (revised j k).1 (Memᴰ.head (p ∙ a.name))
+      like_import i r n (inr o) (j, k, a) =
           let e = flat_out j.revisions (perm_memᴰ a.submodules (flat_in n o)) in
-          of-import j k e.1 (Memᴰ.tail e.2)
+          of_import j k e.1 (Memᴰ.tail e.2)
 
-      like-module : (m : PlainModule) → (v ≡ m.name) ⊎ Memᴰ v m.submodules → (n : PlainModule) × Memᴰ n (modules_of l₁) × AlikeModule m n
+      like_module : (m : PlainModule) → (v ≡ m.name) ⊎ Memᴰ v m.submodules → (n : PlainModule) × Memᴰ n (modules_of l₁) × AlikeModule m n
           → Memᴰ v (all_names l₁)
-      like-module m (inl p) (n, k, a) = each_in group_names (module_group_lem l₁ k) (Memᴰ.head (p ∙ a.name))
-      like-module m (inr o) (n, k, a) = each_in group_names (module_group_lem l₁ k) (Memᴰ.tail (perm_memᴰ a.submodules o))
+      like_module m (inl p) (n, k, a) = each_in group_names (module_group_lem l₁ k) (Memᴰ.head (p ∙ a.name))
+      like_module m (inr o) (n, k, a) = each_in group_names (module_group_lem l₁ k) (Memᴰ.tail (perm_memᴰ a.submodules o))
 
       go : (g : Group Name) → Grouped l g → Memᴰ v (group_names g) → Memᴰ v (all_names l₁)
       go g (by_module m k q) o =
-          merely (within.modules m k) (like-module m (Memᴰ.cases_cons (subst (λ (x : Group Name). Memᴰ v (group_names x)) (sym q) o)))
+          merely (within.modules m k) (like_module m (Memᴰ.cases_cons (subst (λ (x : Group Name). Memᴰ v (group_names x)) (sym q) o)))
       go g (by_import i k n) o = let q = Memᴰ.of_map (λ (subs : List Name). record { head = i.name; subs = subs }) i.revisions n in
-          merely (within.import_only i k) (like-import i q.0 q.1 (Memᴰ.cases_cons
+          merely (within.import_only i k) (like_import i q.0 q.1 (Memᴰ.cases_cons
           (subst (λ (x : Group Name). Memᴰ v (group_names x)) (sym q.2) o)))
 
   nodes_in : (mode : Mode) → Once l₁ → NodesIn mode l l₁

@@ -58,14 +58,14 @@ module _ (mode : Mode) (text : Name → Text) (l : PlainLibrary) where
 
   -- what the walk of the entry x may be refused for
   pub data Fault (x : Entry) : ℕ → ScanAnswer → Type 0 where
-    entry-missing : text x.name ≡ missing → Fault x no_entry_text no_refusal
-    include-missing : {left : ℕ} {v u : Name} → ReadAt x (suc left) v → Follows v u → text u ≡ missing → Fault x no_included_text no_refusal
+    entry_missing : text x.name ≡ missing → Fault x no_entry_text no_refusal
+    include_missing : {left : ℕ} {v u : Name} → ReadAt x (suc left) v → Follows v u → text u ≡ missing → Fault x no_included_text no_refusal
     scan_refused_lem : {left : ℕ} {v : Name} {a : ScanAnswer} → ReadAt x left v → text v ≡ refusing a → Fault x scan_refused a
-    import-unknown : {left : ℕ} {v u : Name} → ReadAt x left v → Imports text v u → ¬ Memᴰ u (entry_names l) → Fault x unknown_module no_refusal
-    listed-unknown : {u : Name} → Memᴰ u x.lists → ¬ Memᴰ u (entry_names l) → Fault x unknown_module no_refusal
-    include-unknown : {left : ℕ} {v u : Name} → ReadAt x left v → Includes text v u → ¬ Memᴰ u (submodule_names l)
+    import_unknown : {left : ℕ} {v u : Name} → ReadAt x left v → Imports text v u → ¬ Memᴰ u (entry_names l) → Fault x unknown_module no_refusal
+    listed_unknown : {u : Name} → Memᴰ u x.lists → ¬ Memᴰ u (entry_names l) → Fault x unknown_module no_refusal
+    include_unknown : {left : ℕ} {v u : Name} → ReadAt x left v → Includes text v u → ¬ Memᴰ u (submodule_names l)
         → Fault x unknown_submodule no_refusal
-    include-no-node : {left : ℕ} {v u : Name} → ReadAt x left v → Includes text v u → Memᴰ u (submodule_names l)
+    include_no_node : {left : ℕ} {v u : Name} → ReadAt x left v → Includes text v u → Memᴰ u (submodule_names l)
         → ¬ Memᴰ u (nodes_of mode l) → Fault x no_node no_refusal
     too_deep_lem : {v u : Name} → ReadAt x zero v → Follows v u → Fault x too_deep no_refusal
 
@@ -104,7 +104,7 @@ module _ (mode : Mode) (text : Name → Text) (l : PlainLibrary) where
   -- why it is refused, by number, entry and the scan's answer
   pub data Cause (node_limit edge_limit : ℕ) : ℕ → ℕ → ScanAnswer → Type 0 where
     names : node_limit < length (nodes_of mode l) → Cause node_limit edge_limit too_many_nodes 0 no_refusal
-    by-fault : {n k : ℕ} {a : ScanAnswer} (x : Entry) → FirstAt k x → Fault x n a → Cause node_limit edge_limit n k a
+    by_fault : {n k : ℕ} {a : ScanAnswer} (x : Entry) → FirstAt k x → Fault x n a → Cause node_limit edge_limit n k a
     -- the entries before x give no more different edges than the limit, and with x there are more
     edges : {k : ℕ} (x : Entry) (f : FirstAt k x) → ((es : List Edge) → Nodup es → AllGivenBy f.before es → length es ≤ edge_limit)
         → (es : List Edge) → Nodup es → AllGivenBy (f.before ++ (x ∷ [])) es → edge_limit < length es

@@ -27,7 +27,7 @@ use Rattle.graph_entries.specs.declared.Drawn.{Drawn}
 use Rattle.graph_entries.specs.declared.Drawn.TheVariants.{Built as DrawnBuilt, Refused as DrawnRefused}
 use Rattle.graph_build.specs.declared.Graphed.TheVariants.{Built, Refused}
 use Rattle.graph_visit.proofs.Visiting.{same_long}
-use Rattle.graph_build.proofs.Ways.{Ready, too_many, draw-refused, draw-built, nodes_asked, nodes_laid}
+use Rattle.graph_build.proofs.Ways.{Ready, too_many, draw_refused, draw_built, nodes_asked, nodes_laid}
 
 pub no_nodes : (n : ℕ) → zeros n ≡ padded n (node_words [])
 unfolding node_words
@@ -68,13 +68,13 @@ module _ {mode : Mode} {s b btab : List ℕ} {texts : ℕ} (p : BothRead s b bta
 
       module _ {n : ℕ} (e : r ≡ Count n) {d : Drawn} {store₁ imports₁ includes₁ levels₁ edges₁ : List ℕ}
           (g : Edged s b (names_held s ntab n) store imports includes levels edges d store₁ imports₁ includes₁ levels₁ edges₁) where
-        pub nodes-room : Puts ntab n nodes
-        nodes-room = nodes_asked mode s ntab n nodes (nodes_held e) p.reads h.room h.zero
+        pub nodes_room : Puts ntab n nodes
+        nodes_room = nodes_asked mode s ntab n nodes (nodes_held e) p.reads h.room h.zero
 
-        pub held-refused : {number entry : ℕ} {a : Refusal} → d ≡ DrawnRefused number entry a
+        pub held_refused : {number entry : ℕ} {a : Refusal} → d ≡ DrawnRefused number entry a
             → Holds (draw_result mode s b) nodes edges store imports includes levels (Refused number entry a 0) nodes edges₁ store₁ imports₁ includes₁ levels₁
-        held-refused {number} {entry} {a} q =
-            let x = draw-refused s b (draw_result mode s b) ready ntab n (nodes_held e) d edges₁ q g.seen in
+        held_refused {number} {entry} {a} q =
+            let x = draw_refused s b (draw_result mode s b) ready ntab n (nodes_held e) d edges₁ q g.seen in
             record {
               answer = sym (ap (λ (y : Result). y.answer) x);
               nodes = h.zero ∙ no_nodes (length nodes) ∙ sym (ap (λ (y : Result). padded (length nodes) (node_words y.nodes)) x);
@@ -82,10 +82,10 @@ module _ {mode : Mode} {s b btab : List ℕ} {texts : ℕ} (p : BothRead s b bta
               kept = g.kept;
             }
 
-        pub held-built : {m : ℕ} → d ≡ DrawnBuilt m → {nodes₁ : List ℕ} → Named ntab n nodes nodes₁
+        pub held_built : {m : ℕ} → d ≡ DrawnBuilt m → {nodes₁ : List ℕ} → Named ntab n nodes nodes₁
             → Holds (draw_result mode s b) nodes edges store imports includes levels (Built n m) nodes₁ edges₁ store₁ imports₁ includes₁ levels₁
-        held-built {m} q t =
-            let x = draw-built s b (draw_result mode s b) ready ntab n (nodes_held e) d edges₁ q g.seen in
+        held_built {m} q t =
+            let x = draw_built s b (draw_result mode s b) ready ntab n (nodes_held e) d edges₁ q g.seen in
             record {
               answer = sym (ap (λ (y : Result). y.answer) x);
               nodes = nodes_laid mode s ntab n nodes (nodes_held e) t ∙ sym (ap (λ (y : Result). padded (length nodes) (node_words y.nodes)) x);

@@ -58,20 +58,20 @@ module _ {mode : Mode} (s b : List ℕ) (x : Result) (g : Ready mode s b x) wher
     nodes_many : length (words_at mode s) ≡ n
     nodes_many = ap length (sym h.names) ∙ length_names s tab n
 
-    drawn-as : x ≡ drawing_result (words_at mode s) (items (names_held s tab n))
-    drawn-as =
+    drawn_as : x ≡ drawing_result (words_at mode s) (items (names_held s tab n))
+    drawn_as =
         by_nodes (le-ltb most_nodes (length (words_at mode s)) (omega (arith, nodes_many, h.few)))
         ∙ ap (λ (ns : List Name). drawing_result (words_at mode s) (items ns)) (sym (held_names mode h))
 
     module _ (r : Drawn) (edges : List ℕ) where
-      pub draw-refused : {number entry : ℕ} {a : Refusal} → r ≡ DrawnRefused number entry a → drawn_seen r edges ≡ items (names_held s tab n)
+      pub draw_refused : {number entry : ℕ} {a : Refusal} → r ≡ DrawnRefused number entry a → drawn_seen r edges ≡ items (names_held s tab n)
           → x ≡ refusal number entry a 0
-      draw-refused e f = drawn-as ∙ ap (drawing_result (words_at mode s)) (sym f ∙ ap (λ (q : Drawn). drawn_seen q edges) e)
+      draw_refused e f = drawn_as ∙ ap (drawing_result (words_at mode s)) (sym f ∙ ap (λ (q : Drawn). drawn_seen q edges) e)
 
-      pub draw-built : {m : ℕ} → r ≡ DrawnBuilt m → drawn_seen r edges ≡ items (names_held s tab n)
+      pub draw_built : {m : ℕ} → r ≡ DrawnBuilt m → drawn_seen r edges ≡ items (names_held s tab n)
           → x ≡ record { answer = Built n m; nodes = words_at mode s; rows = rows_in m edges }
-      draw-built {m} e f =
-          drawn-as
+      draw_built {m} e f =
+          drawn_as
           ∙ (ap (drawing_result (words_at mode s)) (sym f ∙ ap (λ (q : Drawn). drawn_seen q edges) e)
           ∙ ap₂ (λ (i j : ℕ). record { answer = Built i j; nodes = words_at mode s; rows = rows_in m edges }) nodes_many (rows_length m edges))
 

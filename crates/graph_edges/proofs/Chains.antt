@@ -113,9 +113,9 @@ module _ (edges chains : List ℕ) (a b h : ℕ) where
   seek_begun c q = record { chain = rw q c; same = rw q refl }
 
   module _ (e : ℕ) (g : Seeking e) where
-    pub seek-none : e ≤ 0 → false ≡ mem_r (row a b) (rows_in (get_or chains h 0) edges)
+    pub seek_none : e ≤ 0 → false ≡ mem_r (row a b) (rows_in (get_or chains h 0) edges)
     unfolding rows_in mem_r
-    seek-none l = let z : e ≡ 0 = omega arith in sym (g.same ∙ rw z)
+    seek_none l = let z : e ≡ 0 = omega arith in sym (g.same ∙ rw z)
 
     module _ (l : 0 < e) where
       module _ {x : Bool} (k : x ≡ eq_r (row_at edges (e - 1)) (row a b)) where
@@ -130,22 +130,22 @@ module _ (edges chains : List ℕ) (a b h : ℕ) where
         seek_found z = sym (g.same ∙ step ∙ rw z (always (mem_r (row a b) (rows_in (e - 1) edges))))
 
       module _ {next : ℕ} (q : next ≡ get_or chains (8192 + (e - 1)) 0) where
-        link-last : next ≡ last_in edges h (e - 1)
-        link-last = q ∙ g.chain.links_of (e - 1) (omega arith) ∙ ap (λ (u : ℕ). last_in edges u (e - 1)) (g.chain.own l)
+        link_last : next ≡ last_in edges h (e - 1)
+        link_last = q ∙ g.chain.links_of (e - 1) (omega arith) ∙ ap (λ (u : ℕ). last_in edges u (e - 1)) (g.chain.own l)
 
         pub seek_falls : next < e
-        seek_falls = omega (arith, link-last, last_low bucket_of edges h (e - 1))
+        seek_falls = omega (arith, link_last, last_low bucket_of edges h (e - 1))
 
-        rest-last : mem_r (row a b) (rows_in (e - 1) edges) ≡ mem_r (row a b) (rows_in next edges)
-        rest-last = mem_last bucket_of edges a b (e - 1)
+        rest_last : mem_r (row a b) (rows_in (e - 1) edges) ≡ mem_r (row a b) (rows_in next edges)
+        rest_last = mem_last bucket_of edges a b (e - 1)
             ∙ ap (λ (u : ℕ). mem_r (row a b) (rows_in (last_in edges u (e - 1)) edges)) (sym g.chain.its)
-            ∙ ap (λ (n : ℕ). mem_r (row a b) (rows_in n edges)) (sym link-last)
+            ∙ ap (λ (n : ℕ). mem_r (row a b) (rows_in n edges)) (sym link_last)
 
-        pub seek-next : {x : Bool} → x ≡ eq_r (row_at edges (e - 1)) (row a b) → x ≡ false → Seeking next
-        seek-next k z = record {
+        pub seek_next : {x : Bool} → x ≡ eq_r (row_at edges (e - 1)) (row a b) → x ≡ false → Seeking next
+        seek_next k z = record {
           chain = chain_at (e - 1) g.chain.its (omega (arith, g.chain.few)) g.chain.long g.chain.wide
-              (λ i m. g.chain.links_of i (omega arith)) link-last;
-          same = g.same ∙ step k ∙ rw z (or_not (mem_r (row a b) (rows_in (e - 1) edges))) ∙ rest-last;
+              (λ i m. g.chain.links_of i (omega arith)) link_last;
+          same = g.same ∙ step k ∙ rw z (or_not (mem_r (row a b) (rows_in (e - 1) edges))) ∙ rest_last;
         }
 
 -- ---- the look of `add_edge`; h: the chain of the edge

@@ -119,8 +119,8 @@ module _ (s b : List ℕ) {ns : List Name} {n : ℕ} {x : Item} {v : ℕ} (g : P
     plain : (walk_seen w edges₁ ≡ walk_codes (codes_here s b ns) most_edges 8 23 v (rows_in count edges)) × WalkBetween (codes_here s b ns) w levels₁ edges₁
     plain = as_plain (codes_here s b ns) v (rows_in count edges) levels levels₁ edges₁ h w d.seen
 
-    pub item-walked : Drew (item_walk s b ns (item_word s x) v (rows_in count edges)) edges chains w edges₁ chains₁
-    item-walked = record {
+    pub item_walked : Drew (item_walk s b ns (item_word s x) v (rows_in count edges)) edges chains w edges₁ chains₁
+    item_walked = record {
       seen = plain.0 ∙ (ap (λ (u : ℕ). walk_codes (codes_here s b ns) most_edges 8 23 u (rows_in count edges)) (g.own (sym p ∙ t))
           ∙ sym (asked s b ns x v (rows_in count edges) (sym t ∙ p) refl));
       filed = walk_filed 8 v levels₁ edges₁ chains₁ w d.ready;
@@ -128,15 +128,15 @@ module _ (s b : List ℕ) {ns : List Name} {n : ℕ} {x : Item} {v : ℕ} (g : P
       kept_chains = d.kept_chains;
     }
 
-    pub between-walked : WalkBetween (codes_here s b ns) w levels₁ edges₁
-    between-walked = plain.1
+    pub between_walked : WalkBetween (codes_here s b ns) w levels₁ edges₁
+    between_walked = plain.1
 
   module _ (f : e ≡ false) {l : Bool} (q : l ≡ is_listed x.kind) where
-    pub item-linked : l ≡ true → {w : Walked} {edges₁ chains₁ : List ℕ}
+    pub item_linked : l ≡ true → {w : Walked} {edges₁ chains₁ : List ℕ}
         → Drew (given_code most_edges v (known_at s ns (take (x.place + x.size - x.place) (drop x.place s))) (rows_in count edges)) edges chains w edges₁
         chains₁
         → Drew (item_walk s b ns (item_word s x) v (rows_in count edges)) edges chains w edges₁ chains₁
-    item-linked t {w} {edges₁} {chains₁} d =
+    item_linked t {w} {edges₁} {chains₁} d =
         subst (λ (o : Out Row). Drew o edges chains w edges₁ chains₁)
         (ap (λ (u : Name). given_code most_edges v (known_at s ns u) (rows_in count edges)) (part_word s x.place x.size)
         ∙ sym (asked s b ns x v (rows_in count edges) (sym f ∙ p) (sym t ∙ q))) d
@@ -258,37 +258,37 @@ module _ {s b : List ℕ} {ns : List Name} {n : ℕ} {table : List ℕ} {items :
       }
 
   module _ (l : i < items) where
-    pub item-there : i * 2 + 2 ≤ length table
-    item-there = omega (arith, g.listed.long)
+    pub item_there : i * 2 + 2 ≤ length table
+    item_there = omega (arith, g.listed.long)
 
-    pub entry-low : entry < 32768
-    entry-low = omega (arith, g.entries, g.listed.few)
+    pub entry_low : entry < 32768
+    entry_low = omega (arith, g.entries, g.listed.few)
 
     module _ {x : Item} (e : x ≡ item_in table i) where
-      item-fits : ItemFits s x
-      item-fits = subst (ItemFits s) (sym e) (g.listed.fits i l)
+      item_fits : ItemFits s x
+      item_fits = subst (ItemFits s) (sym e) (g.listed.fits i l)
 
-      behind-entry : is_entry x.kind ≡ false → v < n
-      behind-entry f = go i refl
+      behind_entry : is_entry x.kind ≡ false → v < n
+      behind_entry f = go i refl
         where
           go : (j : ℕ) → i ≡ j → v < n
           go zero q = both_bools (ap (λ (k : ℕ). is_entry (item_in table k).kind) q ∙ first_entry g.listed (omega arith))
               (ap (λ (y : Item). is_entry y.kind) (sym e) ∙ f)
           go (suc j) q = g.low (omega arith)
 
-      pub next-asked : {ntab marks : List ℕ} → Desk s ntab n marks → Next s ntab n x v
-      next-asked {ntab} d = record {
+      pub next_asked : {ntab marks : List ℕ} → Desk s ntab n marks → Next s ntab n x v
+      next_asked {ntab} d = record {
         holding = d.holding;
-        fits = item-fits;
+        fits = item_fits;
         node = λ h. d.entries (word_at s x.place x.size).text (ap (λ (y : Item). memb (word_at s y.place y.size).text (entry_names (plain_at s))) e
             ∙ entry_known g.listed i l (ap (λ (y : Item). is_entry y.kind) (sym e) ∙ h));
-        behind = behind-entry;
+        behind = behind_entry;
       }
 
       module _ {u : ℕ} (p : u ≡ next_node ns (item_word s x) v) (o : u < n) where
         pub placed : Placed s ns n x u
         placed = record {
-          fits = item-fits;
+          fits = item_fits;
           low = o;
           own = λ h. p ∙ ap (λ (c : Bool). cond c (item_node ns (item_word s x)) v) h;
         }
@@ -319,9 +319,9 @@ module _ {s b : List ℕ} {ns : List Name} {n : ℕ} {table : List ℕ} {items :
               above_kept = c.above_kept ∙ g.kept.above_kept;
             }
 
-            pub sent-out : {number : ℕ} {a : Refusal} → w ≡ Refused number a
+            pub sent_out : {number : ℕ} {a : Refusal} → w ≡ Refused number a
                 → Walks s b ns store₀ imports₀ includes₀ levels₀ edges₀ chains₀ (DrawnRefused number k a) store₁ imports₁ includes₁ levels₁ edges₁ chains₁
-            sent-out y = record {
+            sent_out y = record {
               seen = sym (turn ∙ ap (λ (w : Walked). behind (item_word s x) (walk_seen w edges₁) k u) y);
               filed = tt;
               kept_edges = d.kept_edges ∙ g.kept_edges;
@@ -329,8 +329,8 @@ module _ {s b : List ℕ} {ns : List Name} {n : ℕ} {table : List ℕ} {items :
               kept = kept_on;
             }
 
-            entries-on : k ≤ i + 1
-            entries-on = go (is_entry x.kind) q
+            entries_on : k ≤ i + 1
+            entries_on = go (is_entry x.kind) q
               where
                 go : (t : Bool) → k ≡ cond t (entry + 1) entry → k ≤ i + 1
                 go true z = omega (arith, g.entries)
@@ -342,7 +342,7 @@ module _ {s b : List ℕ} {ns : List Name} {n : ℕ} {table : List ℕ} {items :
               rest = turn ∙ ap (λ (w : Walked). behind (item_word s x) (walk_seen w edges₁) k u) y;
               listed = g.listed;
               some = omega arith;
-              entries = entries-on;
+              entries = entries_on;
               low = λ z. o;
               tables = record {
                 scan = record {

@@ -57,8 +57,8 @@ module _ (s : List ℕ) (ns : List Name) (store imports : List ℕ) (m v : ℕ) 
   all_named h = record {
     seen = sym (g.rest ∙ rw (rows_done (import_at imports) import_size m i h));
     filed = g.filed;
-    kept_edges = g.long-edges;
-    kept_chains = g.long-chains;
+    kept_edges = g.long_edges;
+    kept_chains = g.long_chains;
   }
 
   module _ (x : YangImport) (name : List ℕ) (e : x ≡ import_at imports (i * import_size)) (f : name ≡ value_in store x.module_name) (h : i < m) where
@@ -71,26 +71,26 @@ module _ (s : List ℕ) (ns : List Name) (store imports : List ℕ) (m v : ℕ) 
 
     module _ (r : Walked) (edges₁ chains₁ : List ℕ) (d : Drew (import_code most_edges v (known_at s ns name) (rows_in total edges)) edges chains r edges₁ chains₁)
       where
-        pub named-wrong : (number : ℕ) (a : Refusal) → r ≡ Refused number a
+        pub named_wrong : (number : ℕ) (a : Refusal) → r ≡ Refused number a
             → Drew (each_o (import_code most_edges v) (import_codes s ns store imports m) rs) edges₀ chains₀ r edges₁ chains₁
-        named-wrong number a z =
+        named_wrong number a z =
             let q : import_code most_edges v (known_at s ns name) (rows_in total edges) ≡ refused number a = sym d.seen ∙ ap (λ r. walk_seen r edges₁) z in
             record {
               seen = ap (λ r. walk_seen r edges₁) z
                   ∙ sym (turn ∙ ap (λ o. then_o o (each_o (import_code most_edges v) (imports_from s ns store imports m (i + 1)))) q);
               filed = d.filed;
-              kept_edges = d.kept_edges ∙ g.long-edges;
-              kept_chains = d.kept_chains ∙ g.long-chains;
+              kept_edges = d.kept_edges ∙ g.long_edges;
+              kept_chains = d.kept_chains ∙ g.long_chains;
             }
 
-        pub named-on : (k : ℕ) → r ≡ Built k → Naming s ns store imports m v rs edges₀ chains₀ edges₁ chains₁ k (i + 1)
-        named-on k z =
+        pub named_on : (k : ℕ) → r ≡ Built k → Naming s ns store imports m v rs edges₀ chains₀ edges₁ chains₁ k (i + 1)
+        named_on k z =
             let q : import_code most_edges v (known_at s ns name) (rows_in total edges) ≡ built (rows_in k edges₁) = sym d.seen ∙ ap (λ r. walk_seen r edges₁) z in
             record {
               room = omega arith;
               few = g.few;
               filed = rw z at d.filed;
-              long_edges = d.kept_edges ∙ g.long-edges;
-              long_chains = d.kept_chains ∙ g.long-chains;
+              long_edges = d.kept_edges ∙ g.long_edges;
+              long_chains = d.kept_chains ∙ g.long_chains;
               rest = turn ∙ ap (λ o. then_o o (each_o (import_code most_edges v) (imports_from s ns store imports m (i + 1)))) q;
             }

@@ -104,8 +104,8 @@ module _ (n : ℕ) (s : List ℕ) (ns : List Name) (store includes : List ℕ) (
         ∙ ap (included_at s ns) (f ∙ ap (λ (x : YangInclude). value_in store x.submodule_name) e) in
         rw (rows_more (include_at includes) include_size k i h, p)
 
-    pub saved-on : Saving n s ns store includes k base levels₀ (set levels (base + i) w) (i + 1)
-    saved-on =
+    pub saved_on : Saving n s ns store includes k base levels₀ (set levels (base + i) w) (i + 1)
+    saved_on =
         let l : base + i < length levels = level_in h in
         let one : i + 1 ≡ suc i = omega arith in
         let same : get_or (set levels (base + i) w) (base + i) 0 ≡ w = get_or-set_same levels (base + i) w 0 l in

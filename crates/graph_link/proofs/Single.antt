@@ -84,13 +84,13 @@ module _ (s : List ℕ) (ns : List Name) (u : Name) (r : Resolved) (k : resolved
     code : known_at s ns u ≡ suc y.0
     code = sym k ∙ ap resolved_code e
 
-    pub listed-drew : Linked rs (row v y.0) edges chains x edges₁ chains₁ → given ≡ true
+    pub listed_drew : Linked rs (row v y.0) edges chains x edges₁ chains₁ → given ≡ true
         → Drew (either_code given v (known_at s ns u) rs) edges chains w edges₁ chains₁
-    listed-drew l g = rw (g, code) (drew x rs (row v y.0) edges chains edges₁ chains₁ w l o)
+    listed_drew l g = rw (g, code) (drew x rs (row v y.0) edges chains edges₁ chains₁ w l o)
 
-    pub import-drew : Linked rs (row y.0 v) edges chains x edges₁ chains₁ → given ≡ false
+    pub import_drew : Linked rs (row y.0 v) edges chains x edges₁ chains₁ → given ≡ false
         → Drew (either_code given v (known_at s ns u) rs) edges chains w edges₁ chains₁
-    import-drew l g = rw (g, code) (drew x rs (row y.0 v) edges chains edges₁ chains₁ w l o)
+    import_drew l g = rw (g, code) (drew x rs (row y.0 v) edges chains edges₁ chains₁ w l o)
 
 -- ---- an include
 

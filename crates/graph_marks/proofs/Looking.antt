@@ -76,8 +76,8 @@ module _ {s tab marks : List ℕ} {n : ℕ} (d : Desk s tab n marks) (t : Name) 
     at_is : at ≡ k * 2
     at_is = a ∙ ap (λ (i : ℕ). i * 2) w
 
-    known-here : get_or marks at 0 ≡ bit known
-    known-here = ap (λ (i : ℕ). get_or marks i 0) at_is ∙ known_mark hit
+    known_here : get_or marks at 0 ≡ bit known
+    known_here = ap (λ (i : ℕ). get_or marks i 0) at_is ∙ known_mark hit
 
     listed_here : get_or marks (at + 1) 0 ≡ bit listed
     listed_here = ap (λ (i : ℕ). get_or marks (i + 1) 0) at_is ∙ listed_mark hit
@@ -87,52 +87,52 @@ module _ {s tab marks : List ℕ} {n : ℕ} (d : Desk s tab n marks) (t : Name) 
 
     -- ---- the ways out of `find_known`
 
-    pub known-not : get_or marks at 0 ≡ 0 → 0 ≡ known_at s names t
+    pub known_not : get_or marks at 0 ≡ 0 → 0 ≡ known_at s names t
     unfolding known_at
-    known-not z = let f : known ≡ false = bit_no known (sym known-here ∙ z) in rw f
+    known_not z = let f : known ≡ false = bit_no known (sym known_here ∙ z) in rw f
 
-    pub known-yes : (get_or marks at 0 ≡ 0 → ⊥) → suc u ≡ known_at s names t
+    pub known_yes : (get_or marks at 0 ≡ 0 → ⊥) → suc u ≡ known_at s names t
     unfolding known_at
-    known-yes z = let f : known ≡ true = bit_yes known (λ y. z (known-here ∙ y)) in rw (f, numbered)
+    known_yes z = let f : known ≡ true = bit_yes known (λ y. z (known_here ∙ y)) in rw (f, numbered)
 
     -- ---- the ways out of `find_included`
 
-    pub included-not : get_or marks (at + 1) 0 ≡ 0 → 0 ≡ included_at s names t
+    pub included_not : get_or marks (at + 1) 0 ≡ 0 → 0 ≡ included_at s names t
     unfolding included_at
-    included-not z = let f : listed ≡ false = bit_no listed (sym listed_here ∙ z) in rw f
+    included_not z = let f : listed ≡ false = bit_no listed (sym listed_here ∙ z) in rw f
 
-    pub included-yes : (get_or marks (at + 1) 0 ≡ 0 → ⊥) → suc (suc u) ≡ included_at s names t
+    pub included_yes : (get_or marks (at + 1) 0 ≡ 0 → ⊥) → suc (suc u) ≡ included_at s names t
     unfolding included_at
-    included-yes z =
+    included_yes z =
         let f : listed ≡ true = bit_yes listed (λ y. z (listed_here ∙ y)) in
         rw (f, node_hit s tab n t hit, numbered)
 
     -- ---- where the marks of a name stand
 
-    pub node-below : u < n
-    node-below = omega (arith, hit_low s tab t n hit)
+    pub node_below : u < n
+    node_below = omega (arith, hit_low s tab t n hit)
 
-    pub at-bytes : Fits w64 (at * 4)
-    at-bytes = record { fits = omega (arith, node-below, d.holding.few) }
+    pub at_bytes : Fits w64 (at * 4)
+    at_bytes = record { fits = omega (arith, node_below, d.holding.few) }
 
     pub at_in : at < length marks
-    at_in = omega (arith, node-below, d.holding.few, d.marked.wide)
+    at_in = omega (arith, node_below, d.holding.few, d.marked.wide)
 
     pub next_fits : Fits w64 (at + 1)
-    next_fits = record { fits = omega (arith, node-below, d.holding.few) }
+    next_fits = record { fits = omega (arith, node_below, d.holding.few) }
 
-    pub next-bytes : Fits w64 ((at + 1) * 4)
-    next-bytes = record { fits = omega (arith, node-below, d.holding.few) }
+    pub next_bytes : Fits w64 ((at + 1) * 4)
+    next_bytes = record { fits = omega (arith, node_below, d.holding.few) }
 
     pub next_in : at + 1 < length marks
-    next_in = omega (arith, node-below, d.holding.few, d.marked.wide)
+    next_in = omega (arith, node_below, d.holding.few, d.marked.wide)
 
   module _ {r : Found} {k : ℕ} (q : r ≡ At k) (e : r ≡ first_of t (names_in s tab n)) where
     pub found_low : k < most_nodes
     found_low = omega (arith, hit_low s tab t n (sym e ∙ q), d.holding.few)
 
-    pub found-node : {u : ℕ} → u ≡ k → u < most_nodes
-    found-node w = omega (arith, found_low)
+    pub found_node : {u : ℕ} → u ≡ k → u < most_nodes
+    found_node w = omega (arith, found_low)
 
   -- ---- a name that is not found
 

@@ -169,8 +169,8 @@ module _ (s table tab marks : List ℕ) (i n : ℕ) (m : Marking s table i tab n
     hit : first_of it.name.text (names_in s tab n) ≡ At k
     hit = ap (λ (t : Name). first_of t (names_in s tab n)) (sym sought) ∙ sym f ∙ q
 
-    pub mark-low : k < n
-    mark-low = hit_low s tab it.name.text n hit
+    pub mark_low : k < n
+    mark_low = hit_low s tab it.name.text n hit
 
     own : it.name.text ≡ (name_in_row s tab k).text
     own = sym (hit_text s tab it.name.text n hit)
@@ -182,24 +182,24 @@ module _ (s table tab marks : List ℕ) (i n : ℕ) (m : Marking s table i tab n
         go : (b : Bool) → same it.name.text (name_in_row s tab j).text ≡ b → same it.name.text (name_in_row s tab j).text ≡ false
         go true h =
             let p : (name_in_row s tab k).text ≡ (name_in_row s tab j).text = sym own ∙ same_eq it.name.text (name_in_row s tab j).text h in
-            ⊎_elim (λ o. absurd (apart s tab n k j m.indexed mark-low o (sym p))) (λ o. absurd (apart s tab n j k m.indexed l o p)) (order j k d)
+            ⊎_elim (λ o. absurd (apart s tab n k j m.indexed mark_low o (sym p))) (λ o. absurd (apart s tab n j k m.indexed l o p)) (order j k d)
         go false h = h
 
     pub row_low : k < most_nodes
-    row_low = omega (arith, mark-low, m.few)
+    row_low = omega (arith, mark_low, m.few)
 
     pub node_low : {u : ℕ} → u ≡ k → u < most_nodes
     node_low w = omega (arith, row_low)
 
     module _ {u at : ℕ} (w : u ≡ k) (a : at ≡ u * 2) where
-      pub at-bytes : Fits w64 (at * 4)
-      at-bytes = record { fits = omega (arith, row_low) }
+      pub at_bytes : Fits w64 (at * 4)
+      at_bytes = record { fits = omega (arith, row_low) }
 
       pub next_fits : Fits w64 (at + 1)
       next_fits = record { fits = omega (arith, row_low) }
 
-      pub next-bytes : Fits w64 ((at + 1) * 4)
-      next-bytes = record { fits = omega (arith, row_low) }
+      pub next_bytes : Fits w64 ((at + 1) * 4)
+      next_bytes = record { fits = omega (arith, row_low) }
 
       pub at_in : at < length marks
       at_in = omega (arith, row_low, m.marked.wide)
@@ -216,14 +216,14 @@ module _ (s table tab marks : List ℕ) (i n : ℕ) (m : Marking s table i tab n
         (λ j l. stays is_entry (name_in_row s tab j).text (items_in s table i) it (m.marked.known j l) (other_kind is_entry (name_in_row s tab j).text it y))
         (λ j l. stays is_submodule (name_in_row s tab j).text (items_in s table i) it (m.marked.listed j l) (other_kind is_submodule (name_in_row s tab j).text it w))
 
-    set-entry : {b : Bool} → b ≡ is_entry x.kind → b ≡ true → After (set marks (k * 2) 1)
-    set-entry p o =
+    set_entry : {b : Bool} → b ≡ is_entry x.kind → b ≡ true → After (set marks (k * 2) 1)
+    set_entry p o =
         let y : is_entry it.kind ≡ true = ap (λ (a : ℕ). is_entry a) (sym kind_of) ∙ sym p ∙ o in
         let w : is_submodule it.kind ≡ false = no_entry_sub it.kind y in
         all_marked (set marks (k * 2) 1) (length-set marks (k * 2) 1)
         (λ j l. ⊎_elim
         (λ d. is_set is_entry (name_in_row s tab j).text (items_in s table i) it
-        (ap (λ (a : ℕ). get_or (set marks (k * 2) 1) (a * 2) 0) d ∙ get_or-set_same marks (k * 2) 1 0 (omega (arith, mark-low, m.few, m.marked.wide)))
+        (ap (λ (a : ℕ). get_or (set marks (k * 2) 1) (a * 2) 0) d ∙ get_or-set_same marks (k * 2) 1 0 (omega (arith, mark_low, m.few, m.marked.wide)))
         (it_hits is_entry (name_in_row s tab j).text it y (own ∙ ap (λ (a : ℕ). (name_in_row s tab a).text) (sym d))))
         (λ d. stays is_entry (name_in_row s tab j).text (items_in s table i) it
         (get_or-set_other marks (k * 2) (j * 2) 1 0 (λ z. d (omega (arith, z))) ∙ m.marked.known j l)
@@ -233,8 +233,8 @@ module _ (s table tab marks : List ℕ) (i n : ℕ) (m : Marking s table i tab n
         (get_or-set_other marks (k * 2) (j * 2 + 1) 1 0 (λ z. omega (arith, z)) ∙ m.marked.listed j l)
         (other_kind is_submodule (name_in_row s tab j).text it w))
 
-    set-sub : {b : Bool} → b ≡ is_entry x.kind → b ≡ false → x.kind ≡ 1 → After (set marks (k * 2 + 1) 1)
-    set-sub p o z =
+    set_sub : {b : Bool} → b ≡ is_entry x.kind → b ≡ false → x.kind ≡ 1 → After (set marks (k * 2 + 1) 1)
+    set_sub p o z =
         let y : is_entry it.kind ≡ false = ap (λ (a : ℕ). is_entry a) (sym kind_of) ∙ sym p ∙ o in
         let w : is_submodule it.kind ≡ true = ap (λ (a : ℕ). is_submodule a) (sym kind_of ∙ z) in
         all_marked (set marks (k * 2 + 1) 1) (length-set marks (k * 2 + 1) 1)
@@ -244,7 +244,7 @@ module _ (s table tab marks : List ℕ) (i n : ℕ) (m : Marking s table i tab n
         (λ j l. ⊎_elim
         (λ d. is_set is_submodule (name_in_row s tab j).text (items_in s table i) it
         (ap (λ (a : ℕ). get_or (set marks (k * 2 + 1) 1) (a * 2 + 1) 0) d ∙ get_or-set_same marks (k * 2 + 1) 1 0
-        (omega (arith, mark-low, m.few, m.marked.wide)))
+        (omega (arith, mark_low, m.few, m.marked.wide)))
         (it_hits is_submodule (name_in_row s tab j).text it w (own ∙ ap (λ (a : ℕ). (name_in_row s tab a).text) (sym d))))
         (λ d. stays is_submodule (name_in_row s tab j).text (items_in s table i) it
         (get_or-set_other marks (k * 2 + 1) (j * 2 + 1) 1 0 (λ z. d (omega (arith, z))) ∙ m.marked.listed j l)
@@ -255,11 +255,11 @@ module _ (s table tab marks : List ℕ) (i n : ℕ) (m : Marking s table i tab n
       at_is : k * 2 ≡ at
       at_is = omega arith
 
-      pub mark-entry : {b : Bool} → b ≡ is_entry x.kind → b ≡ true → After (set marks at 1)
-      mark-entry p o = subst (λ (i : ℕ). After (set marks i 1)) at_is (set-entry p o)
+      pub mark_entry : {b : Bool} → b ≡ is_entry x.kind → b ≡ true → After (set marks at 1)
+      mark_entry p o = subst (λ (i : ℕ). After (set marks i 1)) at_is (set_entry p o)
 
-      pub mark-sub : {b : Bool} → b ≡ is_entry x.kind → b ≡ false → x.kind ≡ 1 → After (set marks (at + 1) 1)
-      mark-sub p o z = subst (λ (i : ℕ). After (set marks (i + 1) 1)) at_is (set-sub p o z)
+      pub mark_sub : {b : Bool} → b ≡ is_entry x.kind → b ≡ false → x.kind ≡ 1 → After (set marks (at + 1) 1)
+      mark_sub p o z = subst (λ (i : ℕ). After (set marks (i + 1) 1)) at_is (set_sub p o z)
 
 -- ---- all items
 
@@ -282,14 +282,14 @@ module _ (s table tab : List ℕ) (count n : ℕ) where
   }
 
   module _ {before marks : List ℕ} {i : ℕ} (g : MarkLoop s table tab count n before marks i) where
-    pub marks-ask : Itemized s count table → Holding s tab n (names_in s tab n) → i < count → Marking s table i tab n marks
-    marks-ask t h l = record { there = omega (arith, t.long); fits = t.fits i l; indexed = h.indexed; few = h.few; marked = g.marked }
+    pub marks_ask : Itemized s count table → Holding s tab n (names_in s tab n) → i < count → Marking s table i tab n marks
+    marks_ask t h l = record { there = omega (arith, t.long); fits = t.fits i l; indexed = h.indexed; few = h.few; marked = g.marked }
 
-    pub marks-on : {after : List ℕ} → Marked s tab n (items_in s table (i + 1)) after → length after ≡ length marks → i < count
+    pub marks_on : {after : List ℕ} → Marked s tab n (items_in s table (i + 1)) after → length after ≡ length marks → i < count
         → MarkLoop s table tab count n before after (i + 1)
-    marks-on k o l = record { marked = k; kept = o ∙ g.kept; room = omega arith }
+    marks_on k o l = record { marked = k; kept = o ∙ g.kept; room = omega arith }
 
-    pub marks-done : Itemized s count table → count ≤ i → Marked s tab n (items_at s) marks
-    marks-done t l =
+    pub marks_done : Itemized s count table → count ≤ i → Marked s tab n (items_at s) marks
+    marks_done t l =
         let e : i ≡ count = omega (arith, g.room) in
         subst (λ (xs : List (ItemOf PlacedName)). Marked s tab n xs marks) (ap (items_in s table) e ∙ t.items) g.marked

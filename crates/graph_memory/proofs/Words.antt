@@ -81,14 +81,14 @@ module _ (levels : List ℕ) (left v at : ℕ) (z : at ≡ v * 2) (l : v < most_
   recall_circle e = rw (its, e) refl
 
   module _ (p : get_or levels at 0 ≡ 0 → ⊥) (q : get_or levels at 0 ≡ 1 → ⊥) (h : ℕ) (y : h ≡ get_or levels (at + 1) 0) where
-    walked-mark : remembered levels v ≡ below h
-    walked-mark = its ∙ rw (ne_eqb (get_or levels at 0) 0 p, ne_eqb (get_or levels at 0) 1 q, y) refl
+    walked_mark : remembered levels v ≡ below h
+    walked_mark = its ∙ rw (ne_eqb (get_or levels at 0) 0 p, ne_eqb (get_or levels at 0) 1 q, y) refl
 
-    pub recall-deep : left < h → TooDeep ≡ recalled left (remembered levels v)
-    recall-deep k = rw (walked-mark, lt-leb h left k) refl
+    pub recall_deep : left < h → TooDeep ≡ recalled left (remembered levels v)
+    recall_deep k = rw (walked_mark, lt-leb h left k) refl
 
-    pub recall-known : h ≤ left → Known ≡ recalled left (remembered levels v)
-    recall-known k = rw (walked-mark, le-leb h left k) refl
+    pub recall_known : h ≤ left → Known ≡ recalled left (remembered levels v)
+    recall_known k = rw (walked_mark, le-leb h left k) refl
 
 -- what is known: how many includes lie below it, and that there is so much depth left
 pub known_height : (levels : List ℕ) (left v : ℕ) → v < most_nodes → Known ≡ recalled left (remembered levels v)

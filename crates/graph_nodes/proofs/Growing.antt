@@ -157,40 +157,40 @@ module _ (c : Bool) (s table before : List ℕ) (count : ℕ) where
   }
 
   module _ {tab : List ℕ} {n : ℕ} {b : Bool} {i : ℕ} (g : Building c s table before count tab n b i) where
-    pub build-asks : Itemized s count table → i < count → length s ≤ 65536 → AddsItem s table i tab n
-    build-asks m l k = record {
+    pub build_asks : Itemized s count table → i < count → length s ≤ 65536 → AddsItem s table i tab n
+    build_asks m l k = record {
       holding = record { indexed = g.holding.indexed; names = refl; few = g.holding.few; space = g.holding.space };
       there = omega (arith, m.long);
       fits = m.fits i l;
       short = k;
     }
 
-    next-items : items_in s table (i + 1) ≡ items_in s table i ++ (item_word s (item_in table i) ∷ [])
+    next_items : items_in s table (i + 1) ≡ items_in s table i ++ (item_word s (item_in table i) ∷ [])
     unfolding items_in
-    next-items = ap (items_in s table) (add-one i)
+    next_items = ap (items_in s table) (add-one i)
 
-    next-so-far : add_item c (so (names_in s tab n) b) (item_word s (item_in table i)) ≡ so_far c s table (i + 1)
+    next_so_far : add_item c (so (names_in s tab n) b) (item_word s (item_in table i)) ≡ so_far c s table (i + 1)
     unfolding add_items
-    next-so-far =
+    next_so_far =
         let p : so (names_in s tab n) b ≡ so_far c s table i = λ j. record { nodes = g.holding.names j; adding = g.adding j } in
         ap (λ (a : Adding). add_item c a (item_word s (item_in table i))) p
         ∙ sym (items_append c (items_in s table i) (item_word s (item_in table i) ∷ []) (so [] false))
-        ∙ ap (add_items c (so [] false)) (sym next-items)
+        ∙ ap (add_items c (so [] false)) (sym next_items)
 
     module _ {r : Grown} {after : List ℕ} where
-      pub build-on : {m : ℕ} {d : Bool} → r ≡ On m d → Grew s tab (add_item c (so (names_in s tab n) b) (item_word s (item_in table i))) r after → i < count
+      pub build_on : {m : ℕ} {d : Bool} → r ≡ On m d → Grew s tab (add_item c (so (names_in s tab n) b) (item_word s (item_in table i))) r after → i < count
           → Building c s table before count after m d (i + 1)
-      build-on {m} {d} q w l =
+      build_on {m} {d} q w l =
           let k : GrownAs (On m d) s after (so_far c s table (i + 1)) =
-          subst (λ (x : Adding). GrownAs (On m d) s after x) next-so-far
+          subst (λ (x : Adding). GrownAs (On m d) s after x) next_so_far
           (subst (λ (u : Grown). GrownAs u s after (add_item c (so (names_in s tab n) b) (item_word s (item_in table i)))) q w.answer) in
           record { holding = k.0; adding = k.1; kept = w.kept ∙ g.kept; room = omega arith }
 
-      pub build-full : r ≡ Full → Grew s tab (add_item c (so (names_in s tab n) b) (item_word s (item_in table i))) r after → {entry : List ℕ}
+      pub build_full : r ≡ Full → Grew s tab (add_item c (so (names_in s tab n) b) (item_word s (item_in table i))) r after → {entry : List ℕ}
           → Cleared entry before → Itemized s count table → Bytes s → i < count → Constructed (mode_of c) s entry TooMany after
-      build-full q w k₀ m bytes l =
+      build_full q w k₀ m bytes l =
           let k : most_nodes < length (so_far c s table (i + 1)).nodes =
-          subst (λ (x : Adding). GrownAs Full s after x) next-so-far (subst
+          subst (λ (x : Adding). GrownAs Full s after x) next_so_far (subst
           (λ (u : Grown). GrownAs u s after (add_item c (so (names_in s tab n) b) (item_word s (item_in table i)))) q w.answer) in
           let e : i + 1 + (count - (i + 1)) ≡ count = omega arith in
           let o : so_far c s table count ≡ add_items c (so_far c s table (i + 1)) (items_from s table (i + 1) (count - (i + 1))) =
@@ -208,8 +208,8 @@ module _ (c : Bool) (s table before : List ℕ) (count : ℕ) where
           ) in
           record { answer = u; kept = w.kept ∙ g.kept ∙ k₀.kept }
 
-    pub build-done : {entry : List ℕ} → Cleared entry before → Itemized s count table → Bytes s → count ≤ i → Constructed (mode_of c) s entry (Count n) tab
-    build-done k₀ m bytes l =
+    pub build_done : {entry : List ℕ} → Cleared entry before → Itemized s count table → Bytes s → count ≤ i → Constructed (mode_of c) s entry (Count n) tab
+    build_done k₀ m bytes l =
         let e : i ≡ count = omega (arith, g.room) in
         let p : (so_far c s table i).nodes ≡ words_at (mode_of c) s = ap (λ (j : ℕ). (so_far c s table j).nodes) e ∙ all_nodes c m bytes in
         record { answer = subst (λ (ns : List PlacedName). Holding s tab n ns) p g.holding; kept = g.kept ∙ k₀.kept }

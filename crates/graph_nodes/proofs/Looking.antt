@@ -19,7 +19,7 @@ use Rattle.library_form.proofs.Bounds.{part_word}
 use Rattle.library_index.specs.Names.{first_from, first_of, first_by, among, row_of, name_in_row, names_in}
 use Rattle.library_index.specs.declared.Found.{Found}
 use Rattle.library_index.specs.declared.Found.TheVariants.{At, Nothing}
-use Rattle.library_index.proofs.First.{not_among, is_among, the-hit, hit_low}
+use Rattle.library_index.proofs.First.{not_among, is_among, the_hit, hit_low}
 use Rattle.library_index.proofs.Chain.{length_names}
 use Rattle.library_image.specs.Library.{Name, Library, plain_name, plain, import_only_of}
 use Rattle.library_image.specs.Image.{image_at}
@@ -61,7 +61,7 @@ text_of t (w ∷ ws) = go (same w.text t) refl (text_of t ws)
 
 -- the name of the number that is answered has the bytes that are sought
 pub hit_text : (s tab t : List ℕ) (n : ℕ) {k : ℕ} → first_of t (names_in s tab n) ≡ At k → (name_in_row s tab k).text ≡ t
-hit_text s tab t n e = sym (the-hit plain_name t s tab t n e) ∙ text_of t (names_in s tab n)
+hit_text s tab t n e = sym (the_hit plain_name t s tab t n e) ∙ text_of t (names_in s tab n)
 
 -- ---- nodes in an index
 
@@ -134,12 +134,12 @@ name_nth s tab zero i l = absurd (omega arith)
 name_nth s tab (suc n) i l =
     ap (λ (ns : List Name). get_or ns i []) (map-append plain_name (names_in s tab n) (name_in_row s tab n ∷ []))
     ∙ ⊎_elim
-    (λ e. rw e (get_or_at (map plain_name (names_in s tab n)) (name_in_row s tab n).text [] [] n (names-long n)))
-    (λ k. get_or-append (map plain_name (names_in s tab n)) ((name_in_row s tab n).text ∷ []) [] i (rw (names-long n) k) ∙ name_nth s tab n i k)
+    (λ e. rw e (get_or_at (map plain_name (names_in s tab n)) (name_in_row s tab n).text [] [] n (names_long n)))
+    (λ k. get_or-append (map plain_name (names_in s tab n)) ((name_in_row s tab n).text ∷ []) [] i (rw (names_long n) k) ∙ name_nth s tab n i k)
     (eq-or-lt_of_le {n = i} {m = n} (omega arith))
   where
-    names-long : (m : ℕ) → length (map plain_name (names_in s tab m)) ≡ m
-    names-long m = length-map (names_in s tab m) plain_name ∙ length_names s tab m
+    names_long : (m : ℕ) → length (map plain_name (names_in s tab m)) ≡ m
+    names_long m = length-map (names_in s tab m) plain_name ∙ length_names s tab m
 
 -- i: the node's row
 module _ (s tab : List ℕ) (n v i place size : ℕ) (h : Numbered s tab n v) (e : i ≡ v) (p : place ≡ get_or tab (row_of i) 0)

@@ -17,31 +17,31 @@ module _ (longest nodes edges store imports includes levels : ℕ) where
   short_nodes h = rw (lt-ltb nodes 2048 h) refl
 
   module _ (enough : 2 * 1024 ≤ nodes) where
-    pub short-edges : edges < 16384 → true ≡ is_too_short longest lent
+    pub short_edges : edges < 16384 → true ≡ is_too_short longest lent
     unfolding is_too_short
-    short-edges h = rw (le-ltb nodes 2048 enough) (rw (lt-ltb edges 16384 h) refl)
+    short_edges h = rw (le-ltb nodes 2048 enough) (rw (lt-ltb edges 16384 h) refl)
 
     module _ (enough₁ : 16384 ≤ edges) where
-      pub short-store : store < longest → true ≡ is_too_short longest lent
+      pub short_store : store < longest → true ≡ is_too_short longest lent
       unfolding is_too_short
-      short-store h = rw (le-ltb nodes 2048 enough) (rw (le-ltb edges 16384 enough₁) (rw (lt-ltb store longest h) refl))
+      short_store h = rw (le-ltb nodes 2048 enough) (rw (le-ltb edges 16384 enough₁) (rw (lt-ltb store longest h) refl))
 
       module _ (enough₂ : longest ≤ store) where
-        pub short-imports : imports < 256 * 7 → true ≡ is_too_short longest lent
+        pub short_imports : imports < 256 * 7 → true ≡ is_too_short longest lent
         unfolding is_too_short
-        short-imports h =
+        short_imports h =
             rw (le-ltb nodes 2048 enough) (rw (le-ltb edges 16384 enough₁) (rw (le-ltb store longest enough₂) (rw (lt-ltb imports 1792 h) refl)))
 
         module _ (enough₃ : 256 * 7 ≤ imports) where
-          pub short-includes : includes < 256 * 5 → true ≡ is_too_short longest lent
+          pub short_includes : includes < 256 * 5 → true ≡ is_too_short longest lent
           unfolding is_too_short
-          short-includes h =
+          short_includes h =
               rw (le-ltb nodes 2048 enough) (rw (le-ltb edges 16384 enough₁) (rw (le-ltb store longest enough₂) (rw (le-ltb imports 1792 enough₃)
               (rw (lt-ltb includes 1280 h) refl))))
 
-          pub short-levels : 256 * 5 ≤ includes → ltb levels 4352 ≡ is_too_short longest lent
+          pub short_levels : 256 * 5 ≤ includes → ltb levels 4352 ≡ is_too_short longest lent
           unfolding is_too_short
-          short-levels h =
+          short_levels h =
               rw (le-ltb nodes 2048 enough) (rw (le-ltb edges 16384 enough₁) (rw (le-ltb store longest enough₂) (rw (le-ltb imports 1792 enough₃)
               (rw (le-ltb includes 1280 h) refl))))
 

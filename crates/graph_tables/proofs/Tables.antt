@@ -115,8 +115,8 @@ module _ (tab : List ℕ) (n : ℕ) (before nodes : List ℕ) (i : ℕ) (g : Nam
       }
 
   module _ (l : i < n) where
-    pub name-row : row_of i + nameWords ≤ length tab
-    name-row = omega (arith, g.asked.rows)
+    pub name_row : row_of i + nameWords ≤ length tab
+    name_row = omega (arith, g.asked.rows)
 
     pub place_fits : {p : ℕ} → p ≡ get_or tab (row_of i) 0 → Fits w32 p
     place_fits e = record { fits = omega (arith, g.asked.small i l) }
@@ -130,12 +130,12 @@ module _ (tab : List ℕ) (n : ℕ) (before nodes : List ℕ) (i : ℕ) (g : Nam
     second_word : i * 2 + 1 < length nodes
     second_word = omega (arith, g.long, g.asked.room)
 
-    pub second-set : (a : ℕ) → i * 2 + 1 < length (set nodes (i * 2) a)
-    second-set a = rw length-set second_word
+    pub second_set : (a : ℕ) → i * 2 + 1 < length (set nodes (i * 2) a)
+    second_set a = rw length-set second_word
 
-    pub naming-more : {p q : ℕ} → p ≡ get_or tab (row_of i) 0 → q ≡ get_or tab (row_of i + 1) 0
+    pub naming_more : {p q : ℕ} → p ≡ get_or tab (row_of i) 0 → q ≡ get_or tab (row_of i + 1) 0
         → Naming tab n before (set (set nodes (i * 2) p) (i * 2 + 1) q) (i + 1)
-    naming-more {p} {q} e f = record {
+    naming_more {p} {q} e f = record {
       asked = g.asked;
       some = omega arith;
       long = length-set (set nodes (i * 2) p) (i * 2 + 1) q ∙ (length-set nodes (i * 2) p ∙ g.long);

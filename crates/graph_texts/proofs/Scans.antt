@@ -19,7 +19,7 @@ use Rattle.scan_rows.specs.Short.{is_too_short}
 use Rattle.yangparser.specs.Promises.{Holds, lent_scan, Scans}
 use Rattle.yangparser.specs.declared.Parsed.{Parsed}
 use Rattle.yangparser.specs.declared.Parsed.TheVariants.{Good, Refused as RefusedScan}
-use Rattle.yangparser.proofs.KeptLaws.{entry_good, parsed_good, parsed_refused, held-imports, held-includes}
+use Rattle.yangparser.proofs.KeptLaws.{entry_good, parsed_good, parsed_refused, held_imports, held_includes}
 use Rattle.yangparser.proofs.Placed.{ImportIn, IncludeIn}
 use Rattle.yangparser.proofs.ScanLaws.{Sound, scan_sound}
 use Rattle.graph.specs.Graph.{deps}
@@ -49,8 +49,8 @@ module _ {s : List ℕ} (x : Dependencies) (k : Sound s x) {d t u e f g : List �
       ≡ deps (import_names x.bytes x.imports) (include_names x.bytes x.includes)
   names_back =
       ap₂ deps
-      (ap (import_names e) (held-imports x k h m.import_room) ∙ import_names_lem x.bytes d h.stored stored_room x.imports k.placed.imports)
-      (ap (include_names e) (held-includes x k h m.include_room) ∙ include_names_lem x.bytes d h.stored stored_room x.includes k.placed.includes)
+      (ap (import_names e) (held_imports x k h m.import_room) ∙ import_names_lem x.bytes d h.stored stored_room x.imports k.placed.imports)
+      (ap (include_names e) (held_includes x k h m.include_room) ∙ include_names_lem x.bytes d h.stored stored_room x.includes k.placed.includes)
 
 -- ---- the ways out of `scan_text`
 
@@ -73,9 +73,9 @@ module _ (s : List ℕ) {d t u : List ℕ} (m : ScanRoom (length s) d t u) where
         let k = parsed_refused (lent_scan false s false d t u) q (sym p.answer ∙ h) in
         record { seen = sym (text_is ∙ ap scan_seen k.1); few = tt; kept_store = el; kept_imports = fl; kept_includes = gl }
 
-    pub scan-read : {i j n : ℕ} → r ≡ Good i j n → SeenAs (scan_text s) d t u (Rows i j) e f g
+    pub scan_read : {i j n : ℕ} → r ≡ Good i j n → SeenAs (scan_text s) d t u (Rows i j) e f g
     unfolding read_of
-    scan-read {i} {j} {n} h =
+    scan_read {i} {j} {n} h =
         let y = lent_scan false s false d t u in
         let k = parsed_good y i j n (sym p.answer ∙ h) in
         let x = k.0 in

@@ -22,13 +22,13 @@ module _ (b t : List ℕ) {p : TextPlace} (a : looked p ≡ look_up b t) where
 
   -- x: the bytes there
   module _ {from size : ℕ} (h : p ≡ At from size) {x : List ℕ} (q : x ≡ take size (drop from b)) where
-    pub under-room : (tab : List ℕ) (n : ℕ) → Held b tab n → (d f g : List ℕ) → ScanRoom (longest_text b) d f g → ScanRoom (length x) d f g
-    under-room tab n held d f g m = record {
+    pub under_room : (tab : List ℕ) (n : ℕ) → Held b tab n → (d f g : List ℕ) → ScanRoom (longest_text b) d f g → ScanRoom (length x) d f g
+    under_room tab n held d f g m = record {
       store_room = omega (arith, ap length q, length-take size (drop from b), found_low b tab t n held (sym (is_there b t a h)), m.store_room);
       import_room = m.import_room;
       include_room = m.include_room;
     }
 
-    pub text-under : {d f g : List ℕ} {r : Seen} {e i j : List ℕ} → SeenAs (scan_text x) d f g r e i j → SeenAs (text_of b t) d f g r e i j
+    pub text_under : {d f g : List ℕ} {r : Seen} {e i j : List ℕ} → SeenAs (scan_text x) d f g r e i j → SeenAs (text_of b t) d f g r e i j
     unfolding text_of
-    text-under {d} {f} {g} {r} {e} {i} {j} w = subst (λ y. SeenAs y d f g r e i j) (ap scan_text q ∙ ap (look_text b) (is_there b t a h)) w
+    text_under {d} {f} {g} {r} {e} {i} {j} w = subst (λ y. SeenAs y d f g r e i j) (ap scan_text q ∙ ap (look_text b) (is_there b t a h)) w

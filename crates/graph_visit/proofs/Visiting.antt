@@ -63,8 +63,8 @@ module _ (s b : List ℕ) (ns : List Name) (v : ℕ) (name : List ℕ) (p : name
     no_text_lem : r ≡ Missing → codes_here s b ns v ≡ no_text
     no_text_lem z = under ∙ ap (codes_of (world_of s b ns) ns) (sym l.seen ∙ ap (λ r. text_seen r e f g) z)
 
-    refused-text : (a : Refusal) → r ≡ Unscanned a → codes_here s b ns v ≡ refused_scan a
-    refused-text a z = under ∙ ap (codes_of (world_of s b ns) ns) (sym l.seen ∙ ap (λ r. text_seen r e f g) z)
+    refused_text : (a : Refusal) → r ≡ Unscanned a → codes_here s b ns v ≡ refused_scan a
+    refused_text a z = under ∙ ap (codes_of (world_of s b ns) ns) (sym l.seen ∙ ap (λ r. text_seen r e f g) z)
 
     read : (m k : ℕ) → r ≡ Rows m k → codes_here s b ns v ≡ codes (import_codes s ns e f m) (include_codes s ns e g k)
     unfolding import_codes include_codes known_at included_at world_of
@@ -74,14 +74,14 @@ module _ (s b : List ℕ) (ns : List Name) (v : ℕ) (name : List ℕ) (p : name
       abbrev expected : Below → Went
       expected f = visited (codes_here s b ns) absent v (rows_in count edges) levels f
 
-      pub text-missing : (a : Refusal) (levels₁ : List ℕ) → r ≡ Missing → a ≡ no_refusal
+      pub text_missing : (a : Refusal) (levels₁ : List ℕ) → r ≡ Missing → a ≡ no_refusal
           → Called expected n left v count edges chains (Stopped absent a) levels₁ edges chains
       unfolding visited
-      text-missing a levels₁ z t = record { seen = λ below. rw (no_text_lem z, t); ready = tt; kept_edges = refl; kept_chains = refl }
+      text_missing a levels₁ z t = record { seen = λ below. rw (no_text_lem z, t); ready = tt; kept_edges = refl; kept_chains = refl }
 
-      pub text-refused : (a : Refusal) (levels₁ : List ℕ) → r ≡ Unscanned a → Called expected n left v count edges chains (Stopped 25 a) levels₁ edges chains
+      pub text_refused : (a : Refusal) (levels₁ : List ℕ) → r ≡ Unscanned a → Called expected n left v count edges chains (Stopped 25 a) levels₁ edges chains
       unfolding visited
-      text-refused a levels₁ z = record { seen = λ below. rw (refused-text a z); ready = tt; kept_edges = refl; kept_chains = refl }
+      text_refused a levels₁ z = record { seen = λ below. rw (refused_text a z); ready = tt; kept_edges = refl; kept_chains = refl }
 
       module _ (m k : ℕ) (z : r ≡ Rows m k) (w : Walked) (edges₁ chains₁ : List ℕ)
           (o : Drew (each_o (import_code most_edges v) (import_codes s ns e f m) (rows_in count edges)) edges chains w edges₁ chains₁) where
@@ -126,8 +126,8 @@ module _ (t : Text) (d f₀ g₀ : List ℕ) (r : Seen) (e f g : List ℕ) (l : 
   seen_long k = record { store_long = l.kept_store; imports_long = l.kept_imports; includes_long = l.kept_includes; levels_long = k }
 
   module _ (left : ℕ) {v : ℕ} {levels levels₀ : List ℕ} (y : Remembers levels v reading levels₀) where
-    pub kept-levels : Kept (level_at (left + 1)) d f₀ g₀ levels e f g levels₀
-    kept-levels = record {
+    pub kept_levels : Kept (level_at (left + 1)) d f₀ g₀ levels e f g levels₀
+    kept_levels = record {
       long = seen_long y.long;
       stays_read = stays_marked y reading_read;
       above_kept = later memory_words (level_at (left + 1)) levels₀ levels (omega arith) y.above;
@@ -206,9 +206,9 @@ module _ (left v : ℕ) (levels : List ℕ) (q : Recalled) (e : q ≡ recalled l
     abbrev meeting : Below → Went
     meeting f = met_here at left absent v (rows_in count edges) levels f
 
-    pub met-deep : (a : Refusal) → q ≡ TooDeep → a ≡ no_refusal → Called meeting n left v count edges chains (Stopped 29 a) levels edges chains
+    pub met_deep : (a : Refusal) → q ≡ TooDeep → a ≡ no_refusal → Called meeting n left v count edges chains (Stopped 29 a) levels edges chains
     unfolding met_here
-    met-deep a z t = record {
+    met_deep a z t = record {
       seen = λ f. ap (λ (b : Refusal). halted 29 b) t
           ∙ sym (too_deep_lem z (rows_in count edges) (remembered levels) (visited at absent v (rows_in count edges) levels f));
       ready = tt;
@@ -216,9 +216,9 @@ module _ (left v : ℕ) (levels : List ℕ) (q : Recalled) (e : q ≡ recalled l
       kept_chains = refl;
     }
 
-    pub met-known : q ≡ Recall → v < most_nodes → Filed edges chains count → Called meeting n left v count edges chains Known levels edges chains
+    pub met_known : q ≡ Recall → v < most_nodes → Filed edges chains count → Called meeting n left v count edges chains Known levels edges chains
     unfolding met_here
-    met-known z l o =
+    met_known z l o =
         let k = known_height levels left v l (sym z ∙ e) in
         record {
           seen = λ f. sym (ap (λ (x : Mark). met x left (rows_in count edges) (remembered levels) (visited at absent v (rows_in count edges) levels f)) k.0
@@ -228,11 +228,11 @@ module _ (left v : ℕ) (levels : List ℕ) (q : Recalled) (e : q ≡ recalled l
           kept_chains = refl;
         }
 
-    pub met-unread : q ≡ Unread → {r : Visited} {levels₁ edges₁ chains₁ : List ℕ}
+    pub met_unread : q ≡ Unread → {r : Visited} {levels₁ edges₁ chains₁ : List ℕ}
         → Called (visited at absent v (rows_in count edges) levels) n left v count edges chains r levels₁ edges₁ chains₁
         → Called meeting n left v count edges chains r levels₁ edges₁ chains₁
     unfolding met_here
-    met-unread z d = record {
+    met_unread z d = record {
       seen = λ f. d.seen f
           ∙ sym (ap (λ (x : Mark). met x left (rows_in count edges) (remembered levels) (visited at absent v (rows_in count edges) levels f)) (visit_asked z));
       ready = d.ready;

@@ -182,9 +182,9 @@ module _ {at : ℕ → Codes} {n left v base k : ℕ} {levels₀ edges₀ chains
 
     -- the end, where the includes below are put down
     module _ (l : v < most_nodes) {levels₁ : List ℕ} (y : Remembers levels v (below most) levels₁) where
-      pub ended-all : k ≤ i → Through (expected at left d) left v edgesE chainsE (Built total) levels₁ edges chains
+      pub ended_all : k ≤ i → Through (expected at left d) left v edgesE chainsE (Built total) levels₁ edges chains
       unfolding includes_once words_from
-      ended-all h =
+      ended_all h =
           let q : k - i ≡ 0 = omega arith in
           let all : ahead at left v (words_from levels₀ base k) (rows_in linked edges₀) (remembered levels₀) 0
           ≡ walked (rows_in total edges) (remembered levels) most = g.rest ∙ rw q in
@@ -193,22 +193,22 @@ module _ {at : ℕ → Codes} {n left v base k : ℕ} {levels₀ edges₀ chains
           record {
             seen = ap₂ (λ (m : Marks) (h : ℕ). walked (rows_in total edges) m h) y.marks own ∙ sym (all_words ∙ ap (λ (w : Went). then_w w (ended v)) all);
             ready = record { filed = g.filed; low = omega (arith, own, g.high) };
-            kept_edges = g.long-edges ∙ d.kept_edges;
-            kept_chains = g.long-chains ∙ d.kept_chains;
+            kept_edges = g.long_edges ∙ d.kept_edges;
+            kept_chains = g.long_chains ∙ d.kept_chains;
           }
 
     module _ {x : Stepping} {edges₁ chains₁ : List ℕ} (s : Stepped (get_or levels (base + i) 0) left v (rows_in total edges) edges chains x edges₁ chains₁)
         (h : i < k) where
-      pub halted-here : {number : ℕ} {a : Refusal} → x ≡ Halted number → a ≡ no_refusal
+      pub halted_here : {number : ℕ} {a : Refusal} → x ≡ Halted number → a ≡ no_refusal
           → Through (expected at left d) left v edgesE chainsE (Refused number a) levels edges₁ chains₁
-      halted-here {number} {a} e y =
+      halted_here {number} {a} e y =
           let q : include_once most_edges (below_once at most_edges left) v (get_or levels (base + i) 0) (rows_in total edges) (remembered levels)
           ≡ halted number no_refusal = sym (s.seen at (remembered levels)) ∙ ap (λ x. step_seen (below_once at most_edges left) x edges₁ (remembered levels)) e in
           record {
             seen = ap (λ a. halted number a) y ∙ sym (all_words ∙ ap (λ (w : Went). then_w w (ended v)) (turn h ∙ ap (λ (w : Went). then_w w onwards) q));
             ready = tt;
-            kept_edges = s.kept_edges ∙ g.long-edges ∙ d.kept_edges;
-            kept_chains = s.kept_chains ∙ g.long-chains ∙ d.kept_chains;
+            kept_edges = s.kept_edges ∙ g.long_edges ∙ d.kept_edges;
+            kept_chains = s.kept_chains ∙ g.long_chains ∙ d.kept_chains;
           }
 
   pub kept_end : {store imports includes levelsE store₀ imports₀ includes₀ store₁ imports₁ includes₁ : List ℕ}
@@ -226,15 +226,15 @@ module _ {at : ℕ → Codes} {n left v base k : ℕ} {levels₀ edges₀ chains
     pub some_left : 0 < left
     some_left = descends.deep
 
-    pub child-low : u.0 < n
-    child-low = omega (arith, descends.node, word_low h)
+    pub child_low : u.0 < n
+    child_low = omega (arith, descends.node, word_low h)
 
-    pub child-room : {bundle store imports includes levelsE edgesE chainsE store₀ imports₀ includes₀ store₁ imports₁ includes₁ : List ℕ} {count : ℕ}
+    pub child_room : {bundle store imports includes levelsE edgesE chainsE store₀ imports₀ includes₀ store₁ imports₁ includes₁ : List ℕ} {count : ℕ}
         → Room bundle store imports includes levelsE edgesE chainsE left count
         → Kept (level_at (left + 1)) store imports includes levelsE store₀ imports₀ includes₀ levels₀
         → AsLong store₀ imports₀ includes₀ levels₀ store₁ imports₁ includes₁ levels
         → Room bundle store₁ imports₁ includes₁ levels edges₁ chains₁ (left - 1) m
-    child-room t p l = record {
+    child_room t p l = record {
       scan = record {
         store_room = omega (arith, t.scan.store_room, l.store_long, p.long.store_long);
         import_room = omega (arith, t.scan.import_room, l.imports_long, p.long.imports_long);
@@ -255,10 +255,10 @@ module _ {at : ℕ → Codes} {n left v base k : ℕ} {levels₀ edges₀ chains
             sym (s.seen at (remembered levels)) ∙ ap (λ x. step_seen (below_once at most_edges left) x edges₁ (remembered levels)) e
             ∙ one_less at left u.0 (rows_in m edges₁) (remembered levels) some_left ∙ sym o.seen
 
-        pub sent-up : {count : ℕ} {edgesE chainsE : List ℕ} {r : Visited} {E : Below → Went} {number : ℕ} {a : Refusal}
+        pub sent_up : {count : ℕ} {edgesE chainsE : List ℕ} {r : Visited} {E : Below → Went} {number : ℕ} {a : Refusal}
             → (d : Called E n left v count edgesE chainsE r levels₀ edges₀ chains₀)
             → r ≡ Children k linked → w ≡ Refused number a → Through (expected at left d) left v edgesE chainsE w levels₂ edges₂ chains₂
-        sent-up {number = number} {a = a} d z y =
+        sent_up {number = number} {a = a} d z y =
             let q : include_once most_edges (below_once at most_edges left) v (get_or levels (base + i) 0) (rows_in total edges) (remembered levels)
             ≡ halted number a =
             child ∙ ap (λ w. walked_seen u.0 w levels₂ edges₂) y in
@@ -266,17 +266,17 @@ module _ {at : ℕ → Codes} {n left v base k : ℕ} {levels₀ edges₀ chains
               seen = ap (λ w. walked_seen v w levels₂ edges₂) y
                   ∙ sym (all_words d z ∙ ap (λ (w : Went). then_w w (ended v)) (turn h ∙ ap (λ (w : Went). then_w w onwards) q));
               ready = rw y tt;
-              kept_edges = o.kept_edges ∙ s.kept_edges ∙ g.long-edges ∙ d.kept_edges;
-              kept_chains = o.kept_chains ∙ s.kept_chains ∙ g.long-chains ∙ d.kept_chains;
+              kept_edges = o.kept_edges ∙ s.kept_edges ∙ g.long_edges ∙ d.kept_edges;
+              kept_chains = o.kept_chains ∙ s.kept_chains ∙ g.long_chains ∙ d.kept_chains;
             }
 
         module _ {store imports includes store₁ imports₁ includes₁ : List ℕ}
             (p : Kept (level_at (left - 1 + 1)) store imports includes levels store₁ imports₁ includes₁ levels₂) where
-          same-words : drop base levels₂ ≡ drop base levels
-          same-words = let q : base ≡ level_at (left - 1 + 1) = omega (arith, g.based, some_left) in rw q p.above_kept
+          same_words : drop base levels₂ ≡ drop base levels
+          same_words = let q : base ≡ level_at (left - 1 + 1) = omega (arith, g.based, some_left) in rw q p.above_kept
 
-          pub child-height : {t : ℕ} → w ≡ Built t → height_in levels₂ u.0 + 1 ≤ left
-          child-height {t} y = let q : Recalls (left - 1) u.0 t levels₂ edges₂ chains₂ = rw y at o.ready in omega (arith, q.low, some_left)
+          pub child_height : {t : ℕ} → w ≡ Built t → height_in levels₂ u.0 + 1 ≤ left
+          child_height {t} y = let q : Recalls (left - 1) u.0 t levels₂ edges₂ chains₂ = rw y at o.ready in omega (arith, q.low, some_left)
 
           pub went_on : {t most₁ : ℕ} → w ≡ Built t → most₁ ≡ raised most (height_in levels₂ u.0)
               → Walking at n left v base k levels₀ edges₀ chains₀ linked levels₂ edges₂ chains₂ t most₁ (i + 1)
@@ -290,19 +290,19 @@ module _ {at : ℕ → Codes} {n left v base k : ℕ} {levels₀ edges₀ chains
                 based = g.based;
                 inside = g.inside;
                 long = p.long.levels_long ∙ g.long;
-                kept = same-words ∙ g.kept;
+                kept = same_words ∙ g.kept;
                 stays_read = stays_on g.stays_read p.stays_read;
                 low = g.low;
                 filed = c.filed;
-                high = omega (arith, f, child-height y, g.high);
-                long_edges = o.kept_edges ∙ s.kept_edges ∙ g.long-edges;
-                long_chains = o.kept_chains ∙ s.kept_chains ∙ g.long-chains;
+                high = omega (arith, f, child_height y, g.high);
+                long_edges = o.kept_edges ∙ s.kept_edges ∙ g.long_edges;
+                long_chains = o.kept_chains ∙ s.kept_chains ∙ g.long_chains;
                 rest = turn h ∙ ap (λ (w : Went). then_w w onwards) q
                     ∙ ap (λ (j : ℕ). ahead at left v (words_from levels₀ (base + (i + 1)) (k - (i + 1))) (rows_in t edges₂) (remembered levels₂) j) (sym f);
               }
 
-          pub kept-sent : {storeE importsE includesE levelsE store₀ imports₀ includes₀ : List ℕ}
+          pub kept_sent : {storeE importsE includesE levelsE store₀ imports₀ includes₀ : List ℕ}
               → Kept (level_at (left + 1)) storeE importsE includesE levelsE store₀ imports₀ includes₀ levels₀
               → AsLong store₀ imports₀ includes₀ levels₀ store imports includes levels
               → Kept (level_at (left + 1)) storeE importsE includesE levelsE store₁ imports₁ includes₁ levels₂
-          kept-sent f l = kept_loop f (longer l p.long) p.stays_read same-words
+          kept_sent f l = kept_loop f (longer l p.long) p.stays_read same_words

@@ -10,7 +10,7 @@ use lib.Seq.{sets, sets-eq, take_all, take-suc, length-take-le}
 use Rattle.scan_rows.specs.Rows.{Each, table}
 use Rattle.scan_rows.specs.Span.{missing, mark_of, Fits}
 use Rattle.scan_rows.specs.declared.Span.{Span}
-use Rattle.scan_rows.proofs.Laws.{table-length, table_step}
+use Rattle.scan_rows.proofs.Laws.{table_length, table_step}
 use Rattle.host_words.specs.Words.{record_words}
 
 -- ---- a value's numbers are words
@@ -70,7 +70,7 @@ module _ (vs : List Span) (w : List ℕ) (i : ℕ) (six : length vs ≡ 6) (g : 
   pub all_written : 6 ≤ i → w ≡ record_words vs
   all_written l =
       let a : take i vs ≡ vs = take_all i vs (omega (arith, six)) in
-      let n : length (table three vs) ≡ 18 = table-length three 3 (λ y. refl) vs ∙ ap (λ k. k * 3) six in
+      let n : length (table three vs) ≡ 18 = table_length three 3 (λ y. refl) vs ∙ ap (λ k. k * 3) six in
       g.written ∙ ap (λ l. sets (replicate 18 0) 0 (table three l)) a
       ∙ sets-eq (table three vs) (replicate 18 0) 0 (omega (arith, n))
       ∙ ap (λ k. table three vs ++ drop (0 + k) (replicate 18 0)) n ∙ append-nil (table three vs) ∙ sym (record_table vs)

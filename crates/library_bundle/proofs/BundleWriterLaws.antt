@@ -16,7 +16,7 @@ use Rattle.library_form.specs.Writer.{write_number, write_name, AllBytes}
 use Rattle.library_form.proofs.Bounds.{number_end}
 use Rattle.library_form.proofs.Standing.{Wrote, wrote_none, wrote_join, number_wrote, name_wrote, Stands, stands_left, stands_right, stands_within}
 use Rattle.library_form.proofs.Standing.{number_stands, name_stands}
-use Rattle.library_form.proofs.WriterLaws.{name_bytes, number-most}
+use Rattle.library_form.proofs.WriterLaws.{name_bytes, number_most}
 use Rattle.library_index.specs.Names.{among, memb, new_name}
 use Rattle.library_index.proofs.First.{among_append}
 use Rattle.library_bundle.specs.Bundle.{most_texts, most_bytes, Text, text_of, body_at, filed_at, words, new_text, texts_at, bundle_at}
@@ -139,9 +139,9 @@ module _ (s : List ℕ) where
       wrote : Wrote s at (write_text (named s e)) n
       fine : TextBytes (named s e)
 
-    text-written : (ws : List PlacedName) (at : ℕ) {e : Text} {n : ℕ} → filed_at s ws at ≡ good e n → Said at e n
+    text_written : (ws : List PlacedName) (at : ℕ) {e : Text} {n : ℕ} → filed_at s ws at ≡ good e n → Said at e n
     unfolding write_text
-    text-written ws at {e} {n} h =
+    text_written ws at {e} {n} h =
         let o = parted s ws at h in
         let l = number_end s o.behind o.size in
         let r = o.room in
@@ -154,7 +154,7 @@ module _ (s : List ℕ) where
         record {
           inside = omega (arith, r, l.1, o.end);
           wrote = wrote_join s at o.behind n (name_wrote s bytes at o.name) (wrote_join s o.behind e.from n number body);
-          fine = record { name = name_bytes s at o.name; few = rw z (number-most s bytes o.behind o.size) };
+          fine = record { name = name_bytes s at o.name; few = rw z (number_most s bytes o.behind o.size) };
         }
 
     record AllSaid (at k : ℕ) (seen es : List Text) (n : ℕ) : Type 0 where
@@ -167,9 +167,9 @@ module _ (s : List ℕ) where
       fresh : Fresh (words seen) (all_named s new)
       differ : Differ (all_named s new)
 
-    texts-written : (k at : ℕ) (seen : List Text) {es : List Text} {n : ℕ} → at ≤ length s → many (new_text s) k seen at ≡ good es n → AllSaid at k seen es n
+    texts_written : (k at : ℕ) (seen : List Text) {es : List Text} {n : ℕ} → at ≤ length s → many (new_text s) k seen at ≡ good es n → AllSaid at k seen es n
     unfolding many write_texts
-    texts-written zero at seen {es} {n} i h =
+    texts_written zero at seen {es} {n} i h =
         let p : seen ≡ es = cc in
         let q : at ≡ n = cc in
         record {
@@ -182,13 +182,13 @@ module _ (s : List ℕ) where
           fresh = tt;
           differ = tt;
         }
-    texts-written (suc k) at seen {es} {n} i h = go (filed_at s (words seen) at) refl (λ e m j. texts-written k m (seen ++ (e ∷ [])) j) h
+    texts_written (suc k) at seen {es} {n} i h = go (filed_at s (words seen) at) refl (λ e m j. texts_written k m (seen ++ (e ∷ [])) j) h
       where
         go : (a : Ans Text) → filed_at s (words seen) at ≡ a
             → ((e : Text) (m : ℕ) → m ≤ length s → many (new_text s) k (seen ++ (e ∷ [])) m ≡ good es n → AllSaid m k (seen ++ (e ∷ [])) es n)
             → bind a (λ e m. many (new_text s) k (seen ++ (e ∷ [])) m) ≡ good es n → AllSaid at (suc k) seen es n
         go (good e m) p ih q =
-            let t = text-written (words seen) at p in
+            let t = text_written (words seen) at p in
             let r = ih e m t.inside q in
             let x = fresh_less (words seen) e.word (all_named s r.new) (rw (words_snoc seen e) at r.fresh) in
             record {
@@ -213,7 +213,7 @@ module _ (s : List ℕ) where
     unfolding write_bundle
     bundle_written {es} {n} h =
         let o = bundle_parted s h in
-        let r = texts-written o.count o.first [] (number_end s 0 o.number).1 o.texts in
+        let r = texts_written o.count o.first [] (number_end s 0 o.number).1 o.texts in
         let a = r.all in
         let e = o.end in
         let k : o.count ≡ length (all_named s r.new) = sym r.count ∙ sym (length-map r.new (named s)) in

@@ -44,8 +44,8 @@ module _ (s tab : List ℕ) (i at : ℕ) (r : Name) {after : List ℕ} (t : Take
         sized : number_at s (word + len) ≡ good size c.at
         sized = sym h ∙ ap number_seen g
 
-        pub body-in : c.at ≤ length s
-        body-in = (number_end s (word + len) sized).1
+        pub body_in : c.at ≤ length s
+        body_in = (number_end s (word + len) sized).1
 
         pub cut : length s - c.at < size → FiledAs s tab i at (WrongText (word + len)) after
         unfolding filed_at body_at

@@ -16,7 +16,7 @@ use Rattle.library_form.specs.declared.Number.TheVariants.{Value, Wrong as Wrong
 use Rattle.library_index.specs.Names.{row_of, row_words, first_of, first_by, names_in}
 use Rattle.library_index.specs.declared.Found.{Found}
 use Rattle.library_index.specs.declared.Found.TheVariants.{At as Numbered, Nothing as Unnumbered}
-use Rattle.library_index.proofs.First.{no_hit, hit_low, the-hit}
+use Rattle.library_index.proofs.First.{no_hit, hit_low, the_hit}
 use Rattle.library_bundle.specs.Bundle.{Text, words, bundle_at, place_of, looked, look_in, look_up, part_of, text_under}
 use Rattle.library_bundle.specs.Reading.{counted, opened_seen, Sizes, Held, OpenedAs}
 use Rattle.library_bundle.specs.declared.TextPlace.{TextPlace}
@@ -80,7 +80,7 @@ module _ (s tab t : List ℕ) (n : ℕ) (g : Held s tab n) {r : Found} (a : r �
       text_place : look_up s t ≡ looked (seen_place (number_at s (place + len)))
       text_place =
           sought
-          ∙ ap looked (the-hit (behind s) Nothing s tab t n (sym a ∙ e) ∙ ap₂ (λ (x y : ℕ). seen_place (number_at s (x + y))) (sym p) (sym l))
+          ∙ ap looked (the_hit (behind s) Nothing s tab t n (sym a ∙ e) ∙ ap₂ (λ (x y : ℕ). seen_place (number_at s (x + y))) (sym p) (sym l))
 
       module _ (q : Number) (f : number_seen q ≡ number_at s (place + len)) where
         pub unsized : {x : ℕ} → q ≡ WrongNumber x → looked Nothing ≡ look_up s t
@@ -109,9 +109,9 @@ module _ (s t : List ℕ) {r : TextPlace} (a : looked r ≡ look_up s t) where
 
   module _ {from size : ℕ} (e : r ≡ At from size) where
     -- x: the bytes there
-    pub the-text : {x : List ℕ} → x ≡ take size (drop from s) → x ≡ text_under s t
+    pub the_text : {x : List ℕ} → x ≡ take size (drop from s) → x ≡ text_under s t
     unfolding text_under
-    the-text h = h ∙ ap (part_of s) (is_there e)
+    the_text h = h ∙ ap (part_of s) (is_there e)
 
     module _ (tab : List ℕ) (n : ℕ) (g : Held s tab n) where
       pub text_in : from + size ≤ length s

@@ -23,15 +23,15 @@ use Rattle.library_bundle.proofs.Looking.{held_look, is_at}
 
 module _ (s tab : List ℕ) (i : ℕ) {place len : ℕ} (p : place ≡ get_or tab (row_of i) 0) (l : len ≡ get_or tab (row_of i + 1) 0) where
   module _ (q : Number) (f : number_seen q ≡ number_at s (place + len)) where
-    size-seen : size_read (number_seen q) ≡ size_in s tab i
+    size_seen : size_read (number_seen q) ≡ size_in s tab i
     unfolding size_in
-    size-seen = rw (← p, ← l) (ap size_read f)
+    size_seen = rw (← p, ← l) (ap size_read f)
 
     pub no_size : {x : ℕ} → q ≡ WrongNumber x → 0 ≡ size_in s tab i
-    no_size h = sym (ap (λ (b : Number). size_read (number_seen b)) h) ∙ size-seen
+    no_size h = sym (ap (λ (b : Number). size_read (number_seen b)) h) ∙ size_seen
 
     pub the_size : {size : ℕ} {c : ImageCursor} → q ≡ Value size c → size ≡ size_in s tab i
-    the_size h = sym (ap (λ (b : Number). size_read (number_seen b)) h) ∙ size-seen
+    the_size h = sym (ap (λ (b : Number). size_read (number_seen b)) h) ∙ size_seen
 
 -- ---- the largest of the lengths behind names
 
@@ -66,15 +66,15 @@ module _ (s tab : List ℕ) (n : ℕ) where
   measured_none h = record { held = h; room = omega arith; most_is = refl }
 
   module _ {most i : ℕ} (g : Measured s tab n most i) where
-    pub row-held : i < n → NameHeld s tab i
-    row-held h = record { row = omega (arith, g.held.indexed.long); inside = g.held.indexed.inside i h }
+    pub row_held : i < n → NameHeld s tab i
+    row_held h = record { row = omega (arith, g.held.indexed.long); inside = g.held.indexed.inside i h }
 
-    pub measured-more : {z m : ℕ} → z ≡ size_in s tab i → m ≡ max most z → i < n → Measured s tab n m (i + 1)
-    measured-more {z} {m} e f h = record { held = g.held; room = omega arith; most_is = f ∙ ap₂ max g.most_is e ∙ sym (most_more s tab i) }
+    pub measured_more : {z m : ℕ} → z ≡ size_in s tab i → m ≡ max most z → i < n → Measured s tab n m (i + 1)
+    measured_more {z} {m} e f h = record { held = g.held; room = omega arith; most_is = f ∙ ap₂ max g.most_is e ∙ sym (most_more s tab i) }
 
-    pub measured-all : n ≤ i → most ≡ longest_text s
+    pub measured_all : n ≤ i → most ≡ longest_text s
     unfolding longest_text
-    measured-all h =
+    measured_all h =
         let k : i ≡ n = omega (arith, g.room) in
         g.most_is
         ∙ ap (λ j. most_behind s (names_in s tab j)) k

@@ -117,8 +117,8 @@ module _ (s : List ℕ) (short : length s ≤ most_bytes) (q : Number) where
     number : number_at s 0 ≡ good count c.at
     number = sym f ∙ ap number_seen e
 
-    pub start-in : c.at ≤ length s
-    start-in = (number_end s 0 number).1
+    pub start_in : c.at ≤ length s
+    start_in = (number_end s 0 number).1
 
     pub too_many : (tab : List ℕ) → most_texts < count → OpenedAs s (Wrong 0) tab
     unfolding bundle_at texts_at
@@ -130,8 +130,8 @@ module _ (s : List ℕ) (short : length s ≤ most_bytes) (q : Number) where
       whole = rw (le-ltb _ _ short, number, le-ltb _ _ few)
 
       module _ {before tab : List ℕ} {i at : ℕ} (g : Reading s before tab count c.at i at) where
-        pub wrong-text : (r : Filed) {p : ℕ} {after : List ℕ} → i < count → r ≡ WrongText p → FiledAs s tab i at r after → OpenedAs s (Wrong p) after
-        wrong-text r {p} {after} h k l = refused s after (whole ∙ rw (stopped s before tab count c.at i at g r after h k l))
+        pub wrong_text : (r : Filed) {p : ℕ} {after : List ℕ} → i < count → r ≡ WrongText p → FiledAs s tab i at r after → OpenedAs s (Wrong p) after
+        wrong_text r {p} {after} h k l = refused s after (whole ∙ rw (stopped s before tab count c.at i at g r after h k l))
 
         pub extra : count ≤ i → at < length s → OpenedAs s (Wrong at) tab
         extra h l = refused s tab (whole ∙ rw (all_read s before tab count c.at i at g h, lt-ltb _ _ l))

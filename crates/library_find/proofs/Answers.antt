@@ -38,17 +38,17 @@ module _ (s t : List ℕ) (r : Read) where
     broken : bad p ≡ done (image_at s)
     broken = sym (ap read_seen e) ∙ f
 
-    pub module-broken : Broken p ≡ find_module s t
+    pub module_broken : Broken p ≡ find_module s t
     unfolding find_module
-    module-broken = in_broken _ s broken
+    module_broken = in_broken _ s broken
 
-    pub submodule-broken : Broken p ≡ find_submodule s t
+    pub submodule_broken : Broken p ≡ find_submodule s t
     unfolding find_submodule
-    submodule-broken = in_broken _ s broken
+    submodule_broken = in_broken _ s broken
 
-    pub import-broken : Broken p ≡ find_import_module s t
+    pub import_broken : Broken p ≡ find_import_module s t
     unfolding find_import_module
-    import-broken = in_broken _ s broken
+    import_broken = in_broken _ s broken
 
   module _ {n : ℕ} (e : r ≡ End n) (f : read_seen r ≡ done (image_at s)) (x : LookUp) where
     whole : good tt n ≡ done (image_at s)
@@ -58,9 +58,9 @@ module _ (s t : List ℕ) (r : Read) where
     unfolding find_module
     module_told q g h = in_good _ s x whole (λ l m k. h ∙ ap found_by g ∙ module_found s t k)
 
-    pub submodule-told : x ≡ found_by (all_submodules_tried s t) → x ≡ find_submodule s t
+    pub submodule_told : x ≡ found_by (all_submodules_tried s t) → x ≡ find_submodule s t
     unfolding find_submodule
-    submodule-told h = in_good _ s x whole (λ l m k. h ∙ submodule_found s t k)
+    submodule_told h = in_good _ s x whole (λ l m k. h ∙ submodule_found s t k)
 
     pub import_told : (q : Tried) → q ≡ sets_tried s t false true → x ≡ found_by q → x ≡ find_import_module s t
     unfolding find_import_module

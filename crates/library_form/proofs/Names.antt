@@ -47,8 +47,8 @@ module _ (s : List ℕ) where
     number : number_at s at ≡ good len n.at
     number = sym f ∙ ap number_seen e
 
-    pub first-in : n.at ≤ length s
-    first-in = (number_end s at number).1
+    pub first_in : n.at ≤ length s
+    first_in = (number_end s at number).1
 
     pub empty : len < 1 → bad at ≡ name_at s at
     unfolding name_at name_body

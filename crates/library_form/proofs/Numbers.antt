@@ -33,11 +33,11 @@ module _ (s : List ℕ) where
   -- each way through the code
   pub one : (at : ℕ) → at < length s → get_or s at 0 < 128 → good (get_or s at 0) (at + 1) ≡ number_at s at
   unfolding number_at
-  one at h g = zeroOr (get_or s at 0) refl
+  one at h g = zero_or (get_or s at 0) refl
     where
-      zeroOr : (a : ℕ) → a ≡ get_or s at 0 → good (get_or s at 0) (at + 1) ≡ groups 3 s at at 1 0
-      zeroOr zero e = sym (alone 2 at at 1 0 h (sym e) refl ∙ rw (← e))
-      zeroOr (suc n) e = sym (last 2 at at 1 0 h g (λ z. omega arith) ∙ ap₂ good (omega arith) refl)
+      zero_or : (a : ℕ) → a ≡ get_or s at 0 → good (get_or s at 0) (at + 1) ≡ groups 3 s at at 1 0
+      zero_or zero e = sym (alone 2 at at 1 0 h (sym e) refl ∙ rw (← e))
+      zero_or (suc n) e = sym (last 2 at at 1 0 h g (λ z. omega arith) ∙ ap₂ good (omega arith) refl)
 
   pub none : (at : ℕ) → length s ≤ at → bad at ≡ number_at s at
   unfolding number_at

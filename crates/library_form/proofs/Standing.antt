@@ -10,7 +10,7 @@ use lib.Seq.{drop-drop, take-add, drop-append_seam, length-take-le}
 use Rattle.library_form.specs.Form.{good, most_number, number_at, PlacedName, name_at}
 use Rattle.library_form.specs.Writer.{write_number, write_name, NameBytes, AllBytes}
 use Rattle.library_form.proofs.Bounds.{number_end, name_end}
-use Rattle.library_form.proofs.WriterLaws.{number_back, number-written, name_back, name_written}
+use Rattle.library_form.proofs.WriterLaws.{number_back, number_written, name_back, name_written}
 
 -- ---- the bytes between two places
 
@@ -36,7 +36,7 @@ module _ (s : List ℕ) where
       }
 
   pub number_wrote : AllBytes s → (at : ℕ) {c n : ℕ} → number_at s at ≡ good c n → Wrote s at (write_number c) n
-  number_wrote bytes at e = let q = number_end s at e in record { later = omega arith; bytes = number-written s bytes at e }
+  number_wrote bytes at e = let q = number_end s at e in record { later = omega arith; bytes = number_written s bytes at e }
 
   pub name_wrote : AllBytes s → (at : ℕ) {w : PlacedName} {n : ℕ} → name_at s at ≡ good w n → Wrote s at (write_name w.text) n
   name_wrote bytes at e =

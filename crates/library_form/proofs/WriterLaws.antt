@@ -117,8 +117,8 @@ module _ (s : List ℕ) where
         let d : e - at ≡ 1 = omega (arith, q.1) in
         (rw d (ap (take 1) (front at i) ∙ sym (write_one (get_or s at 0) g) ∙ ap write_number q.0), omega (arith, q.0, g))
 
-    is-two : 128 ≤ get_or s at 0 → at + 1 < length s → (get_or s (at + 1) 0 ≡ 0 → ⊥) → get_or s (at + 1) 0 < 128 → Shortest
-    is-two g i z l =
+    is_two : 128 ≤ get_or s at 0 → at + 1 < length s → (get_or s (at + 1) 0 ≡ 0 → ⊥) → get_or s (at + 1) 0 < 128 → Shortest
+    is_two g i z l =
         let a = get_or s at 0 in
         let b = get_or s (at + 1) 0 in
         let q = agreed (a - 128 + 128 * b) (at + 1 + 1) (two s at (omega (arith, i)) g i z l) in
@@ -131,9 +131,9 @@ module _ (s : List ℕ) where
           omega (arith, v, x, g, l),
         )
 
-    is-three : 128 ≤ get_or s at 0 → 128 ≤ get_or s (at + 1) 0 → at + 1 + 1 < length s → (get_or s (at + 1 + 1) 0 ≡ 0 → ⊥) → get_or s (at + 1 + 1) 0 < 128
+    is_three : 128 ≤ get_or s at 0 → 128 ≤ get_or s (at + 1) 0 → at + 1 + 1 < length s → (get_or s (at + 1 + 1) 0 ≡ 0 → ⊥) → get_or s (at + 1 + 1) 0 < 128
         → Shortest
-    is-three g k i z l =
+    is_three g k i z l =
         let a = get_or s at 0 in
         let b = get_or s (at + 1) 0 in
         let c = get_or s (at + 1 + 1) 0 in
@@ -149,8 +149,8 @@ module _ (s : List ℕ) where
           omega (arith, c₃, l),
         )
 
-    is-shortest : Shortest
-    is-shortest =
+    is_shortest : Shortest
+    is_shortest =
         by_test (ltb at (length s))
         (λ t₁. let i = ltb-true at (length s) t₁ in
         by_test (ltb (get_or s at 0) 128)
@@ -161,24 +161,24 @@ module _ (s : List ℕ) where
         by_test (eqb (get_or s (at + 1) 0) 0)
         (λ t. wrong (padded s at i g j (eqb-true (get_or s (at + 1) 0) 0 t)))
         (λ u. by_test (ltb (get_or s (at + 1) 0) 128)
-        (λ t. is-two g j (eqb-false (get_or s (at + 1) 0) 0 u) (ltb-true (get_or s (at + 1) 0) 128 t))
+        (λ t. is_two g j (eqb-false (get_or s (at + 1) 0) 0 u) (ltb-true (get_or s (at + 1) 0) 128 t))
         (λ u₂. let k = ltb-false (get_or s (at + 1) 0) 128 u₂ in
         by_test (ltb (at + 1 + 1) (length s))
         (λ t₃. let m = ltb-true (at + 1 + 1) (length s) t₃ in
         by_test (eqb (get_or s (at + 1 + 1) 0) 0)
         (λ t. wrong (padded3 s at i g j k m (eqb-true (get_or s (at + 1 + 1) 0) 0 t)))
         (λ u. by_test (ltb (get_or s (at + 1 + 1) 0) 128)
-        (λ t. is-three g k m (eqb-false (get_or s (at + 1 + 1) 0) 0 u) (ltb-true (get_or s (at + 1 + 1) 0) 128 t))
+        (λ t. is_three g k m (eqb-false (get_or s (at + 1 + 1) 0) 0 u) (ltb-true (get_or s (at + 1 + 1) 0) 128 t))
         (λ u₃. wrong (four s at i g j k m (ltb-false (get_or s (at + 1 + 1) 0) 128 u₃)))))
         (λ u. wrong (cut3 s at i g j k (ltb-false (at + 1 + 1) (length s) u))))))
         (λ u. wrong (cut s at i g (ltb-false (at + 1) (length s) u)))))
         (λ u. wrong (none s at (ltb-false at (length s) u)))
 
-    pub number-written : take (e - at) (drop at s) ≡ write_number n
-    number-written = is-shortest.0
+    pub number_written : take (e - at) (drop at s) ≡ write_number n
+    number_written = is_shortest.0
 
-    pub number-most : n ≤ most_number
-    number-most = is-shortest.1
+    pub number_most : n ≤ most_number
+    number_most = is_shortest.1
 
 -- ---- the bytes of a name
 
@@ -287,5 +287,5 @@ module _ (s : List ℕ) (at : ℕ) {w : PlacedName} {n : ℕ} (h : name_at s at 
       let f : at + (o.first - at) ≡ o.first = omega (arith, e) in
       ap (λ x. take x (drop at s)) d
       ∙ take-add (o.first - at) o.len (drop at s)
-      ∙ ap₂ ◌++◌ (number-written s bytes at o.number ∙ ap write_number m)
+      ∙ ap₂ ◌++◌ (number_written s bytes at o.number ∙ ap write_number m)
       (ap (take o.len) (drop-drop (o.first - at) at s ∙ ap (λ x. drop x s) f) ∙ t)

@@ -23,7 +23,7 @@ use Rattle.library_image.specs.ImageWriter.{FormedRevision, FormedImportOnly, Fo
 use Rattle.library_form.proofs.Standing.{wrote_join, name_wrote, Stands, stands_left, stands_right, name_stands}
 use Rattle.library_image.proofs.Steps.{on_good, bind_good, passed, carry}
 use Rattle.library_image.proofs.Differ.{none_of, not_among}
-use Rattle.library_image.proofs.Lawful.{Forth, Back, Lawful, counted-lawful}
+use Rattle.library_image.proofs.Lawful.{Forth, Back, Lawful, counted_lawful}
 
 -- ---- names
 
@@ -61,14 +61,14 @@ new_lawful = record { forth = new_forth; back = new_back }
 -- ---- lists of names
 
 names_lawful : Lawful (λ s seen at. counted 0 most_names any_word s at) (map plain_name) (write_list write_name) (λ before. Listed 0 most_names AnyName)
-names_lawful = counted-lawful any_lawful 0 most_names (omega arith)
+names_lawful = counted_lawful any_lawful 0 most_names (omega arith)
 
 revision_lawful : Lawful revision_at (map plain_name) (write_list write_name) FormedRevision
-revision_lawful = counted-lawful new_lawful 0 most_names (omega arith)
+revision_lawful = counted_lawful new_lawful 0 most_names (omega arith)
 
 revisions_lawful : Lawful (λ s seen at. counted least_revisions most_revisions revision_at s at) (map (map plain_name)) (write_list (write_list write_name))
     (λ before. Listed least_revisions most_revisions FormedRevision)
-revisions_lawful = counted-lawful revision_lawful least_revisions most_revisions (omega arith)
+revisions_lawful = counted_lawful revision_lawful least_revisions most_revisions (omega arith)
 
 -- ---- a module
 
@@ -131,7 +131,7 @@ module_lawful = record { forth = module_forth; back = module_back }
 
 modules_lawful : Lawful (λ s seen at. counted 0 most_modules module_at s at) (map plain_module) (write_list write_module)
     (λ before. Listed 0 most_modules FormedModule)
-modules_lawful = counted-lawful module_lawful 0 most_modules (omega arith)
+modules_lawful = counted_lawful module_lawful 0 most_modules (omega arith)
 
 -- ---- an import-only module
 
@@ -171,7 +171,7 @@ import_only_lawful = record { forth = import_only_forth; back = import_only_back
 
 imports_lawful : Lawful (λ s seen at. counted 0 most_modules import_only_at s at) (map plain_import_only) (write_list write_import_only)
     (λ before. Listed 0 most_modules FormedImportOnly)
-imports_lawful = counted-lawful import_only_lawful 0 most_modules (omega arith)
+imports_lawful = counted_lawful import_only_lawful 0 most_modules (omega arith)
 
 -- ---- a set
 
@@ -203,7 +203,7 @@ set_lawful : Lawful set_at plain_set write_set FormedSet
 set_lawful = record { forth = set_forth; back = set_back }
 
 sets_lawful : Lawful (λ s seen at. counted 0 most_sets set_at s at) plain (write_list write_set) (λ before. Listed 0 most_sets FormedSet)
-sets_lawful = counted-lawful set_lawful 0 most_sets (omega arith)
+sets_lawful = counted_lawful set_lawful 0 most_sets (omega arith)
 
 -- ---- the image
 

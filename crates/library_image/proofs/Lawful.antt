@@ -89,10 +89,10 @@ module _ {A B : Type 0} {p : Reader A} {f : A → B} {w : B → List ℕ} {Right
   -- ---- counted
 
   module _ (least most : ℕ) (fits : most ≤ most_number) where
-    counted-forth : (s : List ℕ) → AllBytes s → (before : List (List B)) (at : ℕ) {l : List A} {n : ℕ} → counted least most p s at ≡ good l n
+    counted_forth : (s : List ℕ) → AllBytes s → (before : List (List B)) (at : ℕ) {l : List A} {n : ℕ} → counted least most p s at ≡ good l n
         → Forth (write_list w) (λ before. Listed least most Right) s before at (map f l) n
     unfolding counted write_list
-    counted-forth s bytes before at {l} {n} e =
+    counted_forth s bytes before at {l} {n} e =
         on_good (count_at least most s at) _ e (λ c m e₁ e₂.
         let k = count_good s least most at e₁ in
         let r = many_forth s bytes c [] m e₂ in
@@ -122,8 +122,8 @@ module _ {A B : Type 0} {p : Reader A} {f : A → B} {w : B → List ℕ} {Right
               (r.read ∙ ap (good r.more) d);
         }
 
-    pub counted-lawful : Lawful (λ s seen at. counted least most p s at) (map f) (write_list w) (λ before. Listed least most Right)
-    counted-lawful = record {
-      forth = λ s bytes seen at e. counted-forth s bytes (map (map f) seen) at e;
+    pub counted_lawful : Lawful (λ s seen at. counted least most p s at) (map f) (write_list w) (λ before. Listed least most Right)
+    counted_lawful = record {
+      forth = λ s bytes seen at e. counted_forth s bytes (map (map f) seen) at e;
       back = counted_back;
     }

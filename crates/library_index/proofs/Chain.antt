@@ -112,8 +112,8 @@ module _ (s tab : List ℕ) where
     passed n e = one_more n ∙ rw e (or_nothing (Among n))
 
     -- a name in another bucket is another name
-    other-bucket : (w : List ℕ) → (hash_of w ≡ hash_of t → ⊥) → same w t ≡ false
-    other-bucket w d = same_no w t (λ e. d (ap hash_of e))
+    other_bucket : (w : List ℕ) → (hash_of w ≡ hash_of t → ⊥) → same w t ≡ false
+    other_bucket w d = same_no w t (λ e. d (ap hash_of e))
 
     -- so all names behind the chain's first can be left out
     skip : (n : ℕ) → Among n ≡ Among (top_in s tab (hash_of t) n)
@@ -124,7 +124,7 @@ module _ (s tab : List ℕ) where
         go : (b : Bool) → eqb (hash_of (name_in_row s tab n).text) (hash_of t) ≡ b → Among n ≡ Among (top_in s tab (hash_of t) n)
             → Among (suc n) ≡ Among (cond b (suc n) (top_in s tab (hash_of t) n))
         go true e ih = refl
-        go false e ih = passed n (other-bucket (name_in_row s tab n).text (eqb-false _ _ e)) ∙ ih
+        go false e ih = passed n (other_bucket (name_in_row s tab n).text (eqb-false _ _ e)) ∙ ih
 
     -- what the walk of a chain keeps: j is one more than the number of the name that it is at, or 0 at the end
     pub record Chained (n j : ℕ) : Type 0 where
@@ -133,15 +133,15 @@ module _ (s tab : List ℕ) where
       pub own : 0 < j → hash_of (name_in_row s tab (j - 1)).text ≡ hash_of t
 
     module _ (n h : ℕ) (a : Sought s tab n h t) where
-      pub chain-begun : (j : ℕ) → j ≡ get_or tab h 0 → Chained n j
-      chain-begun j q =
+      pub chain_begun : (j : ℕ) → j ≡ get_or tab h 0 → Chained n j
+      chain_begun j q =
           let e : j ≡ top_in s tab (hash_of t) n = q ∙ a.indexed.heads h a.low ∙ ap (λ (h : ℕ). top_in s tab h n) a.bucket in
           record { same = rw e (skip n); low = rw e (top_low (hash_of t) n); own = rw e (top_own (hash_of t) n) }
 
       module _ (j : ℕ) (g : Chained n j) where
-        pub chain-done : j ≤ 0 → Nothing ≡ Among n
+        pub chain_done : j ≤ 0 → Nothing ≡ Among n
         unfolding names_in first_from
-        chain-done l = let e : j ≡ 0 = omega arith in sym (g.same ∙ rw e)
+        chain_done l = let e : j ≡ 0 = omega arith in sym (g.same ∙ rw e)
 
         -- place and len are what the table says of the name, next is its link
         module _ {place len : ℕ} (p : place ≡ get_or tab (2048 + (j - 1) * 3) 0) (z : len ≡ get_or tab (2048 + (j - 1) * 3 + 1) 0) (l : 0 < j) where
@@ -157,8 +157,8 @@ module _ (s tab : List ℕ) where
           linked : {next : ℕ} → next ≡ get_or tab (2048 + (j - 1) * 3 + 2) 0 → next ≡ top_in s tab (hash_of t) (j - 1)
           linked q = q ∙ a.indexed.links (j - 1) (omega (arith, g.low)) ∙ ap (λ (h : ℕ). top_in s tab h (j - 1)) (g.own l)
 
-          pub chain-falls : {next : ℕ} → next ≡ get_or tab (2048 + (j - 1) * 3 + 2) 0 → next < j
-          chain-falls q = rw (linked q) (omega (arith, top_low (hash_of t) (j - 1)))
+          pub chain_falls : {next : ℕ} → next ≡ get_or tab (2048 + (j - 1) * 3 + 2) 0 → next < j
+          chain_falls q = rw (linked q) (omega (arith, top_low (hash_of t) (j - 1)))
 
           -- what is compared
           abbrev Part : List ℕ
@@ -169,8 +169,8 @@ module _ (s tab : List ℕ) where
 
           -- b is what the comparison answers
           module _ {b : Bool} (k : (b ≡ true → Part ≡ t) × (Part ≡ t → b ≡ true)) where
-            pub chain-hit : b ≡ true → At (j - 1) ≡ Among n
-            chain-hit y =
+            pub chain_hit : b ≡ true → At (j - 1) ≡ Among n
+            chain_hit y =
                 let e : (name_in_row s tab (j - 1)).text ≡ t = sym part ∙ k.0 y in
                 let d : Among (j - 1) ≡ Nothing = rw (← e) (a.indexed.differ (j - 1) (omega (arith, g.low))) in
                 sym (g.same ∙ ap Among here ∙ one_more (j - 1) ∙ rw (d, same_yes (name_in_row s tab (j - 1)).text t e))
@@ -178,8 +178,8 @@ module _ (s tab : List ℕ) where
             other : b ≡ false → same (name_in_row s tab (j - 1)).text t ≡ false
             other y = same_no (name_in_row s tab (j - 1)).text t (λ e. never y (k.1 (part ∙ e)))
 
-            pub chain-on : {next : ℕ} → next ≡ get_or tab (2048 + (j - 1) * 3 + 2) 0 → b ≡ false → Chained n next
-            chain-on q y = record {
+            pub chain_on : {next : ℕ} → next ≡ get_or tab (2048 + (j - 1) * 3 + 2) 0 → b ≡ false → Chained n next
+            chain_on q y = record {
               same = g.same ∙ ap Among here ∙ passed (j - 1) (other y) ∙ skip (j - 1) ∙ ap Among (sym (linked q));
               low = rw (linked q) (omega (arith, top_low (hash_of t) (j - 1), g.low));
               own = rw (linked q) (top_own (hash_of t) (j - 1));

@@ -107,8 +107,8 @@ module _ {A : Type 0} (f : PlacedName → A) (d : A) where
     pub no_hit : first_of t (names_in s tab n) ≡ Nothing → first_by word f t (names_in s tab n) d ≡ d
     no_hit e = nowhere t (names_in s tab n) 0 e
 
-    pub the-hit : {i : ℕ} → first_of t (names_in s tab n) ≡ At i → first_by word f t (names_in s tab n) d ≡ f (name_in_row s tab i)
-    the-hit {i} e =
+    pub the_hit : {i : ℕ} → first_of t (names_in s tab n) ≡ At i → first_by word f t (names_in s tab n) d ≡ f (name_in_row s tab i)
+    the_hit {i} e =
         let x = which t (names_in s tab n) 0 i e in
         let y : x.j ≡ i = omega (arith, x.number) in
         let l : i < n = omega (arith, x.number, x.low, length_names s tab n) in

@@ -46,8 +46,8 @@ module _ (x : Ans Items) (f : ℕ → Ans Items) where
     pub second_reads : Reads (and_then x f) → Reads (f r.at)
     second_reads h = let b = both h.read in record { value = b.ys; end = h.end; read = behind b }
 
-    pub gained-both : {r₂ : Reach} {last : List ℕ} → Gained s after r.items (f r.at) r₂ last → Reads (and_then x f) → Gained s tab n (and_then x f) r₂ last
-    gained-both {r₂} {last} k h =
+    pub gained_both : {r₂ : Reach} {last : List ℕ} → Gained s after r.items (f r.at) r₂ last → Reads (and_then x f) → Gained s tab n (and_then x f) r₂ last
+    gained_both {r₂} {last} k h =
         let b = both h.read in
         let w : and_then x f ≡ good (b.xs ++ b.ys) h.end = h.read ∙ ap (λ v. good v h.end) b.joined in
         record {
@@ -132,27 +132,27 @@ module _ (least most : ℕ) (s : List ℕ) (at : ℕ) (v : Number) where
       absurd (omega arith)
 
   module _ {count : ℕ} {c : ImageCursor} (e : v ≡ Value count c) (k : number_seen v ≡ count_at least most s at) where
-    count-read : count_at least most s at ≡ good count c.at
-    count-read = sym k ∙ ap number_seen e
+    count_read : count_at least most s at ≡ good count c.at
+    count_read = sym k ∙ ap number_seen e
 
-    pub counted-room : (tab : List ℕ) (n : ℕ) → Room s tab n at → Room s tab n c.at
-    counted-room tab n m =
-        let g = number_end s at (count_good s least most at count-read).number in
+    pub counted_room : (tab : List ℕ) (n : ℕ) → Room s tab n at → Room s tab n c.at
+    counted_room tab n m =
+        let g = number_end s at (count_good s least most at count_read).number in
         record { short = m.short; space = m.space; inside = g.1; taken = omega (arith, m.taken, g.0); fits = m.fits }
 
-    pub counted-behind : (f : ℕ → ℕ → Ans Items) → bind (count_at least most s at) f ≡ f count c.at
-    counted-behind f = bind_good f count-read refl
+    pub counted_behind : (f : ℕ → ℕ → Ans Items) → bind (count_at least most s at) f ≡ f count c.at
+    counted_behind f = bind_good f count_read refl
 
-    pub counted-begun : (q : ℕ → Ans Items) (tab : List ℕ) (n : ℕ) → Room s tab n at → Reads (each_counted least most q s at)
+    pub counted_begun : (q : ℕ → Ans Items) (tab : List ℕ) (n : ℕ) → Room s tab n at → Reads (each_counted least most q s at)
         → Ahead q s tab n (each_counted least most q s at) tab (record { items = n; at = c.at }) count
     unfolding each_counted
-    counted-begun q tab n m r =
+    counted_begun q tab n m r =
         record {
           more = r.value;
           end = r.end;
-          coming = sym (counted-behind (λ c n. each q c n)) ∙ r.read;
+          coming = sym (counted_behind (λ c n. each q c n)) ∙ r.read;
           all = ap (λ a. items_in s tab n ++ value_or [] a) (sym r.read);
           last = ap end_of r.read;
           kept = refl;
-          room = counted-room tab n m;
+          room = counted_room tab n m;
         }

@@ -16,7 +16,7 @@ use Rattle.library_lists.specs.Lists.{on_ans}
 use Rattle.library_items.specs.Items.{items_of, library_of, items_at}
 use Rattle.library_items.specs.Table.{table_words, items_in, each_counted, set_read, sets_read, value_or, Reads, Room, Itemized}
 use Rattle.library_items.specs.declared.Reach.{Reach}
-use Rattle.library_items.proofs.Ahead.{Ahead, ahead_done, counted_there, counted-begun}
+use Rattle.library_items.proofs.Ahead.{Ahead, ahead_done, counted_there, counted_begun}
 use Rattle.library_items.proofs.Told.{library_told}
 
 module _ (s : List ℕ) (i : Reads (image_at s)) where
@@ -41,7 +41,7 @@ module _ (s : List ℕ) (i : Reads (image_at s)) where
       → table_words ≤ length tab
       → Ahead (set_read s) s tab 0 (sets_read s 0) tab (record { items = 0; at = c.at }) count
   unfolding sets_read
-  sets_begun tab v e k h = counted-begun 0 most_sets s 0 v e k (set_read s) tab 0 (empty_room tab h) sets_reads
+  sets_begun tab v e k h = counted_begun 0 most_sets s 0 v e k (set_read s) tab 0 (empty_room tab h) sets_reads
 
   module _ {before tab : List ℕ} {r : Reach} {left : ℕ} (a : Ahead (set_read s) s before 0 (sets_read s 0) tab r left) where
     pub all_listed : left ≤ 0 → Itemized s r.items tab
@@ -56,5 +56,5 @@ module _ (s : List ℕ) (i : Reads (image_at s)) where
           fits = m.fits;
         }
 
-    pub length-kept : length tab ≡ length before
-    length-kept = a.kept
+    pub length_kept : length tab ≡ length before
+    length_kept = a.kept

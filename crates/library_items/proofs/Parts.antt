@@ -14,8 +14,8 @@ use Rattle.library_items.specs.Items.{module_kind, submodule_kind, augmenting_ki
 use Rattle.library_items.specs.Table.{Items, and_then, each, each_counted, name_read, list_read, lists_read, revisions_read, entry_read, entries_read, set_read}
 use Rattle.library_items.specs.Table.{Reads, Room, Gained}
 use Rattle.library_items.specs.declared.Reach.{Reach}
-use Rattle.library_items.proofs.Ahead.{first_reads, second_reads, gained-both, Ahead, ahead_done, each_begun, counted_there, counted-room}
-use Rattle.library_items.proofs.Ahead.{counted-behind, counted-begun}
+use Rattle.library_items.proofs.Ahead.{first_reads, second_reads, gained_both, Ahead, ahead_done, each_begun, counted_there, counted_room}
+use Rattle.library_items.proofs.Ahead.{counted_behind, counted_begun}
 
 -- ---- a list
 
@@ -27,7 +27,7 @@ module _ (s tab : List ℕ) (n kind at : ℕ) (v : Number) where
   pub list_begun : {count : ℕ} {c : ImageCursor} → v ≡ Value count c → number_seen v ≡ count_at 0 most_names s at → Room s tab n at → Reads (list_read kind s at)
       → Ahead (name_read kind s) s tab n (list_read kind s at) tab (record { items = n; at = c.at }) count
   unfolding list_read
-  list_begun e k m r = counted-begun 0 most_names s at v e k (name_read kind s) tab n m r
+  list_begun e k m r = counted_begun 0 most_names s at v e k (name_read kind s) tab n m r
 
 -- ---- three lists
 
@@ -40,21 +40,21 @@ module _ (s tab : List ℕ) (n at : ℕ) where
   submodules_read r = first_reads _ behind_submodules r
 
   module _ {t₁ : List ℕ} {r₁ : Reach} (g₁ : Gained s tab n (list_read submodule_kind s at) r₁ t₁) where
-    lists-behind : Reads (lists_read s at) → Reads (behind_submodules r₁.at)
+    lists_behind : Reads (lists_read s at) → Reads (behind_submodules r₁.at)
     unfolding lists_read
-    lists-behind r = second_reads _ behind_submodules g₁ r
+    lists_behind r = second_reads _ behind_submodules g₁ r
 
-    pub augmenting-read : Reads (lists_read s at) → Reads (list_read augmenting_kind s r₁.at)
-    augmenting-read r = first_reads _ (list_read deviation_kind s) (lists-behind r)
+    pub augmenting_read : Reads (lists_read s at) → Reads (list_read augmenting_kind s r₁.at)
+    augmenting_read r = first_reads _ (list_read deviation_kind s) (lists_behind r)
 
     module _ {t₂ : List ℕ} {r₂ : Reach} (g₂ : Gained s t₁ r₁.items (list_read augmenting_kind s r₁.at) r₂ t₂) where
-      pub deviations-read : Reads (lists_read s at) → Reads (list_read deviation_kind s r₂.at)
-      deviations-read r = second_reads _ (list_read deviation_kind s) g₂ (lists-behind r)
+      pub deviations_read : Reads (lists_read s at) → Reads (list_read deviation_kind s r₂.at)
+      deviations_read r = second_reads _ (list_read deviation_kind s) g₂ (lists_behind r)
 
-      pub lists-taken : {t₃ : List ℕ} {r₃ : Reach} → Gained s t₂ r₂.items (list_read deviation_kind s r₂.at) r₃ t₃ → Reads (lists_read s at)
+      pub lists_taken : {t₃ : List ℕ} {r₃ : Reach} → Gained s t₂ r₂.items (list_read deviation_kind s r₂.at) r₃ t₃ → Reads (lists_read s at)
           → Gained s tab n (lists_read s at) r₃ t₃
       unfolding lists_read
-      lists-taken g₃ r = gained-both _ behind_submodules g₁ (gained-both _ (list_read deviation_kind s) g₂ g₃ (lists-behind r)) r
+      lists_taken g₃ r = gained_both _ behind_submodules g₁ (gained_both _ (list_read deviation_kind s) g₂ g₃ (lists_behind r)) r
 
 -- ---- revisions
 
@@ -69,27 +69,27 @@ module _ (s tab : List ℕ) (n at : ℕ) (v : Number) where
 
     opened : revisions_read s at ≡ and_then (list_read first_sub_kind s c.at) later
     unfolding revisions_read
-    opened = counted-behind least_revisions most_revisions s at v e k (λ c n. and_then (list_read first_sub_kind s n) (λ m. each (list_read later_sub_kind s) (c - 1) m))
+    opened = counted_behind least_revisions most_revisions s at v e k (λ c n. and_then (list_read first_sub_kind s n) (λ m. each (list_read later_sub_kind s) (c - 1) m))
 
-    behind-count : Reads (revisions_read s at) → Reads (and_then (list_read first_sub_kind s c.at) later)
-    behind-count r = record { value = r.value; end = r.end; read = sym opened ∙ r.read }
+    behind_count : Reads (revisions_read s at) → Reads (and_then (list_read first_sub_kind s c.at) later)
+    behind_count r = record { value = r.value; end = r.end; read = sym opened ∙ r.read }
 
-    pub some-revision : 1 ≤ count
-    some-revision = (count_good s least_revisions most_revisions at (sym k ∙ ap number_seen e)).enough
+    pub some_revision : 1 ≤ count
+    some_revision = (count_good s least_revisions most_revisions at (sym k ∙ ap number_seen e)).enough
 
-    pub revisions-room : Room s tab n at → Room s tab n c.at
-    revisions-room m = counted-room least_revisions most_revisions s at v e k tab n m
+    pub revisions_room : Room s tab n at → Room s tab n c.at
+    revisions_room m = counted_room least_revisions most_revisions s at v e k tab n m
 
     pub first_read : Reads (revisions_read s at) → Reads (list_read first_sub_kind s c.at)
-    first_read r = first_reads _ later (behind-count r)
+    first_read r = first_reads _ later (behind_count r)
 
     module _ {r : Reach} {after : List ℕ} (g : Gained s tab n (list_read first_sub_kind s c.at) r after) (h : Reads (revisions_read s at)) where
-      pub revisions-begun : Ahead (list_read later_sub_kind s) s after r.items (later r.at) after r (count - 1)
-      revisions-begun = each_begun (list_read later_sub_kind s) (count - 1) g.room (second_reads _ later g (behind-count h))
+      pub revisions_begun : Ahead (list_read later_sub_kind s) s after r.items (later r.at) after r (count - 1)
+      revisions_begun = each_begun (list_read later_sub_kind s) (count - 1) g.room (second_reads _ later g (behind_count h))
 
-      pub revisions-taken : {r₂ : Reach} {last : List ℕ} {left : ℕ} → Ahead (list_read later_sub_kind s) s after r.items (later r.at) last r₂ left → left ≤ 0
+      pub revisions_taken : {r₂ : Reach} {last : List ℕ} {left : ℕ} → Ahead (list_read later_sub_kind s) s after r.items (later r.at) last r₂ left → left ≤ 0
           → Gained s tab n (revisions_read s at) r₂ last
-      revisions-taken a z = rw opened (gained-both _ later g (ahead_done a z) (behind-count h))
+      revisions_taken a z = rw opened (gained_both _ later g (ahead_done a z) (behind_count h))
 
 -- ---- entries
 
@@ -99,37 +99,37 @@ module _ (s tab : List ℕ) (n at : ℕ) (import_only : Bool) where
     unfolding entry_read
     by_import = rw d
 
-    import-reads : Reads (and_then (name_read import_only_kind s at) (revisions_read s))
-    import-reads = record { value = r.value; end = r.end; read = sym by_import ∙ r.read }
+    import_reads : Reads (and_then (name_read import_only_kind s at) (revisions_read s))
+    import_reads = record { value = r.value; end = r.end; read = sym by_import ∙ r.read }
 
-    pub import-name-read : Reads (name_read import_only_kind s at)
-    import-name-read = first_reads _ (revisions_read s) import-reads
+    pub import_name_read : Reads (name_read import_only_kind s at)
+    import_name_read = first_reads _ (revisions_read s) import_reads
 
     module _ {t₁ : List ℕ} {r₁ : Reach} (g : Gained s tab n (name_read import_only_kind s at) r₁ t₁) where
       pub revisions_read_lem : Reads (revisions_read s r₁.at)
-      revisions_read_lem = second_reads _ (revisions_read s) g import-reads
+      revisions_read_lem = second_reads _ (revisions_read s) g import_reads
 
-      pub import-taken : {t₂ : List ℕ} {r₂ : Reach} → Gained s t₁ r₁.items (revisions_read s r₁.at) r₂ t₂
+      pub import_taken : {t₂ : List ℕ} {r₂ : Reach} → Gained s t₁ r₁.items (revisions_read s r₁.at) r₂ t₂
           → Gained s tab n (entry_read import_only s at) r₂ t₂
-      import-taken h = rw by_import (gained-both _ (revisions_read s) g h import-reads)
+      import_taken h = rw by_import (gained_both _ (revisions_read s) g h import_reads)
 
   module _ (d : import_only ≡ false) (r : Reads (entry_read import_only s at)) where
     by_module : entry_read import_only s at ≡ and_then (name_read module_kind s at) (lists_read s)
     unfolding entry_read
     by_module = rw d
 
-    module-reads : Reads (and_then (name_read module_kind s at) (lists_read s))
-    module-reads = record { value = r.value; end = r.end; read = sym by_module ∙ r.read }
+    module_reads : Reads (and_then (name_read module_kind s at) (lists_read s))
+    module_reads = record { value = r.value; end = r.end; read = sym by_module ∙ r.read }
 
-    pub module-name-read : Reads (name_read module_kind s at)
-    module-name-read = first_reads _ (lists_read s) module-reads
+    pub module_name_read : Reads (name_read module_kind s at)
+    module_name_read = first_reads _ (lists_read s) module_reads
 
     module _ {t₁ : List ℕ} {r₁ : Reach} (g : Gained s tab n (name_read module_kind s at) r₁ t₁) where
-      pub lists-read : Reads (lists_read s r₁.at)
-      lists-read = second_reads _ (lists_read s) g module-reads
+      pub lists_read_lem : Reads (lists_read s r₁.at)
+      lists_read_lem = second_reads _ (lists_read s) g module_reads
 
-      pub module-taken : {t₂ : List ℕ} {r₂ : Reach} → Gained s t₁ r₁.items (lists_read s r₁.at) r₂ t₂ → Gained s tab n (entry_read import_only s at) r₂ t₂
-      module-taken h = rw by_module (gained-both _ (lists_read s) g h module-reads)
+      pub module_taken : {t₂ : List ℕ} {r₂ : Reach} → Gained s t₁ r₁.items (lists_read s r₁.at) r₂ t₂ → Gained s tab n (entry_read import_only s at) r₂ t₂
+      module_taken h = rw by_module (gained_both _ (lists_read s) g h module_reads)
 
 module _ (s tab : List ℕ) (n at : ℕ) (import_only : Bool) (v : Number) where
   pub no_entries : {p : ℕ} → v ≡ Wrong p → number_seen v ≡ count_at 0 most_modules s at → Reads (entries_read import_only s at) → ⊥
@@ -140,7 +140,7 @@ module _ (s tab : List ℕ) (n at : ℕ) (import_only : Bool) (v : Number) where
       → Reads (entries_read import_only s at)
       → Ahead (entry_read import_only s) s tab n (entries_read import_only s at) tab (record { items = n; at = c.at }) count
   unfolding entries_read
-  entries_begun e k m r = counted-begun 0 most_modules s at v e k (entry_read import_only s) tab n m r
+  entries_begun e k m r = counted_begun 0 most_modules s at v e k (entry_read import_only s) tab n m r
 
 -- ---- a set
 
@@ -150,10 +150,10 @@ module _ (s tab : List ℕ) (n at : ℕ) (r : Reads (set_read s at)) where
   modules_read = first_reads _ (entries_read true s) r
 
   module _ {t₁ : List ℕ} {r₁ : Reach} (g : Gained s tab n (entries_read false s at) r₁ t₁) where
-    pub imports-read : Reads (entries_read true s r₁.at)
+    pub imports_read : Reads (entries_read true s r₁.at)
     unfolding set_read
-    imports-read = second_reads _ (entries_read true s) g r
+    imports_read = second_reads _ (entries_read true s) g r
 
-    pub set-taken : {t₂ : List ℕ} {r₂ : Reach} → Gained s t₁ r₁.items (entries_read true s r₁.at) r₂ t₂ → Gained s tab n (set_read s at) r₂ t₂
+    pub set_taken : {t₂ : List ℕ} {r₂ : Reach} → Gained s t₁ r₁.items (entries_read true s r₁.at) r₂ t₂ → Gained s tab n (set_read s at) r₂ t₂
     unfolding set_read
-    set-taken h = gained-both _ (entries_read true s) g h r
+    set_taken h = gained_both _ (entries_read true s) g h r

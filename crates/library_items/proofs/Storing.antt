@@ -86,8 +86,8 @@ module _ (s tab : List ℕ) (n kind at : ℕ) (r : Name) where
     pub name_fits : Fits w64 (place + size)
     name_fits = let w = spanned s r at place size e f in let h = m.short in record { fits = omega (arith, w.inside) }
 
-    pub name-puts : kind < most_kind → Puts tab n (record { kind = kind; place = place; size = size })
-    name-puts k =
+    pub name_puts : kind < most_kind → Puts tab n (record { kind = kind; place = place; size = size })
+    name_puts k =
         let w = spanned s r at place size e f in
         let a = m.short in
         let b = m.taken in
@@ -96,10 +96,10 @@ module _ (s tab : List ℕ) (n kind at : ℕ) (r : Name) where
         let j = w.later in
         record { free = omega (arith, w.some); low = omega (arith, w.some); kind = omega arith; place = omega arith; size = w.few }
 
-    pub name-taken : {after : List ℕ} → Laid tab n (record { kind = kind; place = place; size = size }) after → kind < most_kind
+    pub name_taken : {after : List ℕ} → Laid tab n (record { kind = kind; place = place; size = size }) after → kind < most_kind
         → Gained s tab n (name_read kind s at) (record { items = n + 1; at = place + size }) after
     unfolding name_read items_in
-    name-taken {after} q k =
+    name_taken {after} q k =
         let w = spanned s r at place size e f in
         let x : Item = record { kind = kind; place = place; size = size } in
         let fit : ItemFits s x = record { kind = k; some = w.some; few = w.few; inside = w.inside } in

@@ -101,6 +101,7 @@ revisions_told s at {l} {n} e =
   where
     go : (c m : ℕ) → 1 ≤ c → many (revision_at s) c [] m ≡ good l n → and_then (list_read first_sub_kind s m) (λ k. each (list_read later_sub_kind s) (c - 1) k)
         ≡ good (revision_items l) n
+    go zero m h e = elim h [ ]
     go (suc k) m h e =
         let z : suc k - 1 ≡ k = omega arith in
         on_good (revision_at s [] m) _ e (λ a j e₁ e₂.

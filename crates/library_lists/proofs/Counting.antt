@@ -78,8 +78,8 @@ module _ {A : Type 0} (p : List A → ℕ → Ans A) where
     all_read h = let e : count - i ≡ 0 = omega arith in g.rest ∙ rw e
 
     -- where only the place behind what was read is known
-    pub further-behind : {n : ℕ} → good tt n ≡ done (p g.seen at) → i < count → Going count start (i + 1) n
-    further-behind {n} e h = go (p g.seen at) refl e
+    pub further_behind : {n : ℕ} → good tt n ≡ done (p g.seen at) → i < count → Going count start (i + 1) n
+    further_behind {n} e h = go (p g.seen at) refl e
       where
         go : (r : Ans A) → p g.seen at ≡ r → good tt n ≡ done r → Going count start (i + 1) n
         go (good a m) k e = let z : n ≡ m = cc in rw z (further k h)
@@ -136,8 +136,8 @@ module _ (least most : ℕ) (s : List ℕ) (at : ℕ) where
       unfolding counted
       by_count = let h : count_at least most s at ≡ good count c.at = sym f ∙ ap number_seen e in rw h
 
-      pub list-stopped : {u : ℕ} → p s g.seen here ≡ bad u → i < count → bad u ≡ done (counted least most p s at)
-      list-stopped h l = sym (ap done (by_count ∙ stopped (p s) g h l))
+      pub list_stopped : {u : ℕ} → p s g.seen here ≡ bad u → i < count → bad u ≡ done (counted least most p s at)
+      list_stopped h l = sym (ap done (by_count ∙ stopped (p s) g h l))
 
       pub list_read : count ≤ i → good tt here ≡ done (counted least most p s at)
       list_read l = sym (ap done (by_count ∙ all_read (p s) g l))

@@ -12,7 +12,7 @@ use Rattle.library_image.specs.Image.{least_revisions, most_revisions, count_at,
 use Rattle.library_lists.specs.Lists.{done, read_seen, list_at, rest_at}
 use Rattle.library_lists.specs.declared.Read.{Read}
 use Rattle.library_lists.specs.declared.Read.TheVariants.{End, Wrong}
-use Rattle.library_lists.proofs.Counting.{done_bad, bind_bad, bind_behind, Going, further-behind, no_count, list-stopped, list_read}
+use Rattle.library_lists.proofs.Counting.{done_bad, bind_bad, bind_behind, Going, further_behind, no_count, list_stopped, list_read}
 
 -- ---- the ways out of `read_lists`
 
@@ -25,15 +25,15 @@ module _ (s : List ℕ) (at : ℕ) (r : Read) (f : read_seen r ≡ done (list_at
     submodules : good tt n ≡ done (list_at false s at)
     submodules = sym (ap read_seen e) ∙ f
 
-    pub no-augmenting : {p : ℕ} → q ≡ Wrong p → read_seen q ≡ rest_at false s at
+    pub no_augmenting : {p : ℕ} → q ≡ Wrong p → read_seen q ≡ rest_at false s at
     unfolding rest_at
-    no-augmenting {p} h =
+    no_augmenting {p} h =
         let b : bad p ≡ done (list_at false s n) = sym (ap read_seen h) ∙ g in
         ap read_seen h ∙ sym (bind_behind (list_at false s at) _ submodules ∙ bind_bad (list_at false s n) _ b)
 
-    pub last-list : {m : ℕ} → q ≡ End m → (u : Read) → read_seen u ≡ done (list_at false s m) → read_seen u ≡ rest_at false s at
+    pub last_list : {m : ℕ} → q ≡ End m → (u : Read) → read_seen u ≡ done (list_at false s m) → read_seen u ≡ rest_at false s at
     unfolding rest_at
-    last-list {m} h u k =
+    last_list {m} h u k =
         let a : good tt m ≡ done (list_at false s n) = sym (ap read_seen h) ∙ g in
         k ∙ sym (bind_behind (list_at false s at) _ submodules ∙ bind_behind (list_at false s n) _ a)
 
@@ -48,13 +48,13 @@ module _ (s : List ℕ) where
       → read_seen r ≡ done (list_at true s here)
       → i < count → Going (revision_at s) count from (i + 1) n
   unfolding list_at
-  revisions_further g r e f h = further-behind (revision_at s) g (sym (ap read_seen e) ∙ f) h
+  revisions_further g r e f h = further_behind (revision_at s) g (sym (ap read_seen e) ∙ f) h
 
   module _ (q : Number) (at : ℕ) {count : ℕ} {c : ImageCursor} (k : q ≡ Value count c) (l : number_seen q ≡ count_at least_revisions most_revisions s at)
       {i here : ℕ} (g : Going (revision_at s) count c.at i here) where
-    pub revisions-stopped : (r : Read) {p : ℕ} → r ≡ Wrong p → read_seen r ≡ done (list_at true s here) → i < count → bad p ≡ rest_at true s at
+    pub revisions_stopped : (r : Read) {p : ℕ} → r ≡ Wrong p → read_seen r ≡ done (list_at true s here) → i < count → bad p ≡ rest_at true s at
     unfolding rest_at list_at
-    revisions-stopped r e f h = list-stopped least_revisions most_revisions s at revision_at q k l g (done_bad _ (sym (ap read_seen e) ∙ f)) h
+    revisions_stopped r e f h = list_stopped least_revisions most_revisions s at revision_at q k l g (done_bad _ (sym (ap read_seen e) ∙ f)) h
 
     pub revisions_read_lem : count ≤ i → good tt here ≡ rest_at true s at
     unfolding rest_at

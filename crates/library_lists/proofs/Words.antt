@@ -22,7 +22,7 @@ use Rattle.library_index.proofs.First.{among_append}
 use Rattle.library_image.specs.Image.{most_names, count_at}
 use Rattle.library_image.proofs.Steps.{on_good, passed}
 use Rattle.library_lists.specs.Lists.{done, on_ans, word_of, list_at, among_at, word_behind}
-use Rattle.library_lists.proofs.Counting.{Going, further, no_count, list-stopped, list_read}
+use Rattle.library_lists.proofs.Counting.{Going, further, no_count, list_stopped, list_read}
 
 -- ---- the ways out of `among`
 
@@ -49,11 +49,11 @@ module _ (s t : List ℕ) where
     unfolding among_at
     one h = let d : left ≡ suc (left - 1) = omega arith in ap (λ (k : ℕ). among_at k s at t) d ∙ rw (spanned s r at first len q f).read
 
-    pub is-it : b ≡ true → 0 < left → true ≡ among_at count s from t
-    is-it y h = sym (e ∙ one h ∙ rw (compared s t first len k true y))
+    pub is_it : b ≡ true → 0 < left → true ≡ among_at count s from t
+    is_it y h = sym (e ∙ one h ∙ rw (compared s t first len k true y))
 
-    pub not-it : b ≡ false → 0 < left → Same count from (left - 1) (first + len)
-    not-it y h = e ∙ one h ∙ rw (compared s t first len k false y)
+    pub not_it : b ≡ false → 0 < left → Same count from (left - 1) (first + len)
+    not_it y h = e ∙ one h ∙ rw (compared s t first len k false y)
 
 -- ---- the ways out of `read_word`
 
@@ -161,18 +161,18 @@ module _ (differ : Bool) (s : List ℕ) where
     pub word_fits : length s < 2 ^ 64 → Fits w64 (first + len)
     word_fits h = record { fits = omega (arith, (name_end s here (word_name differ s from i here it)).inside) }
 
-    pub names-further : i < count → Going (word_of differ s) count from (i + 1) (first + len)
-    names-further h = further (word_of differ s) g (sym (next_word differ s g) ∙ it) h
+    pub names_further : i < count → Going (word_of differ s) count from (i + 1) (first + len)
+    names_further h = further (word_of differ s) g (sym (next_word differ s g) ∙ it) h
 
   module _ (q : Number) (at : ℕ) {count : ℕ} {c : ImageCursor} (k : q ≡ Value count c) (l : number_seen q ≡ count_at 0 most_names s at)
       {i here : ℕ} (g : Going (word_of differ s) count c.at i here) where
-    pub names-stopped : (r : Name) {p : ℕ} → r ≡ Wrong p → name_seen s r ≡ word_behind differ s c.at i here → i < count → bad here ≡ done (list_at differ s at)
+    pub names_stopped : (r : Name) {p : ℕ} → r ≡ Wrong p → name_seen s r ≡ word_behind differ s c.at i here → i < count → bad here ≡ done (list_at differ s at)
     unfolding list_at
-    names-stopped r {p} e f h =
+    names_stopped r {p} e f h =
         let b : word_behind differ s c.at i here ≡ bad p = sym f ∙ ap (name_seen s) e in
         let z : bad p ≡ bad here = ap bad (word_place differ s c.at i here b) in
-        list-stopped 0 most_names s at (word_of differ) q k l g (sym (next_word differ s g) ∙ b ∙ z) h
+        list_stopped 0 most_names s at (word_of differ) q k l g (sym (next_word differ s g) ∙ b ∙ z) h
 
-    pub names-read : count ≤ i → good tt here ≡ done (list_at differ s at)
+    pub names_read : count ≤ i → good tt here ≡ done (list_at differ s at)
     unfolding list_at
-    names-read h = list_read 0 most_names s at (word_of differ) q k l g h
+    names_read h = list_read 0 most_names s at (word_of differ) q k l g h

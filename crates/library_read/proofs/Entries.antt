@@ -27,7 +27,7 @@ use Rattle.library_read.specs.Reading.{entry_at, entries_at, Entered, EntryTaken
 use Rattle.library_lists.specs.Lists.{done, read_seen, list_at, rest_at}
 use Rattle.library_lists.specs.declared.Read.{Read}
 use Rattle.library_lists.specs.declared.Read.TheVariants.{End, Wrong}
-use Rattle.library_lists.proofs.Counting.{Going, going, further, no_count, list-stopped, list_read}
+use Rattle.library_lists.proofs.Counting.{Going, going, further, no_count, list_stopped, list_read}
 
 -- ---- a reading, of which a part is kept
 
@@ -139,13 +139,13 @@ module _ (import_only : Bool) (s tab : List ℕ) (i at : ℕ) (r : Name) (after 
     pub name_fits : length s < 2 ^ 64 → Fits w64 (first + len)
     name_fits h = record { fits = omega (arith, (name_end s at (new_read s (names_in s tab i) at it).0).inside) }
 
-    pub entry-taken : (u : Read) → read_seen u ≡ rest_at import_only s (first + len) → EntryTaken import_only s tab i at u after
+    pub entry_taken : (u : Read) → read_seen u ≡ rest_at import_only s (first + len) → EntryTaken import_only s tab i at u after
     unfolding entry_at
-    entry-taken (End n) f = record {
+    entry_taken (End n) f = record {
       kept = a.kept;
       answer = record { word = word_at s first len; read = rw (it, ← f); indexed = a.indexed first len e; names = a.names first len e };
     }
-    entry-taken (Wrong p) f = record { kept = a.kept; answer = rw (it, ← f) }
+    entry_taken (Wrong p) f = record { kept = a.kept; answer = rw (it, ← f) }
 
 -- ---- the loop of `read_entries`
 
@@ -178,8 +178,8 @@ module _ (import_only : Bool) (s : List ℕ) where
   }
 
   module _ {before tab : List ℕ} {count from i here : ℕ} (g : Entering import_only s before tab count from i here) where
-    pub entry-space : i < count → Space s tab i
-    entry-space h = record {
+    pub entry_space : i < count → Space s tab i
+    entry_space h = record {
       indexed = g.indexed;
       free = omega (arith, g.room.space, g.few);
       small = omega (arith, g.few);
@@ -200,20 +200,20 @@ module _ (import_only : Bool) (s : List ℕ) where
           names = k.names ∙ ap (λ (ws : List PlacedName). ws ++ (k.word ∷ [])) g.names;
         }
 
-    pub entries-further : (r : Read) {n : ℕ} {after : List ℕ} → r ≡ End n → EntryTaken import_only s tab i here r after → i < count
+    pub entries_further : (r : Read) {n : ℕ} {after : List ℕ} → r ≡ End n → EntryTaken import_only s tab i here r after → i < count
         → Entering import_only s before after count from (i + 1) n
-    entries-further r {n} {after} e a h = more a.kept (rw e at a.answer) h
+    entries_further r {n} {after} e a h = more a.kept (rw e at a.answer) h
 
   module _ (q : Number) (at : ℕ) {count : ℕ} {c : ImageCursor} (k : q ≡ Value count c) (l : number_seen q ≡ count_at 0 most_modules s at)
       {before cleared : List ℕ} (m : Cleared before cleared) {tab : List ℕ} {i here : ℕ} (g : Entering import_only s cleared tab count c.at i here) where
-    pub entries-stopped : (r : Read) {p : ℕ} {after : List ℕ} → r ≡ Wrong p → EntryTaken import_only s tab i here r after → i < count
+    pub entries_stopped : (r : Read) {p : ℕ} {after : List ℕ} → r ≡ Wrong p → EntryTaken import_only s tab i here r after → i < count
         → ReadAs (Wrong p) (done (entries_at import_only s at)) before after
     unfolding entries_at
-    entries-stopped r {p} {after} e a h =
+    entries_stopped r {p} {after} e a h =
         let b : entry_at import_only s (names_in s tab i) here ≡ bad p = rw e at a.answer in
         let d : entry_at import_only s g.loop.seen here ≡ bad p = rw (← g.names) b in
         record {
-          answer = list-stopped 0 most_modules s at (entry_at import_only) q k l g.loop d h;
+          answer = list_stopped 0 most_modules s at (entry_at import_only) q k l g.loop d h;
           kept = a.kept ∙ g.kept ∙ m.kept;
         }
 

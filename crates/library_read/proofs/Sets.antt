@@ -18,7 +18,7 @@ use Rattle.library_read.specs.Reading.{entries_at, Roomy, ReadAs}
 use Rattle.library_lists.specs.Lists.{done, read_seen}
 use Rattle.library_lists.specs.declared.Read.{Read}
 use Rattle.library_lists.specs.declared.Read.TheVariants.{End, Wrong}
-use Rattle.library_lists.proofs.Counting.{done_bad, bind_bad, Going, going, further-behind, no_count, list-stopped, list_read}
+use Rattle.library_lists.proofs.Counting.{done_bad, bind_bad, Going, going, further_behind, no_count, list_stopped, list_read}
 use Rattle.library_read.proofs.Entries.{modules_entries, import_only_entries}
 
 -- ---- the ways out of `read_set`
@@ -82,23 +82,23 @@ module _ (s : List ℕ) where
   pub sets_further : {before tab : List ℕ} {count from i here : ℕ} → Setting s before tab count from i here → (r : Read) {n : ℕ} {after : List ℕ} → r ≡ End n
       → ReadAs r (done (set_at s [] here)) tab after → i < count → Setting s before after count from (i + 1) n
   sets_further {before} {tab} {here = here} g r {n} {after} e a h = record {
-    loop = further-behind (set_at s) g.loop (sym (ap read_seen e) ∙ a.answer ∙ ap done (alone g.loop.seen here)) h;
+    loop = further_behind (set_at s) g.loop (sym (ap read_seen e) ∙ a.answer ∙ ap done (alone g.loop.seen here)) h;
     room = still_roomy s tab after a g.room;
     kept = a.kept ∙ g.kept;
   }
 
   module _ (q : Number) {count : ℕ} {c : ImageCursor} (k : q ≡ Value count c) (l : number_seen q ≡ count_at 0 most_sets s 0)
       {before tab : List ℕ} {i here : ℕ} (g : Setting s before tab count c.at i here) where
-    pub sets-stopped : (r : Read) {p : ℕ} {after : List ℕ} → r ≡ Wrong p → ReadAs r (done (set_at s [] here)) tab after → i < count
+    pub sets_stopped : (r : Read) {p : ℕ} {after : List ℕ} → r ≡ Wrong p → ReadAs r (done (set_at s [] here)) tab after → i < count
         → ReadAs (Wrong p) (done (library_at s 0)) before after
     unfolding library_at
-    sets-stopped r {p} e a h =
+    sets_stopped r {p} e a h =
         let b : set_at s g.loop.seen here ≡ bad p = done_bad _ (sym (ap read_seen e) ∙ a.answer ∙ ap done (alone g.loop.seen here)) in
-        record { answer = list-stopped 0 most_sets s 0 set_at q k l g.loop b h; kept = a.kept ∙ g.kept }
+        record { answer = list_stopped 0 most_sets s 0 set_at q k l g.loop b h; kept = a.kept ∙ g.kept }
 
-    pub sets-read : count ≤ i → ReadAs (End here) (done (library_at s 0)) before tab
+    pub sets_read : count ≤ i → ReadAs (End here) (done (library_at s 0)) before tab
     unfolding library_at
-    sets-read h = record { answer = list_read 0 most_sets s 0 set_at q k l g.loop h; kept = g.kept }
+    sets_read h = record { answer = list_read 0 most_sets s 0 set_at q k l g.loop h; kept = g.kept }
 
 -- ---- the ways out of `read_image`
 
@@ -108,9 +108,9 @@ module _ (s : List ℕ) where
   too_long h = rw (lt-ltb _ _ h)
 
   module _ (short : length s ≤ most_image) (r : Read) {tab after : List ℕ} (a : ReadAs r (done (library_at s 0)) tab after) where
-    pub image-stopped : {p : ℕ} → r ≡ Wrong p → read_seen r ≡ done (image_at s)
+    pub image_stopped : {p : ℕ} → r ≡ Wrong p → read_seen r ≡ done (image_at s)
     unfolding image_at
-    image-stopped {p} e =
+    image_stopped {p} e =
         let b : bad p ≡ done (library_at s 0) = sym (ap read_seen e) ∙ a.answer in
         ap read_seen e ∙ rw (le-ltb _ _ short, done_bad (library_at s 0) b)
 

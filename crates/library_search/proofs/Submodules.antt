@@ -112,22 +112,22 @@ module _ (s t : List ℕ) where
     unfolding all_submodules_tried
     no_image e f = ap found_by (list_uncounted (set_submodules_tried s t) most_sets s 0 q e f)
 
-    pub image-opened : (n : ℕ) (c : ImageCursor) → q ≡ Value n c → number_seen q ≡ count_at 0 most_sets s 0 → Sets n c.at 0
+    pub image_opened : (n : ℕ) (c : ImageCursor) → q ≡ Value n c → number_seen q ≡ count_at 0 most_sets s 0 → Sets n c.at 0
     unfolding all_submodules_tried
-    image-opened n c e f = record { rest = ap found_by (list_begun (set_submodules_tried s t) most_sets s 0 q e f).rest; none = refl }
+    image_opened n c e f = record { rest = ap found_by (list_begun (set_submodules_tried s t) most_sets s 0 q e f).rest; none = refl }
 
   -- a set
   module _ (left at hit : ℕ) (o : Sets left at hit) where
-    set-turn : 0 < left → whole ≡ in_set left (list_tried most_modules (submodules_tried s t) s at)
+    set_turn : 0 < left → whole ≡ in_set left (list_tried most_modules (submodules_tried s t) s at)
     unfolding set_submodules_tried
-    set-turn h = o.rest ∙ ap found_by (tries_turn (set_submodules_tried s t) left at h)
+    set_turn h = o.rest ∙ ap found_by (tries_turn (set_submodules_tried s t) left at h)
 
     module _ (q : Number) where
-      pub no-modules : {p : ℕ} → q ≡ WrongNumber p → number_seen q ≡ count_at 0 most_modules s at → 0 < left → Nothing ≡ whole
-      no-modules e f h = sym (set-turn h ∙ ap (in_set left) (sym (list_uncounted (submodules_tried s t) most_modules s at q e f)))
+      pub no_modules : {p : ℕ} → q ≡ WrongNumber p → number_seen q ≡ count_at 0 most_modules s at → 0 < left → Nothing ≡ whole
+      no_modules e f h = sym (set_turn h ∙ ap (in_set left) (sym (list_uncounted (submodules_tried s t) most_modules s at q e f)))
 
       pub set_entered : (n : ℕ) (c : ImageCursor) → q ≡ Value n c → number_seen q ≡ count_at 0 most_modules s at → 0 < left → Modules left n c.at hit
-      set_entered n c e f h = record { rest = set-turn h ∙ ap (in_set left) (list_begun (submodules_tried s t) most_modules s at q e f).rest; none = o.none }
+      set_entered n c e f h = record { rest = set_turn h ∙ ap (in_set left) (list_begun (submodules_tried s t) most_modules s at q e f).rest; none = o.none }
 
     no_sets : left ≤ 0 → Ended hit
     no_sets h =
@@ -136,70 +136,70 @@ module _ (s t : List ℕ) where
 
   -- a module of it
   module _ (left more at hit : ℕ) (o : Modules left more at hit) where
-    module-turn : 0 < more → whole ≡ in_set left (and_then (submodules_tried s t at) (tries (submodules_tried s t) (more - 1)))
-    module-turn h = o.rest ∙ ap (in_set left) (tries_turn (submodules_tried s t) more at h)
+    module_turn : 0 < more → whole ≡ in_set left (and_then (submodules_tried s t at) (tries (submodules_tried s t) (more - 1)))
+    module_turn h = o.rest ∙ ap (in_set left) (tries_turn (submodules_tried s t) more at h)
 
     module _ (q : Number) where
       pub no_submodules : {p : ℕ} → q ≡ WrongNumber p → number_seen q ≡ submodule_count s at → 0 < more → Nothing ≡ whole
       unfolding submodules_tried
-      no_submodules {p} e f h = let c : submodule_count s at ≡ bad p = sym f ∙ ap number_seen e in sym (module-turn h ∙ rw c)
+      no_submodules {p} e f h = let c : submodule_count s at ≡ bad p = sym f ∙ ap number_seen e in sym (module_turn h ∙ rw c)
 
-      pub module-entered : (n : ℕ) (c : ImageCursor) → q ≡ Value n c → number_seen q ≡ submodule_count s at → 0 < more → Submodules left more n c.at hit
+      pub module_entered : (n : ℕ) (c : ImageCursor) → q ≡ Value n c → number_seen q ≡ submodule_count s at → 0 < more → Submodules left more n c.at hit
       unfolding submodules_tried
-      module-entered n c e f h =
+      module_entered n c e f h =
           let g : submodule_count s at ≡ good n c.at = sym f ∙ ap number_seen e in
-          record { others = module-turn h ∙ rw g; none = o.none }
+          record { others = module_turn h ∙ rw g; none = o.none }
 
     -- behind the last of them stand the import-only modules
     module _ (r : Tried) (h : more ≤ 0) (e : r ≡ entries_tried s t true false at) where
-      modules-done : whole ≡ found_by (and_then r (tries (set_submodules_tried s t) (left - 1)))
-      modules-done =
+      modules_done : whole ≡ found_by (and_then r (tries (set_submodules_tried s t) (left - 1)))
+      modules_done =
           o.rest ∙ ap (in_set left) (tries_none (submodules_tried s t) more at h)
           ∙ ap (λ x. found_by (and_then x (tries (set_submodules_tried s t) (left - 1)))) (sym e)
 
-      pub bad-imports : r ≡ Bad → Nothing ≡ whole
-      bad-imports z = sym (modules-done ∙ ap (λ x. found_by (and_then x (tries (set_submodules_tried s t) (left - 1)))) z)
+      pub bad_imports : r ≡ Bad → Nothing ≡ whole
+      bad_imports z = sym (modules_done ∙ ap (λ x. found_by (and_then x (tries (set_submodules_tried s t) (left - 1)))) z)
 
-      pub hit-imports : {p n : ℕ} → r ≡ Hit p n → Nothing ≡ whole
-      hit-imports {p} {n} z = let y : entries_tried s t true false at ≡ Hit p n = sym e ∙ z in absurd (rw y at (entries_none s t true at))
+      pub hit_imports : {p n : ℕ} → r ≡ Hit p n → Nothing ≡ whole
+      hit_imports {p} {n} z = let y : entries_tried s t true false at ≡ Hit p n = sym e ∙ z in absurd (rw y at (entries_none s t true at))
 
       pub imports_passed : (n : ℕ) → r ≡ Next n → Sets (left - 1) n hit
-      imports_passed n z = record { rest = modules-done ∙ ap (λ x. found_by (and_then x (tries (set_submodules_tried s t) (left - 1)))) z; none = o.none }
+      imports_passed n z = record { rest = modules_done ∙ ap (λ x. found_by (and_then x (tries (set_submodules_tried s t) (left - 1)))) z; none = o.none }
 
   -- a submodule of it
   module _ (left more rest at hit : ℕ) (o : Submodules left more rest at hit) where
     module _ (r : Tried) (h : 0 < rest) (e : r ≡ word_tried s t at) where
-      word-turn : whole ≡ in_module left more (and_then r (tries (word_tried s t) (rest - 1)))
-      word-turn =
+      word_turn : whole ≡ in_module left more (and_then r (tries (word_tried s t) (rest - 1)))
+      word_turn =
           o.others ∙ ap (in_module left more) (tries_turn (word_tried s t) rest at h ∙ ap (λ x. and_then x (tries (word_tried s t) (rest - 1))) (sym e))
 
       pub no_submodule : r ≡ Bad → Nothing ≡ whole
-      no_submodule z = sym (word-turn ∙ ap (λ x. in_module left more (and_then x (tries (word_tried s t) (rest - 1)))) z)
+      no_submodule z = sym (word_turn ∙ ap (λ x. in_module left more (and_then x (tries (word_tried s t) (rest - 1)))) z)
 
-      pub submodule-passed : (n : ℕ) → r ≡ Next n → Submodules left more (rest - 1) n hit
-      submodule-passed n z = record { others = word-turn ∙ ap (λ x. in_module left more (and_then x (tries (word_tried s t) (rest - 1)))) z; none = o.none }
+      pub submodule_passed : (n : ℕ) → r ≡ Next n → Submodules left more (rest - 1) n hit
+      submodule_passed n z = record { others = word_turn ∙ ap (λ x. in_module left more (and_then x (tries (word_tried s t) (rest - 1)))) z; none = o.none }
 
-      hit-here : (p n : ℕ) → r ≡ Hit p n → Ended p
-      hit-here p n z =
+      hit_here : (p n : ℕ) → r ≡ Hit p n → Ended p
+      hit_here p n z =
           let l = word_later s t at (sym e ∙ z) in
           record {
-            found = λ h. sym (word-turn ∙ ap (λ x. in_module left more (and_then x (tries (word_tried s t) (rest - 1)))) z ∙ ap (At p) l.1);
+            found = λ h. sym (word_turn ∙ ap (λ x. in_module left more (and_then x (tries (word_tried s t) (rest - 1)))) z ∙ ap (At p) l.1);
             none = λ h. absurd (omega (arith, l.0));
           }
 
     -- behind the last of them stand two lists
     module _ (r : Read) (h : rest ≤ 0) (e : read_seen r ≡ lists_behind s at) where
-      submodules-done : whole ≡ in_set left (and_then (past (read_seen r)) (tries (submodules_tried s t) (more - 1)))
-      submodules-done =
+      submodules_done : whole ≡ in_set left (and_then (past (read_seen r)) (tries (submodules_tried s t) (more - 1)))
+      submodules_done =
           o.others ∙ ap (in_module left more) (tries_none (word_tried s t) rest at h)
           ∙ ap (λ x. in_set left (and_then (past x) (tries (submodules_tried s t) (more - 1)))) (sym e)
 
-      pub no-lists : {p : ℕ} → r ≡ Wrong p → Nothing ≡ whole
-      no-lists z = sym (submodules-done ∙ ap (λ x. in_set left (and_then (past (read_seen x)) (tries (submodules_tried s t) (more - 1)))) z)
+      pub no_lists : {p : ℕ} → r ≡ Wrong p → Nothing ≡ whole
+      no_lists z = sym (submodules_done ∙ ap (λ x. in_set left (and_then (past (read_seen x)) (tries (submodules_tried s t) (more - 1)))) z)
 
       pub module_passed : (n : ℕ) → r ≡ End n → Modules left (more - 1) n hit
       module_passed n z = record {
-        rest = submodules-done ∙ ap (λ x. in_set left (and_then (past (read_seen x)) (tries (submodules_tried s t) (more - 1)))) z;
+        rest = submodules_done ∙ ap (λ x. in_set left (and_then (past (read_seen x)) (tries (submodules_tried s t) (more - 1)))) z;
         none = o.none;
       }
 
@@ -209,4 +209,4 @@ module _ (s t : List ℕ) where
 
   pub broken_off : (left more rest at hit : ℕ) (r : Tried) (p n joined : ℕ) → joined ≡ p → r ≡ Hit p n → Submodules left more rest at hit
       → r ≡ word_tried s t at → 0 < rest → Ended joined
-  broken_off left more rest at hit r p n joined e z o g h = rw e (hit-here left more rest at hit o r h g p n z)
+  broken_off left more rest at hit r p n joined e z o g h = rw e (hit_here left more rest at hit o r h g p n z)

@@ -34,10 +34,10 @@ module _ (s : List ℕ) (import_only : Bool) (place end : ℕ) where
     unfolding hit_at
     no_revisions {p} e f d = let g : number_at s end ≡ bad p = sym f ∙ ap number_seen e in rw (d, g)
 
-    pub import-only-hit : (revisions : ℕ) (c : ImageCursor) → q ≡ Value revisions c → number_seen q ≡ number_at s end → import_only ≡ true
+    pub import_only_hit : (revisions : ℕ) (c : ImageCursor) → q ≡ Value revisions c → number_seen q ≡ number_at s end → import_only ≡ true
         → Hit place revisions ≡ hit_at s import_only place end
     unfolding hit_at
-    import-only-hit revisions c e f d = let g : number_at s end ≡ good revisions c.at = sym f ∙ ap number_seen e in rw (d, g)
+    import_only_hit revisions c e f d = let g : number_at s end ≡ good revisions c.at = sym f ∙ ap number_seen e in rw (d, g)
 
 -- ---- `pass_rest`
 
@@ -70,23 +70,23 @@ module _ (s t : List ℕ) (at : ℕ) (r : Name) where
     unwanted import_only wanted g u = g ∙ rw (read, u)
 
     module _ {b : Bool} (k : (b ≡ true → take (first + len - first) (drop first s) ≡ t) × (take (first + len - first) (drop first s) ≡ t → b ≡ true)) where
-      pub entry-hit : (import_only wanted : Bool) {x : Tried} → x ≡ hit_at s import_only first (first + len) → wanted ≡ true → b ≡ true
+      pub entry_hit : (import_only wanted : Bool) {x : Tried} → x ≡ hit_at s import_only first (first + len) → wanted ≡ true → b ≡ true
           → x ≡ entry_tried s t import_only wanted at
       unfolding entry_tried
-      entry-hit import_only wanted g u y = g ∙ rw (read, u, compared s t first len k true y)
+      entry_hit import_only wanted g u y = g ∙ rw (read, u, compared s t first len k true y)
 
       pub entry_other : (import_only wanted : Bool) {x : Tried} → x ≡ past (rest_at import_only s (first + len)) → wanted ≡ true → b ≡ false
           → x ≡ entry_tried s t import_only wanted at
       unfolding entry_tried
       entry_other import_only wanted g u y = g ∙ rw (read, u, compared s t first len k false y)
 
-      pub word-hit : b ≡ true → Hit first 0 ≡ word_tried s t at
+      pub word_hit : b ≡ true → Hit first 0 ≡ word_tried s t at
       unfolding word_tried
-      word-hit y = rw (read, compared s t first len k true y)
+      word_hit y = rw (read, compared s t first len k true y)
 
-      pub word-other : b ≡ false → Next (first + len) ≡ word_tried s t at
+      pub word_other : b ≡ false → Next (first + len) ≡ word_tried s t at
       unfolding word_tried
-      word-other y = rw (read, compared s t first len k false y)
+      word_other y = rw (read, compared s t first len k false y)
 
 -- ---- `enter_module` and `leave_module`
 

@@ -156,8 +156,8 @@ module _ (edges places : List ℕ) (good : ℕ) where
   none_passed m i h = passing 0 m good i (record { most = omega arith; stand = λ k l. refl; falls = λ l. absurd (omega arith) }) h
 
   module _ (m i least : ℕ) (g : Passing m i least) where
-    pub more-passed : {to : ℕ} → to ≡ place_in places (row_at edges i).to → i < m → {r : ℕ} → NextBreak places edges (i + 1) m to r → Passing m r to
-    more-passed {to} t l {r} h = passing (i + 1) m to r
+    pub more_passed : {to : ℕ} → to ≡ place_in places (row_at edges i).to → i < m → {r : ℕ} → NextBreak places edges (i + 1) m to r → Passing m r to
+    more_passed {to} t l {r} h = passing (i + 1) m to r
         (rw add-one (one_passed i least to g.sofar (rw (← t) at (leaves_before places (row_at edges i) least (g.barred l)))))
         h
 

@@ -55,20 +55,20 @@ module _ (before : List ℕ) (v : ℕ) (gone₀ trail₀ : List ℕ) (g : Goes b
     flags : Flags (drop at trail ++ g.marked) gone
     flags = h.flags g.marked g.flags
 
-    on-trail : mem node (drop at trail ++ g.marked) ≡ mem node (drop at trail)
-    on-trail = mem_append node (drop at trail) g.marked ∙ rw (g.apart node node_own) (or-false (mem node (drop at trail)))
+    on_trail : mem node (drop at trail ++ g.marked) ≡ mem node (drop at trail)
+    on_trail = mem_append node (drop at trail) g.marked ∙ rw (g.apart node node_own) (or-false (mem node (drop at trail)))
 
-    pub node-fits : Fits w64 (node * 4)
-    node-fits = record { fits = omega (arith, node_low) }
+    pub node_fits : Fits w64 (node * 4)
+    node_fits = record { fits = omega (arith, node_low) }
 
-    pub node-word : Fits w32 node
-    node-word = record { fits = omega (arith, node_low) }
+    pub node_word : Fits w32 node
+    node_word = record { fits = omega (arith, node_low) }
 
-    pub node-gone : node < length gone
-    node-gone = omega (arith, node_low, flags.long)
+    pub node_gone : node < length gone
+    node_gone = omega (arith, node_low, flags.long)
 
-    pub node-before : node < length before
-    node-before = omega (arith, node_low, g.long_before)
+    pub node_before : node < length before
+    node_before = omega (arith, node_low, g.long_before)
 
     long : length (drop at trail) ≡ most_nodes - at
     long = length-drop at trail ∙ ap (λ (k : ℕ). k - at) (h.kept_trail ∙ g.long_trail)
@@ -77,7 +77,7 @@ module _ (before : List ℕ) (v : ℕ) (gone₀ trail₀ : List ℕ) (g : Goes b
 
     module _ (z : get_or gone node 0 ≡ 0) where
       fresh : mem node (drop at trail) ≡ false
-      fresh = sym on-trail ∙ flag_no (drop at trail ++ g.marked) gone node flags node_low z
+      fresh = sym on_trail ∙ flag_no (drop at trail ++ g.marked) gone node flags node_low z
 
       member : (p : ℕ → Bool) → p node ≡ true → ((u : ℕ) → mem u (drop at trail) ≡ true → p u ≡ true)
           → (u : ℕ) → mem u (node ∷ drop at trail) ≡ true → p u ≡ true
@@ -89,18 +89,18 @@ module _ (before : List ℕ) (v : ℕ) (gone₀ trail₀ : List ℕ) (g : Goes b
           (λ u m. g.closed.below u (member g.own node_own (h.own most_nodes g.own g.closed).1 u m)) in
           omega (arith, long)
 
-      pub back-less : at - 1 < at
-      back-less = omega (arith, room)
+      pub back_less : at - 1 < at
+      back_less = omega (arith, room)
 
-      pub trail-in : at - 1 < length trail
-      trail-in = omega (arith, room, h.low, h.kept_trail, g.long_trail)
+      pub trail_in : at - 1 < length trail
+      trail_in = omega (arith, room, h.low, h.kept_trail, g.long_trail)
 
       longer : drop (at - 1) (set trail (at - 1) node) ≡ node ∷ drop at trail
       longer =
           let e : suc (at - 1) ≡ at = omega (arith, room) in
-          let l : at - 1 < length (set trail (at - 1) node) = rw length-set trail-in in
+          let l : at - 1 < length (set trail (at - 1) node) = rw length-set trail_in in
           drop-cons (set trail (at - 1) node) (at - 1) 0 l
-          ∙ rw (e, get_or-set_same trail (at - 1) node 0 trail-in, drop-set-lt at trail (at - 1) node (omega (arith, room)))
+          ∙ rw (e, get_or-set_same trail (at - 1) node 0 trail_in, drop-set-lt at trail (at - 1) node (omega (arith, room)))
 
       pub back_more : {next : ℕ} → next ≡ get_or before node 0
           → Going before v gone₀ trail₀ (set gone node 1) (set trail (at - 1) node) next (at - 1)
@@ -124,7 +124,7 @@ module _ (before : List ℕ) (v : ℕ) (gone₀ trail₀ : List ℕ) (g : Goes b
 
     pub back_done : (get_or gone node 0 ≡ 0 → ⊥) → Went before v trail (record { at = at; node = node })
     back_done d =
-        let a : mem node (drop at trail) ≡ true = sym on-trail ∙ flag_yes (drop at trail ++ g.marked) gone node flags node_low d in
+        let a : mem node (drop at trail) ≡ true = sym on_trail ∙ flag_yes (drop at trail ++ g.marked) gone node flags node_low d in
         record {
           low = h.low;
           again = a;

@@ -70,14 +70,14 @@ module _ (list : List ℕ) (count : ℕ) (t₀ : List ℕ) (g : Marks list count
       g.below (get_or list i 0) (rw (get_or-take count list i 0 l) at k)
 
   module _ (t : List ℕ) (i x : ℕ) (h : Marking list count t₀ t i) (q : x ≡ get_or list i 0) (l : i < count) where
-    pub mark-in : x < length t
-    mark-in = rw q (omega (arith, low i l, h.sofar.long))
+    pub mark_in : x < length t
+    mark_in = rw q (omega (arith, low i l, h.sofar.long))
 
-    pub mark-fits : Fits w64 (x * 4)
-    mark-fits = record { fits = omega (arith, low i l) }
+    pub mark_fits : Fits w64 (x * 4)
+    mark_fits = record { fits = omega (arith, low i l) }
 
-    pub mark-more : Marking list count t₀ (set t x 1) (i + 1)
-    mark-more = record {
+    pub mark_more : Marking list count t₀ (set t x 1) (i + 1)
+    mark_more = record {
       kept = length-set t x 1 ∙ h.kept;
       most = omega arith;
       sofar = rw (q, add-one, take-suc list i 0 (omega (arith, g.all))) (flag_end (take i list) t (get_or list i 0) h.sofar (low i l));

@@ -19,7 +19,7 @@ use Rattle.graph_edges.specs.Edges.{row_at, rows_in}
 use Rattle.graph.proofs.Tests.{or_not, always}
 use Rattle.graph_edges.proofs.Rows.{mem_snoc}
 use Rattle.order_tables.specs.Free.{lowest, zero_at}
-use Rattle.order_tables.proofs.Lowest.{lowest-has, lowest-none, lowest-is, lowest-not, lowest_same}
+use Rattle.order_tables.proofs.Lowest.{lowest_has, lowest_none, lowest_is, lowest_not, lowest_same}
 use Rattle.order_ring.specs.Trail.{noted, lowest_to, Notes, Noted}
 
 -- ---- one edge: the ways through `note_edge`
@@ -51,13 +51,13 @@ module _ (edges : List ℕ) (i : ℕ) (gone before : List ℕ) (u v : ℕ) (a : 
 -- p' is p, and x has it too
 module _ (p p' : ℕ → Bool) (n x : ℕ) (below : x < n) (own : p' x ≡ true) (else : (u : ℕ) → (u ≡ x → ⊥) → p' u ≡ p u) where
   with_lower : x < lowest p n → lowest p' n ≡ x
-  with_lower l = lowest-is p' n x below own (λ j m. else j (λ e. omega arith) ∙ lowest-none p n j (omega arith))
+  with_lower l = lowest_is p' n x below own (λ j m. else j (λ e. omega arith) ∙ lowest_none p n j (omega arith))
 
   with_higher : lowest p n ≤ x → lowest p' n ≡ lowest p n
   with_higher l = ⊎_elim
-      (λ e. lowest-is p' n (lowest p n) (omega arith) (rw e own) (λ j m. else j (λ k. omega arith) ∙ lowest-none p n j m))
-      (λ k. lowest-is p' n (lowest p n) (omega arith) (else (lowest p n) (λ e. omega arith) ∙ lowest-has p n (omega arith))
-      (λ j m. else j (λ q. omega arith) ∙ lowest-none p n j m))
+      (λ e. lowest_is p' n (lowest p n) (omega arith) (rw e own) (λ j m. else j (λ k. omega arith) ∙ lowest_none p n j m))
+      (λ k. lowest_is p' n (lowest p n) (omega arith) (else (lowest p n) (λ e. omega arith) ∙ lowest_has p n (omega arith))
+      (λ j m. else j (λ q. omega arith) ∙ lowest_none p n j m))
       (eq-or-lt_of_le {n = lowest p n} {m = x} l)
 
 -- ---- the rows, one more
@@ -84,12 +84,12 @@ module _ (es : List Row) (from to : ℕ) where
   -- ---- what one more row does to the lowest numbers
 
   module _ (gone : List ℕ) where
-    to-other : (v : ℕ) → (v ≡ to → ⊥) → lowest_to gone More v ≡ lowest_to gone es v
-    to-other v d = lowest_same (λ u. zero_at gone u && mem_r (row u v) More) (λ u. zero_at gone u && mem_r (row u v) es) most_nodes
+    to_other : (v : ℕ) → (v ≡ to → ⊥) → lowest_to gone More v ≡ lowest_to gone es v
+    to_other v d = lowest_same (λ u. zero_at gone u && mem_r (row u v) More) (λ u. zero_at gone u && mem_r (row u v) es) most_nodes
         (λ u l. rw (other_to u v d))
 
-    from-taken : (v : ℕ) → zero_at gone from ≡ false → lowest_to gone More v ≡ lowest_to gone es v
-    from-taken v k = lowest_same (λ u. zero_at gone u && mem_r (row u v) More) (λ u. zero_at gone u && mem_r (row u v) es) most_nodes
+    from_taken : (v : ℕ) → zero_at gone from ≡ false → lowest_to gone More v ≡ lowest_to gone es v
+    from_taken v k = lowest_same (λ u. zero_at gone u && mem_r (row u v) More) (λ u. zero_at gone u && mem_r (row u v) es) most_nodes
         (λ u l. ⊎_elim (λ e. rw e (rw k)) (λ d. rw (other_from u v d)) (decide u from))
 
     module _ (low : from < most_nodes) (k : zero_at gone from ≡ true) where
@@ -107,21 +107,21 @@ module _ (es : List Row) (from to : ℕ) where
       at_other v l d = go (zero_at gone from && ltb from (get_or before to 0))
         where
           go : (b : Bool) → get_or (cond b (set before to from) before) v 0 ≡ lowest_to gone More v
-          go true = get_or-set_other before to v from 0 d ∙ h.same v l ∙ sym (to-other v d)
-          go false = h.same v l ∙ sym (to-other v d)
+          go true = get_or-set_other before to v from 0 d ∙ h.same v l ∙ sym (to_other v d)
+          go false = h.same v l ∙ sym (to_other v d)
 
       at_own : get_or (noted gone before (row from to)) to 0 ≡ lowest_to gone More to
       at_own = go (zero_at gone from) refl (ltb from (get_or before to 0)) refl
         where
-          now-is : get_or before to 0 ≡ lowest_to gone es to
-          now-is = h.same to t
+          now_is : get_or before to 0 ≡ lowest_to gone es to
+          now_is = h.same to t
 
           go : (a : Bool) → zero_at gone from ≡ a → (b : Bool) → ltb from (get_or before to 0) ≡ b
               → get_or (cond (a && b) (set before to from) before) to 0 ≡ lowest_to gone More to
           go true p true q = get_or-set_same before to from 0 (omega (arith, h.long))
-              ∙ sym (lower f p (omega (arith, ltb-true from (get_or before to 0) q, now-is)))
-          go true p false q = now-is ∙ sym (higher f p (omega (arith, ltb-false from (get_or before to 0) q, now-is)))
-          go false p b q = now-is ∙ sym (from-taken to p)
+              ∙ sym (lower f p (omega (arith, ltb-true from (get_or before to 0) q, now_is)))
+          go true p false q = now_is ∙ sym (higher f p (omega (arith, ltb-false from (get_or before to 0) q, now_is)))
+          go false p b q = now_is ∙ sym (from_taken to p)
 
       noted_more : Noted gone More (noted gone before (row from to))
       noted_more = record {
@@ -148,7 +148,7 @@ module _ (edges : List ℕ) (m : ℕ) (gone before₀ : List ℕ) (g : Notes edg
     most = omega arith;
     sofar = record {
       long = g.long_before;
-      same = λ v l. g.none v l ∙ sym (lowest-not (λ u. zero_at gone u && false) most_nodes (λ u k. and-false (zero_at gone u)));
+      same = λ v l. g.none v l ∙ sym (lowest_not (λ u. zero_at gone u && false) most_nodes (λ u k. and-false (zero_at gone u)));
     };
   }
 
@@ -162,15 +162,15 @@ module _ (edges : List ℕ) (m : ℕ) (gone before₀ : List ℕ) (g : Notes edg
     pub to_in : i < m → (row_at edges i).to < length before
     to_in l = omega (arith, (g.ends i l).1, h.sofar.long)
 
-    pub note-more : {after : List ℕ} → after ≡ noted gone before (row_at edges i) → length after ≡ length before → i < m
+    pub note_more : {after : List ℕ} → after ≡ noted gone before (row_at edges i) → length after ≡ length before → i < m
         → Noting edges m gone before₀ after (i + 1)
     unfolding rows_in
-    note-more e k l = record {
+    note_more e k l = record {
       kept = k ∙ h.kept;
       most = omega arith;
       sofar = rw (e, add-one i) (noted_more (rows_in i edges) (row_at edges i).from (row_at edges i).to gone before h.sofar
           (g.ends i l).0 (g.ends i l).1);
     }
 
-    pub note-done : m ≤ i → Noted gone (rows_in m edges) before
-    note-done l = let e : i ≡ m = omega (arith, h.most) in rw (← e) h.sofar
+    pub note_done : m ≤ i → Noted gone (rows_in m edges) before
+    note_done l = let e : i ≡ m = omega (arith, h.most) in rw (← e) h.sofar

@@ -50,9 +50,9 @@ module _ (trail : List ℕ) (at v i : ℕ) (h : Seeking trail at v i) where
         let a : until v (drop at trail) ≡ slice at i trail = h.sofar ∙ rw (n, append-nil) in
         record { past = omega (arith, h.from); within = omega arith; part = slice_snoc at i trail h.from l ∙ rw (a, k) }
 
-    pub seek-more : {x : ℕ} → x ≡ get_or trail i 0 → (x ≡ v → ⊥) → Seeking trail at v (i + 1)
+    pub seek_more : {x : ℕ} → x ≡ get_or trail i 0 → (x ≡ v → ⊥) → Seeking trail at v (i + 1)
     unfolding until
-    seek-more q d =
+    seek_more q d =
         let k : get_or trail i 0 ≡ v → ⊥ = λ e. d (q ∙ e) in
         let n : until v (drop i trail) ≡ get_or trail i 0 ∷ until v (drop (i + 1) trail) = rw (here, ne_eqb (get_or trail i 0) v k) in
         record {
@@ -108,17 +108,17 @@ module _ (trail : List ℕ) (at end p : ℕ) (k : end ≤ length trail) where
         rw (slice_more i end trail (omega arith) k, ne_eqb (get_or trail i 0) m (f i (omega arith) (omega arith)))
         (since_at d (i + 1) (omega arith) (λ j x y. f j (omega arith) y))
 
-    until-at : (d i : ℕ) → i + d ≡ p → ((j : ℕ) → i ≤ j → j < p → get_or trail j 0 ≡ m → ⊥) → until m (slice i end trail) ≡ slice i p trail
+    until_at : (d i : ℕ) → i + d ≡ p → ((j : ℕ) → i ≤ j → j < p → get_or trail j 0 ≡ m → ⊥) → until m (slice i end trail) ≡ slice i p trail
     unfolding until
-    until-at zero i e f =
+    until_at zero i e f =
         let q : i ≡ p = omega arith in
         rw q (rw (slice_more p end trail b k, own, eq-eqb m m refl, slice_empty p trail))
-    until-at (suc d) i e f =
+    until_at (suc d) i e f =
         rw (
           slice_more i end trail (omega arith) k,
           ne_eqb (get_or trail i 0) m (f i (omega arith) (omega arith)),
           slice_more i p trail (omega arith) (omega arith),
-          until-at d (i + 1) (omega arith) (λ j x y. f j (omega arith) y),
+          until_at d (i + 1) (omega arith) (λ j x y. f j (omega arith) y),
         )
 
   module _ (i : ℕ) (h : Lowering trail at end p i) where
@@ -136,8 +136,8 @@ module _ (trail : List ℕ) (at end p : ℕ) (k : end ≤ length trail) where
           ∙ least_lower (get_or trail p 0) (get_or trail i 0) (slice (i + 1) end trail) x;
     }
 
-    lower-stays : i < end → get_or trail p 0 ≤ get_or trail i 0 → Lowering trail at end p (i + 1)
-    lower-stays l x = record {
+    lower_stays : i < end → get_or trail p 0 ≤ get_or trail i 0 → Lowering trail at end p (i + 1)
+    lower_stays l x = record {
       from = h.from;
       below = omega (arith, h.below);
       within = omega arith;
@@ -148,15 +148,15 @@ module _ (trail : List ℕ) (at end p : ℕ) (k : end ≤ length trail) where
     }
 
     -- q: the place after the turn
-    pub lower-new : {q : ℕ} → i < end → get_or trail i 0 < get_or trail p 0 → q ≡ i → Lowering trail at end q (i + 1)
-    lower-new l x e = rw e (lower_here l x)
+    pub lower_new : {q : ℕ} → i < end → get_or trail i 0 < get_or trail p 0 → q ≡ i → Lowering trail at end q (i + 1)
+    lower_new l x e = rw e (lower_here l x)
 
-    pub lower-old : {q : ℕ} → i < end → get_or trail p 0 ≤ get_or trail i 0 → q ≡ p → Lowering trail at end q (i + 1)
-    lower-old l x e = rw e (lower-stays l x)
+    pub lower_old : {q : ℕ} → i < end → get_or trail p 0 ≤ get_or trail i 0 → q ≡ p → Lowering trail at end q (i + 1)
+    lower_old l x e = rw e (lower_stays l x)
 
-    pub lower-done : end ≤ i → LowestAt trail at end p
+    pub lower_done : end ≤ i → LowestAt trail at end p
     unfolding lowest_first least_of
-    lower-done l =
+    lower_done l =
         let e : i ≡ end = omega (arith, h.within) in
         let b : p < end = omega (arith, h.below) in
         let m : least_of (get_or trail at 0) (slice (at + 1) end trail) ≡ get_or trail p 0 = h.sofar ∙ rw (e, slice_empty end trail) in
@@ -167,7 +167,7 @@ module _ (trail : List ℕ) (at end p : ℕ) (k : end ≤ length trail) where
           from = h.from;
           below = b;
           same = rw all (rw (m, ← all)
-              (rw (since_at (get_or trail p 0) refl b (p - at) at d other, until-at (get_or trail p 0) refl b (p - at) at d other)));
+              (rw (since_at (get_or trail p 0) refl b (p - at) at d other, until_at (get_or trail p 0) refl b (p - at) at d other)));
         }
 
 -- ---- the loop of `copy`
@@ -182,11 +182,11 @@ module _ (trail : List ℕ) (from to : ℕ) (table₀ : List ℕ) (at : ℕ) whe
   copy_begun l = record { within = l; level = refl; writing = begun table₀ at (slice from to trail) }
 
   module _ (table : List ℕ) (i j : ℕ) (h : Copying trail from to table₀ at table i j) where
-    pub copy-kept : length table ≡ length table₀
-    copy-kept = h.writing.long
+    pub copy_kept : length table ≡ length table₀
+    copy_kept = h.writing.long
 
-    pub copy-in : i < to → at + (to - from) ≤ length table₀ → j < length table
-    copy-in l k = omega (arith, copy-kept, h.level)
+    pub copy_in : i < to → at + (to - from) ≤ length table₀ → j < length table
+    copy_in l k = omega (arith, copy_kept, h.level)
 
     pub copy_more : i < to → to ≤ length trail → Copying trail from to table₀ at (set table j (get_or trail i 0)) (i + 1) (j + 1)
     copy_more l k = record {

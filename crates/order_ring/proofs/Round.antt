@@ -17,7 +17,7 @@ use Rattle.graph.specs.Numbers.{Row, row, mem_r}
 use Rattle.order_tables.specs.Free.{mem, Stuck}
 use Rattle.order_tables.specs.Tables.{all_within}
 use Rattle.order_tables.proofs.Mem.{mem_append, mem_snoc_else}
-use Rattle.order_tables.proofs.Lowest.{lowest-has, lowest-low}
+use Rattle.order_tables.proofs.Lowest.{lowest_has, lowest_low}
 use Rattle.order_tables.proofs.Ready.{Awaited, unready, within_edge}
 use Rattle.order_tables.proofs.Distinct.{Distinct, none, more, distinct_snoc, short, mem_head, mem_tail, mem_other}
 use Rattle.order_ring.specs.Ring.{left, first_left, before, until, since, go_back, least_of, lowest_first, ring_of}
@@ -161,15 +161,15 @@ module _ (n : ℕ) (es : List Row) (done : List ℕ) where
     leads v u = left done u && mem_r (row u v) es
 
     -- a node left over waits for one that is left over
-    pub before-below : (v : ℕ) → v < n → mem v done ≡ false → before n es done v < n
-    before-below v b m =
+    pub before_below : (v : ℕ) → v < n → mem v done ≡ false → before n es done v < n
+    before_below v b m =
         let a : Awaited done v es = unready done v es (stuck.waiting v b m) in
         let e : leads v a.from ≡ true = rw (a.missing, a.edge) in
-        omega (arith, lowest-low (leads v) n a.from e, (within_edge n es a.from v inside a.edge).0)
+        omega (arith, lowest_low (leads v) n a.from e, (within_edge n es a.from v inside a.edge).0)
 
-    before-led : (v : ℕ) → v < n → mem v done ≡ false → Led n es done (before n es done v) v
-    before-led v b m =
-        let r = both (left done (before n es done v)) _ (lowest-has (leads v) n (before-below v b m)) in
+    before_led : (v : ℕ) → v < n → mem v done ≡ false → Led n es done (before n es done v) v
+    before_led v b m =
+        let r = both (left done (before n es done v)) _ (lowest_has (leads v) n (before_below v b m)) in
         record { edge = r.1; over = not-true _ r.0; is = refl }
 
     -- what was gone through, and where the way is now
@@ -179,20 +179,20 @@ module _ (n : ℕ) (es : List Row) (done : List ℕ) where
       way : (u : ℕ) → mem u seen ≡ true → OnWay n es done u
       here : OnWay n es done v
 
-    back-further : (seen : List ℕ) (v : ℕ) → Going seen v → mem v seen ≡ false → Going (v ∷ seen) (before n es done v)
+    back_further : (seen : List ℕ) (v : ℕ) → Going seen v → mem v seen ≡ false → Going (v ∷ seen) (before n es done v)
     unfolding Trail
-    back-further seen v g h =
-        let r = before-led v g.here.below g.here.over in
+    back_further seen v g h =
+        let r = before_led v g.here.below g.here.over in
         record {
           differ = more h g.differ;
           trail = (r, g.trail);
           way = λ u k. ⊎_elim (λ e. rw (← e) g.here) (λ d. g.way u (sym (mem_other u v seen d) ∙ k)) (decide v u);
-          here = record { over = r.over; below = before-below v g.here.below g.here.over; reached = further g.here.reached r };
+          here = record { over = r.over; below = before_below v g.here.below g.here.over; reached = further g.here.reached r };
         }
 
-    back-round : (seen : List ℕ) (v : ℕ) → Going seen v → mem v seen ≡ true → Ringed n es done (until v seen ++ (v ∷ []))
+    back_round : (seen : List ℕ) (v : ℕ) → Going seen v → mem v seen ≡ true → Ringed n es done (until v seen ++ (v ∷ []))
     unfolding Round
-    back-round seen v g h = record {
+    back_round seen v g h = record {
       round = round_turned (Led n es done) (v ∷ []) (until v seen) (trail_until (Led n es done) v v seen g.trail h);
       differ = distinct_snoc (until v seen) v (until_distinct v seen g.differ) (until_ends v seen);
       way = λ u k. ⊎_elim
@@ -201,12 +201,12 @@ module _ (n : ℕ) (es : List Row) (done : List ℕ) where
           (decide u v);
     }
 
-    back-ringed : (turns : ℕ) (seen : List ℕ) (v : ℕ) → Going seen v → turns + length seen ≡ suc n → Ringed n es done (go_back (before n es done) turns seen v)
+    back_ringed : (turns : ℕ) (seen : List ℕ) (v : ℕ) → Going seen v → turns + length seen ≡ suc n → Ringed n es done (go_back (before n es done) turns seen v)
     unfolding go_back
-    back-ringed zero seen v g e = absurd (omega (arith, short n seen g.differ (λ u k. (g.way u k).below)))
-    back-ringed (suc k) seen v g e = by_test (mem v seen)
-        (λ h. rw h (back-round seen v g h))
-        (λ h. rw h (back-ringed k (v ∷ seen) (before n es done v) (back-further seen v g h) (omega arith)))
+    back_ringed zero seen v g e = absurd (omega (arith, short n seen g.differ (λ u k. (g.way u k).below)))
+    back_ringed (suc k) seen v g e = by_test (mem v seen)
+        (λ h. rw h (back_round seen v g h))
+        (λ h. rw h (back_ringed k (v ∷ seen) (before n es done v) (back_further seen v g h) (omega arith)))
 
     back_begun : Going [] (first_left n done)
     unfolding Trail mem
@@ -214,11 +214,11 @@ module _ (n : ℕ) (es : List Row) (done : List ℕ) where
       differ = none;
       trail = tt;
       way = λ u h. absurd (never refl h);
-      here = record { over = not-true _ (lowest-has (left done) n stuck.some); below = stuck.some; reached = first refl };
+      here = record { over = not-true _ (lowest_has (left done) n stuck.some); below = stuck.some; reached = first refl };
     }
 
-    back-ring : Ringed n es done (go_back (before n es done) (suc n) [] (first_left n done))
-    back-ring = back-ringed (suc n) [] (first_left n done) back_begun (omega arith)
+    back_ring : Ringed n es done (go_back (before n es done) (suc n) [] (first_left n done))
+    back_ring = back_ringed (suc n) [] (first_left n done) back_begun (omega arith)
 
 -- ---- from the lowest node on
 
@@ -265,7 +265,7 @@ module _ (n : ℕ) (es : List Row) (done : List ℕ) where
   from_lowest (x ∷ xs) r = turned n es done (until (least_of x xs) (x ∷ xs)) (since (least_of x xs) (x ∷ xs)) (rw (parted (least_of x xs) (x ∷ xs)) r)
 
   pub ring_ringed : Stuck n es done → all_within n es ≡ true → Ringed n es done (ring_of n es done)
-  ring_ringed stuck inside = from_lowest (go_back (before n es done) (suc n) [] (first_left n done)) (back-ring n es done stuck inside)
+  ring_ringed stuck inside = from_lowest (go_back (before n es done) (suc n) [] (first_left n done)) (back_ring n es done stuck inside)
 
 pub first_lowest : (xs : List ℕ) (v : ℕ) → mem v (lowest_first xs) ≡ true → get_or (lowest_first xs) 0 0 ≤ v
 unfolding lowest_first mem

@@ -15,12 +15,12 @@ use Rattle.graph.specs.Limits.{most_nodes}
 use Rattle.graph_edges.specs.Edges.{rows_in}
 use Rattle.order_tables.specs.Tables.{Fit}
 use Rattle.order_tables.specs.Free.{mem, lowest_from, lowest, zero_at, Stuck}
-use Rattle.order_tables.proofs.Lowest.{lowest-has, lowest_wider, lowest_same}
+use Rattle.order_tables.proofs.Lowest.{lowest_has, lowest_wider, lowest_same}
 use Rattle.order_tables.proofs.Ready.{within_row}
 use Rattle.order_ring.specs.declared.Met.{Met}
 use Rattle.order_ring.specs.Ring.{left, first_left, before, go_back}
 use Rattle.order_ring.specs.Trail.{Flags, Marks, Notes, Noted, word_of, Closed, Goes, Went, Trailed}
-use Rattle.order_ring.proofs.Round.{before-below}
+use Rattle.order_ring.proofs.Round.{before_below}
 
 none_marked : Flags [] (replicate most_nodes 0)
 unfolding mem
@@ -49,8 +49,8 @@ module _ (edges : List ℕ) (n m : ℕ) (list : List ℕ) (count : ℕ) (f : Fit
     pub look_in : n ≤ length gone
     look_in = omega (arith, f.few_nodes, g.long)
 
-    is-left : (v : ℕ) → v < most_nodes → zero_at gone v ≡ left done v
-    is-left v l = ap (λ (w : ℕ). eqb w 0) (g.same v l) ∙ go (mem v done)
+    is_left : (v : ℕ) → v < most_nodes → zero_at gone v ≡ left done v
+    is_left v l = ap (λ (w : ℕ). eqb w 0) (g.same v l) ∙ go (mem v done)
       where
         go : (b : Bool) → eqb (cond b 1 0) 0 ≡ not b
         go true = refl
@@ -61,11 +61,11 @@ module _ (edges : List ℕ) (n m : ℕ) (list : List ℕ) (count : ℕ) (f : Fit
     abbrev own : ℕ → Bool
     own v = ltb v n && left done v
 
-    own-low : (v : ℕ) → own v ≡ true → v < n
-    own-low v h = ltb-true v n (both (ltb v n) (left done v) h).0
+    own_low : (v : ℕ) → own v ≡ true → v < n
+    own_low v h = ltb-true v n (both (ltb v n) (left done v) h).0
 
-    own-left : (v : ℕ) → own v ≡ true → mem v done ≡ false
-    own-left v h = not-true (mem v done) (both (ltb v n) (left done v) h).1
+    own_left : (v : ℕ) → own v ≡ true → mem v done ≡ false
+    own_left v h = not-true (mem v done) (both (ltb v n) (left done v) h).1
 
     own_is : (v : ℕ) → v < n → left done v ≡ true → own v ≡ true
     own_is v l h = rw (lt-ltb v n l, h)
@@ -76,27 +76,27 @@ module _ (edges : List ℕ) (n m : ℕ) (list : List ℕ) (count : ℕ) (f : Fit
         has u = left done u && mem_r (row u v) es
 
         found : lowest has n < n
-        found = before-below n es done s f.inside v (own-low v h) (own-left v h)
+        found = before_below n es done s f.inside v (own_low v h) (own_left v h)
 
-        word-is : get_or table v 0 ≡ before n es done v
-        word-is = t.same v (omega (arith, own-low v h, f.few_nodes))
-            ∙ lowest_same (λ u. zero_at gone u && mem_r (row u v) es) has most_nodes (λ u l. rw (is-left u l))
+        word_is : get_or table v 0 ≡ before n es done v
+        word_is = t.same v (omega (arith, own_low v h, f.few_nodes))
+            ∙ lowest_same (λ u. zero_at gone u && mem_r (row u v) es) has most_nodes (λ u l. rw (is_left u l))
             ∙ lowest_wider has n most_nodes f.few_nodes found
 
-        word-own : own (get_or table v 0) ≡ true
-        word-own = rw word-is (own_is (lowest has n) found (both (left done (lowest has n)) (mem_r (row (lowest has n) v) es) (lowest-has has n found)).0)
+        word_own : own (get_or table v 0) ≡ true
+        word_own = rw word_is (own_is (lowest has n) found (both (left done (lowest has n)) (mem_r (row (lowest has n) v) es) (lowest_has has n found)).0)
 
       module _ (start : ℕ) (q : start ≡ lowest_from (zero_at gone) 0 (n - 0)) where
         start_is : start ≡ first_left n done
         start_is =
             let e : n - 0 ≡ n = omega arith in
-            q ∙ ap (lowest_from (zero_at gone) 0) e ∙ lowest_same (zero_at gone) (left done) n (λ u l. is-left u (omega (arith, f.few_nodes)))
+            q ∙ ap (lowest_from (zero_at gone) 0) e ∙ lowest_same (zero_at gone) (left done) n (λ u l. is_left u (omega (arith, f.few_nodes)))
 
-        start-own : own start ≡ true
-        start-own = rw start_is (own_is (first_left n done) s.some (lowest-has (left done) n s.some))
+        start_own : own start ≡ true
+        start_own = rw start_is (own_is (first_left n done) s.some (lowest_has (left done) n s.some))
 
         closed : (k : ℕ) → n ≤ k → Closed table start k own
-        closed k l = record { below = λ u h. omega (arith, own-low u h); start = start-own; next = word-own }
+        closed k l = record { below = λ u h. omega (arith, own_low u h); start = start_own; next = word_own }
 
         pub goes : {trail : List ℕ} → length trail ≡ most_nodes → Goes table start gone trail
         goes e = record {
@@ -104,7 +104,7 @@ module _ (edges : List ℕ) (n m : ℕ) (list : List ℕ) (count : ℕ) (f : Fit
           closed = closed most_nodes f.few_nodes;
           marked = done;
           flags = g;
-          apart = own-left;
+          apart = own_left;
           long_before = t.long;
           long_trail = e;
         }
@@ -112,7 +112,7 @@ module _ (edges : List ℕ) (n m : ℕ) (list : List ℕ) (count : ℕ) (f : Fit
         walk_same : (k : ℕ) (seen : List ℕ) (v : ℕ) → own v ≡ true → go_back (word_of table) k seen v ≡ go_back (before n es done) k seen v
         unfolding go_back
         walk_same zero seen v h = refl
-        walk_same (suc k) seen v h = rw (walk_same k (v ∷ seen) (get_or table v 0) (word-own v h), word-is v h)
+        walk_same (suc k) seen v h = rw (walk_same k (v ∷ seen) (get_or table v 0) (word_own v h), word_is v h)
 
         pub trailed : (trail : List ℕ) (r : Met) → Went table start trail r → Trailed n es done trail r
         trailed trail r w =
@@ -121,5 +121,5 @@ module _ (edges : List ℕ) (n m : ℕ) (list : List ℕ) (count : ℕ) (f : Fit
               low = w.low;
               again = w.again;
               few = l;
-              same = rw (← start_is) (sym (walk_same (suc n) [] start start-own) ∙ w.same n l);
+              same = rw (← start_is) (sym (walk_same (suc n) [] start start_own) ∙ w.same n l);
             }

@@ -46,32 +46,32 @@ module _ (p : ℕ → Bool) where
       go false e ih h = ⊎_elim (λ q. rw (← q) e) (λ q. ih q h) (eq-or-lt_of_le {n = i} {m = j} l)
 
   module _ (n : ℕ) where
-    pub lowest-most : lowest p n ≤ n
-    lowest-most = omega (arith, (from_bounds 0 n).1)
+    pub lowest_most : lowest p n ≤ n
+    lowest_most = omega (arith, (from_bounds 0 n).1)
 
-    pub lowest-has : lowest p n < n → p (lowest p n) ≡ true
-    lowest-has l = from_has 0 n (omega arith)
+    pub lowest_has : lowest p n < n → p (lowest p n) ≡ true
+    lowest_has l = from_has 0 n (omega arith)
 
-    pub lowest-none : (j : ℕ) → j < lowest p n → p j ≡ false
-    lowest-none j l = from_none 0 n j (omega arith) l
+    pub lowest_none : (j : ℕ) → j < lowest p n → p j ≡ false
+    lowest_none j l = from_none 0 n j (omega arith) l
 
     -- one that has p is not below the lowest
-    pub lowest-low : (w : ℕ) → p w ≡ true → lowest p n ≤ w
-    lowest-low w h = by_test (ltb w (lowest p n)) (λ t. absurd (never (lowest-none w (ltb-true _ _ t)) h)) (λ t. ltb-false _ _ t)
+    pub lowest_low : (w : ℕ) → p w ≡ true → lowest p n ≤ w
+    lowest_low w h = by_test (ltb w (lowest p n)) (λ t. absurd (never (lowest_none w (ltb-true _ _ t)) h)) (λ t. ltb-false _ _ t)
 
-    pub lowest-is : (r : ℕ) → r < n → p r ≡ true → ((j : ℕ) → j < r → p j ≡ false) → lowest p n ≡ r
-    lowest-is r l h none = ⊎_elim
+    pub lowest_is : (r : ℕ) → r < n → p r ≡ true → ((j : ℕ) → j < r → p j ≡ false) → lowest p n ≡ r
+    lowest_is r l h none = ⊎_elim
         (λ e. e)
-        (λ m. absurd (never (none (lowest p n) m) (lowest-has (omega arith))))
-        (eq-or-lt_of_le {n = lowest p n} {m = r} (lowest-low r h))
+        (λ m. absurd (never (none (lowest p n) m) (lowest_has (omega arith))))
+        (eq-or-lt_of_le {n = lowest p n} {m = r} (lowest_low r h))
 
-    pub lowest-not : ((j : ℕ) → j < n → p j ≡ false) → lowest p n ≡ n
-    lowest-not none =
-        ⊎_elim (λ e. e) (λ m. absurd (never (none (lowest p n) m) (lowest-has m))) (eq-or-lt_of_le {n = lowest p n} {m = n} lowest-most)
+    pub lowest_not : ((j : ℕ) → j < n → p j ≡ false) → lowest p n ≡ n
+    lowest_not none =
+        ⊎_elim (λ e. e) (λ m. absurd (never (none (lowest p n) m) (lowest_has m))) (eq-or-lt_of_le {n = lowest p n} {m = n} lowest_most)
 
 -- a longer look finds the same where a shorter one finds some
 pub lowest_wider : (p : ℕ → Bool) (n k : ℕ) → n ≤ k → lowest p n < n → lowest p k ≡ lowest p n
-lowest_wider p n k l m = lowest-is p k (lowest p n) (omega arith) (lowest-has p n m) (lowest-none p n)
+lowest_wider p n k l m = lowest_is p k (lowest p n) (omega arith) (lowest_has p n m) (lowest_none p n)
 
 from_same : (p q : ℕ → Bool) (i k : ℕ) → ((j : ℕ) → i ≤ j → j < i + k → p j ≡ q j) → lowest_from p i k ≡ lowest_from q i k
 unfolding lowest_from
@@ -96,22 +96,22 @@ module _ (t : List ℕ) (first last : ℕ) where
     unfolding lowest_from
     seek_hit l z = let e : last - v ≡ suc (last - (v + 1)) = omega arith in sym (ap (lowest_from (zero_at t) v) e ∙ rw (eq-eqb (get_or t v 0) 0 z)) ∙ h
 
-    pub seek-on : v < last → (get_or t v 0 ≡ 0 → ⊥) → Sought (v + 1)
+    pub seek_on : v < last → (get_or t v 0 ≡ 0 → ⊥) → Sought (v + 1)
     unfolding lowest_from
-    seek-on l d =
+    seek_on l d =
         let e : last - v ≡ suc (last - (v + 1)) = omega arith in
         sym (ap (lowest_from (zero_at t) v) e ∙ rw (ne_eqb (get_or t v 0) 0 d, ← add-one v)) ∙ h
 
-    pub seek-done : last ≤ v → v ≡ answer
+    pub seek_done : last ≤ v → v ≡ answer
     unfolding lowest_from
-    seek-done l = let e : last - v ≡ 0 = omega arith in sym (ap (lowest_from (zero_at t) v) e) ∙ h
+    seek_done l = let e : last - v ≡ 0 = omega arith in sym (ap (lowest_from (zero_at t) v) e) ∙ h
 
   -- what is known of it
   module _ {r : ℕ} (q : r ≡ answer) where
     pub none_before : (w : ℕ) → first ≤ w → w < r → get_or t w 0 ≡ 0 → ⊥
     none_before w a b z = never (from_none (zero_at t) first (last - first) w a (omega arith)) (eq-eqb (get_or t w 0) 0 z)
 
-    pub zero-there : r < last → get_or t r 0 ≡ 0
-    zero-there l =
+    pub zero_there : r < last → get_or t r 0 ≡ 0
+    zero_there l =
         let h = from_has (zero_at t) first (last - first) (omega (arith, (from_bounds (zero_at t) first (last - first)).0)) in
         eqb-true (get_or t r 0) 0 (rw q h)

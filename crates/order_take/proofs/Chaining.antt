@@ -38,8 +38,8 @@ module _ (edges : List ℕ) (i : ℕ) (heads links waits : List ℕ) (r : Rows e
     pub from_in : from < length heads
     from_in = omega (arith, from_low, g.headed.room)
 
-    headed-more : Heads edges (i + 1) (set heads from (i + 1))
-    headed-more = record {
+    headed_more : Heads edges (i + 1) (set heads from (i + 1))
+    headed_more = record {
       room = length-set heads from (i + 1) ∙ g.headed.room;
       heads_of = λ u. ⊎_elim
           (λ q. ap (λ (k : ℕ). get_or (set heads from (i + 1)) k 0) q ∙ get_or-set_same heads from (i + 1) 0 from_in
@@ -48,8 +48,8 @@ module _ (edges : List ℕ) (i : ℕ) (heads links waits : List ℕ) (r : Rows e
           (decide u from);
     }
 
-    linked-more : Links edges (i + 1) (set links i (get_or heads from 0))
-    linked-more = record {
+    linked_more : Links edges (i + 1) (set links i (get_or heads from 0))
+    linked_more = record {
       room = length-set links i (get_or heads from 0) ∙ g.linked.room;
       links_of = λ k l. ⊎_elim
           (λ q. rw q (get_or-set_same links i (get_or heads from 0) 0 (omega (arith, r.few, g.linked.room))
@@ -65,11 +65,11 @@ module _ (edges : List ℕ) (i : ℕ) (heads links waits : List ℕ) (r : Rows e
     pub to_in : to < length waits
     to_in = omega (arith, to_low, g.counted.room)
 
-    pub few-waits : get_or waits to 0 + 1 < 2 ^ 32
-    few-waits = omega (arith, g.counted.waits_of to, wait_most edges [] to i, r.few)
+    pub few_waits : get_or waits to 0 + 1 < 2 ^ 32
+    few_waits = omega (arith, g.counted.waits_of to, wait_most edges [] to i, r.few)
 
-    counted-more : Counts edges (i + 1) (set waits to (get_or waits to 0 + 1))
-    counted-more = record {
+    counted_more : Counts edges (i + 1) (set waits to (get_or waits to 0 + 1))
+    counted_more = record {
       room = length-set waits to (get_or waits to 0 + 1) ∙ g.counted.room;
       waits_of = λ v. ⊎_elim
           (λ q. rw q (get_or-set_same waits to (get_or waits to 0 + 1) 0 to_in ∙ ap (λ (k : ℕ). k + 1) (g.counted.waits_of to)
@@ -80,4 +80,4 @@ module _ (edges : List ℕ) (i : ℕ) (heads links waits : List ℕ) (r : Rows e
 
   pub chained : {from to : ℕ} → from ≡ get_or edges (i * 2) 0 → to ≡ get_or edges (i * 2 + 1) 0
       → Chained edges (i + 1) (set heads from (i + 1)) (set links i (get_or heads from 0)) (set waits to (get_or waits to 0 + 1))
-  chained a b = record { linked = linked-more a; headed = headed-more a; counted = counted-more b }
+  chained a b = record { linked = linked_more a; headed = headed_more a; counted = counted_more b }

@@ -42,19 +42,19 @@ module _ (edges : List ℕ) where
   -- ---- the edges from v to w
 
   module _ (v w : ℕ) where
-    pub pending-here : (k : ℕ) → (row_at edges k).from ≡ v → (row_at edges k).to ≡ w → pending edges v w (suc k) ≡ pending edges v w k + 1
+    pub pending_here : (k : ℕ) → (row_at edges k).from ≡ v → (row_at edges k).to ≡ w → pending edges v w (suc k) ≡ pending edges v w k + 1
     unfolding pending
-    pending-here k e f = rw (eq-eqb _ _ e, eq-eqb _ _ f) (omega arith)
+    pending_here k e f = rw (eq-eqb _ _ e, eq-eqb _ _ f) (omega arith)
 
-    pub pending-else : (k : ℕ) → ((row_at edges k).to ≡ w → ⊥) → pending edges v w (suc k) ≡ pending edges v w k
+    pub pending_else : (k : ℕ) → ((row_at edges k).to ≡ w → ⊥) → pending edges v w (suc k) ≡ pending edges v w k
     unfolding pending
-    pending-else k d = rw (ne_eqb _ _ d) (omega arith)
+    pending_else k d = rw (ne_eqb _ _ d) (omega arith)
 
     -- those behind the last from v can be left out
-    pub pending-last : (k : ℕ) → pending edges v w k ≡ pending edges v w (last_from edges v k)
+    pub pending_last : (k : ℕ) → pending edges v w k ≡ pending edges v w (last_from edges v k)
     unfolding last_by pending
-    pending-last zero = refl
-    pending-last (suc k) = go (eqb (row_at edges k).from v) refl (pending-last k)
+    pending_last zero = refl
+    pending_last (suc k) = go (eqb (row_at edges k).from v) refl (pending_last k)
       where
         go : (b : Bool) → eqb (row_at edges k).from v ≡ b → pending edges v w k ≡ pending edges v w (last_from edges v k)
             → pending edges v w (suc k) ≡ pending edges v w (cond b (suc k) (last_from edges v k))

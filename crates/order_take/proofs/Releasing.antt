@@ -12,7 +12,7 @@ use Rattle.text_lent.proofs.Numbers.{decide}
 use Rattle.graph.specs.Numbers.{Row}
 use Rattle.graph_edges.proofs.Chains.{last_low, last_own}
 use Rattle.order_take.specs.Chains.{last_from, pending, Rows, Links, Lows, Lowered, Releases, Released, Chain, Takes, Freed, Took}
-use Rattle.order_take.proofs.Counting.{pending-here, pending-else, pending-last}
+use Rattle.order_take.proofs.Counting.{pending_here, pending_else, pending_last}
 use Rattle.order_take.proofs.Chaining.{fewer}
 
 -- ---- one edge less
@@ -24,15 +24,15 @@ fewer_zeros n f h = record { room = h.room; near = h.near; low = λ w a b. h.low
 module _ (waits lows : List ℕ) (v : ℕ) (p : Releases waits lows v) where
   -- the count at v is x now
   module _ {x : ℕ} (e : x ≡ get_or waits v 0 - 1) where
-    at-v : get_or (set waits v x) v 0 ≡ x
-    at-v = get_or-set_same waits v x 0 (omega (arith, p.low, p.room))
+    at_v : get_or (set waits v x) v 0 ≡ x
+    at_v = get_or-set_same waits v x 0 (omega (arith, p.low, p.room))
 
     less : get_or (set waits v x) v 0 + 1 ≡ get_or waits v 0
-    less = omega (arith, at-v, p.some)
+    less = omega (arith, at_v, p.some)
 
-    pub last-released : x ≡ 0 → {lows₁ lows₂ : List ℕ} → Lowered lows (v / 32) v lows₁ → Lowered lows₁ 32 (v / 32) lows₂
+    pub last_released : x ≡ 0 → {lows₁ lows₂ : List ℕ} → Lowered lows (v / 32) v lows₁ → Lowered lows₁ 32 (v / 32) lows₂
         → Released waits lows v (set waits v x) lows₂
-    last-released z {lows₁} {lows₂} s t = record {
+    last_released z {lows₁} {lows₂} s t = record {
       room = length-set waits v x;
       lows_room = t.room ∙ s.room;
       less = less;
@@ -51,14 +51,14 @@ module _ (waits lows : List ℕ) (v : ℕ) (p : Releases waits lows v) where
       };
     }
 
-    pub one-released : (x ≡ 0 → ⊥) → Released waits lows v (set waits v x) lows
-    one-released z = record {
+    pub one_released : (x ≡ 0 → ⊥) → Released waits lows v (set waits v x) lows
+    one_released z = record {
       room = length-set waits v x;
       lows_room = refl;
       less = less;
       others = λ w d. get_or-set_other waits v w x 0 d;
       kept = λ n h. fewer_zeros n (λ w b. ⊎_elim
-          (λ q. absurd (z (sym at-v ∙ sym (ap (λ (k : ℕ). get_or (set waits v x) k 0) q) ∙ b)))
+          (λ q. absurd (z (sym at_v ∙ sym (ap (λ (k : ℕ). get_or (set waits v x) k 0) q) ∙ b)))
           (λ d. sym (get_or-set_other waits v w x 0 d) ∙ b)
           (decide w v)) h;
     }
@@ -74,33 +74,33 @@ module _ (edges links : List ℕ) (v : ℕ) where
         rows = fewer edges e k r low;
         linked = record { room = l.room; links_of = λ i m. l.links_of i (omega arith) };
         own = rw q (last_own (λ (r : Row). r.from) edges v k);
-        self = rw q (sym (pending-last edges v v k) ∙ s);
+        self = rw q (sym (pending_last edges v v k) ∙ s);
       }
 
   module _ (e : ℕ) (c : Chain edges links v e) (l : 0 < e) where
     here : e ≡ suc (e - 1)
     here = omega arith
 
-    link-last : {next : ℕ} → next ≡ get_or links (e - 1) 0 → next ≡ last_from edges v (e - 1)
-    link-last q = q ∙ c.linked.links_of (e - 1) (omega arith) ∙ ap (λ (u : ℕ). last_from edges u (e - 1)) (c.own l)
+    link_last : {next : ℕ} → next ≡ get_or links (e - 1) 0 → next ≡ last_from edges v (e - 1)
+    link_last q = q ∙ c.linked.links_of (e - 1) (omega arith) ∙ ap (λ (u : ℕ). last_from edges u (e - 1)) (c.own l)
 
     -- w is where the edge leads
     module _ {w : ℕ} (q : w ≡ get_or edges ((e - 1) * 2 + 1) 0) where
-      some-pending : pending edges v w e ≡ pending edges v w (e - 1) + 1
-      some-pending = ap (pending edges v w) here ∙ pending-here edges v w (e - 1) (c.own l) (sym q)
+      some_pending : pending edges v w e ≡ pending edges v w (e - 1) + 1
+      some_pending = ap (pending edges v w) here ∙ pending_here edges v w (e - 1) (c.own l) (sym q)
 
-      none-pending : (x : ℕ) → (x ≡ w → ⊥) → pending edges v x e ≡ pending edges v x (e - 1)
-      none-pending x d = ap (pending edges v x) here ∙ pending-else edges v x (e - 1) (λ y. d (sym y ∙ sym q))
+      none_pending : (x : ℕ) → (x ≡ w → ⊥) → pending edges v x e ≡ pending edges v x (e - 1)
+      none_pending x d = ap (pending edges v x) here ∙ pending_else edges v x (e - 1) (λ y. d (sym y ∙ sym q))
 
       not_back : w ≡ v → ⊥
-      not_back y = let z : pending edges v v e ≡ pending edges v v (e - 1) + 1 = rw y at some-pending in omega (arith, c.self)
+      not_back y = let z : pending edges v v e ≡ pending edges v v (e - 1) + 1 = rw y at some_pending in omega (arith, c.self)
 
     no_self : pending edges v v (e - 1) ≡ 0
-    no_self = omega (arith, none-pending refl v (λ y. not_back refl (sym y)), c.self)
+    no_self = omega (arith, none_pending refl v (λ y. not_back refl (sym y)), c.self)
 
     chain_next : {next : ℕ} → next ≡ get_or links (e - 1) 0 → Chain edges links v next
     chain_next q = chain_at (e - 1) (fewer edges (e - 1) e c.rows (omega arith))
-        (record { room = c.linked.room; links_of = λ i m. c.linked.links_of i (omega arith) }) no_self (link-last q)
+        (record { room = c.linked.room; links_of = λ i m. c.linked.links_of i (omega arith) }) no_self (link_last q)
 
 -- what the loop keeps
 pub record Releasing (edges heads links waits₀ lows₀ : List ℕ) (v : ℕ) (waits lows : List ℕ) (e : ℕ) : Type 0 where
@@ -116,9 +116,9 @@ module _ (edges heads links waits₀ lows₀ : List ℕ) (v : ℕ) (p : Takes ed
   release_begun q = record { room = refl; lows_room = refl; chain = rw q p.chain; own = refl; others = λ w d. rw q refl; kept = λ n h. h }
 
   module _ (waits lows : List ℕ) (e : ℕ) (g : Releasing edges heads links waits₀ lows₀ v waits lows e) where
-    pub release-done : e ≤ 0 → Freed edges heads waits₀ lows₀ v waits lows
+    pub release_done : e ≤ 0 → Freed edges heads waits₀ lows₀ v waits lows
     unfolding pending
-    release-done l =
+    release_done l =
         let z : e ≡ 0 = omega arith in
         record {
           room = g.room;
@@ -129,35 +129,35 @@ module _ (edges heads links waits₀ lows₀ : List ℕ) (v : ℕ) (p : Takes ed
         }
 
     module _ (l : 0 < e) where
-      pub release-falls : {next : ℕ} → next ≡ get_or links (e - 1) 0 → next < e
-      release-falls q = omega (arith, link-last edges links v e g.chain l q, last_low (λ (r : Row). r.from) edges v (e - 1))
+      pub release_falls : {next : ℕ} → next ≡ get_or links (e - 1) 0 → next < e
+      release_falls q = omega (arith, link_last edges links v e g.chain l q, last_low (λ (r : Row). r.from) edges v (e - 1))
 
       module _ {w : ℕ} (q : w ≡ get_or edges ((e - 1) * 2 + 1) 0) where
         other : w ≡ v → ⊥
         other = not_back edges links v e g.chain l q
 
-        pub may-release : Releases waits lows w
-        may-release = record {
+        pub may_release : Releases waits lows w
+        may_release = record {
           low = omega (arith, g.chain.rows.tos (e - 1) (omega arith));
           room = g.room ∙ p.room;
           lows_room = g.lows_room ∙ p.lows_room;
-          some = omega (arith, g.others w other, p.enough w other, some-pending edges links v e g.chain l q);
+          some = omega (arith, g.others w other, p.enough w other, some_pending edges links v e g.chain l q);
         }
 
-        pub release-more : {waits₁ lows₁ : List ℕ} {next : ℕ} → Released waits lows w waits₁ lows₁ → next ≡ get_or links (e - 1) 0
+        pub release_more : {waits₁ lows₁ : List ℕ} {next : ℕ} → Released waits lows w waits₁ lows₁ → next ≡ get_or links (e - 1) 0
             → Releasing edges heads links waits₀ lows₀ v waits₁ lows₁ next
-        release-more {waits₁} {lows₁} {next} r y =
-            let last = link-last edges links v e g.chain l y in
+        release_more {waits₁} {lows₁} {next} r y =
+            let last = link_last edges links v e g.chain l y in
             let rest : (x : ℕ) → pending edges v x (e - 1) ≡ pending edges v x next =
-            λ x. pending-last edges v x (e - 1) ∙ sym (ap (pending edges v x) last) in
+            λ x. pending_last edges v x (e - 1) ∙ sym (ap (pending edges v x) last) in
             record {
               room = r.room ∙ g.room;
               lows_room = r.lows_room ∙ g.lows_room;
               chain = chain_next edges links v e g.chain l y;
               own = r.others v (λ z. other (sym z)) ∙ g.own;
               others = λ x d. ⊎_elim
-                  (λ z. rw z (omega (arith, r.less, g.others w other, some-pending edges links v e g.chain l q, rest w)))
-                  (λ z. omega (arith, r.others x z, g.others x d, none-pending edges links v e g.chain l q x z, rest x))
+                  (λ z. rw z (omega (arith, r.less, g.others w other, some_pending edges links v e g.chain l q, rest w)))
+                  (λ z. omega (arith, r.others x z, g.others x d, none_pending edges links v e g.chain l q x z, rest x))
                   (decide x w);
               kept = λ n h. r.kept n (g.kept n h);
             }

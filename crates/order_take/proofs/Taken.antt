@@ -14,7 +14,7 @@ use Rattle.text_lent.proofs.Numbers.{decide}
 use Rattle.graph.specs.Numbers.{Row}
 use Rattle.order_tables.specs.Free.{mem, ready, free, lowest, Stuck}
 use Rattle.order_tables.proofs.Mem.{mem_snoc_else}
-use Rattle.order_tables.proofs.Lowest.{lowest-has, lowest-none}
+use Rattle.order_tables.proofs.Lowest.{lowest_has, lowest_none}
 use Rattle.order_tables.proofs.Distinct.{Distinct, none, distinct_snoc, short, covers}
 use Rattle.order_take.specs.Taking.{next, take_from, taken}
 
@@ -26,14 +26,14 @@ pub data InTurn (n : ℕ) (es : List Row) : List ℕ → Type 0 where
 
 module _ (n : ℕ) (es : List Row) where
   module _ (done : List ℕ) (v : ℕ) (f : free n es done v ≡ true) where
-    pub free-below : v < n
-    free-below = ltb-true v n (both (ltb v n) _ f).0
+    pub free_below : v < n
+    free_below = ltb-true v n (both (ltb v n) _ f).0
 
     pub free_new : mem v done ≡ false
     free_new = not-true (mem v done) (both (not (mem v done)) _ (both (ltb v n) _ f).1).0
 
-    pub free-ready : ready es done v ≡ true
-    free-ready = (both (not (mem v done)) _ (both (ltb v n) _ f).1).1
+    pub free_ready : ready es done v ≡ true
+    free_ready = (both (not (mem v done)) _ (both (ltb v n) _ f).1).1
 
   pub turn_distinct : {xs : List ℕ} → InTurn n es xs → Distinct xs
   turn_distinct start = none
@@ -43,7 +43,7 @@ module _ (n : ℕ) (es : List Row) where
   unfolding mem
   turn_below start v h = let z : ◌≡◌ {A = ℕ} 0 1 = cc in absurd (omega arith)
   turn_below (then_one done u t f) v h = ⊎_elim
-      (λ e. rw e (free-below done u f))
+      (λ e. rw e (free_below done u f))
       (λ d. turn_below t v (sym (mem_snoc_else v u done d) ∙ h))
       (decide v u)
 
@@ -53,7 +53,7 @@ module _ (n : ℕ) (es : List Row) where
   unfolding take_from
   take_in_turn zero done t = t
   take_in_turn (suc k) done t = by_test (ltb (next n es done) n)
-      (λ h. rw h (take_in_turn k (done ++ (next n es done ∷ [])) (then_one done (next n es done) t (lowest-has (free n es done) n (ltb-true _ _ h)))))
+      (λ h. rw h (take_in_turn k (done ++ (next n es done ∷ [])) (then_one done (next n es done) t (lowest_has (free n es done) n (ltb-true _ _ h)))))
       (λ h. rw h t)
 
   pub taken_in_turn : InTurn n es (taken n es)
@@ -85,11 +85,11 @@ module _ (n : ℕ) (es : List Row) where
   one_left l = by_test (ltb (lowest (λ v. not (mem v (taken n es))) n) n) (λ h. ltb-true _ _ h) (λ h. absurd (omega (arith, all (ltb-false _ _ h))))
     where
       all : n ≤ lowest (λ v. not (mem v (taken n es))) n → n ≤ length (taken n es)
-      all m = covers n (taken n es) (λ v b. not-false (mem v (taken n es)) (lowest-none (λ u. not (mem u (taken n es))) n v (omega arith)))
+      all m = covers n (taken n es) (λ v b. not-false (mem v (taken n es)) (lowest_none (λ u. not (mem u (taken n es))) n v (omega arith)))
 
   none_free : n ≤ next n es (taken n es) → (v : ℕ) → v < n → mem v (taken n es) ≡ false → ready es (taken n es) v ≡ false
   none_free e v b m = by_test (ready es (taken n es) v)
-      (λ r. absurd (never (lowest-none (free n es (taken n es)) n v (omega arith)) (rw (lt-ltb v n b, m, r))))
+      (λ r. absurd (never (lowest_none (free n es (taken n es)) n v (omega arith)) (rw (lt-ltb v n b, m, r))))
       (λ r. r)
 
   pub taken_stuck : length (taken n es) < n → Stuck n es (taken n es)

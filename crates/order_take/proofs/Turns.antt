@@ -20,11 +20,11 @@ use Rattle.text_lent.proofs.Zeros.{zeros_zero}
 use Rattle.order_tables.specs.Free.{mem, ready, free, zero_at}
 use Rattle.order_tables.specs.Tables.{Fit}
 use Rattle.order_tables.proofs.Mem.{mem_snoc_new, mem_snoc_else}
-use Rattle.order_tables.proofs.Lowest.{lowest-has, lowest_same}
+use Rattle.order_tables.proofs.Lowest.{lowest_has, lowest_same}
 use Rattle.order_tables.proofs.Ready.{within_row}
 use Rattle.order_take.specs.Taking.{next, take_from, taken}
 use Rattle.order_take.specs.Chains.{waiting, pending, Rows, Links, Heads, Chained, Lows, Looks, Looked, Takes, Took}
-use Rattle.order_take.proofs.Counting.{pending-last, wait_split, ready_wait}
+use Rattle.order_take.proofs.Counting.{pending_last, wait_split, ready_wait}
 use Rattle.order_take.proofs.Releasing.{chain_at}
 
 -- ---- before the first turn
@@ -89,26 +89,26 @@ module _ (edges : List ℕ) (n m : ℕ) (f : Fit n edges m) (order₀ heads link
     abbrev done : List ℕ
     done = g.done
 
-    pub may-seek : Looks waits lows n
-    may-seek = record { few = f.few_nodes; room = g.room; kept = g.kept }
+    pub may_seek : Looks waits lows n
+    may_seek = record { few = f.few_nodes; room = g.room; kept = g.kept }
 
     ended : done ≡ taken n (rows_in m edges)
         → (k ≡ length (taken n (rows_in m edges))) × (order ≡ sets order₀ 0 (taken n (rows_in m edges)))
     ended e = (g.count ∙ ap length e, g.written ∙ ap (sets order₀ 0) e)
 
-    pub take-full : n ≤ k → (k ≡ length (taken n (rows_in m edges))) × (order ≡ sets order₀ 0 (taken n (rows_in m edges)))
+    pub take_full : n ≤ k → (k ≡ length (taken n (rows_in m edges))) × (order ≡ sets order₀ 0 (taken n (rows_in m edges)))
     unfolding take_from
-    take-full l = let z : n - k ≡ 0 = omega arith in ended (rw z at g.same)
+    take_full l = let z : n - k ≡ 0 = omega arith in ended (rw z at g.same)
 
-    pub same-room : length order ≡ length order₀
-    same-room = ap length g.written ∙ length-sets order₀ 0 done
+    pub same_room : length order ≡ length order₀
+    same_room = ap length g.written ∙ length-sets order₀ 0 done
 
     pub place_in : n ≤ length order₀ → k < n → k < length order
-    place_in a b = omega (arith, same-room)
+    place_in a b = omega (arith, same_room)
 
     -- a count of 0 says that a node is free
-    free-zero : (w : ℕ) → w < n → free n (rows_in m edges) done w ≡ zero_at waits w
-    free-zero w l = rw (lt-ltb w n l, g.waits_of w) (go (mem w done) (ready_wait edges done w m))
+    free_zero : (w : ℕ) → w < n → free n (rows_in m edges) done w ≡ zero_at waits w
+    free_zero w l = rw (lt-ltb w n l, g.waits_of w) (go (mem w done) (ready_wait edges done w m))
       where
         go : (b : Bool) → ready (rows_in m edges) done w ≡ eqb (waiting edges done w m) 0
             → (not b && ready (rows_in m edges) done w) ≡ eqb (cond b 8193 (waiting edges done w m)) 0
@@ -116,37 +116,37 @@ module _ (edges : List ℕ) (n m : ℕ) (f : Fit n edges m) (order₀ heads link
         go false e = e
 
     module _ {v : ℕ} {lows₁ : List ℕ} (s : Looked waits n v lows₁) (turn : k < n) where
-      next-is : v ≡ next n (rows_in m edges) done
-      next-is = s.answer ∙ sym (lowest_same (free n (rows_in m edges) done) (zero_at waits) n free-zero)
+      next_is : v ≡ next n (rows_in m edges) done
+      next_is = s.answer ∙ sym (lowest_same (free n (rows_in m edges) done) (zero_at waits) n free_zero)
 
       left : n - k ≡ suc (n - (k + 1))
       left = omega arith
 
-      pub take-stuck : n ≤ v → (k ≡ length (taken n (rows_in m edges))) × (order ≡ sets order₀ 0 (taken n (rows_in m edges)))
+      pub take_stuck : n ≤ v → (k ≡ length (taken n (rows_in m edges))) × (order ≡ sets order₀ 0 (taken n (rows_in m edges)))
       unfolding take_from
-      take-stuck l = ended (rw (left, ← next-is, le-ltb v n l) at g.same)
+      take_stuck l = ended (rw (left, ← next_is, le-ltb v n l) at g.same)
 
       module _ (l : v < n) where
-        zero-v : get_or waits v 0 ≡ 0
-        zero-v = eqb-true _ _ (rw (← s.answer) at (lowest-has (zero_at waits) n (rw (← s.answer) l)))
+        zero_v : get_or waits v 0 ≡ 0
+        zero_v = eqb-true _ _ (rw (← s.answer) at (lowest_has (zero_at waits) n (rw (← s.answer) l)))
 
         not_done : mem v done ≡ false
         not_done = by_test (mem v done)
-            (λ t. let z : get_or waits v 0 ≡ 8193 = g.waits_of v ∙ rw t in absurd (omega (arith, zero-v)))
+            (λ t. let z : get_or waits v 0 ≡ 8193 = g.waits_of v ∙ rw t in absurd (omega (arith, zero_v)))
             (λ t. t)
 
-        no-wait : waiting edges done v m ≡ 0
-        no-wait = let z : get_or waits v 0 ≡ waiting edges done v m = g.waits_of v ∙ rw not_done in sym z ∙ zero-v
+        no_wait : waiting edges done v m ≡ 0
+        no_wait = let z : get_or waits v 0 ≡ waiting edges done v m = g.waits_of v ∙ rw not_done in sym z ∙ zero_v
 
         split : (w : ℕ) → waiting edges done w m ≡ waiting edges (done ++ (v ∷ [])) w m + pending edges v w (get_or heads v 0)
         split w = wait_split edges done v not_done w m
-            ∙ ap (λ (k : ℕ). waiting edges (done ++ (v ∷ [])) w m + k) (pending-last edges v w m ∙ ap (pending edges v w) (sym (g.headed.heads_of v)))
+            ∙ ap (λ (k : ℕ). waiting edges (done ++ (v ∷ [])) w m + k) (pending_last edges v w m ∙ ap (pending edges v w) (sym (g.headed.heads_of v)))
 
         self : pending edges v v m ≡ 0
-        self = omega (arith, wait_split edges done v not_done v m, no-wait)
+        self = omega (arith, wait_split edges done v not_done v m, no_wait)
 
-        pub may-take : Takes edges heads links waits lows₁ v
-        may-take = record {
+        pub may_take : Takes edges heads links waits lows₁ v
+        may_take = record {
           low = omega (arith, f.few_nodes);
           heads_room = g.headed.room;
           room = g.room;
@@ -171,11 +171,11 @@ module _ (edges : List ℕ) (n m : ℕ) (f : Fit n edges m) (order₀ heads link
               (λ d. other w d ∙ ap (λ (b : Bool). cond b 8193 (waiting edges (done ++ (v ∷ [])) w m)) (sym (mem_snoc_else w v done d)))
               (decide w v);
           closed = λ w h. ⊎_elim
-              (λ e. rw e (omega (arith, split v, no-wait)))
+              (λ e. rw e (omega (arith, split v, no_wait)))
               (λ d. omega (arith, split w, g.closed w (sym (mem_snoc_else w v done d) ∙ h)))
               (decide w v);
           kept = t.kept n s.kept;
-          same = sym (rw (left, ← next-is, lt-ltb v n l) refl) ∙ g.same;
+          same = sym (rw (left, ← next_is, lt-ltb v n l) refl) ∙ g.same;
           written = ap (λ o. set o k v) g.written ∙ ap (λ i. set (sets order₀ 0 done) i v) (g.count ∙ sym (zero-add (length done)))
               ∙ sym (sets_append order₀ 0 done (v ∷ []));
         }

@@ -17,7 +17,7 @@ use Rattle.text.proofs.Here.{by_test}
 use Rattle.text_lent.proofs.Numbers.{decide}
 use Rattle.text_utf8.specs.Largest.{larger}
 use Rattle.order_tables.specs.Free.{lowest_from, zero_at}
-use Rattle.order_tables.proofs.Lowest.{lowest-is, lowest-not, none_before, zero-there}
+use Rattle.order_tables.proofs.Lowest.{lowest_is, lowest_not, none_before, zero_there}
 use Rattle.order_tables.proofs.Within.{larger_below}
 use Rattle.order_take.specs.Chains.{Lows, GroupEnd, LooksIn, LookedIn, Looks, Looked, Lowered}
 
@@ -67,17 +67,17 @@ module _ (waits lows : List ℕ) (g n : ℕ) (p : LooksIn waits lows g n) where
     none_below : (w : ℕ) → g * 32 ≤ w → w < g * 32 + 32 → w < n → w < v → get_or waits w 0 ≡ 0 → ⊥
     none_below w a b c d z = none_before waits first last f w (above w a b c z) d z
 
-    pub group-hit : v < last → LookedIn waits lows g n v (set lows g v)
-    group-hit l = record {
+    pub group_hit : v < last → LookedIn waits lows g n v (set lows g v)
+    group_hit l = record {
       room = length-set lows g v;
       near = λ k. omega (arith, e.near);
       none = none_below;
-      zero_at_lem = λ k. zero-there waits first last f l;
+      zero_at_lem = λ k. zero_there waits first last f l;
       kept = raised none_below;
     }
 
-    pub group-vain : last ≤ v → LookedIn waits lows g n n (set lows g last)
-    group-vain l = record {
+    pub group_vain : last ≤ v → LookedIn waits lows g n n (set lows g last)
+    group_vain l = record {
       room = length-set lows g last;
       near = λ k. absurd (omega arith);
       none = λ w a b c d z. none_below w a b c (omega (arith, e.all w c b)) z;
@@ -102,13 +102,13 @@ search_begun waits lows n p {g} q = record {
 module _ (waits lows₀ : List ℕ) (n : ℕ) (p : Looks waits lows₀ n) (g : ℕ) (lows : List ℕ) (s : Searching waits n g lows) where
   pub search_done : n ≤ g * 32 → Looked waits n n lows
   search_done l = record {
-    answer = sym (lowest-not (zero_at waits) n (λ j k. ne_eqb _ _ (s.none j (omega arith) k)));
+    answer = sym (lowest_not (zero_at waits) n (λ j k. ne_eqb _ _ (s.none j (omega arith) k)));
     kept = s.kept;
   }
 
   module _ (l : g * 32 < n) where
-    pub may-look : LooksIn waits lows g n
-    may-look = record { looks = record { few = p.few; room = p.room; kept = s.kept }; here = l }
+    pub may_look : LooksIn waits lows g n
+    may_look = record { looks = record { few = p.few; room = p.room; kept = s.kept }; here = l }
 
     module _ {v : ℕ} {lows₁ : List ℕ} (r : LookedIn waits lows g n v lows₁) where
       below : (w : ℕ) → w < g * 32 + 32 → w < n → w < v → get_or waits w 0 ≡ 0 → ⊥
@@ -130,15 +130,15 @@ module _ (waits lows₀ : List ℕ) (n : ℕ) (p : Looks waits lows₀ n) (g : �
       pub same_size : length (set lows₁ 32 g) ≡ length lows₀
       same_size = length-set lows₁ 32 g ∙ r.kept.room ∙ sym p.kept.room
 
-      pub search-hit : v < n → Looked waits n v (set lows₁ 32 g)
-      search-hit k = record {
-        answer = sym (lowest-is (zero_at waits) n v k (eq-eqb _ _ (r.zero_at_lem k))
+      pub search_hit : v < n → Looked waits n v (set lows₁ 32 g)
+      search_hit k = record {
+        answer = sym (lowest_is (zero_at waits) n v k (eq-eqb _ _ (r.zero_at_lem k))
             (λ j m. ne_eqb _ _ (below j (omega (arith, r.near k)) (omega arith) m)));
         kept = started;
       }
 
-      pub search-on : n ≤ v → Searching waits n (g + 1) lows₁
-      search-on k = record {
+      pub search_on : n ≤ v → Searching waits n (g + 1) lows₁
+      search_on k = record {
         most = omega (arith, p.few);
         none = λ w a b z. below w (omega arith) b (omega arith) z;
         kept = r.kept;

@@ -1,7 +1,7 @@
 -- What agrees with a record, on each way through the code.
 -- Assumes nothing.
-use Rattle.std.proofs.Common.{◌≡◌, ℕ, zero, suc, ◌+◌, ◌-◌, ◌%◌, ◌^◌, ◌<◌, ◌≤◌, Bool, true, false, not, eqb, leb, List, length, get_or, sym, refl, ap, ◌∙◌, not-suc-le-zero, arith, eq-eqb, ne_eqb, eqb-true, le-leb, leb-false, leb-true}
-use borrow.Author.Tests.{not-true, not-false, lt-leb, eqb-false}
+use Rattle.std.proofs.Common.{◌≡◌, ℕ, zero, suc, ◌+◌, ◌-◌, ◌%◌, ◌^◌, ◌<◌, ◌≤◌, Bool, true, false, eqb, leb, List, length, get_or, sym, refl, ap, ◌∙◌, not-suc-le-zero, arith, eq-eqb, ne_eqb, eqb-true, le-leb, leb-false, leb-true}
+use borrow.Author.Tests.{lt-leb, eqb-false}
 use Rattle.text.specs.Turns.{stop, on}
 use Rattle.text.specs.declared.Refusal.{Refusal}
 use Rattle.text.proofs.Here.{by_test}
@@ -30,20 +30,20 @@ module _ (answer : List ℕ) (at : ℕ) (r : Refusal) {u : ℕ} {a : Bool} (ue :
   number_is : a ≡ number_told_as (word_at answer at) r.number
   number_is = ae ∙ ap (λ x. number_told_as x r.number) ue
 
-  pub other_number : not a ≡ true → false ≡ refusal_told_as answer at r
+  pub other_number : a ≡ false → false ≡ refusal_told_as answer at r
   unfolding refusal_told_as
-  other_number h = sym (simp (sym number_is ∙ not-true a h))
+  other_number h = sym (simp (sym number_is ∙ h))
 
   module _ {v : ℕ} (ve : v ≡ word_at answer (at + 4)) where
-    pub other-keyword : not a ≡ false → (v ≡ r.keyword → ⊥) → false ≡ refusal_told_as answer at r
+    pub other_keyword : a ≡ true → (v ≡ r.keyword → ⊥) → false ≡ refusal_told_as answer at r
     unfolding refusal_told_as
-    other-keyword h k = sym (simp (sym number_is ∙ not-false a h, ap (λ x. eqb x r.keyword) (sym ve) ∙ ne_eqb v r.keyword k))
+    other_keyword h k = sym (simp (sym number_is ∙ h, ap (λ x. eqb x r.keyword) (sym ve) ∙ ne_eqb v r.keyword k))
 
-    pub position-told : not a ≡ false → v ≡ r.keyword → {w : ℕ} → w ≡ word_at answer (at + 8) → eqb w (r.at % 4294967296) ≡ refusal_told_as answer at r
+    pub position_told : a ≡ true → v ≡ r.keyword → {w : ℕ} → w ≡ word_at answer (at + 8) → eqb w (r.at % 4294967296) ≡ refusal_told_as answer at r
     unfolding refusal_told_as
-    position-told h k we =
+    position_told h k we =
         ap (λ x. eqb x (r.at % 4294967296)) we
-        ∙ sym (simp (sym number_is ∙ not-false a h, ap (λ x. eqb x r.keyword) (sym ve) ∙ eq-eqb v r.keyword k))
+        ∙ sym (simp (sym number_is ∙ h, ap (λ x. eqb x r.keyword) (sym ve) ∙ eq-eqb v r.keyword k))
 
 -- ---- words of a table
 
@@ -73,8 +73,8 @@ module _ (f t : List ℕ) (step : ℕ) where
     abbrev left : Pair → ℕ
     left p = length t - p.row
 
-    pair-falls : (p q : Pair) → pair_turn f t step p ≡ on q → left q < left p
-    pair-falls p q e =
+    pair_falls : (p q : Pair) → pair_turn f t step p ≡ on q → left q < left p
+    pair_falls p q e =
         by_test (leb (length t) p.row)
         (λ y. absurd (stop_on p q (pair_done p (leb-true _ _ y)) e))
         (λ y. let i : p.row < length t = leb-false _ _ y in
@@ -82,35 +82,35 @@ module _ (f t : List ℕ) (step : ℕ) where
         (λ z. omega (arith, row_on p q (pair_agrees p i (eqb-true _ _ z)) e))
         (λ z. absurd (stop_on p q (pair_differs p i (eqb-false _ _ z)) e)))
 
-    words-done : (p : Pair) → length t ≤ p.row → true ≡ words_from f t step p
+    words_done : (p : Pair) → length t ≤ p.row → true ≡ words_from f t step p
     unfolding words_from
-    words-done p h = sym (turns_stop (pair_turn f t step) true left pair-falls (suc (length t)) p true (omega arith) (pair_done p h))
+    words_done p h = sym (turns_stop (pair_turn f t step) true left pair_falls (suc (length t)) p true (omega arith) (pair_done p h))
 
-    words-on : (p : Pair) → p.row < length t → word_at f p.at ≡ get_or t p.row 0 → words_from f t step p ≡ words_from f t step (next p)
+    words_on : (p : Pair) → p.row < length t → word_at f p.at ≡ get_or t p.row 0 → words_from f t step p ≡ words_from f t step (next p)
     unfolding words_from
-    words-on p i h =
-        turns_on (pair_turn f t step) true left pair-falls (suc (length t)) (suc (length t)) p (next p) (omega arith) (omega arith) (pair_agrees p i h)
+    words_on p i h =
+        turns_on (pair_turn f t step) true left pair_falls (suc (length t)) (suc (length t)) p (next p) (omega arith) (omega arith) (pair_agrees p i h)
 
-    words-differ : (p : Pair) → p.row < length t → (word_at f p.at ≡ get_or t p.row 0 → ⊥) → false ≡ words_from f t step p
+    words_differ : (p : Pair) → p.row < length t → (word_at f p.at ≡ get_or t p.row 0 → ⊥) → false ≡ words_from f t step p
     unfolding words_from
-    words-differ p i h =
-        sym (turns_stop (pair_turn f t step) true left pair-falls (suc (length t)) p false (omega arith) (pair_differs p i h))
+    words_differ p i h =
+        sym (turns_stop (pair_turn f t step) true left pair_falls (suc (length t)) p false (omega arith) (pair_differs p i h))
 
     -- from the i-th word of the table on the words agree as they do from the first; w: the word that is recorded for it
     module _ (first at i : ℕ) (inv : words_from f t step (record { at = at; row = i }) ≡ words_told_as f first t step) where
-      pub told-done : length t ≤ i → true ≡ words_told_as f first t step
-      told-done h = words-done (record { at = at; row = i }) h ∙ inv
+      pub told_done : length t ≤ i → true ≡ words_told_as f first t step
+      told_done h = words_done (record { at = at; row = i }) h ∙ inv
 
       module _ (inside : i < length t) {w : ℕ} (we : w ≡ word_at f at) where
-        pub told-differs : (w ≡ get_or t i 0 → ⊥) → false ≡ words_told_as f first t step
-        told-differs h = words-differ (record { at = at; row = i }) inside (λ e. h (we ∙ e)) ∙ inv
+        pub told_differs : (w ≡ get_or t i 0 → ⊥) → false ≡ words_told_as f first t step
+        told_differs h = words_differ (record { at = at; row = i }) inside (λ e. h (we ∙ e)) ∙ inv
 
-        pub told-on : w ≡ get_or t i 0 → {n : ℕ} → n ≡ on_by f at 4 → words_from f t step (record { at = n; row = i + step }) ≡ words_told_as f first t step
-        told-on h e = rw e (sym (words-on (record { at = at; row = i }) inside (sym we ∙ h)) ∙ inv)
+        pub told_on : w ≡ get_or t i 0 → {n : ℕ} → n ≡ on_by f at 4 → words_from f t step (record { at = n; row = i + step }) ≡ words_told_as f first t step
+        told_on h e = rw e (sym (words_on (record { at = at; row = i }) inside (sym we ∙ h)) ∙ inv)
 
         -- no word is left behind this one
-        pub told-last : w ≡ get_or t i 0 → length t - i ≤ step → true ≡ words_told_as f first t step
-        told-last h l = words-done (next (record { at = at; row = i })) (omega arith) ∙ sym (words-on (record { at = at; row = i }) inside (sym we ∙ h)) ∙ inv
+        pub told_last : w ≡ get_or t i 0 → length t - i ≤ step → true ≡ words_told_as f first t step
+        told_last h l = words_done (next (record { at = at; row = i })) (omega arith) ∙ sym (words_on (record { at = at; row = i }) inside (sym we ∙ h)) ∙ inv
 
 -- ---- fields, one after the other
 

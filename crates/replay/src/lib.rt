@@ -1,12 +1,14 @@
 // What the programs that replay recorded answers share: the fields of a file, a run over its records, and what is said of it.
 #![tactic(auto)]
 
-ghost use Rattle.std.specs.Prelude.{◌≡◌, ◌+◌, ◌%◌, ◌<◌, ◌≤◌, take};
-ghost use Rattle.io.specs.Counts.{IsPrefixLen};
+ghost use Rattle.std.specs.Prelude.{◌≡◌, ◌+◌, ◌%◌, ◌<◌, ◌≤◌, length, take};
+ghost use Rattle.std.specs.Io.{ReadsAtMost};
 ghost use Rattle.replay.specs.Fields.{byte_at, length_at, missing_at, on_by, behind, field_at, word_at};
 ghost use Rattle.replay.specs.Records.{number_told_as, refusal_told_as, words_told_as, behind_all, begun, passed};
 
-use libc::STDOUT_FILENO;
+use std::fs::File;
+use std::io;
+use std::rt::Files;
 use text::Refusal;
 
 const MISSING: u32 = 65535;
@@ -202,38 +204,35 @@ impl Tally {
     }
 
     // Says how many records of a kind there were, and how many differ.
-    pub fn say(self, kind: &[u8]) {
-        io::print_decimal(STDOUT_FILENO, self.records);
-        io::write_all(STDOUT_FILENO, kind);
-        io::write_all(STDOUT_FILENO, b" replayed, ");
-        io::print_decimal(STDOUT_FILENO, self.different);
-        io::write_all(STDOUT_FILENO, b" different\n");
+    pub fn say<R: Print>(self, rt: &R, kind: &[u8]) -> io::Result<()> {
+        print!(rt; "{}", self.records)?;
+        rt.write_all(kind)?;
+        println!(rt; " replayed, {} different", self.different)
     }
 }
 
 // The same of a file, by its name.
-pub fn say_file(name: &[u8], run: Tally) {
-    io::write_all(STDOUT_FILENO, name);
-    io::write_all(STDOUT_FILENO, b": ");
-    run.say(b"");
+pub fn say_file<R: Print>(rt: &R, name: &[u8], run: Tally) -> io::Result<()> {
+    rt.write_all(name)?;
+    rt.write_all(b": ")?;
+    run.say(rt, b"")
 }
 
-// Reads a file into what is lent, and answers how many bytes it has.
-pub fn read_file(name: &[u8], space: &mut [u8]) -> usize
-    ensures { IsPrefixLen result space.new }
+// Reads a file into what is lent, until that is full or the file ends, and answers how many bytes it read. Where the file cannot be opened or read, the error
+// is the answer.
+pub fn read_file<R: Files>(rt: &R, name: &str, space: &mut [u8]) -> io::Result<usize>
+    ensures bound { ReadsAtMost result space.new }
+    ensures room { length space.new ≡ length space.old }
 {
-    let fd = os::open_read(name);
-    let n = io::read_full(fd, space);
-    libc::close(fd);
-    n
+    let mut file = File::open(rt, name)?;
+    host_input::read_full(&mut file, space)
 }
 
 // Says whether something that is easy to get wrong is right.
-pub fn trap(what: &[u8], right: bool) {
-    io::write_all(STDOUT_FILENO, what);
+pub fn trap<R: Print>(rt: &R, what: &[u8], right: bool) -> io::Result<()> {
+    rt.write_all(what)?;
     if right {
-        io::write_all(STDOUT_FILENO, b": right\n");
-        return;
+        return rt.write_all(b": right\n");
     }
-    io::write_all(STDOUT_FILENO, b": WRONG\n");
+    rt.write_all(b": WRONG\n")
 }

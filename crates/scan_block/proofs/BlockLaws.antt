@@ -86,8 +86,8 @@ module _ {w : Bool} {s : List ℕ} {k u : ℕ} {d : List ℕ} {b₀ : Body} wher
       record { bytes = []; same = refl; kept = refl; count = omega (arith, f.1); room = omega (arith, f.0, f.1) }
 
   module _ {e : List ℕ} {b : Body} (j : Reading w s k u d b₀ e b) where
-    pub reading-long : length e ≡ length d
-    reading-long = ap length j.kept ∙ length-sets d u j.bytes
+    pub reading_long : length e ≡ length d
+    reading_long = ap length j.kept ∙ length-sets d u j.bytes
 
     module _ {i : Inside} {f : List ℕ} (l : Leaves (inside_at w s k b) e b.used i f) where
       stored : f ≡ sets d u (j.bytes ++ (inside_at w s k b).bytes)
@@ -96,11 +96,11 @@ module _ {w : Bool} {s : List ℕ} {k u : ℕ} {d : List ℕ} {b₀ : Body} wher
       far : (y : Body) → i ≡ On y → Forth s b (inside_at w s k b).bytes y
       far y h = subst (Went s b (inside_at w s k b).bytes) (sym l.0 ∙ h) (inside_went w s k b)
 
-      pub reading-on : (y : Body) → i ≡ On y → length s - y.at < length s - b.at
-      reading-on y h = let f = far y h in omega (arith, f.0, f.1)
+      pub reading_on : (y : Body) → i ≡ On y → length s - y.at < length s - b.at
+      reading_on y h = let f = far y h in omega (arith, f.0, f.1)
 
-      pub reading-more : (y : Body) → i ≡ On y → Reading w s k u d b₀ f y
-      reading-more y h =
+      pub reading_more : (y : Body) → i ≡ On y → Reading w s k u d b₀ f y
+      reading_more y h =
           let f = far y h in
           record {
             bytes = j.bytes ++ (inside_at w s k b).bytes;
@@ -115,12 +115,12 @@ module _ {w : Bool} {s : List ℕ} {k u : ℕ} {d : List ℕ} {b₀ : Body} wher
         unfolding block_at
         whole = j.same ∙ ap (λ y. block_from w s k (record { body = y; bytes = [] })) be
 
-        pub reading-done : (y : Body) → i ≡ Closed y → Leaves (block_at w s at u k) d u (Whole y) f
-        reading-done y h =
+        pub reading_done : (y : Body) → i ≡ Closed y → Leaves (block_at w s at u k) d u (Whole y) f
+        reading_done y h =
             let q = sym whole ∙ block_close w s k (record { body = b; bytes = j.bytes }) y (sym l.0 ∙ h) in
             (sym (ap (λ z. z.answer) q), stored ∙ ap (λ z. sets d u z.bytes) (sym q))
 
-        pub reading-refused : (r : Refusal) → i ≡ Refused r → Leaves (block_at w s at u k) d u (Broken r) f
-        reading-refused r h =
+        pub reading_refused : (r : Refusal) → i ≡ Refused r → Leaves (block_at w s at u k) d u (Broken r) f
+        reading_refused r h =
             let q = sym whole ∙ block_broken w s k (record { body = b; bytes = j.bytes }) r (sym l.0 ∙ h) in
             (sym (ap (λ z. z.answer) q), stored ∙ ap (λ z. sets d u z.bytes) (sym q))

@@ -36,7 +36,7 @@ use Rattle.scan_block.specs.declared.Line.{Line}
 use Rattle.scan_block.specs.declared.Line.TheVariants.{Value, Other}
 use Rattle.scan_block.specs.declared.Inside.{Inside}
 use Rattle.scan_block.specs.declared.Inside.TheVariants.{On, Closed, Refused}
-use Rattle.scan_block.proofs.InsideLaws.{inside_end, inside-close, inside-kind}
+use Rattle.scan_block.proofs.InsideLaws.{inside_end, inside_close, inside_kind}
 use Rattle.scan_block.proofs.Spans.{Sound, sound_moved, sound_kept, kept_place}
 
 -- ---- a keyword
@@ -112,7 +112,7 @@ inside_went w s k b =
     (λ t. let p : (get_or s g 256 ≡ 256 → ⊥) = eqb-false _ _ t in
     let i = here s g p in
     by_test (eqb (get_or s g 256) 125)
-    (λ v. went_is s b (inside-close w s k b refl refl p (eqb-true (get_or s g 256) 125 v))
+    (λ v. went_is s b (inside_close w s k b refl refl p (eqb-true (get_or s g 256) 125 v))
     (omega arith, omega arith, omega arith, λ u d. sound_moved u b (g + 1) d))
     (λ v. let q : (get_or s g 256 ≡ 125 → ⊥) = eqb-false _ _ v in
-    went_is s b (inside-kind w s k b refl refl p q refl) (kind_went w s b g k from i (gap_twice s b.at) q (line_kind s g k) refl)))
+    went_is s b (inside_kind w s k b refl refl p q refl) (kind_went w s b g k from i (gap_twice s b.at) q (line_kind s g k) refl)))

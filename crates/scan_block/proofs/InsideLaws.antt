@@ -69,13 +69,13 @@ module _ (s : List ℕ) (at k : ℕ) where
   kind_prefix h e c q = rw (eq-eqb k 8 h) (sym (ap (λ z. or_line 5 z (revision_line s at)) (sym e ∙ q)))
 
   module _ {r : Line} (re : r ≡ revision_line s at) where
-    pub kind-import : k ≡ 8 → {m : Match} → m ≡ match_at s at prefix_word → m ≡ Not → r ≡ line_kind s at k
+    pub kind_import : k ≡ 8 → {m : Match} → m ≡ match_at s at prefix_word → m ≡ Not → r ≡ line_kind s at k
     unfolding line_kind or_line
-    kind-import h e q = rw (eq-eqb k 8 h) (re ∙ sym (ap (λ z. or_line 5 z (revision_line s at)) (sym e ∙ q)))
+    kind_import h e q = rw (eq-eqb k 8 h) (re ∙ sym (ap (λ z. or_line 5 z (revision_line s at)) (sym e ∙ q)))
 
-    pub kind-include : (k ≡ 8 → ⊥) → r ≡ line_kind s at k
+    pub kind_include : (k ≡ 8 → ⊥) → r ≡ line_kind s at k
     unfolding line_kind
-    kind-include h = rw (ne_eqb k 8 h) re
+    kind_include h = rw (ne_eqb k 8 h) re
 
 -- where no identifier begins, no keyword matches
 pub kind_none : (s : List ℕ) (at k : ℕ) {b : ℕ} {t : Bool} → b ≡ get_or s at 256 → t ≡ starts_ident b → t ≡ false → Other ≡ line_kind s at k
@@ -135,21 +135,21 @@ module _ (w : Bool) (s : List ℕ) (k : ℕ) (b : Body) {g p : ℕ} (ge : g ≡ 
   inside_end h = rw (← ge) (rw (eq-eqb (get_or s g 256) 256 (sym pe ∙ h)) refl)
 
   module _ (n : p ≡ 256 → ⊥) where
-    pub inside-close : p ≡ 125 → inside_at w s k b ≡ nothing (Closed (moved b (g + 1)))
+    pub inside_close : p ≡ 125 → inside_at w s k b ≡ nothing (Closed (moved b (g + 1)))
     unfolding inside_at inside_here
-    inside-close h = rw (← ge) (rw (ne_eqb (get_or s g 256) 256 (λ z. n (pe ∙ z))) (rw (eq-eqb (get_or s g 256) 125 (sym pe ∙ h)) refl))
+    inside_close h = rw (← ge) (rw (ne_eqb (get_or s g 256) 256 (λ z. n (pe ∙ z))) (rw (eq-eqb (get_or s g 256) 125 (sym pe ∙ h)) refl))
 
     module _ (m : p ≡ 125 → ⊥) {l : Line} (le : l ≡ line_kind s g k) where
-      pub inside-kind : inside_at w s k b ≡ after_kind w s g b l
+      pub inside_kind : inside_at w s k b ≡ after_kind w s g b l
       unfolding inside_at inside_here
-      inside-kind =
+      inside_kind =
           rw (← ge) (rw (ne_eqb (get_or s g 256) 256 (λ z. n (pe ∙ z))) (rw (ne_eqb (get_or s g 256) 125 (λ z. m (pe ∙ z))) (rw (← le) refl)))
 
-      pub inside-value : (j : ℕ) (c : Cursor) → l ≡ Value j c
+      pub inside_value : (j : ℕ) (c : Cursor) → l ≡ Value j c
           → inside_at w s k b ≡ record { answer = with_value b j (line_at w s c.at b.used j 59); bytes = value_bytes (value_at s c.at) }
       unfolding after_kind
-      inside-value j c h = inside-kind ∙ ap (after_kind w s g b) h
+      inside_value j c h = inside_kind ∙ ap (after_kind w s g b) h
 
-      pub inside-other : l ≡ Other → {r : Inside} → r ≡ with_skipped b (past_statement w s g) → inside_at w s k b ≡ nothing r
+      pub inside_other : l ≡ Other → {r : Inside} → r ≡ with_skipped b (past_statement w s g) → inside_at w s k b ≡ nothing r
       unfolding after_kind
-      inside-other h q = inside-kind ∙ ap (after_kind w s g b) h ∙ sym (ap nothing q)
+      inside_other h q = inside_kind ∙ ap (after_kind w s g b) h ∙ sym (ap nothing q)

@@ -24,18 +24,18 @@ module _ (s : List ℕ) (at : ℕ) {o : Match} (oe : o ≡ match_at s at organiz
   last_organization x h = rw (sym oe ∙ h) h
 
   module _ (no : o ≡ Not) {c : Match} (ce : c ≡ match_at s at contact_word) where
-    pub last-contact : (x : Cursor) → c ≡ After x → c ≡ last_at s at
+    pub last_contact : (x : Cursor) → c ≡ After x → c ≡ last_at s at
     unfolding last_at or_match
-    last-contact x h = rw (sym oe ∙ no, sym ce ∙ h) h
+    last_contact x h = rw (sym oe ∙ no, sym ce ∙ h) h
 
     module _ (nc : c ≡ Not) {d : Match} (de : d ≡ match_at s at description_word) where
-      pub last-description : (x : Cursor) → d ≡ After x → d ≡ last_at s at
+      pub last_description : (x : Cursor) → d ≡ After x → d ≡ last_at s at
       unfolding last_at or_match
-      last-description x h = rw (sym oe ∙ no, sym ce ∙ nc, sym de ∙ h) h
+      last_description x h = rw (sym oe ∙ no, sym ce ∙ nc, sym de ∙ h) h
 
-      pub last-reference : d ≡ Not → {r : Match} → r ≡ match_at s at reference_word → r ≡ last_at s at
+      pub last_reference : d ≡ Not → {r : Match} → r ≡ match_at s at reference_word → r ≡ last_at s at
       unfolding last_at or_match
-      last-reference h re = rw (sym oe ∙ no, sym ce ∙ nc, sym de ∙ h) re
+      last_reference h re = rw (sym oe ∙ no, sym ce ∙ nc, sym de ∙ h) re
 
 -- i, n, l: what the functions answered for import, include and the four
 module _ (s : List ℕ) (at : ℕ) {i : Match} (ie : i ≡ match_at s at import_word) where
@@ -44,18 +44,18 @@ module _ (s : List ℕ) (at : ℕ) {i : Match} (ie : i ≡ match_at s at import_
   head_import c h = rw (sym ie ∙ h) refl
 
   module _ (no : i ≡ Not) {n : Match} (ne : n ≡ match_at s at include_word) where
-    pub head-include : (c : Cursor) → n ≡ After c → head_at s at ≡ Include c
+    pub head_include : (c : Cursor) → n ≡ After c → head_at s at ≡ Include c
     unfolding head_at or_head
-    head-include c h = rw (sym ie ∙ no, sym ne ∙ h) refl
+    head_include c h = rw (sym ie ∙ no, sym ne ∙ h) refl
 
     module _ (nn : n ≡ Not) {l : Match} (le : l ≡ last_at s at) where
-      pub head-last : (c : Cursor) → l ≡ After c → head_at s at ≡ Last c
+      pub head_last : (c : Cursor) → l ≡ After c → head_at s at ≡ Last c
       unfolding head_at or_head
-      head-last c h = rw (sym ie ∙ no, sym ne ∙ nn, sym le ∙ h) refl
+      head_last c h = rw (sym ie ∙ no, sym ne ∙ nn, sym le ∙ h) refl
 
-      pub head-other : l ≡ Not → head_at s at ≡ Other
+      pub head_other : l ≡ Not → head_at s at ≡ Other
       unfolding head_at or_head
-      head-other h = rw (sym ie ∙ no, sym ne ∙ nn, sym le ∙ h) refl
+      head_other h = rw (sym ie ∙ no, sym ne ∙ nn, sym le ∙ h) refl
 
 -- p stands here, and no identifier begins so
 pub head_none : (s : List ℕ) (at : ℕ) {p : ℕ} {t : Bool} → p ≡ get_or s at 256 → t ≡ starts_ident p → t ≡ false → head_at s at ≡ Other

@@ -38,23 +38,23 @@ use Rattle.scan_tag.proofs.TagLaws.{tag_far}
 module _ (w : Bool) (s : List ℕ) (at k u : ℕ) where
   -- v: what reading the value answered
   module _ {v : Argument} (ve : v ≡ argument_at w s at u k) where
-    pub field-refused : (r : Refusal) → v ≡ NoArgument r → {q : Refusal} → q ≡ argument_refusal v → Refused q ≡ (field_at w s at k u).answer
+    pub field_refused : (r : Refusal) → v ≡ NoArgument r → {q : Refusal} → q ≡ argument_refusal v → Refused q ≡ (field_at w s at k u).answer
     unfolding field_at with_rest argument_refusal
-    field-refused r m e = ap Refused (e ∙ ap argument_refusal m) ∙ ap (with_rest w s k u) (sym m ∙ ve)
+    field_refused r m e = ap Refused (e ∙ ap argument_refusal m) ∙ ap (with_rest w s k u) (sym m ∙ ve)
 
     -- b: what is due after it
     module _ (c : Cursor) (n : ℕ) (m : v ≡ Read c n) {b : Due} (be : b ≡ after_value w s c.at k) where
-      field-due : kept k u n b ≡ (field_at w s at k u).answer
+      field_due : kept k u n b ≡ (field_at w s at k u).answer
       unfolding field_at with_rest
-      field-due = ap (kept k u n) be ∙ ap (with_rest w s k u) (sym m ∙ ve)
+      field_due = ap (kept k u n) be ∙ ap (with_rest w s k u) (sym m ∙ ve)
 
-      pub field-other : (r : Refusal) → b ≡ Not r → {q : Refusal} → q ≡ refusal_of b → Refused q ≡ (field_at w s at k u).answer
+      pub field_other : (r : Refusal) → b ≡ Not r → {q : Refusal} → q ≡ refusal_of b → Refused q ≡ (field_at w s at k u).answer
       unfolding kept refusal_of
-      field-other r h e = ap Refused (e ∙ ap refusal_of h) ∙ ap (kept k u n) (sym h) ∙ field-due
+      field_other r h e = ap Refused (e ∙ ap refusal_of h) ∙ ap (kept k u n) (sym h) ∙ field_due
 
-      pub field-read : (e : Cursor) → b ≡ After e → {x : Span} → x ≡ held u (n - u) → Value k x e n ≡ (field_at w s at k u).answer
+      pub field_read : (e : Cursor) → b ≡ After e → {x : Span} → x ≡ held u (n - u) → Value k x e n ≡ (field_at w s at k u).answer
       unfolding kept
-      field-read e h xe = ap (λ y. Value k y e n) xe ∙ ap (kept k u n) (sym h) ∙ field-due
+      field_read e h xe = ap (λ y. Value k y e n) xe ∙ ap (kept k u n) (sym h) ∙ field_due
 
   pub field_stored : (d : List ℕ) {e : List ℕ} → e ≡ sets d u (value_bytes (value_at s at)) → e ≡ sets d u (field_at w s at k u).bytes
   unfolding field_at
@@ -87,15 +87,15 @@ module _ (w : Bool) (s : List ℕ) (at k u : ℕ) (p : Bool) (d : List ℕ) wher
   version_said h re = rw (eq-eqb k 6 h) (re, refl)
 
   module _ (n : k ≡ 6 → ⊥) {t : Bool} (te : t ≡ later_prefix k p) where
-    pub prefix-said : t ≡ true → {b : Due} → b ≡ past_statement w s at → {r : Heard} → r ≡ passed b
+    pub prefix_said : t ≡ true → {b : Due} → b ≡ past_statement w s at → {r : Heard} → r ≡ passed b
         → (r ≡ (statement_said w s at k u p).answer) × (d ≡ sets d u (statement_said w s at k u p).bytes)
     unfolding statement_said
-    prefix-said h be re = rw (ne_eqb k 6 n) (rw (sym te ∙ h) (re ∙ ap passed be, refl))
+    prefix_said h be re = rw (ne_eqb k 6 n) (rw (sym te ∙ h) (re ∙ ap passed be, refl))
 
-    pub field-said : t ≡ false → {r : Heard} {e : List ℕ} → (r ≡ (field_at w s at k u).answer) × (e ≡ sets d u (field_at w s at k u).bytes)
+    pub field_said : t ≡ false → {r : Heard} {e : List ℕ} → (r ≡ (field_at w s at k u).answer) × (e ≡ sets d u (field_at w s at k u).bytes)
         → (r ≡ (statement_said w s at k u p).answer) × (e ≡ sets d u (statement_said w s at k u p).bytes)
     unfolding statement_said
-    field-said h q = rw (ne_eqb k 6 n) (rw (sym te ∙ h) q)
+    field_said h q = rw (ne_eqb k 6 n) (rw (sym te ∙ h) q)
 
 -- ---- at a place; g: the place after the gap
 
@@ -105,25 +105,25 @@ module _ (w : Bool) (s : List ℕ) (at u : ℕ) (p : Bool) (d : List ℕ) {g : C
   said_end h = rw (sym ge) (rw (le-leb (length s) g.at h) (refl, refl))
 
   module _ (h : g.at < length s) {t : Tag} (te : t ≡ tag_at s g.at) where
-    said-tag : said_at w s at u p ≡ tag_said w s g.at u p t
+    said_tag : said_at w s at u p ≡ tag_said w s g.at u p t
     unfolding said_at said_here
-    said-tag = rw (sym ge) (rw (lt-leb (length s) g.at h) (ap (tag_said w s g.at u p) (sym te)))
+    said_tag = rw (sym ge) (rw (lt-leb (length s) g.at h) (ap (tag_said w s g.at u p) (sym te)))
 
-    pub said-statement : (k : ℕ) (c : Cursor) → t ≡ Statement k c → {r : Heard} {e : List ℕ}
+    pub said_statement : (k : ℕ) (c : Cursor) → t ≡ Statement k c → {r : Heard} {e : List ℕ}
         → (r ≡ (statement_said w s c.at k u p).answer) × (e ≡ sets d u (statement_said w s c.at k u p).bytes)
         → (r ≡ (said_at w s at u p).answer) × (e ≡ sets d u (said_at w s at u p).bytes)
     unfolding tag_said
-    said-statement k c m q = rw (said-tag, m) q
+    said_statement k c m q = rw (said_tag, m) q
 
-    pub said-last : (c : Cursor) → t ≡ Last c → (Done c ≡ (said_at w s at u p).answer) × (d ≡ sets d u (said_at w s at u p).bytes)
+    pub said_last : (c : Cursor) → t ≡ Last c → (Done c ≡ (said_at w s at u p).answer) × (d ≡ sets d u (said_at w s at u p).bytes)
     unfolding tag_said
-    said-last c m = rw (said-tag, m) (refl, refl)
+    said_last c m = rw (said_tag, m) (refl, refl)
 
     -- b: what is past the token skipped
-    pub said-other : t ≡ Other → {b : Due} → b ≡ past_token w s g.at → {r : Heard} → r ≡ passed b
+    pub said_other : t ≡ Other → {b : Due} → b ≡ past_token w s g.at → {r : Heard} → r ≡ passed b
         → (r ≡ (said_at w s at u p).answer) × (d ≡ sets d u (said_at w s at u p).bytes)
     unfolding tag_said
-    said-other m be re = rw (said-tag, m) (re ∙ ap passed be, refl)
+    said_other m be re = rw (said_tag, m) (re ∙ ap passed be, refl)
 
 -- what is lent for the whole is enough behind a keyword
 pub statement_room : (s : List ℕ) (at u l : ℕ) {g : Cursor} → g.at ≡ gap_end s at → {t : Tag} → t ≡ tag_at s g.at → (k : ℕ) (c : Cursor) → t ≡ Statement k c

@@ -161,8 +161,8 @@ module _ (w : Bool) (s : List ℕ) (at u : ℕ) where
     import_room l r = let d = told h in omega (arith, d.0, d.1, d.2)
 
     -- where its values lie
-    pub import-lies : Lies u n i.module_name × Lies u n i.prefix × MayLie u n i.revision_date
-    import-lies = let d = told h in (d.3, d.4, d.5)
+    pub import_lies : Lies u n i.module_name × Lies u n i.prefix × MayLie u n i.revision_date
+    import_lies = let d = told h in (d.3, d.4, d.5)
 
 -- ---- an include
 
@@ -228,5 +228,5 @@ module _ (w : Bool) (s : List ℕ) (at u : ℕ) where
     pub include_room : (l : ℕ) → u + (length s - at) ≤ l → n + (length s - c.at) ≤ l
     include_room l r = let d = given h in omega (arith, d.0, d.1, d.2)
 
-    pub include-lies : Lies u n i.submodule_name × MayLie u n i.revision_date
-    include-lies = let d = given h in (d.3, d.4)
+    pub include_lies : Lies u n i.submodule_name × MayLie u n i.revision_date
+    include_lies = let d = given h in (d.3, d.4)

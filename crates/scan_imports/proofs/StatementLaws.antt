@@ -59,24 +59,24 @@ module _ (w : Bool) (s : List ℕ) (at u : ℕ) (d : List ℕ) {a : Argument} {e
 
   -- b: what the block answered; f: the store then
   module _ (c : Cursor) (n : ℕ) (h : a ≡ Read c n) {b : Block} {f : List ℕ} (l : Leaves (block_at w s c.at n 8) e n b f) where
-    import-named : import_at w s at u ≡ with_name (held u (n - u)) (value_bytes (value_at s at)) (block_at w s c.at n 8)
+    import_named : import_at w s at u ≡ with_name (held u (n - u)) (value_bytes (value_at s at)) (block_at w s c.at n 8)
     unfolding import_at after_name
-    import-named = ap (after_name w s u (value_bytes (value_at s at))) (sym ae ∙ h)
+    import_named = ap (after_name w s u (value_bytes (value_at s at))) (sym ae ∙ h)
 
-    import-stored : f ≡ sets d u (value_bytes (value_at s at) ++ (block_at w s c.at n 8).bytes)
-    import-stored =
+    import_stored : f ≡ sets d u (value_bytes (value_at s at) ++ (block_at w s c.at n 8).bytes)
+    import_stored =
         let far = line_far w s at u 8 123 c n (omega arith) (sym ae ∙ h) in
         sets_twice d e f u n (value_bytes (value_at s at)) (block_at w s c.at n 8).bytes ee far.2 l.1
 
-    pub import-broken : (r : Refusal) → b ≡ Broken r → {q : Refusal} → q ≡ block_refusal b → Leaves (import_at w s at u) d u (NoImport q) f
+    pub import_broken : (r : Refusal) → b ≡ Broken r → {q : Refusal} → q ≡ block_refusal b → Leaves (import_at w s at u) d u (NoImport q) f
     unfolding with_name import_of
-    import-broken r k p =
-        leaves import-named d u (ap NoImport (broken_is k p) ∙ sym (ap (import_of (held u (n - u))) (sym l.0 ∙ k)), import-stored)
+    import_broken r k p =
+        leaves import_named d u (ap NoImport (broken_is k p) ∙ sym (ap (import_of (held u (n - u))) (sym l.0 ∙ k)), import_stored)
 
-    pub import-whole : {x : Span} → x ≡ held u (n - u) → (y : Body) → b ≡ Whole y → {i : ParsedImport} → i ≡ of_body x y → Leaves (import_at w s at u) d u i f
+    pub import_whole : {x : Span} → x ≡ held u (n - u) → (y : Body) → b ≡ Whole y → {i : ParsedImport} → i ≡ of_body x y → Leaves (import_at w s at u) d u i f
     unfolding with_name import_of
-    import-whole xe y k p =
-        leaves import-named d u (p ∙ ap (λ z. of_body z y) xe ∙ sym (ap (import_of (held u (n - u))) (sym l.0 ∙ k)), import-stored)
+    import_whole xe y k p =
+        leaves import_named d u (p ∙ ap (λ z. of_body z y) xe ∙ sym (ap (import_of (held u (n - u))) (sym l.0 ∙ k)), import_stored)
 
 -- ---- an include
 
@@ -108,37 +108,37 @@ module _ (w : Bool) (s : List ℕ) (at u : ℕ) (d : List ℕ) {a : Argument} {e
 
   -- x: the name; g after the gap, p what stands there
   module _ (c : Cursor) (n : ℕ) (h : a ≡ Read c n) {x : Span} (xe : x ≡ held u (n - u)) {g p : ℕ} (ge : g ≡ gap_end s c.at) (pe : p ≡ get_or s g 256) where
-    include-named : include_at w s at u ≡ open_or_plain w s g n x (value_bytes (value_at s at))
+    include_named : include_at w s at u ≡ open_or_plain w s g n x (value_bytes (value_at s at))
     unfolding include_at after_value
-    include-named =
+    include_named =
         ap (after_value w s u (value_bytes (value_at s at))) (sym ae ∙ h)
         ∙ ap (λ i. open_or_plain w s i n (held u (n - u)) (value_bytes (value_at s at))) (sym ge)
         ∙ ap (λ z. open_or_plain w s g n z (value_bytes (value_at s at))) (sym xe)
 
     -- r, f: what the block answered, and the store then
-    pub include-open : p ≡ 123 → {r : ParsedInclude} {f : List ℕ} → r ≡ include_of x (block_at w s (g + 1) n 9).answer
+    pub include_open : p ≡ 123 → {r : ParsedInclude} {f : List ℕ} → r ≡ include_of x (block_at w s (g + 1) n 9).answer
         → f ≡ sets e n (block_at w s (g + 1) n 9).bytes → Leaves (include_at w s at u) d u r f
     unfolding open_or_plain block_of
-    include-open k {r} {f} re fe =
+    include_open k {r} {f} re fe =
         let l = argument_far w s at u 9 c n (sym ae ∙ h) in
         let q : include_at w s at u ≡ block_of x (value_bytes (value_at s at)) (block_at w s (g + 1) n 9)
-        = include-named ∙ rw (eq-eqb (get_or s g 256) 123 (sym pe ∙ k)) refl in
+        = include_named ∙ rw (eq-eqb (get_or s g 256) 123 (sym pe ∙ k)) refl in
         leaves q d u (re, sets_twice d e f u n (value_bytes (value_at s at)) (block_at w s (g + 1) n 9).bytes ee l.3 fe)
 
     -- t: what the semicolon answered
     module _ (m : p ≡ 123 → ⊥) {t : Due} (te : t ≡ due_here s g 59 9) where
-      include-due : include_at w s at u ≡ record { answer = plain_of x n t; bytes = value_bytes (value_at s at) }
+      include_due : include_at w s at u ≡ record { answer = plain_of x n t; bytes = value_bytes (value_at s at) }
       unfolding open_or_plain
-      include-due =
-          include-named
+      include_due =
+          include_named
           ∙ rw (ne_eqb (get_or s g 256) 123 (λ z. m (pe ∙ z))) (ap (λ z. record { answer = plain_of x n z; bytes = value_bytes (value_at s at) }) (sym te))
 
-      pub include-other : (r : Refusal) → t ≡ Not r → {q : Refusal} → q ≡ refusal_of t → Leaves (include_at w s at u) d u (NoInclude q) e
+      pub include_other : (r : Refusal) → t ≡ Not r → {q : Refusal} → q ≡ refusal_of t → Leaves (include_at w s at u) d u (NoInclude q) e
       unfolding plain_of refusal_of
-      include-other r k q = leaves include-due d u (ap NoInclude (q ∙ ap refusal_of k) ∙ sym (ap (plain_of x n) k), ee)
+      include_other r k q = leaves include_due d u (ap NoInclude (q ∙ ap refusal_of k) ∙ sym (ap (plain_of x n) k), ee)
 
       pub include_plain : (y : Cursor) → t ≡ After y → {z : Span} → z ≡ missing
           → Leaves (include_at w s at u) d u (Include y n (record { submodule_name = x; revision_date = z })) e
       unfolding plain_of
       include_plain y k ze =
-          leaves include-due d u (ap (λ v. Include y n (record { submodule_name = x; revision_date = v })) ze ∙ sym (ap (plain_of x n) k), ee)
+          leaves include_due d u (ap (λ v. Include y n (record { submodule_name = x; revision_date = v })) ze ∙ sym (ap (plain_of x n) k), ee)

@@ -74,15 +74,15 @@ module _ (d : List ℕ) (at n : ℕ) where
     size_is : length (decimal n) ≡ length (decimal (n / 10)) + 1
     size_is = ap length (decimal_more n h l) ∙ length-append (decimal (n / 10)) (digit (n % 10) ∷ [])
 
-    pub first-room : at + length (decimal n) ≤ length d → at + length (decimal (n / 10)) ≤ length d
-    first-room k = omega (arith, k, size_is)
+    pub first_room : at + length (decimal n) ≤ length d → at + length (decimal (n / 10)) ≤ length d
+    first_room k = omega (arith, k, size_is)
 
     module _ {e : List ℕ} {m : ℕ} (w : Wrote d at (decimal (n / 10)) e m) where
-      pub last-room : at + length (decimal n) ≤ length d → m < length e
-      last-room k = omega (arith, k, size_is, w.next, ap length w.left, length-sets d at (decimal (n / 10)))
+      pub last_room : at + length (decimal n) ≤ length d → m < length e
+      last_room k = omega (arith, k, size_is, w.next, ap length w.left, length-sets d at (decimal (n / 10)))
 
-      pub last-digit : {b : ℕ} → b ≡ digit (n % 10) → Wrote d at (decimal n) (set e m b) (m + 1)
-      last-digit {b} q = record {
+      pub last_digit : {b : ℕ} → b ≡ digit (n % 10) → Wrote d at (decimal n) (set e m b) (m + 1)
+      last_digit {b} q = record {
         left = ap (λ l. set l m b) w.left
             ∙ ap (λ k. set (sets d at (decimal (n / 10))) k b) w.next
             ∙ ap (set (sets d at (decimal (n / 10))) (at + length (decimal (n / 10)))) q

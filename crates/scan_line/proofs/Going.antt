@@ -47,11 +47,11 @@ module _ {d : List ℕ} {u : ℕ} {all e : List ℕ} {n : ℕ} where
       unfolding flatten
       together g = said (sym (append_assoc p q (flatten ps))) g.is
 
-      pub puts-two : Going d u all e n (p ∷ q ∷ ps) → {f : List ℕ} {m : ℕ} → Wrote e n (p ++ q) f m → Going d u all f m ps
-      puts-two g h = record { is = wrote {bs = p ++ q} {rest = flatten ps} (together g) h }
+      pub puts_two : Going d u all e n (p ∷ q ∷ ps) → {f : List ℕ} {m : ℕ} → Wrote e n (p ++ q) f m → Going d u all f m ps
+      puts_two g h = record { is = wrote {bs = p ++ q} {rest = flatten ps} (together g) h }
 
-      pub fits-two : u + length all ≤ length d → Going d u all e n (p ∷ q ∷ ps) → n + length (p ++ q) ≤ length e
-      fits-two h g = room (p ++ q) (flatten ps) h (together g)
+      pub fits_two : u + length all ≤ length d → Going d u all e n (p ∷ q ∷ ps) → n + length (p ++ q) ≤ length e
+      fits_two h g = room (p ++ q) (flatten ps) h (together g)
 
   pub long : {ps : List (List ℕ)} → Going d u all e n ps → length e ≡ length d
   long g = g.is.long

@@ -61,8 +61,8 @@ pub const LINE: usize = 64;
 
 // The line of a refusal, from the first byte of the page on, and its length. That the page is as long as before is said for a caller who lends it on.
 pub fn print_refused(x: Refusal, page: &mut [u8; LINE]) -> usize
-    ensures value { 64 ≡ length page.new }
-    ensures value_2 { (result ≡ length (refused_line x)) × (page.new ≡ sets page.old 0 (refused_line x)) }
+    ensures as_long { 64 ≡ length page.new }
+    ensures line { (result ≡ length (refused_line x)) × (page.new ≡ sets page.old 0 (refused_line x)) }
 {
     let number = x.number as usize;
     let keyword = x.keyword as usize;

@@ -46,18 +46,18 @@ module _ (k : ℕ) where
   place_parent h = rw h refl
 
   module _ (p : k ≡ 3 → ⊥) where
-    pub place-namespace : k ≡ 4 → 1 ≡ value_of k
+    pub place_namespace : k ≡ 4 → 1 ≡ value_of k
     unfolding value_of
-    place-namespace h = rw h refl
+    place_namespace h = rw h refl
 
     module _ (n : k ≡ 4 → ⊥) where
-      pub place-prefix : k ≡ 5 → 2 ≡ value_of k
+      pub place_prefix : k ≡ 5 → 2 ≡ value_of k
       unfolding value_of
-      place-prefix h = rw h refl
+      place_prefix h = rw h refl
 
-      pub place-name : (k ≡ 5 → ⊥) → 0 ≡ value_of k
+      pub place_name : (k ≡ 5 → ⊥) → 0 ≡ value_of k
       unfolding value_of
-      place-name h = rw (ne_eqb k 3 p, ne_eqb k 4 n, ne_eqb k 5 h) refl
+      place_name h = rw (ne_eqb k 3 p, ne_eqb k 4 n, ne_eqb k 5 h) refl
 
 place_small : (a b c : Bool) → cond a 4 (cond b 1 (cond c 2 0)) < 6
 place_small true b c = omega arith
@@ -81,13 +81,13 @@ module _ (vs : List Span) (x : Span) where
   first_set h = rw h refl
 
   module _ (store : List ℕ) {t : Bool} (te : t ≡ comes_newer store (get_or vs 5 missing) x) where
-    pub newest-set : t ≡ true → set vs 5 x ≡ newest_kept store vs x
+    pub newest_set : t ≡ true → set vs 5 x ≡ newest_kept store vs x
     unfolding newest_kept
-    newest-set h = rw (sym te ∙ h) refl
+    newest_set h = rw (sym te ∙ h) refl
 
-    pub newest-stays : t ≡ false → vs ≡ newest_kept store vs x
+    pub newest_stays : t ≡ false → vs ≡ newest_kept store vs x
     unfolding newest_kept
-    newest-stays h = rw (sym te ∙ h) refl
+    newest_stays h = rw (sym te ∙ h) refl
 
 module _ (store : List ℕ) (vs : List Span) (k : ℕ) (x : Span) where
   pub kept_revision : k ≡ 7 → {f r : List Span} → f ≡ first_kept vs x → r ≡ newest_kept store f x → r ≡ kept_in store vs k x

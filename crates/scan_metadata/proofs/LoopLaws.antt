@@ -28,7 +28,7 @@ use Rattle.scan_metadata.specs.Metadata.{answer_of, stored_of}
 use Rattle.scan_metadata.specs.Promises.{Parses}
 use Rattle.scan_metadata.specs.Values.{kept_in, ended_with}
 use Rattle.scan_metadata.specs.declared.YangModuleMetadata.{YangModuleMetadata}
-use Rattle.scan_metadata.proofs.ScanLaws.{Kept, each_more, within_new, value-new, Sound, sound_start, heard, sound-told, sound-passed, told_nearer}
+use Rattle.scan_metadata.proofs.ScanLaws.{Kept, each_more, within_new, value_new, Sound, sound_start, heard, sound_told, sound_passed, told_nearer}
 use Rattle.scan_metadata.proofs.ScanLaws.{passed_nearer, scan_value, scan_passed, scan_done, scan_refused_lem}
 use Rattle.scan_metadata.proofs.ValuesLaws.{values_prefix, kept_told, told_bytes, ended_is, stored_is}
 
@@ -57,12 +57,12 @@ module _ {w : Bool} {s d : List ℕ} where
 
   module _ {values : List Span} {at used : ℕ} {e : List ℕ} (j : Sofar w s d values at used e) where
     -- what the step requires
-    pub loop-room : used + (length s - at) ≤ length e
-    loop-room = omega (arith, j.count, j.sound.room, j.long, ap length j.stored, length-sets d 0 j.read.bytes)
+    pub loop_room : used + (length s - at) ≤ length e
+    loop_room = omega (arith, j.count, j.sound.room, j.long, ap length j.stored, length-sets d 0 j.read.bytes)
 
     -- the store is as long as it was
-    pub loop-long : length e ≡ length d
-    loop-long = ap length j.stored ∙ length-sets d 0 j.read.bytes
+    pub loop_long : length e ≡ length d
+    loop_long = ap length j.stored ∙ length-sets d 0 j.read.bytes
 
     abbrev here : Reading
     here = record { at = at; read = j.read }
@@ -75,88 +75,88 @@ module _ {w : Bool} {s d : List ℕ} where
           let q : p ≡ j.read.prefix.present = pe ∙ ap (λ vs. (get_or vs 2 missing).present) j.held ∙ ap (λ x. x.present) (values_prefix j.read) in
           ap (λ u. said_at w s at u p) j.count ∙ ap (said_at w s at (length j.read.bytes)) q
 
-      step-answer : {x : Heard} → r ≡ x → (heard w s here).answer ≡ x
-      step-answer h = sym (ap (λ y. y.answer) step_is) ∙ sym re ∙ h
+      step_answer : {x : Heard} → r ≡ x → (heard w s here).answer ≡ x
+      step_answer h = sym (ap (λ y. y.answer) step_is) ∙ sym re ∙ h
 
       -- what is stored then
-      step-stored : e' ≡ sets d 0 (j.read.bytes ++ (heard w s here).bytes)
-      step-stored =
+      step_stored : e' ≡ sets d 0 (j.read.bytes ++ (heard w s here).bytes)
+      step_stored =
           let bs = j.read.bytes in
           let cs = (heard w s here).bytes in
           ee ∙ ap (λ y. sets e used y.bytes) step_is ∙ ap (λ l. sets l used cs) j.stored
           ∙ ap (λ n. sets (sets d 0 bs) n cs) (j.count ∙ sym (zero-add (length bs))) ∙ sym (sets_append d 0 bs cs)
 
       -- nothing is stored
-      same-stored : (heard w s here).bytes ≡ [] → e' ≡ sets d 0 j.read.bytes
-      same-stored h = ee ∙ ap (λ y. sets e used y.bytes) step_is ∙ ap (sets e used) h ∙ j.stored
+      same_stored : (heard w s here).bytes ≡ [] → e' ≡ sets d 0 j.read.bytes
+      same_stored h = ee ∙ ap (λ y. sets e used y.bytes) step_is ∙ ap (sets e used) h ∙ j.stored
 
       module _ (k : ℕ) (x : Span) (c : Cursor) (n : ℕ) (h : r ≡ Value k x c n) where
-        value-held : kept_in e' values k x ≡ values_of (told j.read k x (heard w s here).bytes)
-        value-held =
+        value_held : kept_in e' values k x ≡ values_of (told j.read k x (heard w s here).bytes)
+        value_held =
             let m = j.read in
             let cs = (heard w s here).bytes in
-            let i = said_value w s at (length m.bytes) m.prefix.present k x c n (step-answer h) in
+            let i = said_value w s at (length m.bytes) m.prefix.present k x c n (step_answer h) in
             let u = said_room w s at (length m.bytes) m.prefix.present in
             let l : length (m.bytes ++ cs) ≤ length d = omega (arith, u, length-append m.bytes cs, j.sound.room, j.long) in
             ap (λ vs. kept_in e' vs k x) j.held
             ∙ kept_told e' m k x cs
             (each_of (Kept m.bytes) Read (λ r q. q.0) m.revisions j.sound.placed.revisions)
-            (value_stored (m.bytes ++ cs) d x (within_new m.bytes cs x i.2) step-stored l ∙ value-new m.bytes cs x i.2)
-            (stored_newest (m.bytes ++ cs) d step-stored l m.revisions (each_more m.bytes cs m.revisions j.sound.placed.revisions))
+            (value_stored (m.bytes ++ cs) d x (within_new m.bytes cs x i.2) step_stored l ∙ value_new m.bytes cs x i.2)
+            (stored_newest (m.bytes ++ cs) d step_stored l m.revisions (each_more m.bytes cs m.revisions j.sound.placed.revisions))
 
-        pub loop-value : {values' : List Span} → values' ≡ kept_in e' values k x → Sofar w s d values' c.at n e'
-        loop-value v =
+        pub loop_value : {values' : List Span} → values' ≡ kept_in e' values k x → Sofar w s d values' c.at n e'
+        loop_value v =
             let m = j.read in
             let cs = (heard w s here).bytes in
-            let i = said_value w s at (length m.bytes) m.prefix.present k x c n (step-answer h) in
+            let i = said_value w s at (length m.bytes) m.prefix.present k x c n (step_answer h) in
             let b = told_bytes m k x cs in
             record {
               read = told m k x cs;
-              held = v ∙ value-held;
+              held = v ∙ value_held;
               count = omega (arith, i.3, ap length b, length-append m.bytes cs);
-              stored = step-stored ∙ ap (sets d 0) (sym b);
+              stored = step_stored ∙ ap (sets d 0) (sym b);
               long = j.long;
-              sound = sound-told w s here j.sound k x c n (step-answer h);
-              same = sym (scan_value w s here k x c n (step-answer h)) ∙ j.same;
+              sound = sound_told w s here j.sound k x c n (step_answer h);
+              same = sym (scan_value w s here k x c n (step_answer h)) ∙ j.same;
             }
 
-        pub loop-value-nearer : length s - c.at < length s - at
-        loop-value-nearer = told_nearer w s here k x c n (step-answer h)
+        pub loop_value_nearer : length s - c.at < length s - at
+        loop_value_nearer = told_nearer w s here k x c n (step_answer h)
 
       module _ (c : Cursor) (h : r ≡ Passed c) where
-        pub loop-passed : Sofar w s d values c.at used e'
-        loop-passed =
+        pub loop_passed : Sofar w s d values c.at used e'
+        loop_passed =
             let m = j.read in
-            let i = said_passed w s at (length m.bytes) m.prefix.present c (step-answer h) in
+            let i = said_passed w s at (length m.bytes) m.prefix.present c (step_answer h) in
             record {
               read = m;
               held = j.held;
               count = j.count;
-              stored = same-stored i.2;
+              stored = same_stored i.2;
               long = j.long;
-              sound = sound-passed w s here j.sound c (step-answer h);
-              same = sym (scan_passed w s here c (step-answer h)) ∙ j.same;
+              sound = sound_passed w s here j.sound c (step_answer h);
+              same = sym (scan_passed w s here c (step_answer h)) ∙ j.same;
             }
 
-        pub loop-passed-nearer : length s - c.at < length s - at
-        loop-passed-nearer = passed_nearer w s here c (step-answer h)
+        pub loop_passed_nearer : length s - c.at < length s - at
+        loop_passed_nearer = passed_nearer w s here c (step_answer h)
 
       -- x: the scan from here
-      loop-ends : (x : Scan) → scan_from w s here ≡ x → {a : YangModuleMetadata} → a ≡ answer_of x → e' ≡ sets d 0 (stored_of x) → Parses w s d a e'
-      loop-ends x q ae se =
+      loop_ends : (x : Scan) → scan_from w s here ≡ x → {a : YangModuleMetadata} → a ≡ answer_of x → e' ≡ sets d 0 (stored_of x) → Parses w s d a e'
+      loop_ends x q ae se =
           let k : x ≡ scanned w s = sym q ∙ j.same in
           record { answer = ae ∙ ap answer_of k; stored = se ∙ ap (λ y. sets d 0 (stored_of y)) k }
 
-      pub loop-done : (c : Cursor) → r ≡ Done c → {a : YangModuleMetadata} → a ≡ ended_with values used c.at → Parses w s d a e'
-      loop-done c h ae =
+      pub loop_done : (c : Cursor) → r ≡ Done c → {a : YangModuleMetadata} → a ≡ ended_with values used c.at → Parses w s d a e'
+      loop_done c h ae =
           let m = j.read in
-          let i = said_done w s at (length m.bytes) m.prefix.present j.sound.inside c (step-answer h) in
-          loop-ends (ended m c.at) (scan_done w s here c (step-answer h))
+          let i = said_done w s at (length m.bytes) m.prefix.present j.sound.inside c (step_answer h) in
+          loop_ends (ended m c.at) (scan_done w s here c (step_answer h))
           (ae ∙ ap (λ vs. ended_with vs used c.at) j.held ∙ ap (λ n. ended_with (values_of m) n c.at) j.count ∙ ended_is m c.at)
-          (same-stored i.2 ∙ ap (sets d 0) (sym (stored_is m c.at)))
+          (same_stored i.2 ∙ ap (sets d 0) (sym (stored_is m c.at)))
 
-      pub loop-refused : (q : Refusal) → r ≡ Refused q → {p : Refusal} → p ≡ heard_refusal r → {a : YangModuleMetadata} → a ≡ refused_with p → Parses w s d a e'
+      pub loop_refused : (q : Refusal) → r ≡ Refused q → {p : Refusal} → p ≡ heard_refusal r → {a : YangModuleMetadata} → a ≡ refused_with p → Parses w s d a e'
       unfolding answer_of stored_of heard_refusal
-      loop-refused q h f ae =
-          loop-ends (bad q (j.read.bytes ++ (heard w s here).bytes))
-          (scan_refused_lem w s here q (step-answer h)) (ae ∙ ap refused_with (f ∙ ap heard_refusal h)) step-stored
+      loop_refused q h f ae =
+          loop_ends (bad q (j.read.bytes ++ (heard w s here).bytes))
+          (scan_refused_lem w s here q (step_answer h)) (ae ∙ ap refused_with (f ∙ ap heard_refusal h)) step_stored

@@ -58,12 +58,12 @@ module _ (bytes bs : List ℕ) where
     pub within_new : Within (length (bytes ++ bs)) x
     within_new = rw e (omega (arith, length-append bytes bs))
 
-    pub value-new : value_in (bytes ++ bs) x ≡ bs
+    pub value_new : value_in (bytes ++ bs) x ≡ bs
     unfolding value_in
-    value-new = rw e (ap (take (length bs)) (drop-append_seam bytes bs) ∙ take-length bs)
+    value_new = rw e (ap (take (length bs)) (drop-append_seam bytes bs) ∙ take-length bs)
 
     kept_new : Kept (bytes ++ bs) (record { span = x; value = bs })
-    kept_new = (ap (λ y. y.present) e, within_new, value-new)
+    kept_new = (ap (λ y. y.present) e, within_new, value_new)
 
 pub placed_told : (m : Metadata) (k : ℕ) (x : Span) (bs : List ℕ) → x ≡ held (length m.bytes) (length bs) → Placed m → Placed (told m k x bs)
 unfolding told
@@ -123,17 +123,17 @@ heard w s g = said_at w s g.at (length g.read.bytes) g.read.prefix.present
 
 module _ (w : Bool) (s : List ℕ) (g : Reading) where
   module _ (f : Sound s g) where
-    pub sound-told : (k : ℕ) (x : Span) (c : Cursor) (n : ℕ) → (heard w s g).answer ≡ Value k x c n
+    pub sound_told : (k : ℕ) (x : Span) (c : Cursor) (n : ℕ) → (heard w s g).answer ≡ Value k x c n
         → Sound s (record { at = c.at; read = told g.read k x (heard w s g).bytes })
-    sound-told k x c n h =
+    sound_told k x c n h =
         let m = g.read in
         let bs = (heard w s g).bytes in
         let i = said_value w s g.at (length m.bytes) m.prefix.present k x c n h in
         let l : length (told m k x bs).bytes ≡ length m.bytes + length bs = ap length (told_bytes m k x bs) ∙ length-append m.bytes bs in
         record { inside = i.1; room = omega (arith, l, i.3, i.4, f.room); placed = placed_told m k x bs i.2 f.placed }
 
-    pub sound-passed : (c : Cursor) → (heard w s g).answer ≡ Passed c → Sound s (record { at = c.at; read = g.read })
-    sound-passed c h =
+    pub sound_passed : (c : Cursor) → (heard w s g).answer ≡ Passed c → Sound s (record { at = c.at; read = g.read })
+    sound_passed c h =
         let i = said_passed w s g.at (length g.read.bytes) g.read.prefix.present c h in
         record { inside = i.1; room = omega (arith, i.0, i.1, f.room); placed = f.placed }
 
@@ -165,7 +165,7 @@ module _ (w : Bool) (s : List ℕ) (g : Reading) where
       of (Refused r) e t = let z : ◌≡◌ {A = ℕ} 0 1 = cc in absurd (omega arith)
 
   pub turn_sound : Sound s g → (h : Reading) → metadata_turn w s g ≡ on h → Sound s h
-  turn_sound f = turn_keeps (Sound s) (sound-told w s g f) (sound-passed w s g f)
+  turn_sound f = turn_keeps (Sound s) (sound_told w s g f) (sound_passed w s g f)
 
   pub turn_falls : (h : Reading) → metadata_turn w s g ≡ on h → length s - h.at < length s - g.at
   turn_falls = turn_keeps (λ h. length s - h.at < length s - g.at) (told_nearer w s g) (passed_nearer w s g)

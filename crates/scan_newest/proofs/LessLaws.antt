@@ -96,19 +96,19 @@ module _ (a b : List ℕ) where
 
   module _ (i : ℕ) (k : i < length b) where
     -- the first alone is at its end
-    pub less-short : length a ≤ i → less (drop i a) (drop i b) ≡ true
+    pub less_short : length a ≤ i → less (drop i a) (drop i b) ≡ true
     unfolding less
-    less-short h = rw (drop_of_length-le a h) (rw (rest b i k) refl)
+    less_short h = rw (drop_of_length-le a h) (rw (rest b i k) refl)
 
     module _ (h : i < length a) where
-      here-both : less (drop i a) (drop i b) ≡ less (get_or a i 0 ∷ drop (i + 1) a) (get_or b i 0 ∷ drop (i + 1) b)
-      here-both = rw (rest a i h, rest b i k, inside a i 0 256 h, inside b i 0 256 k) refl
+      here_both : less (drop i a) (drop i b) ≡ less (get_or a i 0 ∷ drop (i + 1) a) (get_or b i 0 ∷ drop (i + 1) b)
+      here_both = rw (rest a i h, rest b i k, inside a i 0 256 h, inside b i 0 256 k) refl
 
-      pub less-yes : get_or a i 0 < get_or b i 0 → less (drop i a) (drop i b) ≡ true
-      less-yes l = here-both ∙ less_lower (get_or a i 0) (get_or b i 0) (drop (i + 1) a) (drop (i + 1) b) l
+      pub less_yes : get_or a i 0 < get_or b i 0 → less (drop i a) (drop i b) ≡ true
+      less_yes l = here_both ∙ less_lower (get_or a i 0) (get_or b i 0) (drop (i + 1) a) (drop (i + 1) b) l
 
-      pub less-no : get_or b i 0 < get_or a i 0 → less (drop i a) (drop i b) ≡ false
-      less-no l = here-both ∙ less_higher (get_or a i 0) (get_or b i 0) (drop (i + 1) a) (drop (i + 1) b) l
+      pub less_no : get_or b i 0 < get_or a i 0 → less (drop i a) (drop i b) ≡ false
+      less_no l = here_both ∙ less_higher (get_or a i 0) (get_or b i 0) (drop (i + 1) a) (drop (i + 1) b) l
 
-      pub less-more : get_or b i 0 ≤ get_or a i 0 → get_or a i 0 ≤ get_or b i 0 → less (drop (i + 1) a) (drop (i + 1) b) ≡ less (drop i a) (drop i b)
-      less-more l m = sym (here-both ∙ less_equal (get_or a i 0) (get_or b i 0) (drop (i + 1) a) (drop (i + 1) b) l m)
+      pub less_more : get_or b i 0 ≤ get_or a i 0 → get_or a i 0 ≤ get_or b i 0 → less (drop (i + 1) a) (drop (i + 1) b) ≡ less (drop i a) (drop i b)
+      less_more l m = sym (here_both ∙ less_equal (get_or a i 0) (get_or b i 0) (drop (i + 1) a) (drop (i + 1) b) l m)

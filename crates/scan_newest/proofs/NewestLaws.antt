@@ -38,20 +38,20 @@ module _ (n r : Revision) where
   newer_keeps P p q = by_test (n.span.present && not (less n.value r.value)) (λ t. rw t p) (λ f. rw f q)
 
   module _ (h : Read n) where
-    pub newer-old : less n.value r.value ≡ false → newer n r ≡ n
+    pub newer_old : less n.value r.value ≡ false → newer n r ≡ n
     unfolding newer
-    newer-old l = rw (h, l) refl
+    newer_old l = rw (h, l) refl
 
-    pub newer-new : less n.value r.value ≡ true → newer n r ≡ r
+    pub newer_new : less n.value r.value ≡ true → newer n r ≡ r
     unfolding newer
-    newer-new l = rw (h, l) refl
+    newer_new l = rw (h, l) refl
 
     -- it is less than neither
-    newer-least : (less (newer n r).value n.value ≡ false) × (less (newer n r).value r.value ≡ false)
-    newer-least =
+    newer_least : (less (newer n r).value n.value ≡ false) × (less (newer n r).value r.value ≡ false)
+    newer_least =
         by_test (less n.value r.value)
-        (λ t. rw (newer-new t) (less_asym n.value r.value t, less_irrefl r.value))
-        (λ f. rw (newer-old f) (less_irrefl n.value, f))
+        (λ t. rw (newer_new t) (less_asym n.value r.value t, less_irrefl r.value))
+        (λ f. rw (newer_old f) (less_irrefl n.value, f))
 
 -- ---- what holds of all
 
@@ -95,11 +95,11 @@ from_greatest n (r ∷ rs) p h =
     let m = newer n r in
     let top = (newest_from m rs).value in
     let on = from_greatest m rs (newer_keeps n r Read p h.0) h.1 in
-    let least = newer-least n r p in
+    let least = newer_least n r p in
     (least_trans top m.value n.value on.0 least.0, (least_trans top m.value r.value on.0 least.1, on.1))
 
 pub newest_greatest : (rs : List Revision) → Each Read rs → Each (λ r. less (newest rs).value r.value ≡ false) rs
-unfolding Each
+unfolding Each newest newest_from newer
 newest_greatest [] h = tt
 newest_greatest (r ∷ rs) h = rw (newest_cons r rs) (from_greatest r rs h.0 h.1)
 
@@ -148,8 +148,8 @@ unfolding newest_from Each
 from_first n [] p h = follows_none n
 from_first n (r ∷ rs) p h =
     by_test (less n.value r.value)
-    (λ t. rw (newer-new n r p t) (follows_new n r rs (newest_from r rs) t (from_first r rs h.0 h.1)))
-    (λ u. rw (newer-old n r p u) (follows_old n r rs (newest_from n rs) u (from_first n rs p h.1)))
+    (λ t. rw (newer_new n r p t) (follows_new n r rs (newest_from r rs) t (from_first r rs h.0 h.1)))
+    (λ u. rw (newer_old n r p u) (follows_old n r rs (newest_from n rs) u (from_first n rs p h.1)))
 
 pub newest_first : (r : Revision) (rs : List Revision) → Each Read (r ∷ rs) → First (r ∷ rs) (newest (r ∷ rs))
 unfolding Each

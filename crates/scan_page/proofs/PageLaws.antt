@@ -91,11 +91,11 @@ good_sound whole s z x h = subst (λ y. Sound s (read_of y)) (entry_good whole s
 -- of any scan
 pub page_fits : (whole : Bool) (s : List ℕ) (z : Bool) → length (page_of (dependencies whole s z)) ≤ 6944 + 1048576
 unfolding page_of
-page_fits whole s z = by-scan (dependencies whole s z) refl
+page_fits whole s z = by_scan (dependencies whole s z) refl
   where
-    by-scan : (x : Scan) → dependencies whole s z ≡ x → length (page_of x) ≤ 6944 + 1048576
-    by-scan (good x) h = omega (arith, page_size x (good_sound whole s z x h), (entry_good whole s z x h).1)
-    by-scan (bad r x) h = omega arith
+    by_scan : (x : Scan) → dependencies whole s z ≡ x → length (page_of x) ≤ 6944 + 1048576
+    by_scan (good x) h = omega (arith, page_size x (good_sound whole s z x h), (entry_good whole s z x h).1)
+    by_scan (bad r x) h = omega arith
 
 same_rows : {a b c e f g : List ℕ} {m n i j : ℕ} → a ≡ e → b ≡ f → m ≡ i → c ≡ g → n ≡ j → printed_rows a b m c n ≡ printed_rows e f i g j
 same_rows p q o v w = rw p (rw q (rw o (rw v (rw w refl))))
@@ -122,9 +122,9 @@ module _ (whole : Bool) (s : List ℕ) (z : Bool) (d t u : List ℕ) {r : Parsed
     unfolding kept_of it
     kept = ap kept_of was.1
 
-    good-page : page_of (dependencies whole s z) ≡ printed it.bytes it.imports it.includes
+    good_page : page_of (dependencies whole s z) ≡ printed it.bytes it.imports it.includes
     unfolding page_of it
-    good-page = ap page_of was.1
+    good_page = ap page_of was.1
 
     pub rows_are : printed_rows e f m g n ≡ page_of (dependencies whole s z)
     unfolding it
@@ -133,10 +133,10 @@ module _ (whole : Bool) (s : List ℕ) (z : Bool) (d t u : List ℕ) {r : Parsed
         let ee : e ≡ padded (length d) x.bytes = w.stored ∙ ap (λ y. padded (length d) y.bytes) kept in
         let fe : f ≡ padded (length t) (import_words_of x) = w.imports ∙ ap (λ y. padded (length t) (import_words_of y)) kept in
         let ge : g ≡ padded (length u) (include_words_of x) = w.includes ∙ ap (λ y. padded (length u) (include_words_of y)) kept in
-        same_rows ee fe was.2 ge was.3 ∙ page_is x sound (length d) (length t) (length u) ∙ sym good-page
+        same_rows ee fe was.2 ge was.3 ∙ page_is x sound (length d) (length t) (length u) ∙ sym good_page
 
     fits : length (page_of (dependencies whole s z)) ≤ 6944 + length s
-    fits = rw good-page (page_size it sound)
+    fits = rw good_page (page_size it sound)
 
     few : (m ≤ 256) × (n ≤ 256)
     unfolding it
@@ -169,26 +169,26 @@ module _ (whole : Bool) (s d t u p : List ℕ) {q : List ℕ} (qe : q ≡ zeros 
     all : printed_rows e f m g n ≡ page_of (dependencies whole s (is_too_short (page_short (length s) (length p)) (length s) (length d) (length t) (length u)))
     all = rows_are whole s (is_too_short (page_short (length s) (length p)) (length s) (length d) (length t) (length u)) d t u left m n k h
 
-    page-room : length (printed_rows e f m g n) ≤ length q
-    page-room =
+    page_room : length (printed_rows e f m g n) ≤ length q
+    page_room =
         let a = page_short (length s) (length p) in
         let b = is_too_short a (length s) (length d) (length t) (length u) in
         let v = page_long (length s) (length p) (not_else (length s) (length p) a (length d) (length t) (length u) long) in
         omega (arith, ap length all, fits whole s b d t u left m n k h, v, ql)
 
-    pub print-room : length e ≡ length d → length f ≡ length t → length g ≡ length u
+    pub print_room : length e ≡ length d → length f ≡ length t → length g ≡ length u
         → (m ≤ 256) × (256 * 7 ≤ length f) × (n ≤ 256) × (256 * 5 ≤ length g) × (length (printed_rows e f m g n) ≤ length q)
-    print-room el fl gl =
+    print_room el fl gl =
         let a = page_short (length s) (length p) in
         let b = is_too_short a (length s) (length d) (length t) (length u) in
         let l = long_enough a (length s) (length d) (length t) (length u) long in
         let c = few whole s b d t u left m n k h in
-        (c.0, omega (arith, l.1, fl), c.1, omega (arith, l.2, gl), page-room)
+        (c.0, omega (arith, l.1, fl), c.1, omega (arith, l.2, gl), page_room)
 
-    pub page-printed : {l : ℕ} {o : List ℕ} → l ≡ length (printed_rows e f m g n) → o ≡ sets q 0 (printed_rows e f m g n)
+    pub page_printed : {l : ℕ} {o : List ℕ} → l ≡ length (printed_rows e f m g n) → o ≡ sets q 0 (printed_rows e f m g n)
         → Prints whole s d t u p (record { parsed = Good m n k; length = l }) e f g o
-    page-printed {l} {o} le oe = record {
+    page_printed {l} {o} le oe = record {
       scan = subst (λ y. Extracts whole s (page_short (length s) (length p)) d t u y e f g) h left;
       length_is = le ∙ ap length all;
-      page = written_zero p (printed_rows e f m g n) qe oe (omega (arith, ql, page-room)) ∙ ap (padded (length p)) all;
+      page = written_zero p (printed_rows e f m g n) qe oe (omega (arith, ql, page_room)) ∙ ap (padded (length p)) all;
     }

@@ -63,8 +63,8 @@ module _ (store : List ℕ) (x : Span) where
   revision_none f = rw f
 
   module _ (d : List ℕ) (at : ℕ) where
-    pub end-there : x.present ≡ true → Going d at (revision store x ++ newline) d at ((revision_sign ++ value_in store x) ∷ newline ∷ [])
-    end-there t = rw (revision_there t) (begin_two d at (revision_sign ++ value_in store x) newline)
+    pub end_there : x.present ≡ true → Going d at (revision store x ++ newline) d at ((revision_sign ++ value_in store x) ∷ newline ∷ [])
+    end_there t = rw (revision_there t) (begin_two d at (revision_sign ++ value_in store x) newline)
 
     pub end_none : x.present ≡ false → Going d at (revision store x ++ newline) d at (newline ∷ [])
     unfolding flatten

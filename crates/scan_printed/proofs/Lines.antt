@@ -26,5 +26,5 @@ module _ {A : Type 0} (row : ℕ → A) (size : ℕ) (line : A → List ℕ) (co
           g.is;
     }
 
-    pub lines-done : count ≤ r → Wrote d u all e n
-    lines-done h = ended (record { is = said (ap (λ l. flatten (map line l)) (rows_done row size count r h)) g.is })
+    pub lines_done : count ≤ r → Wrote d u all e n
+    lines_done h = ended (record { is = said (ap (λ l. flatten (map line l)) (rows_done row size count r h)) g.is })

@@ -38,16 +38,16 @@ module _ {A : Type 0} (words : A → List ℕ) where
   table_snoc (j ∷ is) i = ap (λ l. words j ++ l) (table_snoc is i) ∙ sym (append_assoc (words j) (table words is) (words i))
 
   module _ (size : ℕ) (long : (i : A) → length (words i) ≡ size) where
-    pub table-length : (is : List A) → length (table words is) ≡ length is * size
+    pub table_length : (is : List A) → length (table words is) ≡ length is * size
     unfolding table
-    table-length [] = sym (zero-mul size)
-    table-length (i ∷ is) = length-append (words i) (table words is) ∙ omega (arith, long i, table-length is, suc-mul (length is) size)
+    table_length [] = sym (zero-mul size)
+    table_length (i ∷ is) = length-append (words i) (table words is) ∙ omega (arith, long i, table_length is, suc-mul (length is) size)
 
     -- the next row behind the rows that stand there
     pub table_step : (is : List A) (i : A) (t e f : List ℕ) → e ≡ sets t 0 (table words is) → f ≡ sets e (length is * size) (words i)
         → f ≡ sets t 0 (table words (is ++ (i ∷ [])))
     table_step is i t e f p q =
-        let n : length is * size ≡ 0 + length (table words is) = omega (arith, table-length is) in
+        let n : length is * size ≡ 0 + length (table words is) = omega (arith, table_length is) in
         q ∙ ap (λ l. sets l (length is * size) (words i)) p ∙ ap (λ k. sets (sets t 0 (table words is)) k (words i)) n
         ∙ sym (sets_append t 0 (table words is) (words i)) ∙ ap (sets t 0) (sym (table_snoc is i))
 
@@ -93,8 +93,8 @@ include_words_lem i = refl
 
 pub imports_length : (is : List YangImport) → length (import_table is) ≡ length is * import_size
 unfolding import_table
-imports_length is = table-length import_words import_size import_words_lem is
+imports_length is = table_length import_words import_size import_words_lem is
 
 pub includes_length : (is : List YangInclude) → length (include_table is) ≡ length is * include_size
 unfolding include_table
-includes_length is = table-length include_words include_size include_words_lem is
+includes_length is = table_length include_words include_size include_words_lem is

@@ -15,18 +15,18 @@ module _ (short : Bool) (text store imports includes : ℕ) where
   short_else h = rw h refl
 
   module _ (long : short ≡ false) where
-    pub short-store : store < text → true ≡ is_too_short short text store imports includes
+    pub short_store : store < text → true ≡ is_too_short short text store imports includes
     unfolding is_too_short
-    short-store h = rw long (rw (lt-ltb store text h) refl)
+    short_store h = rw long (rw (lt-ltb store text h) refl)
 
     module _ (enough : text ≤ store) where
-      pub short-imports : imports < most_rows * import_size → true ≡ is_too_short short text store imports includes
+      pub short_imports : imports < most_rows * import_size → true ≡ is_too_short short text store imports includes
       unfolding is_too_short
-      short-imports h = rw long (rw (le-ltb store text enough) (rw (lt-ltb imports (most_rows * import_size) h) refl))
+      short_imports h = rw long (rw (le-ltb store text enough) (rw (lt-ltb imports (most_rows * import_size) h) refl))
 
-      pub short-includes : most_rows * import_size ≤ imports → ltb includes (most_rows * include_size) ≡ is_too_short short text store imports includes
+      pub short_includes : most_rows * import_size ≤ imports → ltb includes (most_rows * include_size) ≡ is_too_short short text store imports includes
       unfolding is_too_short
-      short-includes h = rw long (rw (le-ltb store text enough) (rw (le-ltb imports (most_rows * import_size) h) refl))
+      short_includes h = rw long (rw (le-ltb store text enough) (rw (le-ltb imports (most_rows * import_size) h) refl))
 
   -- nothing is too short
   pub long_enough : is_too_short short text store imports includes ≡ false

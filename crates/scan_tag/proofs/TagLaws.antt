@@ -25,13 +25,13 @@ module _ {m : Match} where
   last_after c h = sym (ap last_tag h)
 
   module _ (k : ℕ) (t : Tag) {n : Match} (e : m ≡ n) where
-    pub tag-after : (c : Cursor) → m ≡ After c → Statement k c ≡ or_tag k n t
+    pub tag_after : (c : Cursor) → m ≡ After c → Statement k c ≡ or_tag k n t
     unfolding or_tag
-    tag-after c h = sym (ap (λ z. or_tag k z t) (sym e ∙ h))
+    tag_after c h = sym (ap (λ z. or_tag k z t) (sym e ∙ h))
 
-    pub tag-not : m ≡ Not → t ≡ or_tag k n t
+    pub tag_not : m ≡ Not → t ≡ or_tag k n t
     unfolding or_tag
-    tag-not h = sym (ap (λ z. or_tag k z t) (sym e ∙ h))
+    tag_not h = sym (ap (λ z. or_tag k z t) (sym e ∙ h))
 
 -- each word before those after it
 module _ (s : List ℕ) (at : ℕ) where

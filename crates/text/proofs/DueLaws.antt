@@ -34,9 +34,9 @@ module _ (s : List ℕ) (at b k : ℕ) {c : ℕ} (ce : c ≡ get_or s at 256) wh
         rw (ne_eqb (get_or s at 256) b (λ h. n (ce ∙ h)))
         (rw (eq-eqb (get_or s at 256) 256 z) (ap Not (sym (refused_other (get_or s at 256) 6 k at refl (high_end z)))))
 
-    pub here-other : (c ≡ 256 → ⊥) → {r : Refusal} → r ≡ refused_at c 5 k at → due_here s at b k ≡ Not r
+    pub here_other : (c ≡ 256 → ⊥) → {r : Refusal} → r ≡ refused_at c 5 k at → due_here s at b k ≡ Not r
     unfolding due_here due_number
-    here-other e q =
+    here_other e q =
         rw (ne_eqb (get_or s at 256) b (λ h. n (ce ∙ h)))
         (rw (ne_eqb (get_or s at 256) 256 (λ h. e (ce ∙ h))) (ap Not (sym (q ∙ ap (λ i. refused_at i 5 k at) ce))))
 
@@ -50,15 +50,15 @@ module _ (s : List ℕ) (at b k : ℕ) {g : ℕ} (ge : g ≡ gap_end s at) where
   due_is = sym (due_at_lem refl)
 
   module _ {c : ℕ} (ce : c ≡ get_or s g 256) where
-    pub due-after : c ≡ b → due_at s at b k ≡ After (record { at = g + 1 })
-    due-after e = due_is ∙ here_after s g b k ce e
+    pub due_after : c ≡ b → due_at s at b k ≡ After (record { at = g + 1 })
+    due_after e = due_is ∙ here_after s g b k ce e
 
     module _ (n : c ≡ b → ⊥) where
-      pub due-end : c ≡ 256 → due_at s at b k ≡ Not (record { number = 6; keyword = k; at = g })
-      due-end e = due_is ∙ here_end s g b k ce n e
+      pub due_end : c ≡ 256 → due_at s at b k ≡ Not (record { number = 6; keyword = k; at = g })
+      due_end e = due_is ∙ here_end s g b k ce n e
 
-      pub due-other : (c ≡ 256 → ⊥) → {r : Refusal} → r ≡ refused_at c 5 k g → due_at s at b k ≡ Not r
-      due-other e q = due_is ∙ here-other s g b k ce n e q
+      pub due_other : (c ≡ 256 → ⊥) → {r : Refusal} → r ≡ refused_at c 5 k g → due_at s at b k ≡ Not r
+      due_other e q = due_is ∙ here_other s g b k ce n e q
 
 -- ---- how far it goes
 
@@ -77,11 +77,11 @@ due_far s at b k c small h =
     let g = gap_end s at in
     by_test (eqb (get_or s g 256) b)
     (λ t. let q = eqb-true (get_or s g 256) b t in
-    omega (arith, here s g (λ z. omega arith), gap_from s at, after_is (record { at = g + 1 }) c (due-after s at b k refl refl q) h))
+    omega (arith, here s g (λ z. omega arith), gap_from s at, after_is (record { at = g + 1 }) c (due_after s at b k refl refl q) h))
     (λ t. let q : (get_or s g 256 ≡ b → ⊥) = eqb-false _ _ t in
     by_test (eqb (get_or s g 256) 256)
-    (λ u. absurd (not_after (due-end s at b k refl refl q (eqb-true _ _ u)) h))
-    (λ u. absurd (not_after (due-other s at b k refl refl q (eqb-false _ _ u) refl) h)))
+    (λ u. absurd (not_after (due_end s at b k refl refl q (eqb-true _ _ u)) h))
+    (λ u. absurd (not_after (due_other s at b k refl refl q (eqb-false _ _ u) refl) h)))
 
 -- what is refused after the gap: a byte of 128 or more (3), the end (6) or another byte (5)
 pub data DueRefused (s : List ℕ) (k : ℕ) (r : Refusal) : Type 0 where
@@ -93,12 +93,12 @@ pub due_refused : (s : List ℕ) (at b k : ℕ) (r : Refusal) → due_at s at b 
 due_refused s at b k r h =
     let g = gap_end s at in
     by_test (eqb (get_or s g 256) b)
-    (λ t. absurd (not_after h (due-after s at b k refl refl (eqb-true (get_or s g 256) b t))))
+    (λ t. absurd (not_after h (due_after s at b k refl refl (eqb-true (get_or s g 256) b t))))
     (λ t. let q : (get_or s g 256 ≡ b → ⊥) = eqb-false _ _ t in
     by_test (eqb (get_or s g 256) 256)
-    (λ u. let e = not_is r (record { number = 6; keyword = k; at = g }) h (due-end s at b k refl refl q (eqb-true _ _ u)) in
+    (λ u. let e = not_is r (record { number = 6; keyword = k; at = g }) h (due_end s at b k refl refl q (eqb-true _ _ u)) in
     (ap (λ x. x.at) e, at_end (ap (λ x. x.number) e) (ap (λ x. x.keyword) e)))
-    (λ u. let e = not_is r (refused_at (get_or s g 256) 5 k g) h (due-other s at b k refl refl q (eqb-false _ _ u) refl) in (
+    (λ u. let e = not_is r (refused_at (get_or s g 256) 5 k g) h (due_other s at b k refl refl q (eqb-false _ _ u) refl) in (
       ap (λ x. x.at) e ∙ refused_place (get_or s g 256) 5 k g,
       ⊎_elim high (λ f. other (ap (λ x. x.number) f) (ap (λ x. x.keyword) f)) (refused_met s 5 k g r e),
     )))

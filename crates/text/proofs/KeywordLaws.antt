@@ -170,17 +170,17 @@ module _ (s : List ℕ) (at : ℕ) (word : List ℕ) where
   begins_first = rw (add-zero at) refl
 
   module _ (i : ℕ) (h : i < length word) (k : at + i < length s) where
-    here-both : begins (drop i word) (drop (at + i) s) ≡ (eqb (get_or s (at + i) 0) (get_or word i 0) && begins (drop (i + 1) word) (drop (at + (i + 1)) s))
+    here_both : begins (drop i word) (drop (at + i) s) ≡ (eqb (get_or s (at + i) 0) (get_or word i 0) && begins (drop (i + 1) word) (drop (at + (i + 1)) s))
     unfolding begins
-    here-both =
+    here_both =
         let e : at + i + 1 ≡ at + (i + 1) = omega arith in
         rw (rest word i h, rest s (at + i) k, e, inside s (at + i) 0 256 k, inside word i 0 256 h) refl
 
-    pub begins-more : get_or s (at + i) 0 ≡ get_or word i 0 → begins (drop (i + 1) word) (drop (at + (i + 1)) s) ≡ begins (drop i word) (drop (at + i) s)
-    begins-more e = sym (here-both ∙ ap (λ t. t && begins (drop (i + 1) word) (drop (at + (i + 1)) s)) (eq-eqb (get_or s (at + i) 0) (get_or word i 0) e))
+    pub begins_more : get_or s (at + i) 0 ≡ get_or word i 0 → begins (drop (i + 1) word) (drop (at + (i + 1)) s) ≡ begins (drop i word) (drop (at + i) s)
+    begins_more e = sym (here_both ∙ ap (λ t. t && begins (drop (i + 1) word) (drop (at + (i + 1)) s)) (eq-eqb (get_or s (at + i) 0) (get_or word i 0) e))
 
-    pub begins-other : (get_or s (at + i) 0 ≡ get_or word i 0 → ⊥) → begins (drop i word) (drop (at + i) s) ≡ false
-    begins-other n = here-both ∙ ap (λ t. t && begins (drop (i + 1) word) (drop (at + (i + 1)) s)) (ne_eqb (get_or s (at + i) 0) (get_or word i 0) n)
+    pub begins_other : (get_or s (at + i) 0 ≡ get_or word i 0 → ⊥) → begins (drop i word) (drop (at + i) s) ≡ false
+    begins_other n = here_both ∙ ap (λ t. t && begins (drop (i + 1) word) (drop (at + (i + 1)) s)) (ne_eqb (get_or s (at + i) 0) (get_or word i 0) n)
 
   pub begins_done : (i : ℕ) → length word ≤ i → begins (drop i word) (drop (at + i) s) ≡ true
   unfolding begins
@@ -253,9 +253,9 @@ module _ (s : List ℕ) (at : ℕ) (word : List ℕ) where
 
   module _ (w : wordly word ≡ true) where
     -- and what the code tests gives what the document says
-    keyword-given : begins word (drop at s) ≡ true → ends_keyword (get_or s (at + length word) 256) ≡ true → keyword_at s at word ≡ true
+    keyword_given : begins word (drop at s) ≡ true → ends_keyword (get_or s (at + length word) 256) ≡ true → keyword_at s at word ≡ true
     unfolding keyword_at part
-    keyword-given b e =
+    keyword_given b e =
         let out : in_ident (get_or (drop at s) (length word) 256) ≡ false = rw (get_or-drop) (ends_out (get_or s (at + length word) 256) e) in
         let r : run ≡ at + length word = run_is (span_word word (drop at s) (word_rest_lem word w) b out) in
         let d : at + length word - at ≡ length word = omega arith in
@@ -264,38 +264,38 @@ module _ (s : List ℕ) (at : ℕ) (word : List ℕ) where
         rw r (rw (f, p, e) refl)
 
     -- one law: the document's keyword is what the code tests
-    pub keyword-is : keyword_at s at word ≡ (begins word (drop at s) && ends_keyword (get_or s (at + length word) 256))
-    keyword-is =
+    pub keyword_is : keyword_at s at word ≡ (begins word (drop at s) && ends_keyword (get_or s (at + length word) 256))
+    keyword_is =
         by_test (keyword_at s at word)
         (λ t. let g = keyword_gives t in
         let e : ends_keyword (get_or s (at + length word) 256) ≡ true = ap (λ i. ends_keyword (get_or s i 256)) (sym g.1) ∙ g.2 in
         t ∙ sym (rw (g.0, e) refl))
-        (λ f. f ∙ sym (not_both (begins word (drop at s)) (ends_keyword (get_or s (at + length word) 256)) (λ b e. never f (keyword-given b e))))
+        (λ f. f ∙ sym (not_both (begins word (drop at s)) (ends_keyword (get_or s (at + length word) 256)) (λ b e. never f (keyword_given b e))))
 
     -- Each law takes what the calls on the way answered, in their order: t whether the bytes here begin with the word, q what stands after
     -- it, k whether a keyword can end there.
     module _ {t : Bool} (te : t ≡ begins word (drop at s)) where
-      pub match-other : t ≡ false → match_at s at word ≡ Not
+      pub match_other : t ≡ false → match_at s at word ≡ Not
       unfolding match_at
-      match-other n = rw keyword-is (rw (sym te ∙ n) refl)
+      match_other n = rw keyword_is (rw (sym te ∙ n) refl)
 
       module _ (y : t ≡ true) where
-        pub match-room : length word ≤ length s - at
-        match-room = omega (arith, begins_room word (drop at s) (sym te ∙ y), length-drop at s)
+        pub match_room : length word ≤ length s - at
+        match_room = omega (arith, begins_room word (drop at s) (sym te ∙ y), length-drop at s)
 
         module _ {q : ℕ} {k : Bool} (qe : q ≡ get_or s (at + length word) 256) (ke : k ≡ ends_keyword q) where
           ends_is : ends_keyword (get_or s (at + length word) 256) ≡ k
           ends_is = sym (ke ∙ ap ends_keyword qe)
 
-          pub match-after : k ≡ true → match_at s at word ≡ After (record { at = at + length word })
+          pub match_after : k ≡ true → match_at s at word ≡ After (record { at = at + length word })
           unfolding match_at
-          match-after z =
-              let h = keyword-given (sym te ∙ y) (ends_is ∙ z) in
+          match_after z =
+              let h = keyword_given (sym te ∙ y) (ends_is ∙ z) in
               rw h (ap (λ i. After (record { at = i })) (keyword_gives h).1)
 
-          pub match-longer : k ≡ false → match_at s at word ≡ Not
+          pub match_longer : k ≡ false → match_at s at word ≡ Not
           unfolding match_at
-          match-longer z = rw keyword-is (rw (sym te ∙ y, ends_is ∙ z) refl)
+          match_longer z = rw keyword_is (rw (sym te ∙ y, ends_is ∙ z) refl)
 
 -- ---- how far a keyword goes
 

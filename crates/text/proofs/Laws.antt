@@ -53,11 +53,11 @@ module _ {k : Run} (b : ℕ) where
   run_ident h e = e ∙ sym (ap (λ r. in_run r b) h ∙ in_ident_lem b)
 
   module _ (h : k ≡ Name) {i : Bool} (e : i ≡ in_ident b) where
-    pub run-name : i ≡ true → in_run k b ≡ true
-    run-name y = ap (λ r. in_run r b) h ∙ in_name b (sym e ∙ y)
+    pub run_name : i ≡ true → in_run k b ≡ true
+    run_name y = ap (λ r. in_run r b) h ∙ in_name b (sym e ∙ y)
 
-    pub run-name-too : i ≡ false → in_run k b ≡ eqb b 58
-    run-name-too n = ap (λ r. in_run r b) h ∙ in_name_too b (sym e ∙ n)
+    pub run_name_too : i ≡ false → in_run k b ≡ eqb b 58
+    run_name_too n = ap (λ r. in_run r b) h ∙ in_name_too b (sym e ∙ n)
 
 -- ---- a run
 

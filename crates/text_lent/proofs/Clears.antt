@@ -1,12 +1,12 @@
 -- A slice that is filled with 0 from the front, whatever the width of its elements; and a slice of zeros into which a list is written is that list
 -- and zeros.
 -- Assumes nothing.
-use mathlib.Core.Path.{◌≡◌, refl, sym, ap, ◌∙◌}
+use mathlib.Core.Path.{◌≡◌, refl, ap, ◌∙◌}
 use mathlib.Core.List.{List, [], ◌++◌, append-nil}
 use Prim.Native.Nat.{ℕ, zero, suc, ◌+◌, ◌-◌, ◌≤◌, ◌<◌}
 use native.Mathlib.Nat.{zero-add}
 use native.Mathlib.Omega.{arith}
-use lib.ListN.{length, set, take, drop, replicate, length-set, length-append, length-replicate}
+use lib.ListN.{length, set, take, drop, length-set, length-append, length-replicate}
 use lib.Seq.{sets, sets-eq, drop-length}
 use borrow.Author.Fill.{fill_more}
 use Rattle.text_lent.specs.Padded.{zeros, padded}

@@ -21,19 +21,19 @@ module _ (s : List ℕ) (short : Bool) where
   lent_long h = rw (lt-ltb 1048576 (length s) h) refl
 
   module _ (fits : length s ≤ 1048576) where
-    pub lent-short : short ≡ true → Unfit (record { number = 2; keyword = 0; at = 0 }) ≡ lent_at s short
+    pub lent_short : short ≡ true → Unfit (record { number = 2; keyword = 0; at = 0 }) ≡ lent_at s short
     unfolding lent_at
-    lent-short h = rw (le-ltb 1048576 (length s) fits) (rw h refl)
+    lent_short h = rw (le-ltb 1048576 (length s) fits) (rw h refl)
 
     -- at: where the first wrong sequence starts, or the text's end
     module _ (enough : short ≡ false) {at : ℕ} (e : at ≡ wrong_from s 0) where
-      pub lent-wrong : at < length s → Unfit (record { number = 12; keyword = 0; at = at }) ≡ lent_at s short
+      pub lent_wrong : at < length s → Unfit (record { number = 12; keyword = 0; at = at }) ≡ lent_at s short
       unfolding lent_at
-      lent-wrong h = rw (le-ltb 1048576 (length s) fits) (rw enough (rw (← e) (rw (lt-ltb at (length s) h) refl)))
+      lent_wrong h = rw (le-ltb 1048576 (length s) fits) (rw enough (rw (← e) (rw (lt-ltb at (length s) h) refl)))
 
-      pub lent-fit : length s ≤ at → Fit ≡ lent_at s short
+      pub lent_fit : length s ≤ at → Fit ≡ lent_at s short
       unfolding lent_at
-      lent-fit h = rw (le-ltb 1048576 (length s) fits) (rw enough (rw (← e) (rw (le-ltb at (length s) h) refl)))
+      lent_fit h = rw (le-ltb 1048576 (length s) fits) (rw enough (rw (← e) (rw (le-ltb at (length s) h) refl)))
 
 pub unfit_is : {x : Lent} {r q : Refusal} → x ≡ Unfit r → q ≡ lent_refusal x → q ≡ r
 unfolding lent_refusal
@@ -48,7 +48,7 @@ fit_said s short h =
     by_test (ltb 1048576 (length s))
     (λ t. absurd (unfit_not (sym (lent_long s short (ltb-true 1048576 (length s) t))) h))
     (λ t. let f = ltb-false 1048576 (length s) t in
-    by_test short (λ b. absurd (unfit_not (sym (lent-short s short f b)) h)) (λ b. (f, b)))
+    by_test short (λ b. absurd (unfit_not (sym (lent_short s short f b)) h)) (λ b. (f, b)))
 
 -- a refusal's place is within the text
 unfit_at : (x : Lent) (r q : Refusal) → x ≡ Unfit r → x ≡ Unfit q → r.at ≡ q.at
@@ -62,8 +62,8 @@ lent_within s short q h =
     (λ t. omega (arith, unfit_at x (record { number = 1; keyword = 0; at = 0 }) q (sym (lent_long s short (ltb-true 1048576 (length s) t))) h))
     (λ t. let fits = ltb-false 1048576 (length s) t in
     by_test short
-    (λ b. omega (arith, unfit_at x (record { number = 2; keyword = 0; at = 0 }) q (sym (lent-short s short fits b)) h))
+    (λ b. omega (arith, unfit_at x (record { number = 2; keyword = 0; at = 0 }) q (sym (lent_short s short fits b)) h))
     (λ b. by_test (ltb at (length s))
     (λ v. let l = ltb-true at (length s) v in
-    omega (arith, unfit_at x (record { number = 12; keyword = 0; at = at }) q (sym (lent-wrong s short fits b refl l)) h))
-    (λ v. absurd (unfit_not h (sym (lent-fit s short fits b refl (ltb-false at (length s) v)))))))
+    omega (arith, unfit_at x (record { number = 12; keyword = 0; at = at }) q (sym (lent_wrong s short fits b refl l)) h))
+    (λ v. absurd (unfit_not h (sym (lent_fit s short fits b refl (ltb-false at (length s) v)))))))

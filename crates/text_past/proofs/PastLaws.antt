@@ -33,19 +33,19 @@ module _ (w : Bool) (n : ℕ) {k : Skipped} where
   past_refused r h e = ap Not (skip_refusal_is h e) ∙ sym (ap (past_of w n) h)
 
   module _ (c : Cursor) (h : How) (e : k ≡ Past c h) where
-    past-cond : past_of w n k ≡ cond (w && broke_off h) (Not (cut_at n)) (After c)
+    past_cond : past_of w n k ≡ cond (w && broke_off h) (Not (cut_at n)) (After c)
     unfolding past_of
-    past-cond = ap (past_of w n) e
+    past_cond = ap (past_of w n) e
 
-    pub past-old : w ≡ false → After c ≡ past_of w n k
-    past-old f = sym (past-cond ∙ ap (λ (b : Bool). cond (b && broke_off h) (Not (cut_at n)) (After c)) f)
+    pub past_old : w ≡ false → After c ≡ past_of w n k
+    past_old f = sym (past_cond ∙ ap (λ (b : Bool). cond (b && broke_off h) (Not (cut_at n)) (After c)) f)
 
     module _ (y : w ≡ true) {o : Bool} (oe : o ≡ broke_off h) where
       past_by : (b : Bool) → o ≡ b → past_of w n k ≡ cond b (Not (cut_at n)) (After c)
-      past_by b m = past-cond ∙ ap₂ (λ (i j : Bool). cond (i && j) (Not (cut_at n)) (After c)) y (sym oe ∙ m)
+      past_by b m = past_cond ∙ ap₂ (λ (i j : Bool). cond (i && j) (Not (cut_at n)) (After c)) y (sym oe ∙ m)
 
-      pub past-cut : o ≡ true → {q : Refusal} → q ≡ cut_at n → Not q ≡ past_of w n k
-      past-cut m qe = ap Not qe ∙ sym (past_by true m)
+      pub past_cut : o ≡ true → {q : Refusal} → q ≡ cut_at n → Not q ≡ past_of w n k
+      past_cut m qe = ap Not qe ∙ sym (past_by true m)
 
       pub past_on : o ≡ false → After c ≡ past_of w n k
       past_on m = sym (past_by false m)

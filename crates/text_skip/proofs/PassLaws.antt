@@ -17,9 +17,9 @@ use Rattle.text_string.specs.Str.{is_quote, Str, whole, cut, closed_by, str_at, 
 use Rattle.text_value.specs.Value.{starts_name, More, added, ends, broken, added_by, more_at, more_bytes, value_at, place_of}
 use Rattle.text_string.specs.declared.Close.{Close}
 use Rattle.text_string.specs.declared.Close.TheVariants.{At, Open}
-use Rattle.text_value.proofs.JoinLaws.{more_size, joined_on, joined_stop, joined_broken, value-string, value-cut, value-name, value_none, place_size, closed_on}
-use Rattle.text_value.proofs.JoinLaws.{closed_stop, closed_broken, closed-string, closed-cut, closed_name}
-use Rattle.text_value.proofs.ValueLaws.{more_plain, more-bare, more-string}
+use Rattle.text_value.proofs.JoinLaws.{more_size, joined_on, joined_stop, joined_broken, value_string, value_cut, value_name, value_none, place_size, closed_on}
+use Rattle.text_value.proofs.JoinLaws.{closed_stop, closed_broken, closed_string_lem, closed_cut, closed_name}
+use Rattle.text_value.proofs.ValueLaws.{more_plain, more_bare, more_string}
 use Rattle.text_past.specs.Past.{broke_off}
 use Rattle.text_skip.specs.Skip.{past_whole, past_text, how_closed, closed_token, token_here, token_at, tail_of, added_at, skipped_at}
 use Rattle.text_past.specs.declared.How.{How}
@@ -80,9 +80,9 @@ module _ (s : List ℕ) (at : ℕ) {b : ℕ} {t : Bool} (be : b ≡ get_or s at 
     str_cut : o ≡ true → str_at s at ≡ cut
     str_cut n = cut_str s (str_at s at) c h (token_is ∙ m) (sym oe ∙ n)
 
-    token-cut : o ≡ true → past_text (length s) ≡ k
+    token_cut : o ≡ true → past_text (length s) ≡ k
     unfolding str_token
-    token-cut n = sym (ap (str_token s) (str_cut n)) ∙ token_is
+    token_cut n = sym (ap (str_token s) (str_cut n)) ∙ token_is
 
 -- ---- what follows a string
 
@@ -94,24 +94,24 @@ module _ (s : List ℕ) (at : ℕ) {g p : ℕ} (ge : g ≡ gap_end s at) (pe : p
   tail_plain n = ap tail_of (more_plain s at ge pe n)
 
   module _ (plus : p ≡ 43) {h q : ℕ} {t : Bool} (he : h ≡ gap_end s (g + 1)) (qe : q ≡ get_or s h 256) (te : t ≡ is_quote q) where
-    pub tail-bare : t ≡ false → tail_of (more_at s at) ≡ Last (past_whole h)
+    pub tail_bare : t ≡ false → tail_of (more_at s at) ≡ Last (past_whole h)
     unfolding tail_of
-    tail-bare n = ap tail_of (more-bare s at ge pe plus he qe te n)
+    tail_bare n = ap tail_of (more_bare s at ge pe plus he qe te n)
 
     module _ (y : t ≡ true) {k : Skipped} (ke : k ≡ token_at s h) where
-      pub tail-refused : (r : Refusal) → k ≡ Refused r → tail_of (more_at s at) ≡ Last k
-      tail-refused r m = absurd (str_refused s h qe te y ke r m)
+      pub tail_refused : (r : Refusal) → k ≡ Refused r → tail_of (more_at s at) ≡ Last k
+      tail_refused r m = absurd (str_refused s h qe te y ke r m)
 
       module _ (c : Cursor) (w : How) (m : k ≡ Past c w) {o : Bool} (oe : o ≡ broke_off w) where
-        pub tail-past : o ≡ false → tail_of (more_at s at) ≡ MoreTail c
+        pub tail_past : o ≡ false → tail_of (more_at s at) ≡ MoreTail c
         unfolding tail_of added_by
-        tail-past n = ap tail_of (more-string s at ge pe plus he qe te y ∙ ap (added_by s) (str_past s h qe te y ke c w m oe n))
+        tail_past n = ap tail_of (more_string s at ge pe plus he qe te y ∙ ap (added_by s) (str_past s h qe te y ke c w m oe n))
 
-        pub tail-cut : o ≡ true → tail_of (more_at s at) ≡ Last (Past c w)
+        pub tail_cut : o ≡ true → tail_of (more_at s at) ≡ Last (Past c w)
         unfolding tail_of added_by
-        tail-cut n =
-            ap tail_of (more-string s at ge pe plus he qe te y ∙ ap (added_by s) (str_cut s h qe te y ke c w m oe n))
-            ∙ ap Last (token-cut s h qe te y ke c w m oe n ∙ m)
+        tail_cut n =
+            ap tail_of (more_string s at ge pe plus he qe te y ∙ ap (added_by s) (str_cut s h qe te y ke c w m oe n))
+            ∙ ap Last (token_cut s h qe te y ke c w m oe n ∙ m)
 
 -- ---- all that is added
 
@@ -155,23 +155,23 @@ module _ (s : List ℕ) (at : ℕ) {g b : ℕ} {t : Bool} (ge : g ≡ gap_end s 
     passed_refused r m = absurd (str_refused s g be te y ke r m)
 
     module _ (c : Cursor) (h : How) (m : k ≡ Past c h) {o : Bool} (oe : o ≡ broke_off h) where
-      pub passed-string : o ≡ false → {e : Skipped} → e ≡ added_at s c.at → skipped_at s at ≡ e
+      pub passed_string : o ≡ false → {e : Skipped} → e ≡ added_at s c.at → skipped_at s at ≡ e
       unfolding skipped_at added_at place_of
-      passed-string n q =
+      passed_string n q =
           let w = str_past s g be te y ke c h m oe n in
           let bs = bytes_of (str_at s g) in
-          past_is (ap place_of (value-string s at ge be te y bs c.at w)) (closed-string s at ge be te y bs c.at w) ∙ sym q
+          past_is (ap place_of (value_string s at ge be te y bs c.at w)) (closed_string_lem s at ge be te y bs c.at w) ∙ sym q
 
-      pub passed-cut : o ≡ true → skipped_at s at ≡ Past c h
+      pub passed_cut : o ≡ true → skipped_at s at ≡ Past c h
       unfolding skipped_at place_of
-      passed-cut n =
+      passed_cut n =
           let w = str_cut s g be te y ke c h m oe n in
-          past_is (ap place_of (value-cut s at ge be te y w)) (closed-cut s at ge be te y w) ∙ token-cut s g be te y ke c h m oe n ∙ m
+          past_is (ap place_of (value_cut s at ge be te y w)) (closed_cut s at ge be te y w) ∙ token_cut s g be te y ke c h m oe n ∙ m
 
   module _ (f : t ≡ false) {n : Bool} (ne : n ≡ starts_name b) where
-    pub passed-name : n ≡ true → {e : ℕ} → e ≡ run_end Name s g → skipped_at s at ≡ past_whole e
+    pub passed_name : n ≡ true → {e : ℕ} → e ≡ run_end Name s g → skipped_at s at ≡ past_whole e
     unfolding skipped_at place_of
-    passed-name m ee = past_is (ap place_of (value-name s at ge be te f ne m ee)) (closed_name s at ge be te f)
+    passed_name m ee = past_is (ap place_of (value_name s at ge be te f ne m ee)) (closed_name s at ge be te f)
 
     pub passed_none : n ≡ false → skipped_at s at ≡ past_whole g
     unfolding skipped_at place_of

@@ -54,44 +54,44 @@ high_no_quote b h =
 -- is a quote, k where the string closes.
 module _ (s : List ℕ) (at : ℕ) (h : at < length s) {b : ℕ} (be : b ≡ get_or s at 256) where
   module _ {t : Bool} (te : t ≡ is_quote b) (y : t ≡ true) {k : Close} (ke : k ≡ str_end (get_or s at 0) false (drop (at + 1) s) (at + 1)) where
-    token-string : token_at s at ≡ closed_token s k
+    token_string : token_at s at ≡ closed_token s k
     unfolding token_at token_here
-    token-string =
+    token_string =
         let q : is_quote (get_or s at 256) ≡ true = cc in
         rw (lt-leb (length s) at h) (rw q (ap (closed_token s) (sym (ke ∙ ap (λ c. str_end c false (drop (at + 1) s) (at + 1)) (inside s at 0 256 h)))))
 
-    pub token-closed : (e : ℕ) → k ≡ At e → token_at s at ≡ past_whole e
+    pub token_closed : (e : ℕ) → k ≡ At e → token_at s at ≡ past_whole e
     unfolding closed_token
-    token-closed e m = token-string ∙ ap (closed_token s) m
+    token_closed e m = token_string ∙ ap (closed_token s) m
 
-    pub token-cut : k ≡ Open → token_at s at ≡ past_text (length s)
+    pub token_cut : k ≡ Open → token_at s at ≡ past_text (length s)
     unfolding closed_token
-    token-cut m = token-string ∙ ap (closed_token s) m
+    token_cut m = token_string ∙ ap (closed_token s) m
 
   module _ {n : Bool} (ne : n ≡ starts_ident b) where
-    pub token-name : n ≡ true → {e : ℕ} → e ≡ run_end Name s at → token_at s at ≡ past_whole e
+    pub token_name : n ≡ true → {e : ℕ} → e ≡ run_end Name s at → token_at s at ≡ past_whole e
     unfolding token_at token_here
-    token-name m ee =
+    token_name m ee =
         let r : starts_ident (get_or s at 256) ≡ true = cc in
         rw (lt-leb (length s) at h) (rw (no_quote (get_or s at 256) r) (rw r (rw (← ee))))
 
     module _ (m : n ≡ false) {o : Bool} (oe : o ≡ is_high b) where
-      token-one : is_quote (get_or s at 256) ≡ false → token_at s at ≡ cond (is_high (get_or s at 256)) (Refused (high_at at)) (past_whole (at + 1))
+      token_one : is_quote (get_or s at 256) ≡ false → token_at s at ≡ cond (is_high (get_or s at 256)) (Refused (high_at at)) (past_whole (at + 1))
       unfolding token_at token_here
-      token-one q =
+      token_one q =
           let r : starts_ident (get_or s at 256) ≡ false = cc in
           rw (lt-leb (length s) at h) (rw q (rw r))
 
-      pub token-high : o ≡ true → {r : Refusal} → r ≡ high_at at → token_at s at ≡ Refused r
-      token-high y e =
+      pub token_high : o ≡ true → {r : Refusal} → r ≡ high_at at → token_at s at ≡ Refused r
+      token_high y e =
           let q : is_high (get_or s at 256) ≡ true = cc in
-          token-one (high_no_quote (get_or s at 256) q) ∙ rw q (ap Refused (sym e))
+          token_one (high_no_quote (get_or s at 256) q) ∙ rw q (ap Refused (sym e))
 
-      pub token-byte : o ≡ false → {t : Bool} → t ≡ is_quote b → t ≡ false → token_at s at ≡ past_whole (at + 1)
-      token-byte z te f =
+      pub token_byte : o ≡ false → {t : Bool} → t ≡ is_quote b → t ≡ false → token_at s at ≡ past_whole (at + 1)
+      token_byte z te f =
           let q : is_high (get_or s at 256) ≡ false = cc in
           let w : is_quote (get_or s at 256) ≡ false = cc in
-          token-one w ∙ rw q refl
+          token_one w ∙ rw q refl
 
 -- ---- how far a token goes
 
@@ -111,26 +111,26 @@ token_tells s at =
     (λ t. rw (token_past s at (leb-true (length s) at t)) (whole_tells s at at (λ l. omega (arith, leb-true (length s) at t))))
     (λ t. within (leb-false (length s) at t))
   where
-    by-close : at < length s → (k : Close) → str_end (get_or s at 0) false (drop (at + 1) s) (at + 1) ≡ k → is_quote (get_or s at 256) ≡ true
+    by_close : at < length s → (k : Close) → str_end (get_or s at 0) false (drop (at + 1) s) (at + 1) ≡ k → is_quote (get_or s at 256) ≡ true
         → TokenTells s at (token_at s at)
-    by-close h (At e) k q =
-        rw (token-closed s at h refl refl q (sym k) e refl)
+    by_close h (At e) k q =
+        rw (token_closed s at h refl refl q (sym k) e refl)
         (whole_tells s at e
         (λ l. omega (arith, str_size (get_or s at 0) false (drop (at + 1) s) (at + 1) e k, length-drop (at + 1) s)))
-    by-close h Open k q = rw (token-cut s at h refl refl q (sym k) refl) (λ l. (l, omega arith, λ b. refl))
+    by_close h Open k q = rw (token_cut s at h refl refl q (sym k) refl) (λ l. (l, omega arith, λ b. refl))
 
     within : at < length s → TokenTells s at (token_at s at)
     within h =
         by_test (is_quote (get_or s at 256))
-        (λ q. by-close h (str_end (get_or s at 0) false (drop (at + 1) s) (at + 1)) refl q)
+        (λ q. by_close h (str_end (get_or s at 0) false (drop (at + 1) s) (at + 1)) refl q)
         (λ q. by_test (starts_ident (get_or s at 256))
         (λ n. let e = in_name (get_or s at 256) (starts_in (get_or s at 256) n) in
-        rw (token-name s at h refl refl n refl)
+        rw (token_name s at h refl refl n refl)
         (whole_tells s at (run_end Name s at)
         (λ l. omega (arith, run_more Name s at h refl (sym e) refl, run_from Name s (at + 1), run_within Name s at (omega arith)))))
         (λ n. by_test (is_high (get_or s at 256))
-        (λ o. rw (token-high s at h refl refl n refl o refl) (refl, o))
-        (λ o. rw (token-byte s at h refl refl n refl o refl q) (whole_tells s at (at + 1) (λ l. omega arith)))))
+        (λ o. rw (token_high s at h refl refl n refl o refl) (refl, o))
+        (λ o. rw (token_byte s at h refl refl n refl o refl q) (whole_tells s at (at + 1) (λ l. omega arith)))))
 
 pub token_far : (s : List ℕ) (at : ℕ) → at < length s → (c : Cursor) (h : How) → token_at s at ≡ Past c h → (at < c.at) × (c.at ≤ length s)
 token_far s at l c h e = let f = subst (TokenTells s at) e (token_tells s at) l in (f.0, f.1)

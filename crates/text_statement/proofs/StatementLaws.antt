@@ -43,13 +43,13 @@ module _ (q : ℕ) (s : List ℕ) (p i : ℕ) where
     here : closes q p (get_or s i 256) ≡ t
     here = ap (closes q p) (inside s i 256 0 h) ∙ sym te
 
-    pub quoted-close : t ≡ true → quoted_from q s p i ≡ i + 1
+    pub quoted_close : t ≡ true → quoted_from q s p i ≡ i + 1
     unfolding quoted_len
-    quoted-close y = rw (rest s i h) (rw (here ∙ y) refl)
+    quoted_close y = rw (rest s i h) (rw (here ∙ y) refl)
 
-    pub quoted-more : t ≡ false → quoted_from q s p i ≡ quoted_from q s (get_or s i 0) (i + 1)
+    pub quoted_more : t ≡ false → quoted_from q s p i ≡ quoted_from q s (get_or s i 0) (i + 1)
     unfolding quoted_len
-    quoted-more n = rw (rest s i h) (rw (here ∙ n) (rw (inside s i 256 0 h) (omega arith)))
+    quoted_more n = rw (rest s i h) (rw (here ∙ n) (rw (inside s i 256 0 h) (omega arith)))
 
 pub quoted_is : (s : List ℕ) (at q : ℕ) → quoted_end s at q ≡ quoted_from q s q at
 unfolding quoted_end
@@ -326,14 +326,14 @@ module _ (s : List ℕ) (at d : ℕ) {g : ℕ} {p : Part} (ge : g ≡ gap_end s 
     far : (g < length s) × Far s g d c e
     far = part_far s g d e c (sym pe ∙ h)
 
-    pub statement-more : statement_from s at d ≡ statement_from s c.at e
+    pub statement_more : statement_from s at d ≡ statement_from s c.at e
     unfolding statement_from of_part
-    statement-more =
+    statement_more =
         turns_on (statement_turn s) (Past (record { at = 0 }) Text) (λ i. length s - i.at) (statement_falls s)
         (suc (length s)) (suc (length s)) (record { at = at; depth = d }) (record { at = c.at; depth = e }) (omega arith) (omega arith) (turn_is ∙ ap of_part h)
 
-    pub statement-on : length s - c.at < length s - at
-    statement-on = omega (arith, far, gap_from s at)
+    pub statement_on : length s - c.at < length s - at
+    statement_on = omega (arith, far, gap_from s at)
 
     -- each brace that opened took a byte
     pub statement_room : d ≤ at → e ≤ c.at
@@ -426,7 +426,7 @@ tells_moves s at b (Refused r) l t = tt
 from_moves : (s : List ℕ) (at : ℕ) (p : Part) → at < length s → (get_or s (gap_end s at) 256 ≡ 125 → ⊥) → part_at s (gap_end s at) 0 ≡ p
     → Moves at (statement_from s at 0)
 from_moves s at (On c d) l n h =
-    rw (statement-more s at 0 refl refl c d h)
+    rw (statement_more s at 0 refl refl c d h)
     (tells_moves s at c.at (statement_from s c.at d) (omega (arith, part_far s (gap_end s at) 0 d c h, gap_from s at)) (from_tells s c.at d))
 from_moves s at (High e) l n h = rw (statement_high s at 0 refl refl e h refl) tt
 from_moves s at (Stop e w) l n h = rw (statement_stop s at 0 refl refl e w h) (stopped (Past e w) (part_stops s (gap_end s at) 0 e w h))

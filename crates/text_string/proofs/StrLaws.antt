@@ -79,24 +79,24 @@ module _ (q : ℕ) (s : List ℕ) (i : ℕ) where
   module _ (h : i < length s) where
     -- after a backslash
     module _ {esc : Bool} (y : esc ≡ true) where
-      pub end-skip : str_end q esc (drop i s) i ≡ str_end q false (drop (i + 1) s) (i + 1)
+      pub end_skip : str_end q esc (drop i s) i ≡ str_end q false (drop (i + 1) s) (i + 1)
       unfolding str_end
-      end-skip = rw (y, rest_or s i 0 h)
+      end_skip = rw (y, rest_or s i 0 h)
 
-      pub bytes-skip : {b : ℕ} → b ≡ escaped (get_or s i 0) → str_bytes q esc (drop i s) ≡ b ∷ str_bytes q false (drop (i + 1) s)
+      pub bytes_skip : {b : ℕ} → b ≡ escaped (get_or s i 0) → str_bytes q esc (drop i s) ≡ b ∷ str_bytes q false (drop (i + 1) s)
       unfolding str_bytes
-      bytes-skip e = rw (e, y, rest_or s i 0 h)
+      bytes_skip e = rw (e, y, rest_or s i 0 h)
 
     module _ {esc : Bool} (n : esc ≡ false) where
       -- the closing quote
       module _ (e : get_or s i 0 ≡ q) where
-        pub end-quote : str_end q esc (drop i s) i ≡ At (i + 1)
+        pub end_quote : str_end q esc (drop i s) i ≡ At (i + 1)
         unfolding str_end
-        end-quote = rw (n, rest_or s i 0 h) (rw (eq-eqb (get_or s i 0) q e))
+        end_quote = rw (n, rest_or s i 0 h) (rw (eq-eqb (get_or s i 0) q e))
 
-        pub bytes-quote : str_bytes q esc (drop i s) ≡ []
+        pub bytes_quote : str_bytes q esc (drop i s) ≡ []
         unfolding str_bytes
-        bytes-quote = rw (n, rest_or s i 0 h) (rw (eq-eqb (get_or s i 0) q e))
+        bytes_quote = rw (n, rest_or s i 0 h) (rw (eq-eqb (get_or s i 0) q e))
 
       -- any other byte
       module _ (e : get_or s i 0 ≡ q → ⊥) {t : Bool} (te : t ≡ escapes q (get_or s i 0)) where
@@ -104,13 +104,13 @@ module _ (q : ℕ) (s : List ℕ) (i : ℕ) where
         unfolding str_end
         end_more = rw (te, n, rest_or s i 0 h) (rw (ne_eqb (get_or s i 0) q e))
 
-        pub bytes-escape : t ≡ true → str_bytes q esc (drop i s) ≡ str_bytes q true (drop (i + 1) s)
+        pub bytes_escape : t ≡ true → str_bytes q esc (drop i s) ≡ str_bytes q true (drop (i + 1) s)
         unfolding str_bytes
-        bytes-escape b = rw (n, rest_or s i 0 h) (rw (ne_eqb (get_or s i 0) q e) (rw (sym te ∙ b)))
+        bytes_escape b = rw (n, rest_or s i 0 h) (rw (ne_eqb (get_or s i 0) q e) (rw (sym te ∙ b)))
 
-        pub bytes-more : t ≡ false → str_bytes q esc (drop i s) ≡ get_or s i 0 ∷ str_bytes q esc (drop (i + 1) s)
+        pub bytes_more : t ≡ false → str_bytes q esc (drop i s) ≡ get_or s i 0 ∷ str_bytes q esc (drop (i + 1) s)
         unfolding str_bytes
-        bytes-more b = rw (n, rest_or s i 0 h) (rw (ne_eqb (get_or s i 0) q e) (rw (sym te ∙ b)))
+        bytes_more b = rw (n, rest_or s i 0 h) (rw (ne_eqb (get_or s i 0) q e) (rw (sym te ∙ b)))
 
 end_same : (q : ℕ) (s : List ℕ) (i j : ℕ) → i ≡ j → str_end q false (drop i s) i ≡ str_end q false (drop j s) j
 end_same q s i j e = rw e refl
@@ -122,7 +122,7 @@ end_escape q s i h n te y =
     end_more q s i h refl n te
     ∙ elim (dec_le (length s) (i + 1)) [
       | yes p ↦ end_past q s (i + 1) _ p ∙ sym (end_past q s (i + 2) false (omega arith))
-      | no p ↦ end-skip q s (i + 1) (lt_of_not-le p) y ∙ end_same q s (i + 1 + 1) (i + 2) (omega arith)
+      | no p ↦ end_skip q s (i + 1) (lt_of_not-le p) y ∙ end_same q s (i + 1 + 1) (i + 2) (omega arith)
     ]
 
 -- where neither the quote nor a backslash is among the next bytes, the string closes behind them

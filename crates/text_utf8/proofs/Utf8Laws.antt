@@ -129,23 +129,23 @@ module _ (s : List ℕ) (at : ℕ) {a : ℕ} (ae : a ≡ get_or s at 256) where
   seq_one h = rw (sym ae) (rw (one_low a h) refl)
 
   module _ (n1 : 128 ≤ a) {b : ℕ} {t : Bool} (be : b ≡ get_or s (at + 1) 256) (te : t ≡ two a b) where
-    pub seq-two : t ≡ true → 2 ≡ seq_len s at
+    pub seq_two : t ≡ true → 2 ≡ seq_len s at
     unfolding seq_len char_len
-    seq-two y = rw (sym ae, sym be) (rw (one_high a n1, sym te ∙ y) refl)
+    seq_two y = rw (sym ae, sym be) (rw (one_high a n1, sym te ∙ y) refl)
 
     module _ (n2 : t ≡ false) {c : ℕ} {u : Bool} (ce : c ≡ get_or s (at + 2) 256) (ue : u ≡ three a b c) where
-      pub seq-three : u ≡ true → 3 ≡ seq_len s at
+      pub seq_three : u ≡ true → 3 ≡ seq_len s at
       unfolding seq_len char_len
-      seq-three y = rw (sym ae, sym be, sym ce) (rw (one_high a n1, sym te ∙ n2, sym ue ∙ y) refl)
+      seq_three y = rw (sym ae, sym be, sym ce) (rw (one_high a n1, sym te ∙ n2, sym ue ∙ y) refl)
 
       module _ (n3 : u ≡ false) {d : ℕ} {v : Bool} (de : d ≡ get_or s (at + 3) 256) (ve : v ≡ four a b c d) where
-        pub seq-four : v ≡ true → 4 ≡ seq_len s at
+        pub seq_four : v ≡ true → 4 ≡ seq_len s at
         unfolding seq_len char_len
-        seq-four y = rw (sym ae, sym be, sym ce, sym de) (rw (one_high a n1, sym te ∙ n2, sym ue ∙ n3, sym ve ∙ y) refl)
+        seq_four y = rw (sym ae, sym be, sym ce, sym de) (rw (one_high a n1, sym te ∙ n2, sym ue ∙ n3, sym ve ∙ y) refl)
 
-        pub seq-none : v ≡ false → 0 ≡ seq_len s at
+        pub seq_none : v ≡ false → 0 ≡ seq_len s at
         unfolding seq_len char_len
-        seq-none n = rw (sym ae, sym be, sym ce, sym de) (rw (one_high a n1, sym te ∙ n2, sym ue ∙ n3, sym ve ∙ n) refl)
+        seq_none n = rw (sym ae, sym be, sym ce, sym de) (rw (one_high a n1, sym te ∙ n2, sym ue ∙ n3, sym ve ∙ n) refl)
 
 -- past the end there is none
 pub seq_past : (s : List ℕ) (at : ℕ) → length s ≤ at → seq_len s at ≡ 0
@@ -303,7 +303,7 @@ low_behind s (suc k) n at most l h =
     let e : suc k + n ≡ suc (k + n) = omega arith in
     let f : drop at s ≡ b ∷ drop (at + 1) s = rest s at (omega arith) in
     let i : largest most (b ∷ xs) < 128 =
-        omega (arith, h, ap (λ m. largest most (take m (drop at s))) e, ap (λ ys. largest most (take (suc (k + n)) ys)) f) in
+    omega (arith, h, ap (λ m. largest most (take m (drop at s))) e, ap (λ ys. largest most (take (suc (k + n)) ys)) f) in
     ap (wrong_from s) (omega arith)
     ∙ low_behind s k n (at + 1) (larger most b) (omega arith) (omega (arith, i, largest_rest most b xs))
     ∙ ap (wrong_from s) (omega arith)

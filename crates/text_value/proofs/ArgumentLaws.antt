@@ -15,7 +15,7 @@ use Rattle.text.specs.declared.Cursor.{Cursor}
 use Rattle.text.specs.declared.Due.{Due}
 use Rattle.text.specs.declared.Due.TheVariants.{After, Not}
 use Rattle.text.specs.declared.Refusal.{Refusal}
-use Rattle.text.proofs.DueLaws.{due-end, due_far, due_refused_within}
+use Rattle.text.proofs.DueLaws.{due_end, due_far, due_refused_within}
 use Rattle.text.proofs.Here.{by_test, past}
 use Rattle.text.proofs.HighLaws.{high_end, refused_other, refused_place}
 use Rattle.text.proofs.Laws.{gap_from}
@@ -61,24 +61,24 @@ module _ (whole : Bool) (s : List ℕ) (at u k : ℕ) {v : Value} (ve : v ≡ va
   argument_cut n e = let q : breaks_off whole (closed_at s at) ≡ true = off_is ∙ n in rw q (ap Refused (sym e))
 
   module _ (n : o ≡ false) where
-    argument-on : argument_at whole s at u k ≡ argument_of s u k (value_at s at)
+    argument_on : argument_at whole s at u k ≡ argument_of s u k (value_at s at)
     unfolding argument_at
-    argument-on = let q : breaks_off whole (closed_at s at) ≡ false = off_is ∙ n in rw q refl
+    argument_on = let q : breaks_off whole (closed_at s at) ≡ false = off_is ∙ n in rw q refl
 
     -- b: what stands where the value ends, r: what is refused there
-    pub argument-missing : (c : Cursor) (z : Bool) → v ≡ Missing c z → {e : Cursor} → e.at ≡ value_end v → {b : ℕ} → b ≡ get_or s e.at 256
+    pub argument_missing : (c : Cursor) (z : Bool) → v ≡ Missing c z → {e : Cursor} → e.at ≡ value_end v → {b : ℕ} → b ≡ get_or s e.at 256
         → {r : Refusal} → r ≡ refused_at b 4 k e.at → argument_at whole s at u k ≡ Refused r
     unfolding argument_of value_end
-    argument-missing c z m {e} q be re =
+    argument_missing c z m {e} q be re =
         let p : c.at ≡ e.at = sym (q ∙ ap value_end m) in
-        argument-on ∙ ap (argument_of s u k) (missing_of u (closed_at s at) (value_at s at) c z (sym ve ∙ m))
+        argument_on ∙ ap (argument_of s u k) (missing_of u (closed_at s at) (value_at s at) c z (sym ve ∙ m))
         ∙ ap (λ i. Refused (refused_at (get_or s i 256) 4 k i)) p ∙ ap Refused (sym (re ∙ ap (λ i. refused_at i 4 k e.at) be))
 
-    argument-told : (c : Cursor) (i : ℕ) (z : Bool) → v ≡ ReadValue c i z → argument_at whole s at u k ≡ Read c i
+    argument_told : (c : Cursor) (i : ℕ) (z : Bool) → v ≡ ReadValue c i z → argument_at whole s at u k ≡ Read c i
     unfolding argument_of
-    argument-told c i z m =
+    argument_told c i z m =
         let w = read_of u (closed_at s at) (value_at s at) c i z (sym ve ∙ m) in
-        argument-on ∙ ap (argument_of s u k) w.0 ∙ ap (Read c) (sym w.1)
+        argument_on ∙ ap (argument_of s u k) w.0 ∙ ap (Read c) (sym w.1)
 
 -- the value was read, and y says whether each string of it closes
 module _ (whole : Bool) (s : List ℕ) (at u k : ℕ) {v : Value} (ve : v ≡ value_answer u (closed_at s at) (value_at s at)) (c : Cursor) (i : ℕ) (y : Bool)
@@ -91,7 +91,7 @@ module _ (whole : Bool) (s : List ℕ) (at u k : ℕ) {v : Value} (ve : v ≡ va
   argument_read_cut n e = argument_cut whole s at u k ve closed_told oe n e
 
   pub argument_read : o ≡ false → argument_at whole s at u k ≡ Read c i
-  argument_read n = argument-told whole s at u k ve closed_told oe n c i y m
+  argument_read n = argument_told whole s at u k ve closed_told oe n c i y m
 
 -- ---- the value and the byte
 
@@ -102,17 +102,17 @@ module _ (w : Bool) (s : List ℕ) (at u k b : ℕ) {v : Argument} (ve : v ≡ a
   line_refused r m = ap (after_argument s k b) (sym ve ∙ m) ∙ sym m
 
   module _ (c : Cursor) (n : ℕ) (m : v ≡ Read c n) {d : Due} (de : d ≡ due_at s c.at b k) where
-    line-due : line_at w s at u k b ≡ after_due n d
+    line_due : line_at w s at u k b ≡ after_due n d
     unfolding line_at after_argument
-    line-due = ap (after_argument s k b) (sym ve ∙ m) ∙ ap (after_due n) (sym de)
+    line_due = ap (after_argument s k b) (sym ve ∙ m) ∙ ap (after_due n) (sym de)
 
     pub line_other : (r : Refusal) → d ≡ Not r → {q : Refusal} → q ≡ refusal_of d → line_at w s at u k b ≡ Refused q
     unfolding after_due refusal_of
-    line_other r h e = line-due ∙ ap (after_due n) h ∙ ap Refused (sym (e ∙ ap refusal_of h))
+    line_other r h e = line_due ∙ ap (after_due n) h ∙ ap Refused (sym (e ∙ ap refusal_of h))
 
     pub line_read : (e : Cursor) → d ≡ After e → line_at w s at u k b ≡ Read e n
     unfolding after_due
-    line_read e h = line-due ∙ ap (after_due n) h
+    line_read e h = line_due ∙ ap (after_due n) h
 
 -- ---- how far they go
 
@@ -230,13 +230,13 @@ pub argument_open : (s : List ℕ) (at u k : ℕ) → closed_at s at ≡ false
     → (argument_at false s at u k ≡ Refused (record { number = 4; keyword = k; at = length s }))
     ⊎ ((c : Cursor) × (n : ℕ) × (argument_at false s at u k ≡ Read c n) × (c.at ≡ length s))
 unfolding argument_at argument_of breaks_off place_of
-argument_open s at u k h = by-val (value_at s at) refl
+argument_open s at u k h = by_val (value_at s at) refl
   where
-    by-val : (v : Val) → value_at s at ≡ v
+    by_val : (v : Val) → value_at s at ≡ v
         → (argument_of s u k v ≡ Refused (record { number = 4; keyword = k; at = length s }))
         ⊎ ((c : Cursor) × (n : ℕ) × (argument_of s u k v ≡ Read c n) × (c.at ≡ length s))
-    by-val (value bs e) q = inr (record { at = e }, u + length bs, refl, sym (ap place_of q) ∙ open_place s at h)
-    by-val (none e) q =
+    by_val (value bs e) q = inr (record { at = e }, u + length bs, refl, sym (ap place_of q) ∙ open_place s at h)
+    by_val (none e) q =
         let i : e ≡ length s = sym (ap place_of q) ∙ open_place s at h in
         let z : is_high (get_or s e 256) ≡ false = high_end (past s e (omega (arith, i))) in
         inl (ap Refused (sym (refused_other (get_or s e 256) 4 k e refl z)) ∙ ap (λ i. Refused (record { number = 4; keyword = k; at = i })) i)
@@ -245,7 +245,7 @@ argument_open s at u k h = by-val (value_at s at) refl
 pub due_past : (s : List ℕ) (at b k : ℕ) → b < 256 → at ≡ length s → due_at s at b k ≡ Not (record { number = 6; keyword = k; at = gap_end s at })
 due_past s at b k small e =
     let p : get_or s (gap_end s at) 256 ≡ 256 = past s (gap_end s at) (omega (arith, gap_from s at)) in
-    due-end s at b k refl refl (λ z. omega (arith, p, z)) p
+    due_end s at b k refl refl (λ z. omega (arith, p, z)) p
 
 -- the refusal of the old mode has one of two numbers
 abbrev pub FourOrSix : Refusal → Type 0

@@ -29,7 +29,7 @@ use Rattle.text_string.proofs.StrLaws.{whole_size}
 use Rattle.text_value.specs.declared.Value.TheVariants.{Read}
 use Rattle.text_value.specs.declared.Addition.{Addition}
 use Rattle.text_value.specs.declared.Addition.TheVariants.{Added, Last, Cut}
-use Rattle.text_value.proofs.ValueLaws.{part_length, more_plain, more-bare, more-string}
+use Rattle.text_value.proofs.ValueLaws.{part_length, more_plain, more_bare, more_string}
 
 -- ---- how much an addition takes
 
@@ -50,12 +50,12 @@ more_size s at cs e h =
     (λ p. by_test (is_quote (get_or s w 256))
     (λ q. omega (
       arith,
-      whole_size s w cs e (added_is s (str_at s w) cs e (sym (more-string s at refl refl (eqb-true _ _ p) refl refl refl q) ∙ h)),
+      whole_size s w cs e (added_is s (str_at s w) cs e (sym (more_string s at refl refl (eqb-true _ _ p) refl refl refl q) ∙ h)),
       gap_from s
           at,
       gap_from s (g + 1),
     ))
-    (λ q. absurd (ends_not (more-bare s at refl refl (eqb-true _ _ p) refl refl refl q) h)))
+    (λ q. absurd (ends_not (more_bare s at refl refl (eqb-true _ _ p) refl refl refl q) h)))
     (λ p. absurd (ends_not (more_plain s at refl refl (eqb-false _ _ p)) h))
 
 -- ---- the turns
@@ -171,8 +171,8 @@ module _ {s d : List ℕ} {u from : ℕ} where
 
   -- p: what reading the next part answered
   module _ {e : List ℕ} {at n : ℕ} (j : Joining s d u from e at n) {p : Addition} (pe : p ≡ more_answer n (more_at s at)) where
-    pub join-nearer : (next : Cursor) (k : ℕ) → p ≡ Added next k → length s - next.at < length s - at
-    join-nearer next k h = omega (arith, more_size s at (more_bytes (more_at s at)) next.at (added_answer n (more_at s at) next k (sym pe ∙ h)).0)
+    pub join_nearer : (next : Cursor) (k : ℕ) → p ≡ Added next k → length s - next.at < length s - at
+    join_nearer next k h = omega (arith, more_size s at (more_bytes (more_at s at)) next.at (added_answer n (more_at s at) next k (sym pe ∙ h)).0)
 
     -- f: the store after it
     module _ {f : List ℕ} (fe : f ≡ sets e n (more_bytes (more_at s at))) where
@@ -190,26 +190,26 @@ module _ {s d : List ℕ} {u from : ℕ} where
           }
 
       -- nothing is added: the loop is at its end; y: whether the last part closes
-      join-ended : (end : Cursor) (y : Bool) → joined_with s j.bytes at ≡ record { bytes = j.bytes; end = end.at } → closed_from s at ≡ y
+      join_ended : (end : Cursor) (y : Bool) → joined_with s j.bytes at ≡ record { bytes = j.bytes; end = end.at } → closed_from s at ≡ y
           → more_bytes (more_at s at) ≡ []
           → (record { next = end; used = n; closed = y } ≡ join_answer u (closed_from s from) (joined s from)) × (f ≡ sets d u (joined s from).bytes)
       unfolding join_answer
-      join-ended end y w o z =
+      join_ended end y w o z =
           let r : joined s from ≡ record { bytes = j.bytes; end = end.at } = sym j.same ∙ w in
           let q : y ≡ closed_from s from = sym o ∙ j.closes in
           (rw r (ap₂ (λ k x. record { next = end; used = k; closed = x }) j.count q), fe ∙ ap (sets e n) z ∙ j.kept ∙ rw r)
 
-      pub join-done : (end : Cursor) → p ≡ Last end
+      pub join_done : (end : Cursor) → p ≡ Last end
           → (record { next = end; used = n; closed = true } ≡ join_answer u (closed_from s from) (joined s from)) × (f ≡ sets d u (joined s from).bytes)
-      join-done end h =
+      join_done end h =
           let m = last_answer n (more_at s at) end (sym pe ∙ h) in
-          join-ended end true (join_stop s j.bytes at end.at m.0) (closed_stop s at end.at m.0) m.1
+          join_ended end true (join_stop s j.bytes at end.at m.0) (closed_stop s at end.at m.0) m.1
 
-      pub join-cut : (end : Cursor) → p ≡ Cut end
+      pub join_cut : (end : Cursor) → p ≡ Cut end
           → (record { next = end; used = n; closed = false } ≡ join_answer u (closed_from s from) (joined s from)) × (f ≡ sets d u (joined s from).bytes)
-      join-cut end h =
+      join_cut end h =
           let m = broken_answer n (more_at s at) end (sym pe ∙ h) in
-          join-ended end false (join_broken s j.bytes at end.at m.0) (closed_broken s at end.at m.0) m.1
+          join_ended end false (join_broken s j.bytes at end.at m.0) (closed_broken s at end.at m.0) m.1
 
 -- ---- a value
 
@@ -225,13 +225,13 @@ module _ (s : List ℕ) (g : ℕ) {b : ℕ} {n : Bool} (be : b ≡ get_or s g 25
 -- whether a name begins so.
 module _ (s : List ℕ) (at : ℕ) {g b : ℕ} {t : Bool} (ge : g ≡ gap_end s at) (be : b ≡ get_or s g 256) (te : t ≡ is_quote b) where
   module _ (y : t ≡ true) where
-    pub value-string : (bs : List ℕ) (e : ℕ) → str_at s g ≡ whole bs e → value_at s at ≡ value (bs ++ (joined s e).bytes) (joined s e).end
+    pub value_string : (bs : List ℕ) (e : ℕ) → str_at s g ≡ whole bs e → value_at s at ≡ value (bs ++ (joined s e).bytes) (joined s e).end
     unfolding value_at value_here of_string
-    value-string bs e h = let q : is_quote (get_or s g 256) ≡ true = cc in rw (← ge) (rw q (rw h))
+    value_string bs e h = let q : is_quote (get_or s g 256) ≡ true = cc in rw (← ge) (rw q (rw h))
 
-    pub value-cut : str_at s g ≡ cut → value_at s at ≡ none (length s)
+    pub value_cut : str_at s g ≡ cut → value_at s at ≡ none (length s)
     unfolding value_at value_here of_string
-    value-cut h = let q : is_quote (get_or s g 256) ≡ true = cc in rw (← ge) (rw q (rw h))
+    value_cut h = let q : is_quote (get_or s g 256) ≡ true = cc in rw (← ge) (rw q (rw h))
 
   -- no quote: the value is a name, or none
   pub value_other : t ≡ false → value_at s at ≡ name_at s g
@@ -239,8 +239,8 @@ module _ (s : List ℕ) (at : ℕ) {g b : ℕ} {t : Bool} (ge : g ≡ gap_end s 
   value_other f = let q : is_quote (get_or s g 256) ≡ false = cc in rw (← ge) (rw q refl)
 
   module _ (f : t ≡ false) {n : Bool} (ne : n ≡ starts_name b) where
-    pub value-name : n ≡ true → {e : ℕ} → e ≡ run_end Name s g → value_at s at ≡ value (part s g e) e
-    value-name m ee = value_other f ∙ name_read s g be ne m ee
+    pub value_name : n ≡ true → {e : ℕ} → e ≡ run_end Name s g → value_at s at ≡ value (part s g e) e
+    value_name m ee = value_other f ∙ name_read s g be ne m ee
 
     pub value_none : n ≡ false → value_at s at ≡ none g
     value_none m = value_other f ∙ name_none s g be ne m
@@ -276,8 +276,8 @@ ends_size s at e l h =
     (λ p. let i = here s g (λ z. omega (arith, eqb-true (get_or s g 256) 43 p)) in
     let k = gap_within s (g + 1) (omega arith) in
     by_test (is_quote (get_or s w 256))
-    (λ q. absurd (ended_not s (str_at s w) e (sym (more-string s at refl refl (eqb-true _ _ p) refl refl refl q) ∙ h)))
-    (λ q. omega (arith, ends_is w e (more-bare s at refl refl (eqb-true _ _ p) refl refl refl q) h, gap_from s at, gap_from s (g + 1))))
+    (λ q. absurd (ended_not s (str_at s w) e (sym (more_string s at refl refl (eqb-true _ _ p) refl refl refl q) ∙ h)))
+    (λ q. omega (arith, ends_is w e (more_bare s at refl refl (eqb-true _ _ p) refl refl refl q) h, gap_from s at, gap_from s (g + 1))))
     (λ p. omega (arith, ends_is g e (more_plain s at refl refl (eqb-false _ _ p)) h, gap_from s at, gap_within s at l))
 
 broken_by : (s : List ℕ) (t : Str) (e : ℕ) → added_by s t ≡ broken e → e ≡ length s
@@ -295,8 +295,8 @@ broken_size s at e h =
     let w = gap_end s (g + 1) in
     by_test (eqb (get_or s g 256) 43)
     (λ p. by_test (is_quote (get_or s w 256))
-    (λ q. broken_by s (str_at s w) e (sym (more-string s at refl refl (eqb-true _ _ p) refl refl refl q) ∙ h))
-    (λ q. absurd (ends_whole (more-bare s at refl refl (eqb-true _ _ p) refl refl refl q) h)))
+    (λ q. broken_by s (str_at s w) e (sym (more_string s at refl refl (eqb-true _ _ p) refl refl refl q) ∙ h))
+    (λ q. absurd (ends_whole (more_bare s at refl refl (eqb-true _ _ p) refl refl refl q) h)))
     (λ p. absurd (ends_whole (more_plain s at refl refl (eqb-false _ _ p)) h))
 
 -- where a turn stops
@@ -343,11 +343,11 @@ pub value_size : (s : List ℕ) (at : ℕ) (bs : List ℕ) (e : ℕ) → value_a
 value_size s at bs e h =
     let g = gap_end s at in
     by_test (is_quote (get_or s g 256))
-    (λ q. by-str (str_at s g) refl q)
+    (λ q. by_str (str_at s g) refl q)
     (λ q. by_test (starts_name (get_or s g 256))
     (λ n. let i = name_here s g refl refl n in
     let r = run_end Name s g in
-    let m = value_is bs (part s g r) e r h (value-name s at refl refl refl q refl n refl) in
+    let m = value_is bs (part s g r) e r h (value_name s at refl refl refl q refl n refl) in
     omega (
       arith,
       m.1,
@@ -360,12 +360,12 @@ value_size s at bs e h =
     ))
     (λ n. absurd (none_not (value_none s at refl refl refl q refl n) h)))
   where
-    by-str : (t : Str) → str_at s (gap_end s at) ≡ t → is_quote (get_or s (gap_end s at) 256) ≡ true → (at + length bs ≤ e) × (e ≤ length s)
-    by-str (whole cs f) k q =
-        let m = value_is bs (cs ++ (joined s f).bytes) e (joined s f).end h (value-string s at refl refl refl q cs f k) in
+    by_str : (t : Str) → str_at s (gap_end s at) ≡ t → is_quote (get_or s (gap_end s at) 256) ≡ true → (at + length bs ≤ e) × (e ≤ length s)
+    by_str (whole cs f) k q =
+        let m = value_is bs (cs ++ (joined s f).bytes) e (joined s f).end h (value_string s at refl refl refl q cs f k) in
         let z = whole_size s (gap_end s at) cs f k in
         omega (arith, m.1, ap length m.0, length-append cs (joined s f).bytes, joined_size s f (omega arith), gap_from s at)
-    by-str cut k q = absurd (none_not (value-cut s at refl refl refl q k) h)
+    by_str cut k q = absurd (none_not (value_cut s at refl refl refl q k) h)
 
 -- what is stored of a value fits the rest of the text
 value_fits : (s : List ℕ) (at : ℕ) (v : Val) → value_at s at ≡ v → length (value_bytes v) ≤ length s - at
@@ -397,18 +397,18 @@ value_far s at bs e h =
     let g = gap_end s at in
     let z = value_size s at bs e h in
     by_test (is_quote (get_or s g 256))
-    (λ q. by-str (str_at s g) refl q)
+    (λ q. by_str (str_at s g) refl q)
     (λ q. by_test (starts_name (get_or s g 256))
-    (λ n. let m = value_is bs (part s g (run_end Name s g)) e (run_end Name s g) h (value-name s at refl refl refl q refl n refl) in
+    (λ n. let m = value_is bs (part s g (run_end Name s g)) e (run_end Name s g) h (value_name s at refl refl refl q refl n refl) in
     omega (arith, m.1, z, gap_from s at, name_far s g n))
     (λ n. absurd (none_not (value_none s at refl refl refl q refl n) h)))
   where
-    by-str : (t : Str) → str_at s (gap_end s at) ≡ t → is_quote (get_or s (gap_end s at) 256) ≡ true → (at < e) × (at + length bs ≤ e) × (e ≤ length s)
-    by-str (whole cs f) k q =
-        let m = value_is bs (cs ++ (joined s f).bytes) e (joined s f).end h (value-string s at refl refl refl q cs f k) in
+    by_str : (t : Str) → str_at s (gap_end s at) ≡ t → is_quote (get_or s (gap_end s at) 256) ≡ true → (at < e) × (at + length bs ≤ e) × (e ≤ length s)
+    by_str (whole cs f) k q =
+        let m = value_is bs (cs ++ (joined s f).bytes) e (joined s f).end h (value_string s at refl refl refl q cs f k) in
         let z = whole_size s (gap_end s at) cs f k in
         omega (arith, m.1, value_size s at bs e h, joined_size s f (omega arith), gap_from s at)
-    by-str cut k q = absurd (none_not (value-cut s at refl refl refl q k) h)
+    by_str cut k q = absurd (none_not (value_cut s at refl refl refl q k) h)
 
 none_is : {v : Val} (a b : ℕ) → v ≡ none a → v ≡ none b → a ≡ b
 none_is a b e f = cc
@@ -418,14 +418,14 @@ pub none_size : (s : List ℕ) (at k : ℕ) → at ≤ length s → value_at s a
 none_size s at k l h =
     let g = gap_end s at in
     by_test (is_quote (get_or s g 256))
-    (λ q. by-str (str_at s g) refl q)
+    (λ q. by_str (str_at s g) refl q)
     (λ q. by_test (starts_name (get_or s g 256))
-    (λ n. absurd (none_not h (value-name s at refl refl refl q refl n refl)))
+    (λ n. absurd (none_not h (value_name s at refl refl refl q refl n refl)))
     (λ n. omega (arith, none_is g k (value_none s at refl refl refl q refl n) h, gap_from s at, gap_within s at l)))
   where
-    by-str : (t : Str) → str_at s (gap_end s at) ≡ t → is_quote (get_or s (gap_end s at) 256) ≡ true → (at ≤ k) × (k ≤ length s)
-    by-str (whole cs f) w q = absurd (none_not h (value-string s at refl refl refl q cs f w))
-    by-str cut w q = omega (arith, none_is (length s) k (value-cut s at refl refl refl q w) h)
+    by_str : (t : Str) → str_at s (gap_end s at) ≡ t → is_quote (get_or s (gap_end s at) 256) ≡ true → (at ≤ k) × (k ≤ length s)
+    by_str (whole cs f) w q = absurd (none_not h (value_string s at refl refl refl q cs f w))
+    by_str cut w q = omega (arith, none_is (length s) k (value_cut s at refl refl refl q w) h)
 
 -- ---- where a value ends, whatever it stores
 
@@ -466,16 +466,16 @@ module _ (s : List ℕ) (at : ℕ) {g b : ℕ} {t : Bool} (ge : g ≡ gap_end s 
   closed_here_lem = let q : is_quote (get_or s g 256) ≡ t = cc in rw (← ge) (rw q refl)
 
   module _ (y : t ≡ true) where
-    closed-quote : closed_at s at ≡ closed_string s (str_at s g)
-    closed-quote = closed_here_lem ∙ ap (λ k. cond k (closed_string s (str_at s g)) true) y
+    closed_quote : closed_at s at ≡ closed_string s (str_at s g)
+    closed_quote = closed_here_lem ∙ ap (λ k. cond k (closed_string s (str_at s g)) true) y
 
-    pub closed-string : (bs : List ℕ) (e : ℕ) → str_at s g ≡ whole bs e → closed_at s at ≡ closed_from s e
+    pub closed_string_lem : (bs : List ℕ) (e : ℕ) → str_at s g ≡ whole bs e → closed_at s at ≡ closed_from s e
     unfolding closed_string
-    closed-string bs e h = closed-quote ∙ ap (closed_string s) h
+    closed_string_lem bs e h = closed_quote ∙ ap (closed_string s) h
 
-    pub closed-cut : str_at s g ≡ cut → closed_at s at ≡ false
+    pub closed_cut : str_at s g ≡ cut → closed_at s at ≡ false
     unfolding closed_string
-    closed-cut h = closed-quote ∙ ap (closed_string s) h
+    closed_cut h = closed_quote ∙ ap (closed_string s) h
 
   -- a name has no string, and so has no value
   pub closed_name : t ≡ false → closed_at s at ≡ true
@@ -498,11 +498,11 @@ closed_is u y (none at) = refl
 -- it is within the text, where the scan stands within it
 pub place_size : (s : List ℕ) (at : ℕ) → at ≤ length s → (at ≤ place_of (value_at s at)) × (place_of (value_at s at) ≤ length s)
 unfolding place_of
-place_size s at l = by-val (value_at s at) refl
+place_size s at l = by_val (value_at s at) refl
   where
-    by-val : (v : Val) → value_at s at ≡ v → (at ≤ place_of v) × (place_of v ≤ length s)
-    by-val (value bs e) h = omega (arith, value_size s at bs e h)
-    by-val (none e) h = none_size s at e l h
+    by_val : (v : Val) → value_at s at ≡ v → (at ≤ place_of v) × (place_of v ≤ length s)
+    by_val (value bs e) h = omega (arith, value_size s at bs e h)
+    by_val (none e) h = none_size s at e l h
 
 -- ---- a value with a string that never closes ends at the text's end
 
@@ -523,10 +523,10 @@ open_joined s at =
 pub open_place : (s : List ℕ) (at : ℕ) → closed_at s at ≡ false → place_of (value_at s at) ≡ length s
 unfolding place_of
 open_place s at h =
-    by_test (is_quote (get_or s (gap_end s at) 256)) (λ q. by-str (str_at s (gap_end s at)) refl q)
+    by_test (is_quote (get_or s (gap_end s at) 256)) (λ q. by_str (str_at s (gap_end s at)) refl q)
     (λ q. absurd (never h (closed_name s at refl refl refl q)))
   where
-    by-str : (t : Str) → str_at s (gap_end s at) ≡ t → is_quote (get_or s (gap_end s at) 256) ≡ true → place_of (value_at s at) ≡ length s
-    by-str (whole bs e) k q =
-        ap place_of (value-string s at refl refl refl q bs e k) ∙ open_joined s e (sym (closed-string s at refl refl refl q bs e k) ∙ h)
-    by-str cut k q = ap place_of (value-cut s at refl refl refl q k)
+    by_str : (t : Str) → str_at s (gap_end s at) ≡ t → is_quote (get_or s (gap_end s at) 256) ≡ true → place_of (value_at s at) ≡ length s
+    by_str (whole bs e) k q =
+        ap place_of (value_string s at refl refl refl q bs e k) ∙ open_joined s e (sym (closed_string_lem s at refl refl refl q bs e k) ∙ h)
+    by_str cut k q = ap place_of (value_cut s at refl refl refl q k)

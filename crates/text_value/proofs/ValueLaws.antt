@@ -62,25 +62,25 @@ module _ (s : List ℕ) (at : ℕ) {g p : ℕ} (ge : g ≡ gap_end s at) (pe : p
   more_plain n = rw (← ge, ne_eqb (get_or s g 256) 43 (λ e. n (pe ∙ e)))
 
   module _ (plus : p ≡ 43) {h q : ℕ} {t : Bool} (he : h ≡ gap_end s (g + 1)) (qe : q ≡ get_or s h 256) (te : t ≡ is_quote q) where
-    pub more-bare : t ≡ false → more_at s at ≡ ends h
+    pub more_bare : t ≡ false → more_at s at ≡ ends h
     unfolding more_at after_gap after_plus
-    more-bare n =
+    more_bare n =
         let quote : is_quote (get_or s h 256) ≡ false = cc in
         rw (← ge, eq-eqb (get_or s g 256) 43 (sym pe ∙ plus)) (rw (← he) (rw quote))
 
-    pub more-string : t ≡ true → more_at s at ≡ added_by s (str_at s h)
+    pub more_string : t ≡ true → more_at s at ≡ added_by s (str_at s h)
     unfolding more_at after_gap after_plus
-    more-string y =
+    more_string y =
         let quote : is_quote (get_or s h 256) ≡ true = cc in
         rw (← ge, eq-eqb (get_or s g 256) 43 (sym pe ∙ plus)) (rw (← he) (rw quote))
 
     -- a: what reading the string there answered
     module _ (y : t ≡ true) (used : ℕ) {a : Quoted} (ae : a ≡ answer_of used (str_at s h)) where
       pub more_added : (c : Cursor) (n : ℕ) → a ≡ Closed c n → more_answer used (more_at s at) ≡ Added c n
-      more_added c n m = ap (more_answer used) (more-string y) ∙ added_closed s used (str_at s h) c n (sym ae ∙ m)
+      more_added c n m = ap (more_answer used) (more_string y) ∙ added_closed s used (str_at s h) c n (sym ae ∙ m)
 
       pub more_cut : a ≡ Unclosed → more_answer used (more_at s at) ≡ Cut (record { at = length s })
-      more_cut m = ap (more_answer used) (more-string y) ∙ added_cut s used (str_at s h) (sym ae ∙ m)
+      more_cut m = ap (more_answer used) (more_string y) ∙ added_cut s used (str_at s h) (sym ae ∙ m)
 
-      pub more-stored : more_bytes (more_at s at) ≡ bytes_of (str_at s h)
-      more-stored = ap more_bytes (more-string y) ∙ added_bytes s used (str_at s h)
+      pub more_stored : more_bytes (more_at s at) ≡ bytes_of (str_at s h)
+      more_stored = ap more_bytes (more_string y) ∙ added_bytes s used (str_at s h)

@@ -28,8 +28,8 @@ use Rattle.library_bundle.proofs.LookBounds.{broken_in, stands_in}
 use Rattle.graph.specs.Nodes.{Mode, nodes_of}
 use Rattle.text.specs.Refusal.{no_refusal}
 use Rattle.graph.specs.Graph.{ScanAnswer, Text as Words, refusing, Entry, module_entry, import_entry, set_entries, entries, Graph, graph, fault, graph_of}
-use Rattle.graph.specs.Meaning.{FirstAt, Fault, entry-missing, include-missing, scan_refused_lem, import-unknown, listed-unknown, include-unknown, include-no-node}
-use Rattle.graph.specs.Meaning.{too_deep_lem, Cause, names, by-fault, edges}
+use Rattle.graph.specs.Meaning.{FirstAt, Fault, entry_missing, include_missing, scan_refused_lem, import_unknown, listed_unknown, include_unknown, include_no_node}
+use Rattle.graph.specs.Meaning.{too_deep_lem, Cause, names, by_fault, edges}
 use Rattle.graph.proofs.Demand.{demand3}
 use Rattle.library_items.specs.Table.{Reads}
 use Rattle.graph.specs.Limits.{most_edges, most_nodes}
@@ -112,20 +112,20 @@ module _ (mode : Mode) (text : Name → Words) (l : PlainLibrary) where
       omega (arith, f.number)
 
   module _ (low : (v : Name) (a : Refusal) → text v ≡ refusing a → a.at ≤ 16777216) where
-    fault-low : (x : Entry) {n : ℕ} {a : ScanAnswer} → Fault mode text l x n a → a.at ≤ 16777216
-    fault-low x (entry-missing e) = omega arith
-    fault-low x (include-missing r f e) = omega arith
-    fault-low x (scan_refused_lem {v = v} {a = a} r e) = low v a e
-    fault-low x (import-unknown r i u) = omega arith
-    fault-low x (listed-unknown m u) = omega arith
-    fault-low x (include-unknown r i u) = omega arith
-    fault-low x (include-no-node r i m u) = omega arith
-    fault-low x (too_deep_lem r f) = omega arith
+    fault_low : (x : Entry) {n : ℕ} {a : ScanAnswer} → Fault mode text l x n a → a.at ≤ 16777216
+    fault_low x (entry_missing e) = omega arith
+    fault_low x (include_missing r f e) = omega arith
+    fault_low x (scan_refused_lem {v = v} {a = a} r e) = low v a e
+    fault_low x (import_unknown r i u) = omega arith
+    fault_low x (listed_unknown m u) = omega arith
+    fault_low x (include_unknown r i u) = omega arith
+    fault_low x (include_no_node r i m u) = omega arith
+    fault_low x (too_deep_lem r f) = omega arith
 
-    cause-low : {n k : ℕ} {a : ScanAnswer} → Cause mode text l most_nodes most_edges n k a → (k ≤ length (entries l)) × (a.at ≤ 16777216)
-    cause-low (names h) = (omega arith, omega arith)
-    cause-low (by-fault {k = k} x f g) = (first_low k x f, fault-low x g)
-    cause-low (edges {k = k} x f w es d m h) = (first_low k x f, omega arith)
+    cause_low : {n k : ℕ} {a : ScanAnswer} → Cause mode text l most_nodes most_edges n k a → (k ≤ length (entries l)) × (a.at ≤ 16777216)
+    cause_low (names h) = (omega arith, omega arith)
+    cause_low (by_fault {k = k} x f g) = (first_low k x f, fault_low x g)
+    cause_low (edges {k = k} x f w es d m h) = (first_low k x f, omega arith)
 
 module _ (mode : Mode) (s b : List ℕ) (bytes : AllBytes s) (reads : Reads (image_at s)) where
   abbrev whole : Graph
@@ -140,7 +140,7 @@ module _ (mode : Mode) (s b : List ℕ) (bytes : AllBytes s) (reads : Reads (ima
       let n : length ns ≡ length (nodes_of mode (plain_at s)) = ap length r.nodes in
       (omega (arith, o.nodes), o.edges es r.edges_differ (λ e m. (r.exact e.from e.to).0 m))
   graph_fits (fault n k a) h =
-      let c = cause-low mode (text_of b) (plain_at s) (text_low b) ((demand3 mode most_nodes most_edges (text_of b)).refused (plain_at s) n k a h) in
+      let c = cause_low mode (text_of b) (plain_at s) (text_low b) ((demand3 mode most_nodes most_edges (text_of b)).refused (plain_at s) n k a h) in
       (omega (arith, c.0, entries_few s bytes reads), c.1, omega arith)
 
 pub answer_fits : (mode : Mode) (s b : List ℕ) → AllBytes s → (k : Lengths) → AnswerFits (graphed mode s b k).answer

@@ -62,8 +62,8 @@ module _ (mode : Mode) (s b : List ℕ) (k : Lengths) where
   image_wrong r e f = by_readings (done_bad (image_at s) (sym (ap read_seen e) ∙ f)) refl refl
 
   module _ (reads : Reads (image_at s)) where
-    pub bundle-wrong : (r : Opened) (tab : List ℕ) {p : ℕ} → r ≡ WrongBundle p → OpenedAs b r tab → graphed mode s b k ≡ refusal bundle_broken 0 no_refusal p
-    bundle-wrong r tab e o = by_readings reads.read (bundle_bad b tab r e o) refl
+    pub bundle_wrong : (r : Opened) (tab : List ℕ) {p : ℕ} → r ≡ WrongBundle p → OpenedAs b r tab → graphed mode s b k ≡ refusal bundle_broken 0 no_refusal p
+    bundle_wrong r tab e o = by_readings reads.read (bundle_bad b tab r e o) refl
 
     module _ (tab : List ℕ) (texts : ℕ) (held : Held b tab texts) where
       pub too_little : {longest : ℕ} {short : Bool} → longest ≡ longest_text b → short ≡ is_too_short longest k → short ≡ true

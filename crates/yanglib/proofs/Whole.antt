@@ -31,7 +31,7 @@ use Rattle.graph_build.specs.declared.Graphed.TheVariants.{Refused}
 use Rattle.graph_tables.proofs.Short.{Enough, long_enough}
 use Rattle.graph_draw.proofs.Drawing.{cleared_long}
 use Rattle.graph_visit.proofs.Visiting.{same_long}
-use Rattle.yanglib.proofs.Ways.{image_reads, image_wrong, bundle-wrong, too_little, enough}
+use Rattle.yanglib.proofs.Ways.{image_reads, image_wrong, bundle_wrong, too_little, enough}
 use Rattle.graph_build.proofs.Holds.{no_nodes}
 
 -- ---- `read_and_draw`
@@ -78,7 +78,7 @@ module _ (mode : Mode) (s b nodes edges store imports includes levels : List ℕ
   pub no_bundle : {r : Read} {j : ℕ} {o : Opened} {tab : List ℕ} {p : ℕ} {a : Refusal} → r ≡ End j → read_seen r ≡ done (image_at s) → OpenedAs b o tab
       → o ≡ WrongBundle p → a ≡ no_refusal
       → Holds (graphed mode s b k) nodes edges store imports includes levels (Refused 21 0 a p) nodes edges store imports includes levels
-  no_bundle {r} {o = o} {tab = tab} e q h f z = refusing z (bundle-wrong mode s b k (image_reads s r e q) o tab f h)
+  no_bundle {r} {o = o} {tab = tab} e q h f z = refusing z (bundle_wrong mode s b k (image_reads s r e q) o tab f h)
 
   pub not_enough : {tab : List ℕ} {texts : ℕ} {longest : ℕ} {short : Bool} {a : Refusal} → BothRead s b tab texts → longest ≡ longest_text b
       → short ≡ is_too_short longest k → short ≡ true → a ≡ no_refusal

@@ -21,7 +21,7 @@ use Rattle.scan_imports.specs.declared.ParsedImport.{ParsedImport}
 use Rattle.scan_imports.specs.declared.ParsedImport.TheVariants.{Import as ReadImport, NoImport}
 use Rattle.scan_imports.specs.declared.ParsedInclude.{ParsedInclude}
 use Rattle.scan_imports.specs.declared.ParsedInclude.TheVariants.{Include as ReadInclude, NoInclude}
-use Rattle.scan_imports.proofs.ReachLaws.{import_room, import-lies, include_room, include-lies}
+use Rattle.scan_imports.proofs.ReachLaws.{import_room, import_lies, include_room, include_lies}
 use Rattle.scan_block.proofs.Spans.{MayLie, Lies, may_end}
 use Rattle.yangparser.specs.Dependencies.{Dependencies, none, import_words_of, include_words_of, Step, adding, import_step, include_step, full, unless_full}
 use Rattle.yangparser.specs.Dependencies.{import_here, include_here}
@@ -65,10 +65,10 @@ module _ (whole : Bool) (s : List ℕ) (far : Sofar) (at : ℕ) (d t : List ℕ)
   -- x: what reading it answered, e: the store then
   module _ (h : far.imports < most_rows) {x : ParsedImport} {e : List ℕ} (xe : x ≡ (import_at whole s at far.used).answer)
       (ee : e ≡ sets d far.used (import_at whole s at far.used).bytes) where
-    import-room-for : {y : ParsedImport} → x ≡ y → {r : Next} {f : List ℕ}
+    import_room_for : {y : ParsedImport} → x ≡ y → {r : Next} {f : List ℕ}
         → Adds import_words_of (import_read y) far.used (far.imports * import_size) d t r e f → AddsImport whole s far at d t r e f
     unfolding import_here
-    import-room-for q a =
+    import_room_for q a =
         adds_room import_words_of far.imports 8 at (import_read (import_at whole s at far.used).answer) far.used (far.imports * import_size) h
         (ap import_read (sym xe ∙ q)) a
 
@@ -76,11 +76,11 @@ module _ (whole : Bool) (s : List ℕ) (far : Sofar) (at : ℕ) (d t : List ℕ)
         → {f : List ℕ} → f ≡ sets t (far.imports * import_size) (import_words i)
         → AddsImport whole s far at d t (On (record { at = c.at; used = n; imports = far.imports + 1; includes = far.includes })) e f
     unfolding import_step import_words_of import_table table import_words
-    import_added c n i q fe = import-room-for q (record { answer = refl; stored = ee; written = fe })
+    import_added c n i q fe = import_room_for q (record { answer = refl; stored = ee; written = fe })
 
-    pub import-not : (r : Refusal) → x ≡ NoImport r → {a : Refusal} → a ≡ import_refusal x → AddsImport whole s far at d t (Stop a) e t
+    pub import_not : (r : Refusal) → x ≡ NoImport r → {a : Refusal} → a ≡ import_refusal x → AddsImport whole s far at d t (Stop a) e t
     unfolding import_step import_words_of import_table table import_refusal
-    import-not r q h = import-room-for q (record { answer = ap Stop (h ∙ ap import_refusal q); stored = ee; written = refl })
+    import_not r q h = import_room_for q (record { answer = ap Stop (h ∙ ap import_refusal q); stored = ee; written = refl })
 
 -- ---- an include
 
@@ -95,22 +95,22 @@ module _ (whole : Bool) (s : List ℕ) (far : Sofar) (at : ℕ) (d t : List ℕ)
 
   module _ (h : far.includes < most_rows) {x : ParsedInclude} {e : List ℕ} (xe : x ≡ (include_at whole s at far.used).answer)
       (ee : e ≡ sets d far.used (include_at whole s at far.used).bytes) where
-    include-room-for : {y : ParsedInclude} → x ≡ y → {r : Next} {f : List ℕ}
+    include_room_for : {y : ParsedInclude} → x ≡ y → {r : Next} {f : List ℕ}
         → Adds include_words_of (include_read y) far.used (far.includes * include_size) d t r e f → AddsInclude whole s far at d t r e f
     unfolding include_here
-    include-room-for q a =
+    include_room_for q a =
         adds_room include_words_of far.includes 9 at (include_read (include_at whole s at far.used).answer) far.used (far.includes * include_size) h
         (ap include_read (sym xe ∙ q)) a
 
-    pub include-added : (c : Cursor) (n : ℕ) (i : YangInclude) → x ≡ ReadInclude c n i
+    pub include_added : (c : Cursor) (n : ℕ) (i : YangInclude) → x ≡ ReadInclude c n i
         → {f : List ℕ} → f ≡ sets t (far.includes * include_size) (include_words i)
         → AddsInclude whole s far at d t (On (record { at = c.at; used = n; imports = far.imports; includes = far.includes + 1 })) e f
     unfolding include_step include_words_of include_table table include_words
-    include-added c n i q fe = include-room-for q (record { answer = refl; stored = ee; written = fe })
+    include_added c n i q fe = include_room_for q (record { answer = refl; stored = ee; written = fe })
 
-    pub include-not : (r : Refusal) → x ≡ NoInclude r → {a : Refusal} → a ≡ include_refusal x → AddsInclude whole s far at d t (Stop a) e t
+    pub include_not : (r : Refusal) → x ≡ NoInclude r → {a : Refusal} → a ≡ include_refusal x → AddsInclude whole s far at d t (Stop a) e t
     unfolding include_step include_words_of include_table table include_refusal
-    include-not r q h = include-room-for q (record { answer = ap Stop (h ∙ ap include_refusal q); stored = ee; written = refl })
+    include_not r q h = include_room_for q (record { answer = ap Stop (h ∙ ap include_refusal q); stored = ee; written = refl })
 
 -- ---- a row holds words
 
@@ -125,13 +125,13 @@ module _ (whole : Bool) (s : List ℕ) (at u : ℕ) (room : u + (length s - at) 
   pub import_words_fit : (i : YangImport) {x : ParsedImport} → x ≡ (import_at whole s at u).answer → x ≡ ReadImport c n i → FitsImport i
   import_words_fit i xe q =
       let k = sym xe ∙ q in
-      let l = import-lies whole s at u c n i k in
+      let l = import_lies whole s at u c n i k in
       let m : n < 4294967296 = omega (arith, import_room whole s at u c n i k (length s) room) in
       (lies_fit i.module_name m l.0, lies_fit i.prefix m l.1, may_fit m l.2)
 
   pub include_words_fit : (i : YangInclude) {x : ParsedInclude} → x ≡ (include_at whole s at u).answer → x ≡ ReadInclude c n i → FitsInclude i
   include_words_fit i xe q =
       let k = sym xe ∙ q in
-      let l = include-lies whole s at u c n i k in
+      let l = include_lies whole s at u c n i k in
       let m : n < 4294967296 = omega (arith, include_room whole s at u c n i k (length s) room) in
       (lies_fit i.submodule_name m l.0, may_fit m l.1)

@@ -62,15 +62,15 @@ parsed_refused (bad q d) r h = (d, cc)
 
 module _ {s : List ℕ} (x : Dependencies) (k : Sound s x) where
   module _ {d t u e f g : List ℕ} (h : Holds x d t u e f g) where
-    pub held-imports : most_rows * import_size ≤ length t → imports_in f (length x.imports) ≡ x.imports
+    pub held_imports : most_rows * import_size ≤ length t → imports_in f (length x.imports) ≡ x.imports
     unfolding import_words_of
-    held-imports room =
+    held_imports room =
         ap (λ l. imports_in l (length x.imports)) h.imports
         ∙ imports_written x.imports t (sound_imports_plain k) (omega (arith, k.few_imports))
 
-    pub held-includes : most_rows * include_size ≤ length u → includes_in g (length x.includes) ≡ x.includes
+    pub held_includes : most_rows * include_size ≤ length u → includes_in g (length x.includes) ≡ x.includes
     unfolding include_words_of
-    held-includes room =
+    held_includes room =
         ap (λ l. includes_in l (length x.includes)) h.includes
         ∙ includes_written x.includes u (sound_includes_plain k) (omega (arith, k.few_includes))
 

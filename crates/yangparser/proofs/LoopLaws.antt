@@ -64,8 +64,8 @@ module _ {whole : Bool} {s d t u : List ℕ} where
   read_begun = record { read = none; same = refl; stands = stands_first s; holds = record { stored = refl; imports = refl; includes = refl } }
 
   module _ {e f g : List ℕ} {far : Sofar} (j : Reading whole s d t u e f g far) where
-    pub read-long : (length e ≡ length d) × (length f ≡ length t) × (length g ≡ length u)
-    read-long =
+    pub read_long : (length e ≡ length d) × (length f ≡ length t) × (length g ≡ length u)
+    read_long =
         let h = j.holds in
         let x = j.read in (
           ap length h.stored ∙ length-sets d 0 x.bytes,
@@ -74,14 +74,14 @@ module _ {whole : Bool} {s d t u : List ℕ} where
               ∙ length-sets u 0 (include_words_of x),
         )
 
-    pub read-room : far.used + (length s - far.at) ≤ length s
-    read-room = j.stands.room
+    pub read_room : far.used + (length s - far.at) ≤ length s
+    read_room = j.stands.room
 
     -- r: what the step answered; e', f' and g' then
     module _ {r : Next} {e' f' g' : List ℕ} (w : Steps (step_from whole s far) far e f g r e' f' g') where
-      read-holds : Holds (joined j.read (step_from whole s far).adds) d t u e' f' g'
+      read_holds : Holds (joined j.read (step_from whole s far).adds) d t u e' f' g'
       unfolding joined
-      read-holds =
+      read_holds =
           let x = j.read in
           let y = (step_from whole s far).adds in
           let h = j.holds in
@@ -98,8 +98,8 @@ module _ {whole : Bool} {s d t u : List ℕ} where
                 ∙ ap (sets u 0) (include_words_joined x y);
           }
 
-      pub read-nearer : (n : Sofar) → r ≡ On n → length s - n.at < length s - far.at
-      read-nearer n h =
+      pub read_nearer : (n : Sofar) → r ≡ On n → length s - n.at < length s - far.at
+      read_nearer n h =
           let z = step_on s (record { far = far; read = j.read }) j.stands (step_from whole s far) (from_said whole s far) n (sym w.answer ∙ h) in
           omega (arith, z.0, z.1)
 
@@ -111,13 +111,13 @@ module _ {whole : Bool} {s d t u : List ℕ} where
             read = joined j.read (step_from whole s far).adds;
             same = sym (from_on whole s a n k) ∙ j.same;
             stands = stands_step s a j.stands (step_from whole s far) (from_said whole s far) n k;
-            holds = read-holds;
+            holds = read_holds;
           }
 
       -- x: the scan from here
-      read-ends : (x : Scan) → scan_from whole s (record { far = far; read = j.read }) ≡ x → {p : Parsed} → p ≡ parsed_of x → Holds (read_of x) d t u e' f' g'
+      read_ends : (x : Scan) → scan_from whole s (record { far = far; read = j.read }) ≡ x → {p : Parsed} → p ≡ parsed_of x → Holds (read_of x) d t u e' f' g'
           → Parses (scanned whole s) d t u p e' f' g'
-      read-ends x q a h =
+      read_ends x q a h =
           let k : scanned whole s ≡ x = sym j.same ∙ q in
           record { answer = a ∙ ap parsed_of (sym k); holds = subst (λ y. Holds (read_of y) d t u e' f' g') (sym k) h }
 
@@ -134,10 +134,10 @@ module _ {whole : Bool} {s d t u : List ℕ} where
           let l : far.includes ≡ length (x.includes ++ y.includes) = omega
           (arith, c.includes, length-append x.includes y.includes, ap (λ z. length z.includes) n) in
           let b : far.used ≡ length (x.bytes ++ y.bytes) = omega (arith, c.used, length-append x.bytes y.bytes, ap (λ z. length z.bytes) n) in
-          read-ends (good (joined x y)) (from_done whole s (record { far = far; read = x }) k) (good_is i l b) read-holds
+          read_ends (good (joined x y)) (from_done whole s (record { far = far; read = x }) k) (good_is i l b) read_holds
 
-      pub read-refused : (q : Refusal) → r ≡ Stop q → Parses (scanned whole s) d t u (Refused q) e' f' g'
+      pub read_refused : (q : Refusal) → r ≡ Stop q → Parses (scanned whole s) d t u (Refused q) e' f' g'
       unfolding parsed_of read_of
-      read-refused q h =
+      read_refused q h =
           let k = sym w.answer ∙ h in
-          read-ends (bad q (joined j.read (step_from whole s far).adds)) (from_stop whole s (record { far = far; read = j.read }) q k) refl read-holds
+          read_ends (bad q (joined j.read (step_from whole s far).adds)) (from_stop whole s (record { far = far; read = j.read }) q k) refl read_holds

@@ -65,25 +65,25 @@ module _ (whole : Bool) (s : List ℕ) (at : ℕ) {g : ℕ} (ge : g ≡ gap_end 
   look_end h = rw (← ge) (rw (le-leb (length s) g h) refl)
 
   module _ (h : g < length s) {w : Head} (we : w ≡ head_at s g) where
-    look-head : (y : Head) → w ≡ y → look_head whole s g y ≡ look_at whole s at
+    look_head_lem : (y : Head) → w ≡ y → look_head whole s g y ≡ look_at whole s at
     unfolding look_at look_here
-    look-head y q = rw (← ge) (rw (lt-leb (length s) g h) (ap (look_head whole s g) (sym q ∙ we)))
+    look_head_lem y q = rw (← ge) (rw (lt-leb (length s) g h) (ap (look_head whole s g) (sym q ∙ we)))
 
-    pub look-import : (c : Cursor) → w ≡ ImportHead c → Met (Import c) ≡ look_at whole s at
+    pub look_import : (c : Cursor) → w ≡ ImportHead c → Met (Import c) ≡ look_at whole s at
     unfolding look_head
-    look-import c q = look-head (ImportHead c) q
+    look_import c q = look_head_lem (ImportHead c) q
 
-    pub look-include : (c : Cursor) → w ≡ IncludeHead c → Met (Include c) ≡ look_at whole s at
+    pub look_include : (c : Cursor) → w ≡ IncludeHead c → Met (Include c) ≡ look_at whole s at
     unfolding look_head
-    look-include c q = look-head (IncludeHead c) q
+    look_include c q = look_head_lem (IncludeHead c) q
 
-    pub look-last : (c : Cursor) → w ≡ Last c → Met End ≡ look_at whole s at
+    pub look_last : (c : Cursor) → w ≡ Last c → Met End ≡ look_at whole s at
     unfolding look_head
-    look-last c q = look-head (Last c) q
+    look_last c q = look_head_lem (Last c) q
 
-    pub look-token : w ≡ Other → {k : Due} → k ≡ past_token whole s g → {r : Look} → r ≡ look_past k → r ≡ look_at whole s at
+    pub look_token : w ≡ Other → {k : Due} → k ≡ past_token whole s g → {r : Look} → r ≡ look_past k → r ≡ look_at whole s at
     unfolding look_head
-    look-token q ke re = re ∙ ap look_past ke ∙ look-head Other q
+    look_token q ke re = re ∙ ap look_past ke ∙ look_head_lem Other q
 
 -- ---- past all tokens
 

@@ -2,7 +2,7 @@
 -- Assumes nothing.
 use borrow.Author.Rules.{rules}
 use mathlib.Core.Path.{refl, sym}
-use Rattle.graph_build.proofs.Holds.{image_short, prepared, nodes_many, nodes-room, held-refused, held-built}
+use Rattle.graph_build.proofs.Holds.{image_short, prepared, nodes_many, nodes_room, held_refused, held_built}
 use Rattle.graph_build.proofs.draw.Statement.{statement}
 use Rattle.graph_build.proofs.draw.Tie as tie
 
@@ -68,7 +68,7 @@ put-nodes-requires c κs =
     let shared-slice-known1 = construct-nodes1.before.before.before.before.before.before.before.before.before.before.before.before.before.before
     in
     let start = shared-slice-known1.before in
-    nodes-room start.pre.0 construct-nodes1.construct-nodes.ensures shared-slice-known1.shared-slice-known.given start.pre.1 start.pre.2
+    nodes_room start.pre.0 construct-nodes1.construct-nodes.ensures shared-slice-known1.shared-slice-known.given start.pre.1 start.pre.2
     made1.made.given.1 draw-edges1.draw-edges.ensures
 
 same_length : tie.Need-same-length
@@ -105,7 +105,7 @@ returns_2 c =
     let shared-slice-known1 = construct-nodes1.before.before.before.before.before.before.before.before.before.before.before.before.before.before
     in
     let start = shared-slice-known1.before in
-    held-refused start.pre.0 construct-nodes1.construct-nodes.ensures shared-slice-known1.shared-slice-known.given start.pre.1 start.pre.2
+    held_refused start.pre.0 construct-nodes1.construct-nodes.ensures shared-slice-known1.shared-slice-known.given start.pre.1 start.pre.2
     made1.made.given.1 draw-edges1.draw-edges.ensures number1.number.given.1
 
 same-length-6 : tie.Need-same-length-6
@@ -146,7 +146,7 @@ returns_3 c =
     let shared-slice-known1 = construct-nodes1.before.before.before.before.before.before.before.before.before.before.before.before.before.before
     in
     let start = shared-slice-known1.before in
-    held-built start.pre.0 construct-nodes1.construct-nodes.ensures shared-slice-known1.shared-slice-known.given start.pre.1 start.pre.2
+    held_built start.pre.0 construct-nodes1.construct-nodes.ensures shared-slice-known1.shared-slice-known.given start.pre.1 start.pre.2
     made1.made.given.1 draw-edges1.draw-edges.ensures m1.m.given.1 put-nodes1.put-nodes.ensures
 
 pub draw-spec : {M : Type 1} → statement M

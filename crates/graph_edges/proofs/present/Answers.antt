@@ -1,4 +1,4 @@
-use Rattle.graph_edges.proofs.Chains.{seek_begun, seek_found, seek_falls, seek-next, seek-none}
+use Rattle.graph_edges.proofs.Chains.{seek_begun, seek_found, seek_falls, seek_next, seek_none}
 use Rattle.graph_edges.proofs.present.Goals as goal
 
 pub loop-e-init : goal.loop-e-init
@@ -11,7 +11,7 @@ pub loop-e-smaller : goal.loop-e-smaller
 loop-e-smaller c = search seek_falls
 
 pub loop-e-preserved : goal.loop-e-preserved
-loop-e-preserved c = search seek-next
+loop-e-preserved c = search seek_next
 
 pub returns : goal.returns
-returns c = search seek-none
+returns c = search seek_none

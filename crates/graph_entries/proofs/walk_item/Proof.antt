@@ -2,15 +2,15 @@
 -- Assumes nothing.
 use borrow.Author.Rules.{rules}
 use Rattle.graph_visit.proofs.Visiting.{kept_same}
-use Rattle.graph_entries.proofs.Going.{item-walked, between-walked, item-linked, between_linked, item_silent}
+use Rattle.graph_entries.proofs.Going.{item_walked, between_walked, item_linked, between_linked, item_silent}
 use Rattle.graph_entries.proofs.walk_item.Statement.{statement}
 use Rattle.graph_entries.proofs.walk_item.Tie as tie
 
 returns : tie.Need-returns
-returns c = (search item-walked, search rules, search between-walked)
+returns c = (search item_walked, search rules, search between_walked)
 
 returns_2 : tie.Need-returns-2
-returns_2 c = (search item-linked, kept_same _ _ _ _ _, search between_linked)
+returns_2 c = (search item_linked, kept_same _ _ _ _ _, search between_linked)
 
 returns_3 : tie.Need-returns-3
 returns_3 c = (search item_silent, kept_same _ _ _ _ _, search rules)

@@ -4,7 +4,7 @@ use borrow.Author.Rules.{rules}
 use Prim.Native.Nat.{◌-◌}
 use native.Mathlib.Omega.{arith}
 use Rattle.graph_nodes.specs.Adding.{names_held}
-use Rattle.graph_entries.proofs.Going.{Going, going_none, item-there, entry-low, next-asked, placed, sent-out, going_on, all_drawn}
+use Rattle.graph_entries.proofs.Going.{Going, going_none, item_there, entry_low, next_asked, placed, sent_out, going_on, all_drawn}
 use Rattle.graph_entries.proofs.walk_items.Statement.{statement}
 use Rattle.graph_entries.proofs.walk_items.Tie as tie
 
@@ -29,13 +29,13 @@ get-item-requires : tie.Need-get-item-requires invariant-loop decreases-loop
 get-item-requires c κs =
     let loop-test1 = c in
     let loop1 = loop-test1.before in
-    item-there loop1.loop.invariant loop-test1.loop-test.true
+    item_there loop1.loop.invariant loop-test1.loop-test.true
 
 next-entry-requires : tie.Need-next-entry-requires invariant-loop decreases-loop
 next-entry-requires c κs =
     let loop-test1 = c.before in
     let loop1 = loop-test1.before in
-    entry-low loop1.loop.invariant loop-test1.loop-test.true
+    entry_low loop1.loop.invariant loop-test1.loop-test.true
 
 next-node-requires : tie.Need-next-node-requires invariant-loop decreases-loop
 next-node-requires c κs =
@@ -43,7 +43,7 @@ next-node-requires c κs =
     let loop-test1 = get-item1.before in
     let loop1 = loop-test1.before in
     let start = loop1.before.before.before.before.before.before.before.before.before.before.before.before.before.before in
-    next-asked loop1.loop.invariant loop-test1.loop-test.true get-item1.get-item.ensures start.requires.0.desk
+    next_asked loop1.loop.invariant loop-test1.loop-test.true get-item1.get-item.ensures start.requires.0.desk
 
 walk-item-requires : tie.Need-walk-item-requires invariant-loop decreases-loop
 walk-item-requires c κs =
@@ -104,7 +104,7 @@ returns c =
     let get-item1 = next-entry1.before in
     let loop-test1 = get-item1.before in
     let loop1 = loop-test1.before in
-    sent-out loop1.loop.invariant loop-test1.loop-test.true get-item1.get-item.ensures next-node1.next-node.ensures.0
+    sent_out loop1.loop.invariant loop-test1.loop-test.true get-item1.get-item.ensures next-node1.next-node.ensures.0
     next-node1.next-node.ensures.1 next-entry1.next-entry.ensures walk-item1.walk-item.ensures.0 walk-item1.walk-item.ensures.1
     number1.number.given.1
 

@@ -3,14 +3,14 @@
 use mathlib.Core.Path.{refl, ◌∙◌}
 use borrow.Author.Rules.{rules}
 use Rattle.graph_visit.proofs.Visiting.{
-  text-missing,
-  text-refused,
+  text_missing,
+  text_refused,
   import_refused,
   called,
   import_rows,
   include_rows,
   level_in,
-  kept-levels,
+  kept_levels,
   kept_above,
 }
 use Rattle.graph_visit.proofs.Visiting.{saved_same, marked_read}
@@ -44,9 +44,9 @@ returns : tie.Need-returns
 returns c =
     let read-text1 = c.before.before.before.before.before.before.before.before.before in
     let remember1 = read-text1.before.before.before.before.before.before.before in (
-      text-missing _ _ _ _ _ read-text1.before.before.before.before.name_of.ensures _ _ _ _ _ _ _ read-text1.read-text.ensures _ _ _ _ _ _ _ _ _
+      text_missing _ _ _ _ _ read-text1.before.before.before.before.name_of.ensures _ _ _ _ _ _ _ read-text1.read-text.ensures _ _ _ _ _ _ _ _ _
           c.before.enum_told.given.1 c.no-refusal.ensures,
-      kept-levels _ _ _ _ _ _ _ _ read-text1.read-text.ensures _ remember1.remember.ensures,
+      kept_levels _ _ _ _ _ _ _ _ read-text1.read-text.ensures _ remember1.remember.ensures,
       marked_read remember1.remember.ensures _ refl,
     )
 
@@ -54,9 +54,9 @@ returns_2 : tie.Need-returns-2
 returns_2 c =
     let read-text1 = c.before.before.before.before.before.before.before.before.before in
     let remember1 = read-text1.before.before.before.before.before.before.before in (
-      text-refused _ _ _ _ _ read-text1.before.before.before.before.name_of.ensures _ _ _ _ _ _ _ read-text1.read-text.ensures _ _ _ _ _ _ _ _ _
+      text_refused _ _ _ _ _ read-text1.before.before.before.before.name_of.ensures _ _ _ _ _ _ _ read-text1.read-text.ensures _ _ _ _ _ _ _ _ _
           c.before.r.given.1,
-      kept-levels _ _ _ _ _ _ _ _ read-text1.read-text.ensures _ remember1.remember.ensures,
+      kept_levels _ _ _ _ _ _ _ _ read-text1.read-text.ensures _ remember1.remember.ensures,
       marked_read remember1.remember.ensures _ refl,
     )
 
@@ -66,7 +66,7 @@ returns_3 c =
     let remember1 = read-text1.before.before.before.before.before.before.before in (
       import_refused _ _ _ _ _ read-text1.before.before.before.before.name_of.ensures _ _ _ _ _ _ _ read-text1.read-text.ensures _ _ _ _ _ _ _ _ _
           c.before.before.before.before.before.before.before.before.before.before.before.before.before.m.given.1 _ _ _ c.before.before.before.before.before.before.before.link-imports.ensures _ _ _ c.before.number.given.1,
-      kept-levels _ _ _ _ _ _ _ _ read-text1.read-text.ensures _ remember1.remember.ensures,
+      kept_levels _ _ _ _ _ _ _ _ read-text1.read-text.ensures _ remember1.remember.ensures,
       marked_read remember1.remember.ensures _ refl,
     )
 

@@ -14,7 +14,7 @@ use Rattle.graph_memory.proofs.remember.Reads as remember-reads
 use Rattle.graph_visit.specs.Visit.{codes_here, AsLong}
 use Rattle.graph_visit.proofs.Visiting.{same_long, longer}
 use Rattle.graph_walk.proofs.Walking.{Walking, opened, not_visited, known, begun, in_level, memory_in, word_node, kept_out}
-use Rattle.graph_walk.proofs.Walking.{ended-all, halted-here, kept_end, some_left, child-low, child-room, sent-up, child-height, went_on, kept-sent}
+use Rattle.graph_walk.proofs.Walking.{ended_all, halted_here, kept_end, some_left, child_low, child_room, sent_up, child_height, went_on, kept_sent}
 use Rattle.graph_walk.proofs.walk.Reads as walk
 use Rattle.graph_walk.proofs.walk.Kinds as walk-kinds
 use Rattle.graph_walk.proofs.+walk.Lts-walk as walk-lts
@@ -154,7 +154,7 @@ returns t c =
     let met2-at = loop1.before.before in
     let meet1 = met2-at.before.before.before.before.before.before.before.before.before.before.before.before.before.before in (
       opened _ _ _ _ _ _ _ _ _ _ _ _
-          (halted-here loop1.loop.invariant.0 meet1.meet.ensures.0 met2-at.met2.given.1 step1.step.ensures loop-test1.loop-test.true
+          (halted_here loop1.loop.invariant.0 meet1.meet.ensures.0 met2-at.met2.given.1 step1.step.ensures loop-test1.loop-test.true
           number1.number.given.1 c.no-refusal.ensures),
       kept_out loop1.loop.invariant.0 meet1.meet.ensures.1 loop1.loop.invariant.1,
     )
@@ -178,9 +178,9 @@ walk_requires t c κs =
       omega (arith, start.pre.0, some_left loop1.loop.invariant.0 step1.step.ensures loop-test1.loop-test.true u1.u.given.1),
       (
         start.pre.1.0,
-        child-room loop1.loop.invariant.0 step1.step.ensures loop-test1.loop-test.true u1.u.given.1 start.pre.1.1
+        child_room loop1.loop.invariant.0 step1.step.ensures loop-test1.loop-test.true u1.u.given.1 start.pre.1.1
             meet1.meet.ensures.1 loop1.loop.invariant.1,
-        child-low loop1.loop.invariant.0 step1.step.ensures loop-test1.loop-test.true u1.u.given.1,
+        child_low loop1.loop.invariant.0 step1.step.ensures loop-test1.loop-test.true u1.u.given.1,
       ),
     )
 
@@ -194,9 +194,9 @@ returns_2 t c =
     let met2-at = loop1.before.before in
     let meet1 = met2-at.before.before.before.before.before.before.before.before.before.before.before.before.before.before in (
       opened _ _ _ _ _ _ _ _ _ _ _ _
-          (sent-up loop1.loop.inv.0 step1.step.ensures loop-test1.loop-test.taken u1.u.given.1 walk1.walk.ensures.0
+          (sent_up loop1.loop.inv.0 step1.step.ensures loop-test1.loop-test.taken u1.u.given.1 walk1.walk.ensures.0
           meet1.meet.ensures.0 met2-at.met2.given.1 c.enum-told2.given.1),
-      kept-sent loop1.loop.inv.0 step1.step.ensures loop-test1.loop-test.taken u1.u.given.1 walk1.walk.ensures.0
+      kept_sent loop1.loop.inv.0 step1.step.ensures loop-test1.loop-test.taken u1.u.given.1 walk1.walk.ensures.0
           walk1.walk.ensures.1 meet1.meet.ensures.1 loop1.loop.inv.1,
     )
 
@@ -211,10 +211,10 @@ raise_requires t c κs =
     let start = start_of t (meet_of t loop1) in (
       omega (arith, memory_in loop1.loop.invariant.0, walk1.walk.ensures.1.long.levels_long),
       node_low _ _ _ _ start.pre.1.0.desk _
-          (child-low loop1.loop.invariant.0 step1.step.ensures loop-test1.loop-test.true u1.u.given.1),
+          (child_low loop1.loop.invariant.0 step1.step.ensures loop-test1.loop-test.true u1.u.given.1),
       omega (
         arith,
-        child-height loop1.loop.invariant.0 step1.step.ensures loop-test1.loop-test.true u1.u.given.1 walk1.walk.ensures.0
+        child_height loop1.loop.invariant.0 step1.step.ensures loop-test1.loop-test.true u1.u.given.1 walk1.walk.ensures.0
             walk1.walk.ensures.1 below1.below.given.1,
         start.pre.1.1.deep,
       ),
@@ -273,7 +273,7 @@ returns_5 t c =
     let meet1 = met2-at.before.before.before.before.before.before.before.before.before.before.before.before.before.before in
     let start = start_of t meet1 in (
       opened _ _ _ _ _ _ _ _ _ _ _ _
-          (ended-all loop1.loop.invariant.0 meet1.meet.ensures.0 met2-at.met2.given.1 (node_low _ _ _ _ start.pre.1.0.desk _ start.pre.1.2)
+          (ended_all loop1.loop.invariant.0 meet1.meet.ensures.0 met2-at.met2.given.1 (node_low _ _ _ _ start.pre.1.0.desk _ start.pre.1.2)
           remember1.remember.ensures loop-test1.loop-test.false),
       kept_end loop1.loop.invariant.0 meet1.meet.ensures.1 loop1.loop.invariant.1 remember1.remember.ensures,
     )

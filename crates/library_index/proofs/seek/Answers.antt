@@ -1,8 +1,8 @@
-use Rattle.library_index.proofs.Chain.{chain-begun, name_in, name_fits, chain-hit, chain-on, chain-falls, chain-done}
+use Rattle.library_index.proofs.Chain.{chain_begun, name_in, name_fits, chain_hit, chain_on, chain_falls, chain_done}
 use Rattle.library_index.proofs.seek.Goals as goal
 
 pub loop-j-init : goal.loop-j-init
-loop-j-init c = search chain-begun
+loop-j-init c = search chain_begun
 
 pub overflow_add-end : goal.overflow_add-end
 overflow_add-end c = search name_fits
@@ -12,16 +12,16 @@ overflow_add-end c = search name_fits
 -- part-same-end c = search name_in
 
 pub returns-then-same : goal.returns-then-same
-returns-then-same c = search chain-hit
+returns-then-same c = search chain_hit
 
 pub loop-j-smaller : goal.loop-j-smaller
-loop-j-smaller c = search chain-falls
+loop-j-smaller c = search chain_falls
 
 pub loop-j-preserved : goal.loop-j-preserved
 loop-j-preserved c =
     let pre = c.requires in
-    chain-on _ _ _ _ _ pre _ c.loop-j.invariant c.of_word-place.ensures c.of_word-len.ensures c.loop-j-test.true
+    chain_on _ _ _ _ _ pre _ c.loop-j.invariant c.of_word-place.ensures c.of_word-len.ensures c.loop-j-test.true
     c.same.ensures c.of_word-j-in-loop-j.ensures c.if-same.false
 
 pub returns : goal.returns
-returns c = search chain-done
+returns c = search chain_done

@@ -1,5 +1,5 @@
 use Rattle.library_form.proofs.Bounds.{end_fits, end_in}
-use Rattle.library_lists.proofs.Words.{none_left, no_name, is-it, not-it}
+use Rattle.library_lists.proofs.Words.{none_left, no_name, is_it, not_it}
 use mathlib.Core.Path.{refl}
 use Rattle.library_lists.proofs.among.Goals as goal
 
@@ -16,10 +16,10 @@ pub slice_bounds-same-end : goal.slice_bounds-same-end
 slice_bounds-same-end c = search end_in
 
 pub returns-then-same : goal.returns-then-same
-returns-then-same c = search is-it
+returns-then-same c = search is_it
 
 pub loop-left-preserved : goal.loop-left-preserved
-loop-left-preserved c = search not-it
+loop-left-preserved c = search not_it
 
 pub returns : goal.returns
 returns c = search none_left

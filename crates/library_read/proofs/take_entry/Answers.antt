@@ -1,6 +1,6 @@
 -- `library_read::take_entry`. Each way out is one law of Entries.
 -- Assumes nothing.
-use Rattle.library_read.proofs.Entries.{name_refused, name_fits, entry-taken}
+use Rattle.library_read.proofs.Entries.{name_refused, name_fits, entry_taken}
 use Rattle.library_read.proofs.take_entry.Goals as goal
 
 pub returns-in_default : goal.returns-in_default
@@ -10,4 +10,4 @@ pub overflow_add-first : goal.overflow_add-first
 overflow_add-first c = search name_fits
 
 pub returns : goal.returns
-returns c = search entry-taken
+returns c = search entry_taken

@@ -1,13 +1,13 @@
 -- `library_search::hit_at`. Each way out is one law of Ways.
 -- Assumes nothing.
-use Rattle.library_search.proofs.Ways.{module_hit, no_revisions, import-only-hit}
+use Rattle.library_search.proofs.Ways.{module_hit, no_revisions, import_only_hit}
 use Rattle.library_search.proofs.hit_at.Goals as goal
 
 pub returns-in_default : goal.returns-in_default
 returns-in_default c = search no_revisions
 
 pub returns-then-import_only : goal.returns-then-import_only
-returns-then-import_only c = search import-only-hit
+returns-then-import_only c = search import_only_hit
 
 pub returns : goal.returns
 returns c = search module_hit

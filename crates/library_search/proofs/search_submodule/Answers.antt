@@ -1,6 +1,6 @@
-use Rattle.library_search.proofs.Submodules.{Ended, no_image, image-opened, no-modules, set_entered, no_submodules}
+use Rattle.library_search.proofs.Submodules.{Ended, no_image, image_opened, no_modules, set_entered, no_submodules}
 use Rattle.library_search.proofs.Submodules.{imports_passed, used_up, broken_off}
-use Rattle.library_search.proofs.Submodules.{module-entered, no_submodule, submodule-passed, no-lists, module_passed, hit-imports, bad-imports}
+use Rattle.library_search.proofs.Submodules.{module_entered, no_submodule, submodule_passed, no_lists, module_passed, hit_imports, bad_imports}
 use Rattle.library_search.proofs.search_submodule.Goals as goal
 use Rattle.library_search.proofs.search_submodule.Goals.{else-search-test, then-search-test+in-Value-read_count+then-loop-more-test+in-Value-enter_module+then-loop-rest-test+in-Hit}
 
@@ -8,10 +8,10 @@ pub returns-in_default : goal.returns-in_default
 returns-in_default c = search no_image
 
 pub search-init : goal.search-init
-search-init c = search image-opened
+search-init c = search image_opened
 
 pub returns-in_default-read_count : goal.returns-in_default-read_count
-returns-in_default-read_count c = search no-modules
+returns-in_default-read_count c = search no_modules
 
 pub loop-more-init : goal.loop-more-init
 loop-more-init c = search set_entered
@@ -21,25 +21,25 @@ returns-in_default-enter_module c = search no_submodules
 
 pub loop-rest-init : goal.loop-rest-init
 loop-rest-init c =
-    module-entered _ _ _ _ _ _ c.loop-more.invariant _ _ _ c.in-Value-enter_module.is c.enter_module.ensures c.loop-more-test.true
+    module_entered _ _ _ _ _ _ c.loop-more.invariant _ _ _ c.in-Value-enter_module.is c.enter_module.ensures c.loop-more-test.true
 
 pub returns-in-Bad : goal.returns-in-Bad
 returns-in-Bad c = search no_submodule
 
 pub loop-rest-preserved : goal.loop-rest-preserved
-loop-rest-preserved c = search submodule-passed
+loop-rest-preserved c = search submodule_passed
 
 pub returns-in_default-leave_module : goal.returns-in_default-leave_module
-returns-in_default-leave_module c = search no-lists
+returns-in_default-leave_module c = search no_lists
 
 pub loop-more-preserved : goal.loop-more-preserved
 loop-more-preserved c = search module_passed
 
 pub returns-in-Hit-try_entries : goal.returns-in-Hit-try_entries
-returns-in-Hit-try_entries c = search hit-imports
+returns-in-Hit-try_entries c = search hit_imports
 
 pub returns-in-Bad-try_entries : goal.returns-in-Bad-try_entries
-returns-in-Bad-try_entries c = search bad-imports
+returns-in-Bad-try_entries c = search bad_imports
 
 pub search-preserved : goal.search-preserved
 search-preserved c = search imports_passed

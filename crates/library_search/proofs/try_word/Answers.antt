@@ -1,7 +1,7 @@
 -- `library_search::try_word`. Each way out is one law of Ways.
 -- Assumes nothing.
 use Rattle.library_form.proofs.Bounds.{end_fits, end_in}
-use Rattle.library_search.proofs.Ways.{no_word, word-hit, word-other}
+use Rattle.library_search.proofs.Ways.{no_word, word_hit, word_other}
 use Rattle.library_search.proofs.try_word.Goals as goal
 
 pub returns-in_default : goal.returns-in_default
@@ -14,7 +14,7 @@ pub slice_bounds-same-end : goal.slice_bounds-same-end
 slice_bounds-same-end c = search end_in
 
 pub returns-then-same : goal.returns-then-same
-returns-then-same c = search word-hit
+returns-then-same c = search word_hit
 
 pub returns : goal.returns
-returns c = search word-other
+returns c = search word_other

@@ -1,7 +1,7 @@
 -- `scan_block::parse_inside`. Each way out is a law of the statement that stands after the gap.
 -- Assumes nothing.
 use Rattle.scan_block.proofs.FarLaws.{kind_value_far}
-use Rattle.scan_block.proofs.InsideLaws.{leaves, inside_end, inside-close, inside-value, inside-other}
+use Rattle.scan_block.proofs.InsideLaws.{leaves, inside_end, inside_close, inside_value, inside_other}
 use Rattle.scan_block.specs.declared.Inside.TheVariants.{Closed}
 use Rattle.text.proofs.Here.{here}
 use Rattle.text.proofs.Laws.{gap_from, gap_done}
@@ -29,7 +29,7 @@ pub returns-then-b-eq-CLOSE_BRACE : goal.returns-then-b-eq-CLOSE_BRACE
 returns-then-b-eq-CLOSE_BRACE c =
     let a = c.args in
     leaves
-    (inside-close a.whole a.s.now a.keyword a.body c.skip_whitespace_and_comments-here.ensures c.peek_char-b.ensures
+    (inside_close a.whole a.s.now a.keyword a.body c.skip_whitespace_and_comments-here.ensures c.peek_char-b.ensures
     c.if-b-eq-END.false c.if-b-eq-CLOSE_BRACE.true)
     a.store.now a.body.used (ap Closed c.moved.ensures, refl)
 
@@ -44,7 +44,7 @@ pub returns-in-Value : goal.returns-in-Value
 returns-in-Value c =
     let a = c.args in
     leaves
-    (inside-value a.whole a.s.now a.keyword a.body c.skip_whitespace_and_comments-here.ensures c.peek_char-b.ensures
+    (inside_value a.whole a.s.now a.keyword a.body c.skip_whitespace_and_comments-here.ensures c.peek_char-b.ensures
     c.if-b-eq-END.false c.if-b-eq-CLOSE_BRACE.false c.line_kind.ensures c.in-Value.own c.in-Value.after c.in-Value.is)
     a.store.now a.body.used c.read_inside.ensures
 
@@ -52,7 +52,7 @@ pub returns-in-Other : goal.returns-in-Other
 returns-in-Other c =
     let a = c.args in
     leaves
-    (inside-other a.whole a.s.now a.keyword a.body c.skip_whitespace_and_comments-here.ensures c.peek_char-b.ensures
+    (inside_other a.whole a.s.now a.keyword a.body c.skip_whitespace_and_comments-here.ensures c.peek_char-b.ensures
     c.if-b-eq-END.false c.if-b-eq-CLOSE_BRACE.false c.line_kind.ensures c.in-Other.is
     c.skip_other.ensures)
     a.store.now a.body.used (refl, refl)

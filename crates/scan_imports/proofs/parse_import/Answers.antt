@@ -1,7 +1,7 @@
 -- `scan_imports::parse_import`. The name, then the block: each way out is a law.
 -- Assumes nothing.
 use Rattle.scan_block.proofs.InsideLaws.{line_grows, room_left}
-use Rattle.scan_imports.proofs.StatementLaws.{import_refused, import-broken, import-whole}
+use Rattle.scan_imports.proofs.StatementLaws.{import_refused, import_broken, import_whole}
 use lib.ListN.{length}
 use native.Mathlib.Omega.{arith}
 use Rattle.scan_imports.proofs.parse_import.Goals as goal
@@ -28,7 +28,7 @@ pub returns-in_default-block : goal.returns-in_default-block
 returns-in_default-block c =
     let a = c.args in
     let v = c.read_argument-name.ensures in
-    import-broken a.whole a.s.now a.here.at a.used a.store.now v.0 v.1 c.in-Read.next c.in-Read.n c.in-Read.is c.parse_block-block.ensures
+    import_broken a.whole a.s.now a.here.at a.used a.store.now v.0 v.1 c.in-Read.next c.in-Read.n c.in-Read.is c.parse_block-block.ensures
     c.in_default-block.field-0
     c.in_default-block.is c.block_refusal.ensures
 
@@ -36,5 +36,5 @@ pub returns : goal.returns
 returns c =
     let a = c.args in
     let v = c.read_argument-name.ensures in
-    import-whole a.whole a.s.now a.here.at a.used a.store.now v.0 v.1 c.in-Read.next c.in-Read.n c.in-Read.is c.parse_block-block.ensures
+    import_whole a.whole a.s.now a.here.at a.used a.store.now v.0 v.1 c.in-Read.next c.in-Read.n c.in-Read.is c.parse_block-block.ensures
     c.held-module_name.ensures c.in-Whole.body c.in-Whole.is c.import_of.ensures

@@ -1,6 +1,6 @@
 -- `scan_imports::parse_include`. The name, then a block or a semicolon: each way out is a law.
 -- Assumes nothing.
-use Rattle.scan_imports.proofs.StatementLaws.{argument_grows, inner_room, include_refused, include-open, include-other, include_plain}
+use Rattle.scan_imports.proofs.StatementLaws.{argument_grows, inner_room, include_refused, include_open, include_other, include_plain}
 use Rattle.text.proofs.Here.{here}
 use lib.ListN.{length}
 use native.Mathlib.Omega.{arith}
@@ -36,14 +36,14 @@ returns-then-peek_char-eq-OPEN_BRACE c =
     let a = c.args in
     let v = c.read_value-name.ensures in
     let b = c.include_block.ensures in
-    include-open a.whole a.s.now a.here.at a.used a.store.now v.0 v.1 c.in-Read.next c.in-Read.n c.in-Read.is c.held-submodule_name.ensures
+    include_open a.whole a.s.now a.here.at a.used a.store.now v.0 v.1 c.in-Read.next c.in-Read.n c.in-Read.is c.held-submodule_name.ensures
     c.skip_whitespace_and_comments-end.ensures c.peek_char.ensures c.if-peek_char-eq-OPEN_BRACE.true b.0 b.1
 
 pub returns-in_default-due : goal.returns-in_default-due
 returns-in_default-due c =
     let a = c.args in
     let v = c.read_value-name.ensures in
-    include-other a.whole a.s.now a.here.at a.used a.store.now v.0 v.1 c.in-Read.next c.in-Read.n c.in-Read.is c.held-submodule_name.ensures
+    include_other a.whole a.s.now a.here.at a.used a.store.now v.0 v.1 c.in-Read.next c.in-Read.n c.in-Read.is c.held-submodule_name.ensures
     c.skip_whitespace_and_comments-end.ensures c.peek_char.ensures c.if-peek_char-eq-OPEN_BRACE.false
     c.expect_here-due.ensures c.in_default-due.field-0 c.in_default-due.is c.refusal_of.ensures
 

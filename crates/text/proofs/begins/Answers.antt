@@ -1,4 +1,4 @@
-use Rattle.text.proofs.KeywordLaws.{begins_past, begins_short, begins_first, begins-more, begins-other, begins_done}
+use Rattle.text.proofs.KeywordLaws.{begins_past, begins_short, begins_first, begins_more, begins_other, begins_done}
 use mathlib.Core.Path.{sym, ◌∙◌}
 use native.Mathlib.Omega.{arith}
 use Rattle.text.proofs.begins.Goals as goal
@@ -27,7 +27,7 @@ bounds-word-i c = omega arith
 pub returns-then-s-at-3 : goal.returns-then-s-at-3
 returns-then-s-at-3 c =
     let a = c.args in
-    sym (begins-other a.s.now a.at a.word.now c.loop-i.i c.loop-i-test.true (omega arith) c.if-s-at-3.true) ∙ c.loop-i.invariant
+    sym (begins_other a.s.now a.at a.word.now c.loop-i.i c.loop-i-test.true (omega arith) c.if-s-at-3.true) ∙ c.loop-i.invariant
 
 pub overflow_add-i : goal.overflow_add-i
 overflow_add-i c = omega arith
@@ -38,7 +38,7 @@ loop-i-smaller c = omega arith
 pub loop-i-preserved : goal.loop-i-preserved
 loop-i-preserved c =
     let a = c.args in
-    begins-more a.s.now a.at a.word.now c.loop-i.i c.loop-i-test.true (omega arith) c.if-s-at-3.false ∙ c.loop-i.invariant
+    begins_more a.s.now a.at a.word.now c.loop-i.i c.loop-i-test.true (omega arith) c.if-s-at-3.false ∙ c.loop-i.invariant
 
 pub returns : goal.returns
 returns c =

@@ -1,12 +1,12 @@
 -- `text::in_run`. Each kind has its own test, which is its clause of the definition.
 -- Assumes nothing.
-use Rattle.text.proofs.Laws.{run_white, run_line, run_ident, run-name, run-name-too}
+use Rattle.text.proofs.Laws.{run_white, run_line, run_ident, run_name, run_name_too}
 use mathlib.Core.Path.{sym}
 use Rattle.text.proofs.in_run.Goals as goal
 
 pub returns-then-in_ident : goal.returns-then-in_ident
 returns-then-in_ident c =
-    sym (run-name c.args.b c.in-Name.is c.in_ident-in-Name.ensures c.if-in_ident.true)
+    sym (run_name c.args.b c.in-Name.is c.in_ident-in-Name.ensures c.if-in_ident.true)
 
 pub returns-in-White : goal.returns-in-White
 returns-in-White c =
@@ -21,4 +21,4 @@ returns-in-Ident c =
 
 pub returns-else-in_ident : goal.returns-else-in_ident
 returns-else-in_ident c =
-    sym (run-name-too c.args.b c.in-Name.is c.in_ident-in-Name.ensures c.if-in_ident.false)
+    sym (run_name_too c.args.b c.in-Name.is c.in_ident-in-Name.ensures c.if-in_ident.false)

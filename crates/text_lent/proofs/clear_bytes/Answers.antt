@@ -1,4 +1,3 @@
-use Prim.Native.Nat.{◌-◌}
 use Rattle.text_lent.proofs.Clears.{clear_none, clear_more, clear_all}
 use lib.ListN.{length-set}
 use native.Mathlib.Omega.{arith}

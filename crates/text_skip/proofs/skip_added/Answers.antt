@@ -1,4 +1,3 @@
-use Prim.Native.Nat.{◌-◌}
 use Rattle.text_skip.proofs.PassLaws.{added_more, added_on, added_last}
 use mathlib.Core.Path.{refl, sym, ◌∙◌}
 use Rattle.text_skip.proofs.skip_added.Goals as goal

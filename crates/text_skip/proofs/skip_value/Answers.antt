@@ -1,7 +1,7 @@
 -- `text_skip::skip_value`. A string that closes or not, a name, or none stands after the gap: one law for each, over what reading the value
 -- says.
 -- Assumes nothing.
-use Rattle.text_skip.proofs.PassLaws.{passed_refused, passed-string, passed-cut, passed-name, passed_none}
+use Rattle.text_skip.proofs.PassLaws.{passed_refused, passed_string, passed_cut, passed_name, passed_none}
 use mathlib.Core.Path.{sym}
 use Rattle.text_skip.proofs.skip_value.Goals as goal
 
@@ -9,13 +9,13 @@ pub returns-in_default : goal.returns-in_default
 returns-in_default c = sym (search passed_refused)
 
 pub returns-then-broke_off : goal.returns-then-broke_off
-returns-then-broke_off c = sym (search passed-cut)
+returns-then-broke_off c = sym (search passed_cut)
 
 pub returns-then-is_quote : goal.returns-then-is_quote
-returns-then-is_quote c = sym (search passed-string)
+returns-then-is_quote c = sym (search passed_string)
 
 pub returns-then-starts_name : goal.returns-then-starts_name
-returns-then-starts_name c = sym (search passed-name)
+returns-then-starts_name c = sym (search passed_name)
 
 pub returns : goal.returns
 returns c =

@@ -1,5 +1,4 @@
-use Prim.Native.Nat.{◌-◌}
-use Rattle.text_statement.proofs.StatementLaws.{quoted_is, quoted_past, quoted-close, quoted-more}
+use Rattle.text_statement.proofs.StatementLaws.{quoted_is, quoted_past, quoted_close, quoted_more}
 use mathlib.Core.Path.{sym, ◌∙◌}
 use native.Mathlib.Omega.{arith}
 use Rattle.text_statement.proofs.quoted_end.Goals as goal
@@ -19,7 +18,7 @@ overflow_add-result c = omega arith
 pub returns-then-closes : goal.returns-then-closes
 returns-then-closes c =
     let a = c.args in
-    sym (quoted-close a.q a.s.now c.loop-i.before c.loop-i.i c.loop-i-test.true c.closes.ensures c.if-closes.true)
+    sym (quoted_close a.q a.s.now c.loop-i.before c.loop-i.i c.loop-i-test.true c.closes.ensures c.if-closes.true)
     ∙ c.loop-i.invariant
 
 pub overflow_add-i : goal.overflow_add-i
@@ -31,7 +30,7 @@ loop-i-smaller c = omega arith
 pub loop-i-preserved : goal.loop-i-preserved
 loop-i-preserved c =
     let a = c.args in
-    sym (quoted-more a.q a.s.now c.loop-i.before c.loop-i.i c.loop-i-test.true c.closes.ensures c.if-closes.false)
+    sym (quoted_more a.q a.s.now c.loop-i.before c.loop-i.i c.loop-i-test.true c.closes.ensures c.if-closes.false)
     ∙ c.loop-i.invariant
 
 pub returns : goal.returns

@@ -1,6 +1,5 @@
-use Prim.Native.Nat.{◌-◌}
 use Rattle.text.proofs.Laws.{gap_from, gap_done}
-use Rattle.text_statement.proofs.StatementLaws.{statement_is, statement_stop, statement_high, statement-more, statement-on, statement_room, statement_gap}
+use Rattle.text_statement.proofs.StatementLaws.{statement_is, statement_stop, statement_high, statement_more, statement_on, statement_room, statement_gap}
 use mathlib.Core.Path.{sym, ◌∙◌}
 use native.Mathlib.Omega.{arith}
 use Rattle.text_statement.proofs.skip_statement.Goals as goal
@@ -14,7 +13,7 @@ skip_part-requires c = c.loop-next.invariant.0
 pub loop-next-smaller : goal.loop-next-smaller
 loop-next-smaller c =
     let s = c.args.s.now in
-    let less = statement-on s c.loop-next.at c.loop-next.depth (sym c.loop-next.invariant.1) c.skip_part.ensures c.in-On.next c.in-On.d c.in-On.is in
+    let less = statement_on s c.loop-next.at c.loop-next.depth (sym c.loop-next.invariant.1) c.skip_part.ensures c.in-On.next c.in-On.d c.in-On.is in
     omega (arith, less, c.skip_whitespace_and_comments-after.ensures, gap_from s c.in-On.next.at)
 
 pub loop-next-preserved : goal.loop-next-preserved
@@ -25,7 +24,7 @@ loop-next-preserved c =
     let none = sym c.loop-next.invariant.1 in
     let e = c.skip_whitespace_and_comments-after.ensures in
     let room = statement_room s at d none c.skip_part.ensures c.in-On.next c.in-On.d c.in-On.is c.loop-next.invariant.0 in
-    let more = statement-more s at d none c.skip_part.ensures c.in-On.next c.in-On.d c.in-On.is in (
+    let more = statement_more s at d none c.skip_part.ensures c.in-On.next c.in-On.d c.in-On.is in (
       omega (arith, room, e, gap_from s c.in-On.next.at),
       gap_done s c.in-On.next.at e,
       statement_gap s c.in-On.next.at c.in-On.d e ∙ sym more ∙ c.loop-next.invariant.2,

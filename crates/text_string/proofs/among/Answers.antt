@@ -2,7 +2,6 @@
 -- Assumes nothing.
 -- src/lib.rt:283:1
 use Rattle.text_string.proofs.StrLaws.{among_eight}
-use Rattle.text_string.proofs.among.Reads as reads
 use native.Mathlib.Omega.{arith}
 use Rattle.text_string.proofs.among.Goals as goal
 

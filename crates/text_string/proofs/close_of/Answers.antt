@@ -1,5 +1,4 @@
-use Prim.Native.Nat.{◌-◌}
-use Rattle.text_string.proofs.StrLaws.{end_past, end_escape, end-quote, end_more}
+use Rattle.text_string.proofs.StrLaws.{end_past, end_escape, end_quote, end_more}
 use mathlib.Core.Bool.{false}
 use mathlib.Core.Path.{refl, sym, ◌∙◌}
 use native.Mathlib.Omega.{arith}
@@ -20,7 +19,7 @@ overflow_add-end c = omega arith
 pub returns-then-b-q : goal.returns-then-b-q
 returns-then-b-q c =
     let a = c.args in
-    sym (end-quote a.q a.s.now c.loop-i.i c.loop-i-test.true refl c.if-b-q.true) ∙ c.loop-i.invariant
+    sym (end_quote a.q a.s.now c.loop-i.i c.loop-i-test.true refl c.if-b-q.true) ∙ c.loop-i.invariant
 
 pub escapes-requires : goal.escapes-requires
 escapes-requires c = tt

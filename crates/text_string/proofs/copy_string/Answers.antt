@@ -1,8 +1,6 @@
-use Prim.Native.Nat.{◌-◌}
 use Rattle.text.proofs.Writing.{begun, said, put, written, counted}
-use Rattle.text_string.proofs.StrLaws.{bytes_past, bytes-skip, bytes-quote, bytes-escape, bytes-more}
+use Rattle.text_string.proofs.StrLaws.{bytes_past, bytes_skip, bytes_quote, bytes_escape, bytes_more}
 use lib.ListN.{length-set}
-use mathlib.Core.Bool.{false}
 use native.Mathlib.Omega.{arith}
 use Rattle.text_string.proofs.copy_string.Goals as goal
 
@@ -31,7 +29,7 @@ pub loop-i-preserved-then-esc : goal.loop-i-preserved-then-esc
 loop-i-preserved-then-esc c =
     let a = c.args in (
       simp length-set (omega arith),
-      put (bytes-skip a.q a.s.now c.loop-i.i c.loop-i-test.true c.if-esc.true
+      put (bytes_skip a.q a.s.now c.loop-i.i c.loop-i-test.true c.if-esc.true
           c.escaped.ensures) c.loop-i.invariant.1,
     )
 
@@ -41,7 +39,7 @@ shape_of-store-then-b-q c = c.loop-i.invariant.1.long
 pub returns-then-b-q : goal.returns-then-b-q
 returns-then-b-q c =
     let a = c.args in
-    let none = bytes-quote a.q a.s.now c.loop-i.i c.loop-i-test.true c.if-esc.false c.if-b-q.true in
+    let none = bytes_quote a.q a.s.now c.loop-i.i c.loop-i-test.true c.if-esc.false c.if-b-q.true in
     (counted none c.loop-i.invariant.1, written none c.loop-i.invariant.1)
 
 pub escapes-requires : goal.escapes-requires
@@ -57,7 +55,7 @@ pub loop-i-preserved-then-escapes : goal.loop-i-preserved-then-escapes
 loop-i-preserved-then-escapes c =
     let a = c.args in (
       omega arith,
-      said (bytes-escape a.q a.s.now c.loop-i.i c.loop-i-test.true
+      said (bytes_escape a.q a.s.now c.loop-i.i c.loop-i-test.true
           c.if-esc.false c.if-b-q.false c.escapes.ensures c.if-escapes.true) c.loop-i.invariant.1,
     )
 
@@ -77,7 +75,7 @@ pub loop-i-preserved : goal.loop-i-preserved
 loop-i-preserved c =
     let a = c.args in (
       simp length-set (omega arith),
-      put (bytes-more a.q a.s.now c.loop-i.i c.loop-i-test.true
+      put (bytes_more a.q a.s.now c.loop-i.i c.loop-i-test.true
           c.if-esc.false c.if-b-q.false c.escapes.ensures c.if-escapes.false) c.loop-i.invariant.1,
     )
 

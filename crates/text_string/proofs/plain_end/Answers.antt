@@ -1,8 +1,4 @@
-use Prim.Native.Nat.{◌-◌}
 use Rattle.text_string.proofs.StrLaws.{end_plain}
-use Rattle.text_string.proofs.among.Reads as Among-Reads
-use Rattle.text_string.proofs.plain_end.Reads as reads
-use mathlib.Core.Bool.{false}
 use mathlib.Core.Path.{refl, sym, ◌∙◌}
 use native.Mathlib.Omega.{arith}
 use Rattle.text_string.proofs.plain_end.Goals as goal

@@ -1,8 +1,6 @@
 -- `text_string::plain_end`. The loop keeps where the string closes: eight bytes that neither close nor escape leave that as it was.
 -- Assumes nothing.
 use Prim.Native.Nat.{◌-◌, ◌≤◌}
-use Rattle.text_string.proofs.among.Reads as Among-Reads
-use Rattle.text_string.proofs.plain_end.Reads as reads
 use Rattle.text_string.specs.Str.{str_end}
 use lib.ListN.{length, drop}
 use mathlib.Core.Bool.{false}

@@ -1,4 +1,3 @@
-use Prim.Native.Nat.{◌-◌}
 use Rattle.text_utf8.proofs.Utf8Laws.{low_byte, wrong_here, wrong_next, wrong_room, wrong_past}
 use mathlib.Core.Path.{refl, sym, ◌∙◌}
 use native.Mathlib.Omega.{arith}

@@ -1,4 +1,3 @@
-use Prim.Native.Nat.{◌-◌}
 use Rattle.text_utf8.proofs.Utf8Laws.{low_byte}
 use mathlib.Core.Path.{◌∙◌}
 use native.Mathlib.Omega.{arith}

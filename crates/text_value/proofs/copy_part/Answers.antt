@@ -1,4 +1,3 @@
-use Prim.Native.Nat.{◌-◌}
 use Rattle.text.proofs.Writing.{begun, put, written, counted}
 use Rattle.text_value.proofs.ValueLaws.{part_none, part_cons}
 use lib.ListN.{length-set}

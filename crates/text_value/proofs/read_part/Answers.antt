@@ -4,7 +4,7 @@
 use Prim.Native.Nat.{◌+◌}
 use Rattle.text.proofs.Here.{here}
 use Rattle.text.proofs.Laws.{gap_from}
-use Rattle.text_value.proofs.ValueLaws.{more_plain, more-bare, more_added, more_cut, more-stored}
+use Rattle.text_value.proofs.ValueLaws.{more_plain, more_bare, more_added, more_cut, more_stored}
 use Rattle.text_value.specs.Value.{more_answer, more_bytes}
 use lib.Seq.{sets}
 use mathlib.Core.Path.{sym, ap, ◌∙◌}
@@ -35,7 +35,7 @@ returns-in_default c =
           c.skip_whitespace_and_comments-quote.ensures c.peek_char-2.ensures c.is_quote.ensures c.if-is_quote.true a.used read.ensures.0
           c.in_default.is),
       read.ensures.1
-          ∙ sym (ap (sets a.store.now a.used) (more-stored a.s.now a.here.at c.skip_whitespace_and_comments-plus.ensures
+          ∙ sym (ap (sets a.store.now a.used) (more_stored a.s.now a.here.at c.skip_whitespace_and_comments-plus.ensures
           c.peek_char.ensures c.if-peek_char-ne-PLUS.false c.skip_whitespace_and_comments-quote.ensures c.peek_char-2.ensures
           c.is_quote.ensures c.if-is_quote.true a.used read.ensures.0)),
     )
@@ -48,7 +48,7 @@ returns-then-is_quote c =
           c.skip_whitespace_and_comments-quote.ensures c.peek_char-2.ensures c.is_quote.ensures c.if-is_quote.true a.used read.ensures.0
           c.in-Closed.next c.in-Closed.n c.in-Closed.is),
       read.ensures.1
-          ∙ sym (ap (sets a.store.now a.used) (more-stored a.s.now a.here.at c.skip_whitespace_and_comments-plus.ensures
+          ∙ sym (ap (sets a.store.now a.used) (more_stored a.s.now a.here.at c.skip_whitespace_and_comments-plus.ensures
           c.peek_char.ensures c.if-peek_char-ne-PLUS.false c.skip_whitespace_and_comments-quote.ensures c.peek_char-2.ensures
           c.is_quote.ensures c.if-is_quote.true a.used read.ensures.0)),
     )
@@ -57,6 +57,6 @@ pub returns : goal.returns
 unfolding more_answer more_bytes
 returns c =
     let a = c.args in
-    let e = more-bare a.s.now a.here.at c.skip_whitespace_and_comments-plus.ensures c.peek_char.ensures c.if-peek_char-ne-PLUS.false
+    let e = more_bare a.s.now a.here.at c.skip_whitespace_and_comments-plus.ensures c.peek_char.ensures c.if-peek_char-ne-PLUS.false
     c.skip_whitespace_and_comments-quote.ensures c.peek_char-2.ensures c.is_quote.ensures c.if-is_quote.false in
     (sym (ap (more_answer a.used) e), sym (ap (λ t. sets a.store.now a.used (more_bytes t)) e))

@@ -1,5 +1,4 @@
-use Prim.Native.Nat.{◌-◌}
-use Rattle.text_value.proofs.JoinLaws.{join_begun, join_long, join-nearer, join_more, join-done, join-cut}
+use Rattle.text_value.proofs.JoinLaws.{join_begun, join_long, join_nearer, join_more, join_done, join_cut}
 use mathlib.Core.Path.{◌∙◌}
 use native.Mathlib.Omega.{arith}
 use Rattle.text_value.proofs.read_parts.Goals as goal
@@ -12,7 +11,7 @@ read_part-requires c = (c.requires.0, omega (arith, join_long c.loop-next.invari
 
 pub loop-next-smaller : goal.loop-next-smaller
 loop-next-smaller c =
-    join-nearer c.loop-next.invariant c.read_part.ensures.0 c.in-Added.next c.in-Added.m c.in-Added.is
+    join_nearer c.loop-next.invariant c.read_part.ensures.0 c.in-Added.next c.in-Added.m c.in-Added.is
 
 pub loop-next-preserved : goal.loop-next-preserved
 loop-next-preserved c =
@@ -26,7 +25,7 @@ shape_of-store-in-Last c =
 pub returns-in-Last : goal.returns-in-Last
 returns-in-Last c =
     let read = c.read_part in
-    join-done c.loop-next.invariant read.ensures.0 read.ensures.1 c.in-Last.end c.in-Last.is
+    join_done c.loop-next.invariant read.ensures.0 read.ensures.1 c.in-Last.end c.in-Last.is
 
 pub shape_of-store-in-Cut : goal.shape_of-store-in-Cut
 shape_of-store-in-Cut c =
@@ -35,4 +34,4 @@ shape_of-store-in-Cut c =
 pub returns-in-Cut : goal.returns-in-Cut
 returns-in-Cut c =
     let read = c.read_part in
-    join-cut c.loop-next.invariant read.ensures.0 read.ensures.1 c.in-Cut.end c.in-Cut.is
+    join_cut c.loop-next.invariant read.ensures.0 read.ensures.1 c.in-Cut.end c.in-Cut.is

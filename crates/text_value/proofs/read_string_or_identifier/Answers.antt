@@ -4,8 +4,8 @@
 use Rattle.text.proofs.Laws.{gap_from}
 use Rattle.text_string.proofs.StrLaws.{whole_size, closed_answer, cut_answer}
 use Rattle.text_string.specs.Str.{str_at, bytes_of}
-use Rattle.text_value.proofs.JoinLaws.{closed-string, closed-cut, closed_name}
-use Rattle.text_value.proofs.JoinLaws.{value-string, value-cut, value_other, read_joined, sets_twice}
+use Rattle.text_value.proofs.JoinLaws.{closed_string_lem, closed_cut, closed_name}
+use Rattle.text_value.proofs.JoinLaws.{value_string, value_cut, value_other, read_joined, sets_twice}
 use Rattle.text_value.specs.Value.{joined, closed_from, value_answer, value_bytes}
 use lib.Seq.{sets}
 use mathlib.Core.Path.{sym, ap, ap₂, ◌∙◌}
@@ -24,8 +24,8 @@ returns-in_default c =
     let read = c.read_quoted_string in
     let g = c.skip_whitespace_and_comments-first in
     let m = cut_answer a.used (str_at a.s.now g.result.at) (sym read.ensures.0 ∙ c.in_default.is) in
-    let e = value-cut a.s.now a.here.at g.ensures c.peek_char.ensures c.is_quote.ensures c.if-is_quote.true m.0 in
-    let y = closed-cut a.s.now a.here.at g.ensures c.peek_char.ensures c.is_quote.ensures c.if-is_quote.true m.0 in (
+    let e = value_cut a.s.now a.here.at g.ensures c.peek_char.ensures c.is_quote.ensures c.if-is_quote.true m.0 in
+    let y = closed_cut a.s.now a.here.at g.ensures c.peek_char.ensures c.is_quote.ensures c.if-is_quote.true m.0 in (
       sym (ap₂ (value_answer a.used) y e),
       read.ensures.1 ∙ ap (sets a.store.now a.used) m.1 ∙ sym (ap (λ v. sets a.store.now a.used (value_bytes v)) e),
     )
@@ -49,9 +49,9 @@ returns-then-is_quote c =
     let str = str_at a.s.now g.result.at in
     let m = closed_answer a.used str c.in-Closed.next c.in-Closed.n (sym read.ensures.0 ∙ c.in-Closed.is) in
     let j = joined a.s.now c.in-Closed.next.at in
-    let e = value-string a.s.now a.here.at g.ensures c.peek_char.ensures c.is_quote.ensures c.if-is_quote.true (bytes_of str)
+    let e = value_string a.s.now a.here.at g.ensures c.peek_char.ensures c.is_quote.ensures c.if-is_quote.true (bytes_of str)
     c.in-Closed.next.at m.0 in
-    let y = closed-string a.s.now a.here.at g.ensures c.peek_char.ensures c.is_quote.ensures c.if-is_quote.true (bytes_of str)
+    let y = closed_string_lem a.s.now a.here.at g.ensures c.peek_char.ensures c.is_quote.ensures c.if-is_quote.true (bytes_of str)
     c.in-Closed.next.at m.0 in (
       read_joined a.used c.in-Closed.n (closed_from a.s.now c.in-Closed.next.at) (bytes_of str) j all.result all.ensures.0 m.1
           ∙ sym (ap₂ (value_answer a.used) y e),

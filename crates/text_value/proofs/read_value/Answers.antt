@@ -1,7 +1,7 @@
 -- `text_value::read_value`. What the value's answer says of the value, and whether it closes, is all that the answer here needs; the store is
 -- as the value left it.
 -- Assumes nothing.
-use Rattle.text_value.proofs.ArgumentLaws.{argument_cut, argument-missing, argument_read_cut, argument_read}
+use Rattle.text_value.proofs.ArgumentLaws.{argument_cut, argument_missing, argument_read_cut, argument_read}
 use mathlib.Core.Path.{sym}
 use Rattle.text_value.proofs.read_value.Goals as goal
 
@@ -18,7 +18,7 @@ pub returns-in_default : goal.returns-in_default
 returns-in_default c =
     let a = c.args in
     let v = c.read_string_or_identifier-got in (
-      sym (argument-missing a.whole a.s.now a.here.at a.used a.keyword v.ensures.0 c.value_closed.ensures
+      sym (argument_missing a.whole a.s.now a.here.at a.used a.keyword v.ensures.0 c.value_closed.ensures
           c.breaks_off.ensures c.if-breaks_off.false c.in_default.field-0 c.in_default.field-1 c.in_default.is c.value_end-c.ensures c.peek_char.ensures
           c.refused_at.ensures),
       v.ensures.1,

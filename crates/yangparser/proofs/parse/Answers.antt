@@ -1,5 +1,5 @@
 use Prim.Native.Nat.{◌-◌}
-use Rattle.yangparser.proofs.LoopLaws.{read_begun, read-long, read-room, read-nearer, read_more, read_done, read-refused}
+use Rattle.yangparser.proofs.LoopLaws.{read_begun, read_long, read_room, read_nearer, read_more, read_done, read_refused}
 use mathlib.Core.Path.{◌∙◌}
 use native.Mathlib.Omega.{arith}
 use Rattle.yangparser.proofs.parse.Goals as goal
@@ -9,12 +9,12 @@ loop-next-init c = read_begun
 
 pub parse_next-requires : goal.parse_next-requires
 parse_next-requires c =
-    let l = read-long c.loop-next.invariant in
-    (c.requires.0, read-room c.loop-next.invariant, omega (arith, l), c.requires.2, omega (arith, l), omega (arith, l))
+    let l = read_long c.loop-next.invariant in
+    (c.requires.0, read_room c.loop-next.invariant, omega (arith, l), c.requires.2, omega (arith, l), omega (arith, l))
 
 pub loop-next-smaller : goal.loop-next-smaller
 loop-next-smaller c =
-    read-nearer c.loop-next.invariant c.parse_next.ensures c.in-On.next c.in-On.is
+    read_nearer c.loop-next.invariant c.parse_next.ensures c.in-On.next c.in-On.is
 
 pub loop-next-preserved : goal.loop-next-preserved
 loop-next-preserved c =
@@ -22,15 +22,15 @@ loop-next-preserved c =
 
 pub shape_of-store-in-Done : goal.shape_of-store-in-Done
 shape_of-store-in-Done c =
-    c.parse_next.auto.store ∙ (read-long c.loop-next.invariant).0
+    c.parse_next.auto.store ∙ (read_long c.loop-next.invariant).0
 
 pub shape_of-imports-in-Done : goal.shape_of-imports-in-Done
 shape_of-imports-in-Done c =
-    c.parse_next.auto.imports ∙ (read-long c.loop-next.invariant).1
+    c.parse_next.auto.imports ∙ (read_long c.loop-next.invariant).1
 
 pub shape_of-includes-in-Done : goal.shape_of-includes-in-Done
 shape_of-includes-in-Done c =
-    c.parse_next.auto.includes ∙ (read-long c.loop-next.invariant).2
+    c.parse_next.auto.includes ∙ (read_long c.loop-next.invariant).2
 
 pub returns-in-Done : goal.returns-in-Done
 returns-in-Done c =
@@ -38,16 +38,16 @@ returns-in-Done c =
 
 pub shape_of-store-in-Stop : goal.shape_of-store-in-Stop
 shape_of-store-in-Stop c =
-    c.parse_next.auto.store ∙ (read-long c.loop-next.invariant).0
+    c.parse_next.auto.store ∙ (read_long c.loop-next.invariant).0
 
 pub shape_of-imports-in-Stop : goal.shape_of-imports-in-Stop
 shape_of-imports-in-Stop c =
-    c.parse_next.auto.imports ∙ (read-long c.loop-next.invariant).1
+    c.parse_next.auto.imports ∙ (read_long c.loop-next.invariant).1
 
 pub shape_of-includes-in-Stop : goal.shape_of-includes-in-Stop
 shape_of-includes-in-Stop c =
-    c.parse_next.auto.includes ∙ (read-long c.loop-next.invariant).2
+    c.parse_next.auto.includes ∙ (read_long c.loop-next.invariant).2
 
 pub returns-in-Stop : goal.returns-in-Stop
 returns-in-Stop c =
-    read-refused c.loop-next.invariant c.parse_next.ensures c.in-Stop.r c.in-Stop.is
+    read_refused c.loop-next.invariant c.parse_next.ensures c.in-Stop.r c.in-Stop.is

@@ -13,5 +13,5 @@ returns-in-Refused c =
     entry_refused a.whole a.s.now a.short a.store.now a.imports.now a.includes.now
     c.clear_bytes.ensures c.clear_words.ensures c.clear_words-2.ensures
     c.clear_bytes.auto.t c.clear_words.auto.t c.clear_words-2.auto.t
-    c.scan_over-parsed.ensures c.in-Refused.field-0 c.in-Refused.is kept.1.1.1.0 kept.1.1.1.1.0 kept.1.1.1.1.1.0
+    c.scan_over-parsed.ensures c.in-Refused.field-0 c.in-Refused.is kept.store kept.imports kept.includes
     c.clear_bytes-in-Refused.ensures c.clear_words-in-Refused.ensures c.clear_words-in-Refused-2.ensures

@@ -1,6 +1,6 @@
 -- `library_form::ImageCursor::name`. Each way out is one law of Names.
 -- Assumes nothing.
-use Rattle.library_form.proofs.Names.{no_number, first-in, empty, long, cut, unprintable, whole}
+use Rattle.library_form.proofs.Names.{no_number, first_in, empty, long, cut, unprintable, whole}
 use Rattle.library_form.proofs.ImageCursor.name.Goals as goal
 
 pub returns-in_default : goal.returns-in_default
@@ -13,7 +13,7 @@ pub returns-then-len-gt-MOST_NAME : goal.returns-then-len-gt-MOST_NAME
 returns-then-len-gt-MOST_NAME c = search long
 
 pub overflow_sub-s : goal.overflow_sub-s
-overflow_sub-s c = search first-in
+overflow_sub-s c = search first_in
 
 pub returns-then-s-first : goal.returns-then-s-first
 returns-then-s-first c = search cut

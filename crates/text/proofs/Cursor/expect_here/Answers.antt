@@ -1,6 +1,6 @@
 -- `text::Cursor::expect_here`. What stands here is the byte, the end, or another byte: one law for each.
 -- Assumes nothing.
-use Rattle.text.proofs.DueLaws.{here_after, here_end, here-other}
+use Rattle.text.proofs.DueLaws.{here_after, here_end, here_other}
 use Rattle.text.proofs.Here.{here}
 use mathlib.Core.Path.{sym}
 use native.Mathlib.Omega.{arith}
@@ -16,4 +16,4 @@ pub returns-then-c-eq-END : goal.returns-then-c-eq-END
 returns-then-c-eq-END c = sym (search here_end)
 
 pub returns : goal.returns
-returns c = sym (search here-other)
+returns c = sym (search here_other)

@@ -1,0 +1,46 @@
+-- `graph_marks::mark_item`. Each way out is one law of Setting.
+-- Assumes nothing.
+use Rattle.graph_marks.proofs.Setting.{end_in, end_fits, row_low, node_low, at_bytes, at_in, next_fits, next_bytes, next_in, mark_nowhere, mark_other}
+use Rattle.graph_marks.proofs.Setting.{mark_entry, mark_sub}
+use borrow.Author.Rules.{rules}
+use mathlib.Core.Path.{refl}
+use Rattle.graph_marks.proofs.mark_item.Goals as goal
+
+pub overflow_add-end : goal.overflow_add-end
+overflow_add-end c = search end_fits
+
+pub slice_bounds-find-end : goal.slice_bounds-find-end
+slice_bounds-find-end c = search end_in
+
+pub returns-in_default : goal.returns-in_default
+returns-in_default c = (search mark_nowhere, refl)
+
+pub node_of-requires : goal.node_of-requires
+node_of-requires c = search row_low
+
+pub pair_row-at-requires : goal.pair_row-at-requires
+pair_row-at-requires c = search node_low
+
+pub offset_bounds-marks-at : goal.offset_bounds-marks-at
+offset_bounds-marks-at c = search at_bytes
+
+pub bounds-marks-at : goal.bounds-marks-at
+bounds-marks-at c = search at_in
+
+pub returns-then-is_entry : goal.returns-then-is_entry
+returns-then-is_entry c = (search mark_entry, search rules)
+
+pub returns-then-x-ne-SUBMODULE : goal.returns-then-x-ne-SUBMODULE
+returns-then-x-ne-SUBMODULE c = (search mark_other, refl)
+
+pub overflow_add-marks : goal.overflow_add-marks
+overflow_add-marks c = search next_fits
+
+pub offset_bounds-marks-at-2 : goal.offset_bounds-marks-at-2
+offset_bounds-marks-at-2 c = search next_bytes
+
+pub bounds-marks-at-2 : goal.bounds-marks-at-2
+bounds-marks-at-2 c = search next_in
+
+pub returns : goal.returns
+returns c = (search mark_sub, search rules)
