@@ -19,34 +19,50 @@ sys.dont_write_bytecode = True
 sys.path.insert(0, str(HERE.parent / "first"))
 from terminal import Terminal  # noqa: E402
 
-# Each crate takes PAUSE seconds, in the background as with rt, and so does the archive, which is half there meanwhile. What it reads is not the caller's.
-STAND_IN = """#!/bin/sh
+# As rt does: `lib` in the folder of a crate proves those that it depends on, each behind its own ones, says nothing of one that is as it was (KEPT), and then
+# proves the crate; of a static library it writes the archive. Each crate takes PAUSE seconds, in the background, and so does the archive, which is half there
+# meanwhile. What it reads is not the caller's.
+STAND_IN = r"""#!/bin/sh
 cat >/dev/null
-echo "$*" >>"$CALLS"
+echo "$* in ${PWD##*/}" >>"$CALLS"
+below() {
+    for it in $(sed -n "s/^$1\( staticlib\)*://p" ../../crates.txt); do [ ! -d "../$it" ] || { (below "$it") && echo "$it"; }; done
+}
 case $1 in
-doc) echo "$KIT/docs/START-HERE.md" ;;
-check)
-    shift
-    for crate in "$@"; do
+doc) echo "$KIT/START-HERE.md" ;;
+lib)
+    name=${PWD##*/}
+    is_static=$(grep "^$name staticlib:" ../../crates.txt)
+    archive=out/lib$name.a
+    mkdir -p out
+    [ -z "$is_static" ] || echo half >"$archive"
+    for crate in $(below "$name" | awk '!seen[$0]++') "$name"; do
+        case " ${KEPT:-} " in *" $crate "*) continue ;; esac
         sleep "$PAUSE" &
         wait
         echo "fn $crate::f: proved"
-        [ "$crate" != "${FAILS:-}" ] || { echo "rt: $crate NOT PROVED (exit 1, 3 s)" && exit 1; }
-        echo "rt: $crate proved (7 s)"
+        echo "library another: modules loaded=3 checked=0"
+        echo "crate $crate: modules loaded=0 checked=3"
+        [ "$crate" != "${FAILS:-}" ] || { echo "logic=not-proved" && echo "rt: the library $crate did not build, so nothing above it was checked" >&2 && exit 1; }
+        echo "logic=proved functions=1"
     done
-    ;;
-staticlib)
-    echo half >"target/staticlib/lib$2.a"
     while [ -n "${HELD_BY:-}" ] && [ ! -e "$HELD_BY" ]; do sleep 0.05; done
     sleep "$PAUSE" &
     wait
-    echo "whole $(cat "$CALLS" | wc -l)" >"target/staticlib/lib$2.a"
+    [ -z "$is_static" ] || echo "whole $(cat "$CALLS" | wc -l)" >"$archive"
+    # What compiles it, in the kit in which this program lies.
+    "$(dirname "$(readlink -f "$0")")/../toolchain/bin/clang" --target=x86_64-unknown-linux-gnu -march=x86-64 -Werror -c "a module.bc"
     ;;
+*) exit 2 ;;
 esac
 """
-FILES = {"crates.txt": "# floor\nlow:\nmiddle: low\nprobe: middle io\nother: low\n", "crates/low/src/lib.rt": "low", "crates/middle/src/lib.rt": "middle",
-         "crates/middle/specs/Lib.antt": "specs", "crates/middle/proofs/deep/Proof.antt": "proof", "crates/probe/src/lib.rt": "probe",
-         "crates/other/src/lib.rt": "other", "elsewhere": "linked"}
+CLANG = """#!/bin/sh
+echo "clang $*" >>"$CALLS"
+echo 'a warning' >&2
+"""
+FILES = {"crates.txt": "# floor\nlow:\nmiddle: low\nprobe: middle io\nprobe_c staticlib: low probe\nother: low\n", "crates/low/src/lib.rt": "low",
+         "crates/middle/src/lib.rt": "middle", "crates/middle/specs/Lib.antt": "specs", "crates/middle/proofs/deep/Proof.antt": "proof",
+         "crates/probe/src/lib.rt": "probe", "crates/probe_c/src/lib.rt": "probe_c", "crates/other/src/lib.rt": "other", "elsewhere": "linked"}
 
 
 class Repository(unittest.TestCase):
@@ -60,9 +76,11 @@ class Repository(unittest.TestCase):
         self.repository = self.room / "a repository"
         for name, text in self.FILES.items():
             self.write(name, text)
-        self.program("rt", STAND_IN)
-        (self.room / "kit/docs").mkdir(parents=True)
-        (self.room / f"kit/on/{os.uname().machine}/toolchain/bin").mkdir(parents=True)
+        self.program("kit/bin/rt", STAND_IN)
+        self.program("kit/toolchain/bin/clang", CLANG)
+        (self.room / "kit/bin/rtlib.py").touch()
+        (self.room / "bin").mkdir()
+        os.symlink(self.room / "kit/bin/rt", self.room / "bin/rt")
         self.env = {**os.environ, "PATH": f"{self.room}/bin:{os.environ['PATH']}", "CALLS": f"{self.room}/calls", "KIT": f"{self.room}/kit", "PAUSE": "0"}
 
     def write(self, name, text):
@@ -71,8 +89,8 @@ class Repository(unittest.TestCase):
         path.write_text(text)
 
     def program(self, name, text):
-        path = self.room / "bin" / name
-        path.parent.mkdir(exist_ok=True)
+        path = self.room / name
+        path.parent.mkdir(parents=True, exist_ok=True)
         path.write_text(text)
         path.chmod(0o755)
 
@@ -123,6 +141,7 @@ class Archive(Repository):
         super().setUp()
         os.symlink(self.repository / "elsewhere", self.repository / "crates/low/src/linked.rt")
         self.archive = self.repository / "target/staticlib/libprobe.a"
+        self.made = self.repository / "crates/probe_c/out/libprobe_c.a"
 
     def words(self, processor="x86_64"):
         return [str(HERE / "archive.sh"), "--kept", "probe", processor]
@@ -148,7 +167,8 @@ class Archive(Repository):
     def test_what_is_a_source_is_not(self):
         self.run_piped()
         for name in ("crates/probe/src/lib.rt", "crates/low/src/lib.rt", "crates/middle/specs/Lib.antt", "crates/middle/proofs/deep/Proof.antt", "elsewhere",
-                     "crates/middle/src/new.rt", "crates/probe/specs/Lib.antt", "crates/probe/proofs/new/Proof.antt", "target/staticlib/libprobe.a"):
+                     "crates/middle/src/new.rt", "crates/probe/specs/Lib.antt", "crates/probe/proofs/new/Proof.antt", "crates/probe_c/src/lib.rt",
+                     "target/staticlib/libprobe.a"):
             self.write(name, "changed")
             self.assertFalse(self.is_kept(), name)
             self.assertTrue(self.is_kept(), name)
@@ -159,12 +179,31 @@ class Archive(Repository):
         (self.repository / "crates/middle/src/named.rt").unlink()
         self.assertFalse(self.is_kept())
 
-    def test_what_is_depended_on_is_proved_first(self):
+    def test_it_is_made_of_the_static_library(self):
         self.run_piped()
-        self.assertEqual([sorted(self.calls()[0]), self.calls()[1]], [["check", "low", "middle"], ["staticlib", "probe"]])
-        self.write("crates.txt", "probe:\n")
-        self.run_piped()  # `rt check` with no name is all crates
-        self.assertEqual(self.calls()[2:], [["staticlib", "probe"]])
+        self.assertEqual(self.calls()[0], ["lib", "in", "probe_c"])
+        self.assertEqual((self.text_of(self.archive), self.made.exists()), ("whole 1\n", False))
+        self.write("crates.txt", FILES["crates.txt"].replace("probe_c staticlib:", "probe_c:").replace("probe:", "probe staticlib:"))
+        self.run_piped()
+        self.assertEqual([call[0] for call in self.calls()], ["lib", "clang"] * 2)
+        self.assertEqual(self.calls()[2], ["lib", "in", "probe"])
+        self.write("crates.txt", "other:\n")
+        ran = self.run_piped()
+        self.assertEqual((ran.returncode, ran.stdout, ran.stderr), (2, "", "archive: crates.txt has no crate probe\n"))
+
+    def test_another_processor(self):
+        for processor, lib, clang in (
+                ("x86_64", "lib", "--target=x86_64-unknown-linux-gnu -march=x86-64 -Werror -c a module.bc"),
+                ("aarch64", "lib --target aarch64-unknown-linux-gnu", "--target=x86_64-unknown-linux-gnu -march=x86-64 -Werror -c a module.bc"),
+                ("riscv64", "lib", "--target=riscv64-unknown-linux-gnu -Wno-override-module -c a module.bc")):
+            ran = self.piped(*self.words(processor))
+            where = self.archive.parent / ("" if processor == "x86_64" else processor)
+            self.assertEqual((ran.returncode, ran.stdout), (0, f"{where}/libprobe.a\n"), ran.stderr)
+            self.assertEqual([" ".join(call) for call in self.calls()[-2:]], [f"{lib} in probe_c", f"clang {clang}"])
+        ran = self.piped(str(HERE / "archive.sh"), "--covered", "probe", "x86_64")
+        self.assertEqual((ran.returncode, ran.stdout), (0, f"{self.archive.parent}/covered/x86_64/libprobe.a\n"))
+        self.assertRegex(" ".join(self.calls()[-1]), r"^clang --target=x86_64-unknown-linux-gnu -march=x86-64 -Werror -c a module.bc -fsanitize-coverage=\S+$")
+        self.assertTrue(self.is_kept())  # all of them stand beside each other
 
     def test_a_pipe_has_one_line(self):
         ran = self.run_piped()
@@ -176,26 +215,38 @@ class Archive(Repository):
         terminal = self.on_terminal(*self.words(), PAUSE="1.1")
         self.assertEqual(terminal.end(WAIT), 0)
         lines = [line for _, line in terminal.lines]
-        self.assertEqual(lines[:3], ["probe: proving and building, once; this takes some minutes", "1 of 3, low, 7 s", "2 of 3, middle, 7 s"])
-        self.assertRegex(lines[3], r"^3 of 3, probe, \d+ s$")
-        self.assertEqual(lines[4:], [str(self.archive)])
-        self.assertRegex(" ".join(terminal.held.values()), r"0 of 3 proved, \d+ s so far.*2 of 3 proved, \d+ s so far")
+        self.assertEqual(lines[0], "probe: proving and building, once; this takes some minutes")
+        for line, told in zip(lines[1:], ("1 of 4, low", "2 of 4, middle", "3 of 4, probe", "4 of 4, probe_c")):
+            self.assertRegex(line, rf"^{told}, [12] s$")
+        self.assertEqual(lines[5:], [str(self.archive)])
+        self.assertRegex(" ".join(terminal.held.values()), r"0 of 4 proved, \d+ s so far.*2 of 4 proved, \d+ s so far")
+
+    def test_crates_that_are_as_they_were_are_counted_with_the_next_one(self):
+        terminal = self.on_terminal(*self.words(), KEPT="low probe")
+        self.assertEqual(terminal.end(WAIT), 0)
+        self.assertEqual([line[:4] + line.split(",")[1] for _, line in terminal.lines[1:-1]], ["2 of middle", "4 of probe_c"])
 
     def test_a_plain_terminal_has_no_line_that_is_written_over(self):
         terminal = self.on_terminal(*self.words(), PAUSE="0.1", TERM="dumb")
         self.assertEqual(terminal.end(WAIT), 0)
         self.assertEqual(terminal.held, {})
-        self.assertEqual([line for _, line in terminal.lines][1], "1 of 3, low, 7 s")
+        self.assertRegex([line for _, line in terminal.lines][1], r"^1 of 4, low, [01] s$")
 
-    def text_of_archive(self):
+    @staticmethod
+    def text_of(path):
         try:
-            return self.archive.read_text()
+            return path.read_text()
         except FileNotFoundError:
             return None
 
+    def is_half(self):
+        """Whether rt is at the archive."""
+        return self.text_of(self.made) == "half\n"
+
     def interrupted(self, seen, how, processor="x86_64"):
         """A call that is ended once `seen` is true leaves no process and no archive but the one that was there; the next one goes through."""
-        before = self.text_of_archive()
+        before = self.text_of(self.archive)
+        self.made.unlink(missing_ok=True)
         # The terminal's own shell stays: with it the system would end all that is left on the terminal.
         terminal = self.on_terminal("sh", "-c", 'trap : INT TERM; "$@"; echo "ended $?"; read -r _', "sh", *self.words(processor), PAUSE="30")
         self.assertTrue(terminal.until(seen, WAIT))
@@ -206,17 +257,16 @@ class Archive(Repository):
         terminal.end(WAIT)
         there = sorted(str(path.relative_to(self.archive.parent)) for path in self.archive.parent.rglob("*") if path.is_file())
         self.assertEqual(there, [] if before is None else ["libprobe.a", "libprobe.a.sums"])
-        self.assertEqual(self.text_of_archive(), before)
+        self.assertEqual(self.text_of(self.archive), before)
 
     def test_an_interrupt_leaves_nothing(self):
         def half(_):
-            return self.text_of_archive() == "half\n"
+            return self.is_half()
 
         def proving(terminal):
             return "proved" in terminal.last
         self.interrupted(proving, Terminal.interrupt)
         self.interrupted(proving, lambda terminal: os.killpg(terminal.pid, signal.SIGTERM))
-        self.write("crates.txt", "probe:\n")  # so that the archive comes at once
         self.interrupted(half, Terminal.interrupt)
         self.assertEqual(self.run_piped().returncode, 0)
         self.write("crates/probe/src/lib.rt", "changed")
@@ -233,7 +283,7 @@ class Archive(Repository):
     def test_a_source_that_changes_meanwhile(self):
         held_by, begun = self.held()
         with subprocess.Popen(self.words(), **begun) as first:
-            self.until(lambda: self.text_of_archive() == "half\n")
+            self.until(self.is_half)
             self.write("crates/probe/src/lib.rt", "changed")
             held_by.touch()
             self.assertEqual(first.communicate(timeout=WAIT)[0], f"{self.archive}\n")
@@ -242,7 +292,7 @@ class Archive(Repository):
     def test_a_call_that_was_killed(self):
         self.run_piped()
         with subprocess.Popen(self.words("riscv64"), **self.held()[1]):
-            self.until(lambda: self.text_of_archive() == "half\n")
+            self.until(self.is_half)
             while processes := self.begun():
                 for process in processes:
                     with contextlib.suppress(ProcessLookupError):  # some last a moment only
@@ -259,17 +309,19 @@ class Archive(Repository):
                 held_by.touch()
                 told = [one.communicate(timeout=WAIT) for one in (first, second)]
         self.assertEqual(told, [(f"{self.archive}\n", "")] * 2)
-        self.assertEqual(len(self.calls()), 2)  # check and staticlib, once
+        self.assertEqual([call[0] for call in self.calls()], ["lib", "clang"])  # once
 
     def test_a_proof_that_fails_is_shown(self):
         ran = self.run_piped(FAILS="middle")
         self.assertEqual((ran.returncode, ran.stdout), (1, ""))
-        said = ["fn low::f: proved", "rt: low proved (7 s)", "fn middle::f: proved", "rt: middle NOT PROVED (exit 1, 3 s)"]
-        self.assertEqual(ran.stderr.splitlines()[1:], said)
+        last = "rt: the library middle did not build, so nothing above it was checked"
+        said = [line for crate in ("low", "middle") for line in (f"fn {crate}::f: proved", "library another: modules loaded=3 checked=0",
+                                                                  f"crate {crate}: modules loaded=0 checked=3")]
+        self.assertEqual(ran.stderr.splitlines()[1:], [*said[:3], "logic=proved functions=1", *said[3:], "logic=not-proved", last])
         self.assertFalse(self.archive.exists())
         terminal = self.on_terminal(*self.words(), FAILS="middle")
         self.assertEqual(terminal.end(WAIT), 1)
-        self.assertEqual([line for _, line in terminal.lines][-1], "rt: middle NOT PROVED (exit 1, 3 s)")
+        self.assertEqual([line for _, line in terminal.lines][-1], last)
 
     def test_no_rt(self):
         ran = self.run_piped(PATH=self.bare())
@@ -294,7 +346,8 @@ COPIED = ["nuvaleta", *(f"host/archive/{name}" for name in ("archive.sh", "prove
 
 
 class Command(Repository):
-    FILES = {"crates.txt": "nuvaleta:\n", "crates/nuvaleta/src/lib.rt": "nuvaleta", "host/pack/pack": PACK, "host/rust/src/main.rs": "main",
+    FILES = {"crates.txt": "nuvaleta:\nnuvaleta_c staticlib: nuvaleta\n", "crates/nuvaleta/src/lib.rt": "nuvaleta",
+             "crates/nuvaleta_c/src/lib.rt": "nuvaleta_c", "host/pack/pack": PACK, "host/rust/src/main.rs": "main",
              "host/vectors/src/form.rs": "form",
              "host/rust/src/help/nuvaleta.txt": "all\n", "host/rust/src/help/pack.txt": "usage: nuvaleta pack\n",
              "host/rust/src/help/novel.txt": "usage: nuvaleta novel\n"}
@@ -305,8 +358,8 @@ class Command(Repository):
             self.write(name, (ROOT / name).read_text())
             shutil.copymode(ROOT / name, self.repository / name)
         (self.repository / "host/pack/pack").chmod(0o755)
-        self.program("cargo", CARGO)
-        self.program("cc", "")
+        self.program("bin/cargo", CARGO)
+        self.program("bin/cc", "")
         self.command = self.repository / "host/rust/build/release/nuvaleta"
 
     def expect(self, status, printed, *words, **env):
@@ -379,7 +432,7 @@ class Command(Repository):
         self.expect(0, "2: a\n", "a")
 
     def test_a_build_that_fails(self):
-        self.program("cargo", "#!/bin/sh\necho no >&2\nexit 101\n")
+        self.program("bin/cargo", "#!/bin/sh\necho no >&2\nexit 101\n")
         self.expect(2, "nuvaleta: proving and building, once; this takes some minutes\nno\n", "a")
         self.expect(2, "no\n", "a")
 

@@ -1,24 +1,36 @@
 #!/bin/sh
-# Makes an archive of a small proved crate, links it into a C program and runs that, and sees when it is kept; then makes one that counts what
-# is reached, and one for another processor, and looks at them.
+# Makes an archive of a small proved library by the static library over it, links it into a C program and runs that, and sees when it is kept;
+# then makes one that counts what is reached, and those for other processors, and looks at them.
 set -eu
 here=$(cd "$(dirname "$0")" && pwd)
 "$here/../need" gcc libc6-dev binutils
 work=$(mktemp -d)
 trap 'rm -rf "$work"' EXIT
 cd "$work"
-mkdir -p crates/probe/src
-echo 'probe:' >crates.txt
+mkdir -p crates/probe/src crates/probe_c/src
+printf 'probe:\nprobe_c staticlib: probe\n' >crates.txt
 cat >crates/probe/src/lib.rt <<'X1'
-ghost use mathlib.Core.Path.{_≡_};
-ghost use Prim.Native.Nat.{_+_};
+#![tactic(auto)]
 
-#[no_mangle]
-pub extern "C" fn probe_next(x: u8) -> u32
-    ensures { λ r. ⌜ r ≡ x + 1 ⌝ }
+ghost use Rattle.std.specs.Prelude.{◌≡◌, ◌+◌};
+
+pub fn probe_next(x: u8) -> u32
+    ensures { result ≡ x + 1 }
 {
     let wide = x as u32;
     wide + 1
+}
+X1
+cat >crates/probe_c/src/lib.rt <<'X1'
+#![tactic(auto)]
+
+ghost use Rattle.std.specs.Prelude.{◌≡◌, ◌+◌};
+
+#[unsafe(no_mangle)]
+pub extern "C" fn probe_next(x: u8) -> u32
+    ensures { result ≡ x + 1 }
+{
+    probe::probe_next(x)
 }
 X1
 cat >main.c <<'X1'
@@ -48,8 +60,10 @@ echo >>"$archive"
 objdump -h "$("$here/archive.sh" --covered probe)" | grep -q __sancov_cntrs || { echo "archive: --covered counts nothing" >&2; exit 1; }
 [ "$(kept)" = "$archive" ] || { echo "archive: not kept beside one that counts" >&2; exit 1; }
 
-other=aarch64
-[ "$(uname -m)" = x86_64 ] || other=riscv64
-readelf -h "$("$here/archive.sh" probe $other)" | grep -qi "machine:.*$other\|machine:.*risc" ||
-    { echo "archive: not one for $other" >&2; exit 1; }
-echo "archive: links and runs here, is kept while nothing changes; made with counters and for $other too"
+others=
+for other in aarch64 riscv64; do
+    [ "$(uname -m)" != $other ] || continue
+    readelf -h "$("$here/archive.sh" probe $other)" | grep -qi "machine:.*$other\|machine:.*risc" || { echo "archive: not one for $other" >&2; exit 1; }
+    others="$others and $other"
+done
+echo "archive: links and runs here, is kept while nothing changes; made with counters and for${others# and} too"

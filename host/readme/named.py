@@ -37,7 +37,7 @@ def listed_floors():
             continue
         if colon:
             floors.extend([(heading, [])] if heading else [])
-            floors[-1][1].append(name)
+            floors[-1][1].append(name.split()[0])
         heading = None
     return floors
 

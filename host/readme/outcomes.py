@@ -1,7 +1,7 @@
 #!/usr/bin/env python3
 """outcomes.py: docs/PROMISES.md says of every public function which law gives it one outcome (the table under "One outcome"), and the law fits its promise.
-`equal`: the promise says by equations what is returned and what is left in each buffer that is lent to be written, and the right sides know neither.
-A field of `Views` (crates/demands/specs/OneOutcome.antt): the same, but of that view of what is returned. A field of `OneOutcome`: it
+`equal`: the promise, all clauses of it, says by equations what is returned and what is left in each buffer that is lent to be written, and the right sides
+know neither. A field of `Views` (crates/demands/specs/OneOutcome.antt): the same, but of that view of what is returned. A field of `OneOutcome`: it
 speaks of the record that the promise is. `open`: the function stands in the page's table of what is left open. `system`: it is one of
 crates/replay, and speaks with the system; the page says what it promises. The table under "Inner functions" names each public function that requires
 something, and no other."""
@@ -12,8 +12,10 @@ from pathlib import Path
 ROOT = Path(__file__).resolve().parents[2]
 PAGE = (ROOT / "docs" / "PROMISES.md").read_text()
 LAWS = (ROOT / "crates" / "demands" / "specs" / "OneOutcome.antt").read_text()
-# Its name; parameters and answer; its clauses, of which the braces hold no other ones.
-PUBLIC = re.compile(r'^ *pub (?:extern "C" )?fn (\w+)((?:(?!requires|ensures)[^{])*)((?:\s*(?:requires|ensures) \{[^{}]*(?:\{[^{}]*\}[^{}]*)*\})*)\s*\{', re.M)
+# A clause, which may have a name, and whose braces hold at most one pair within another. Of a function its name; parameters and answer; its clauses.
+CLAUSE = r"\s*(?:requires|ensures)\*?(?: \w+)? \{[^{}]*(?:\{[^{}]*\}[^{}]*)*\}"
+PUBLIC = re.compile(rf'^ *pub (?:extern "C" )?fn (\w+)((?:(?!requires|ensures)[^{{])*)((?:{CLAUSE})*)\s*\{{', re.M)
+ENSURES = re.compile(r"ensures\*?(?: \w+)? \{(.*?)\}(?=\s*(?:requires|ensures|$))", re.S)
 
 
 def told():
@@ -34,7 +36,7 @@ def clauses():
 def written():
     """function of a crate: its parameters and answer, and its promise."""
     for key, (head, text) in clauses():
-        yield key, (head, re.findall(r"ensures \{\s*λ (\w+)\.\s*⌜(.*?)⌝", text, re.S))
+        yield key, (head, [" ".join(promise.split()) for promise in ENSURES.findall(text)])
 
 
 def required():
@@ -47,9 +49,9 @@ def required():
 
 
 def conjuncts(promise):
-    """What stands between the corners, taken apart at each × that no bracket holds."""
+    """A clause, taken apart at each × that no bracket holds."""
     depth, parts = 0, [""]
-    for c in " ".join(promise.split()):
+    for c in promise:
         depth += (c == "(") - (c == ")")
         if c == "×" and depth == 0:
             parts.append("")
@@ -61,37 +63,43 @@ def conjuncts(promise):
 def misfit(head, promises, view):
     """Why the promises are not a list of equations for all that is returned and left, or nothing."""
     left_to_say = set(re.findall(r"(\w+): &(?:'\w+ )?mut", head)) | ({"self"} if re.search(r"&(?:'\w+ )?mut self", head) else set())
-    due = {f"now ({name} .exit)" for name in left_to_say}
+    due = {f"{name}.new" for name in left_to_say}
     told = "->" not in head
-    for answer, promise in promises:
+    for promise in promises:
         for part in conjuncts(promise):
             if re.search(r"[→⊎↔¬]", part) or re.match(r"\w+ : ", part):
                 return f"'{part}' is no equation"
             left, equals, right = part.partition(" ≡ ")
-            if not equals or ".exit" in right or re.search(rf"(?<![\w.]){answer}(?!\w)", right):
+            if not equals or re.search(r"\w\.new\b|(?<![\w.])result\b", right):
                 continue
             due.discard(left)
-            told |= left in ({f"{view} {answer}", f"{answer} {view}"} if view else {answer, f"now {answer}"})
+            told |= left in ({f"{view} result", f"result{view}"} if view else {"result", "result.now"})
     return ", ".join(sorted(due)) if told else "no equation says what is returned"
 
 
 def named(promises, field):
     """What a field must speak of to be about these promises: each one's record; and of a field with a `let`, which is about certain arguments, these too."""
-    for answer, promise in promises:
-        text = re.sub(r"now \(\w+ \.\w+\)|\.\w+", " ", promise)
-        record, *others = (word for word in re.findall(r"[A-Za-z]\w*", text) if word not in {"now", "true", "false", answer})
+    for promise in promises:
+        text = re.sub(r"\b\w+\.\w+", " ", promise)
+        record, *others = (word for word in re.findall(r"[A-Za-z]\w*", text) if word not in {"true", "false", "result"})
         yield record if text.split()[0] == record else "a record, since the promise is none"
         yield from others if " let " in field else ()
 
 
 def test():
     """Promises that leave something open are seen."""
-    assert not misfit("(t: &mut [u8]) -> usize", [("r", "(r ≡ f x) × (now (t .exit) ≡ g x) × (r < 5)")], "")
-    assert not misfit("() -> Number", [("r", "seen r ≡ f x")], "seen")
-    assert misfit("(t: &mut [u8]) -> usize", [("r", "r ≡ f x")], "") == "now (t .exit)"
-    for promise in ("r ≡ f r", "r < 5", "seen r ≡ f x", "(n : ℕ) × (r ≡ f n)", "r ≡ f x → ⊥", "r ≡ f x ⊎ P x", "r ≡ true ↔ P x", "¬ (r ≡ f x)"):
-        assert misfit("() -> usize", [("r", promise)], ""), promise
-    assert misfit("() -> usize", [("r", "x ≡ f y"), ("x", "x < 5")], "") and misfit("(&mut self) -> usize", [("r", "r ≡ f x")], "")
+    assert not misfit("(t: &mut [u8]) -> usize", ["(result ≡ f x) × (t.new ≡ g x) × (result < 5)"], "")
+    assert not misfit("(t: &mut [u8]) -> usize", ["64 ≡ length t.new", "result ≡ f x", "t.new ≡ g x t.old"], "")
+    assert not misfit("() -> Number", ["seen result ≡ f x"], "seen") and not misfit("() -> Node", ["result.at ≡ f x"], ".at")
+    assert misfit("(t: &mut [u8]) -> usize", ["result ≡ f x"], "") == "t.new"
+    assert misfit("(t: &mut [u8]) -> usize", ["result ≡ f x", "t.new ≡ g t.new"], "") == "t.new"
+    for promise in ("result ≡ f result", "result < 5", "seen result ≡ f x", "(n : ℕ) × (result ≡ f n)", "result ≡ f x → ⊥", "result ≡ f x ⊎ P x",
+                    "result ≡ true ↔ P x", "¬ (result ≡ f x)", "result.at ≡ f x", "n ≡ f x"):
+        assert misfit("() -> usize", [promise], ""), promise
+    assert misfit("(&mut self) -> usize", ["result ≡ f x"], "") == "self.new"
+    text = "pub fn f(t: &mut [u8]) -> u8\n    requires a { P }\n    ensures b { Q { x } }\n    ensures { result ≡ y }\n{\n    t[0]\n}\n"
+    (name, _, clauses), = PUBLIC.findall(text)
+    assert (name, [promise.strip() for promise in ENSURES.findall(clauses)]) == ("f", ["Q { x }", "result ≡ y"])
 
 
 def main():
@@ -107,7 +115,7 @@ def main():
             faults.append(f"{name}: " + ("the table does not have it" if law is None else "there is no such public function"))
         elif law == "equal" or law in views:
             view = views.get(law, "")
-            view = f"{view.split()[0]} (now (s .entry))" if view.endswith(" s") else view
+            view = f"{view.split()[0]} s.now" if view.endswith(" s") else view
             fault = misfit(*functions[key], view)
             faults += [f"{name}: {law}: {fault}"] if fault else []
         elif law == "open":

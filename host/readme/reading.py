@@ -28,7 +28,7 @@ TOPICS = [
     ("what an order is, by edges alone", set(), ["demands_order/Order", "demands/OrderCalls"]),
     ("document 01's starred examples", set(), ["demands/Starred"]),
 ]
-USE = re.compile(r"use Rattle·([a-z_0-9]+)(?:·specs)?\.specs\.(\w+)(?:\.\{([^}]*)\}| as (\w+))$")
+USE = re.compile(r"use Rattle\.([a-z_0-9]+)\.specs\.(\w+)(?:\.\{([^}]*)\}| as (\w+))$")
 DEFINED = re.compile(r"\s*(?:(?:abbrev |unfoldable )*(?:pub )?(\S+) :|(?:pub )?(?:record|data|module) (\S+))")
 TOKEN = re.compile(r"[^\s(){};,]+")
 
@@ -42,7 +42,7 @@ class File:
         self.parts, self.owner, self.imported, self.alias = {}, {}, {}, {}
         for line in parts[0].split("\n"):
             hit = USE.match(line)
-            if hit:
+            if hit and (CRATES / hit[1]).is_dir():  # else it is the kit's
                 self.take(*hit.groups())
         for at, part in enumerate(parts[1:], 1):
             lines = [line for line in part.split("\n") if not line.startswith("--")]
@@ -65,10 +65,12 @@ class File:
             head, _, rest = token.partition(".")
             if head in self.alias and rest:
                 yield self.alias[head], rest
-            elif token in self.imported:
-                yield self.imported[token]
-            elif token in self.owner:
-                yield None, token
+                continue
+            for name in {token, head}:  # a name, or one whose field is taken
+                if name in self.imported:
+                    yield self.imported[name]
+                elif name in self.owner:
+                    yield None, name
 
 
 FILES = {}
