@@ -212,11 +212,7 @@ pub fn nuvaleta_find_submodule(image: &[u8], name: &[u8], answer: &mut [u32; 5])
 }
 
 // An import-only module of an image by its name, and how many revisions it has.
-pub fn nuvaleta_find_import_module(
-    image: &[u8],
-    name: &[u8],
-    answer: &mut [u32; 5],
-) -> u32
+pub fn nuvaleta_find_import_module(image: &[u8], name: &[u8], answer: &mut [u32; 5]) -> u32
     ensures { Told (told_words image_broken (find_import_module image.now name.now)) result answer.new }
 {
     let words = host_words::find_words(library_find::find_import_module(image, name));

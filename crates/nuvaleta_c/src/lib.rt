@@ -162,7 +162,9 @@ pub extern "C" fn nuvaleta_graph(
         nodes.new edges.new store.new imports.new includes.new levels.new
         answer.new }
 {
-    nuvaleta::nuvaleta_graph(image, bundle, nodes, edges, store, imports, includes, levels, answer)
+    nuvaleta::nuvaleta_graph(
+        image, bundle, nodes, edges, store, imports, includes, levels, answer,
+    )
 }
 
 // The same with the submodules of every listing and of every revision as nodes.
@@ -184,7 +186,9 @@ pub extern "C" fn nuvaleta_graph_complete(
         nodes.new edges.new store.new imports.new includes.new levels.new
         answer.new }
 {
-    nuvaleta::nuvaleta_graph_complete(image, bundle, nodes, edges, store, imports, includes, levels, answer)
+    nuvaleta::nuvaleta_graph_complete(
+        image, bundle, nodes, edges, store, imports, includes, levels, answer,
+    )
 }
 
 // The order of registration from a graph's tables, or a ring of nodes that wait for each other.

@@ -1,0 +1,10 @@
+-- `graph_entries::next_entry`. Each way out is one law of Going.
+-- Assumes nothing.
+use Rattle.graph_entries.proofs.Going.{entry_more, entry_same}
+use Rattle.graph_entries.proofs.next_entry.Goals as goal
+
+pub returns-then-is_entry : goal.returns-then-is_entry
+returns-then-is_entry c = search entry_more
+
+pub returns : goal.returns
+returns c = search entry_same

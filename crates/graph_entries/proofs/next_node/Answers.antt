@@ -1,0 +1,14 @@
+-- `graph_entries::next_node`. Each way out is one law of Going.
+-- Assumes nothing.
+use Rattle.graph_entries.proofs.Going.{entry_stands, node_own, node_kept, node_behind}
+use borrow.Author.Rules.{rules}
+use Rattle.graph_entries.proofs.next_node.Goals as goal
+
+pub node_at-requires : goal.node_at-requires
+node_at-requires c = search entry_stands
+
+pub returns-then-is_entry : goal.returns-then-is_entry
+returns-then-is_entry c = (search node_own, search rules)
+
+pub returns : goal.returns
+returns c = (search node_kept, search node_behind)

@@ -1,0 +1,10 @@
+-- `nuvaleta_find_submodule`. What was told, in words, and the first of them.
+-- Assumes nothing.
+use Rattle.nuvaleta.proofs.ToldLaws.{submodule_fits, told_as}
+use Rattle.nuvaleta.proofs.nuvaleta_find_submodule.Goals as goal
+
+pub find_words-words-requires : goal.find_words-words-requires
+find_words-words-requires c = search submodule_fits
+
+pub returns : goal.returns
+returns c = search told_as
