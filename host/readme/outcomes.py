@@ -3,8 +3,8 @@
 `equal`: the promise, all clauses of it, says by equations what is returned and what is left in each buffer that is lent to be written, and the right sides
 know neither. A field of `Views` (crates/demands/specs/OneOutcome.antt): the same, but of that view of what is returned. A field of `OneOutcome`: it
 speaks of the record that the promise is. `open`: the function stands in the page's table of what is left open. `system`: it is one of
-crates/replay, and speaks with the system; the page says what it promises. The table under "Inner functions" names each public function that requires
-something, and no other."""
+crates/host_input or crates/replay, and speaks with the system; the page says what it promises. The table under "Inner functions" names each public function
+that requires something, and no other."""
 import re
 import sys
 from pathlib import Path
@@ -121,7 +121,7 @@ def main():
         elif law == "open":
             faults += [] if name in left_open else [f"{name}: not in the table of what is left open"]
         elif law == "system":
-            faults += [] if key[0] == "replay" else [f"{name}: only crates/replay speaks with the system"]
+            faults += [] if key[0] in ("host_input", "replay") else [f"{name}: only crates/host_input and crates/replay speak with the system"]
         else:
             promises, field = functions[key][1], fields.get(law, "")
             lost = set(named(promises, field)) - set(re.findall(r"[A-Za-z]\w*", field))
