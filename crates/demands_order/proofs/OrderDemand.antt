@@ -1,10 +1,10 @@
 -- The demand on the order, from its parts.
 -- Assumes nothing.
 use Prim.Native.Nat.{ℕ, ◌<◌}
-use mathlib.Core.Path.{◌≡◌, refl, ap}
+use mathlib.Core.Path.{◌≡◌, refl, sym, ap, ◌∙◌}
 use mathlib.Core.Logic.{⊎_elim}
 use mathlib.Core.Bool.{true}
-use mathlib.Core.List.{List, ◌∷◌}
+use mathlib.Core.List.{List, [], ◌∷◌}
 use native.Mathlib.Omega.{arith}
 use native.Mathlib.Nat.{eq-or-lt_of_le}
 use lib.ListN.{length}
@@ -20,15 +20,26 @@ use Rattle.demands_order.proofs.OrderLeast.{taken_lowest, taken_all, taken_least
 use Rattle.demands_order.proofs.OrderCycle.{round_returns, ringed, back_cycle}
 use Rattle.demands_order.proofs.OrderOnly.{one_cycle}
 
--- of two lists of which neither comes after the other, both are the same
+abbrev front_of : List ℕ → ℕ
+front_of [] = 0
+front_of (x ∷ xs) = x
+
+abbrev behind_front : List ℕ → List ℕ
+behind_front [] = []
+behind_front (x ∷ xs) = xs
+
+-- of two lists of which neither comes after the other, both are the same; the other way round is told of two lists that are these
+neither_of : {xs ys : List ℕ} → NotAfter xs ys → {us vs : List ℕ} → NotAfter us vs → us ≡ ys → vs ≡ xs → xs ≡ ys
+neither_of same k e f = refl
+neither_of (lower l) same e f = sym f ∙ e
+neither_of (lower l) (lower m) e f = absurd (omega (arith, l, m, ap front_of e, ap front_of f))
+neither_of (lower l) (later k) e f = absurd (omega (arith, l, ap front_of e, ap front_of f))
+neither_of (later h) same e f = sym f ∙ e
+neither_of (later h) (lower m) e f = absurd (omega (arith, m, ap front_of e, ap front_of f))
+neither_of (later {x = x} h) (later k) e f = ap (λ zs. x ∷ zs) (neither_of h k (ap behind_front e) (ap behind_front f))
+
 neither_after : {xs ys : List ℕ} → NotAfter xs ys → NotAfter ys xs → xs ≡ ys
-neither_after same k = refl
-neither_after (lower l) same = refl
-neither_after (lower l) (lower m) = absurd (omega arith)
-neither_after (lower l) (later k) = absurd (omega arith)
-neither_after (later h) same = refl
-neither_after (later h) (lower l) = absurd (omega arith)
-neither_after (later {x = x} h) (later k) = ap (λ zs. x ∷ zs) (neither_after h k)
+neither_after h k = neither_of h k refl refl
 
 module _ (n : ℕ) (es : List Row) (inside : all_within n es ≡ true) where
   taken_valid : length (taken n es) ≡ n → Valid n es (taken n es)

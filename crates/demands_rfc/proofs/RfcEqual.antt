@@ -194,9 +194,10 @@ legal_some true (b ∷ xs) h =
     let r = legal_some false xs l.1 in
     (e.0 ++ r.0, joining_both e.0 r.0 e.1 r.1)
 legal_some false (b ∷ xs) h =
+    let rest : legal (eqb b 92) xs ≡ true = h in
     by_test (eqb b 92)
-    (λ s. let r = legal_some true xs (rw s at h) in (r.0, at_escape b xs s ∙ r.1))
-    (λ s. let r = legal_some false xs (rw s at h) in (b ∷ r.0, at_byte b xs s ∙ joining_both (b ∷ []) r.0 refl r.1))
+    (λ s. let r = legal_some true xs (rw s at rest) in (r.0, at_escape b xs s ∙ r.1))
+    (λ s. let r = legal_some false xs (rw s at rest) in (b ∷ r.0, at_byte b xs s ∙ joining_both (b ∷ []) r.0 refl r.1))
 
 piece_some : (p : Piece) → plain p ≡ true → legal_in p ≡ true → (bs : List ℕ) × (meaning p ≡ some bs)
 unfolding plain legal_in meaning

@@ -107,6 +107,7 @@ FourToTen n = (4 ≤ n) × (n ≤ 10)
 
 pub read_number_lem : {n : ℕ} (ks : List ℕ) → Memᴰ n ks → are_read ks ≡ true → FourToTen n
 unfolding are_read
+read_number_lem {n = n} [] x'' f = elim x'' [ ]
 read_number_lem {n} (k ∷ ks) (Memᴰ.head e) f =
     let w = both (leb 4 k) (leb k 10) (both (within 4 10 k) (are_read ks) f).0 in
     omega (arith, e, leb-true 4 k w.0, leb-true k 10 w.1)

@@ -3,6 +3,7 @@
 
 use library_form::LookUp;
 use replay::Tally;
+use std::io;
 
 fn is_word(n: usize, word: u32) -> bool {
     n == word as usize
@@ -83,25 +84,28 @@ fn broken_at(found: LookUp, place: usize) -> bool {
     }
 }
 
-fn import_only_submodule() {
+fn import_only_submodule<R: Print>(rt: &R) -> io::Result<()> {
     replay::trap(
+        rt,
         b"a submodule of an import-only module is not found",
         found_nothing(library_find::find_submodule(b"\x01\x00\x01\x01i\x01\x01\x01s", b"s")),
-    );
+    )
 }
 
-fn count_without_sets() {
+fn count_without_sets<R: Print>(rt: &R) -> io::Result<()> {
     replay::trap(
+        rt,
         b"a count of sets without its sets is wrong at the end",
         broken_at(library_find::find_module(b"\x01", b"m"), 1),
-    );
+    )
 }
 
-fn empty_name() {
+fn empty_name<R: Print>(rt: &R) -> io::Result<()> {
     replay::trap(
+        rt,
         b"an empty name is not found",
         found_nothing(library_find::find_module(b"\x01\x01\x01m\x00\x00\x00\x00", b"")),
-    );
+    )
 }
 
 fn text_is(bundle: &[u8], name: &[u8], text: &[u8]) -> bool {
@@ -109,11 +113,12 @@ fn text_is(bundle: &[u8], name: &[u8], text: &[u8]) -> bool {
 }
 
 // A bundle of two texts: that of m has three bytes, that of s none.
-fn text_under_a_name() {
+fn text_under_a_name<R: Print>(rt: &R) -> io::Result<()> {
     replay::trap(
+        rt,
         b"the text under a name is handed back",
         text_is(b"\x02\x01m\x03abc\x01s\x00", b"m", b"abc"),
-    );
+    )
 }
 
 // s has an empty text in this bundle, and x has none.
@@ -130,11 +135,12 @@ fn told_apart(bundle: &[u8]) -> bool {
     found_nothing(library_bundle::find_text(bundle, b"x"))
 }
 
-fn empty_text() {
+fn empty_text<R: Print>(rt: &R) -> io::Result<()> {
     replay::trap(
+        rt,
         b"an empty text is not a missing one, though both are handed back as no bytes",
         told_apart(b"\x02\x01m\x03abc\x01s\x00"),
-    );
+    )
 }
 
 // The text of m has a byte less than its length says.
@@ -145,21 +151,22 @@ fn wrong_there(bundle: &[u8]) -> bool {
     broken_at(library_bundle::find_text(bundle, b"m"), 3)
 }
 
-fn text_cut_short() {
+fn text_cut_short<R: Print>(rt: &R) -> io::Result<()> {
     replay::trap(
+        rt,
         b"a text cut short is wrong at its length",
         wrong_there(b"\x01\x01m\x04abc"),
-    );
+    )
 }
 
-fn main() {
+fn main(rt: HostRuntime) -> io::Result<()> {
     let mut space = [0u8; 131072];
-    let n = replay::read_file(b"finds.vec", &mut space);
-    replay_all(&space[..n]).say(b" finds");
-    import_only_submodule();
-    count_without_sets();
-    empty_name();
-    text_under_a_name();
-    empty_text();
-    text_cut_short();
+    let n = replay::read_file(&rt, "finds.vec", &mut space)?;
+    replay_all(&space[..n]).say(&rt, b" finds")?;
+    import_only_submodule(&rt)?;
+    count_without_sets(&rt)?;
+    empty_name(&rt)?;
+    text_under_a_name(&rt)?;
+    empty_text(&rt)?;
+    text_cut_short(&rt)
 }

@@ -3,6 +3,7 @@
 
 use order::{Checked, Ordered};
 use replay::Tally;
+use std::io;
 
 // How many words a table of a record has at the most.
 const ROOM: usize = 256;
@@ -123,39 +124,45 @@ fn is_checked(checked: Checked, number: u32, place: u32) -> bool {
 }
 
 // The table is 1, 0, 2 and a zero.
-fn say_lowest(first: u32, second: u32, third: u32, fourth: u32) {
-    replay::trap(b"1, 0, 2: first", first == 1);
-    replay::trap(b"1, 0, 2: second", second == 0);
-    replay::trap(b"1, 0, 2: third", third == 2);
-    replay::trap(b"zero behind", fourth == 0);
+fn say_lowest<R: Print>(
+    rt: &R,
+    first: u32,
+    second: u32,
+    third: u32,
+    fourth: u32,
+) -> io::Result<()> {
+    replay::trap(rt, b"1, 0, 2: first", first == 1)?;
+    replay::trap(rt, b"1, 0, 2: second", second == 0)?;
+    replay::trap(rt, b"1, 0, 2: third", third == 2)?;
+    replay::trap(rt, b"zero behind", fourth == 0)
 }
 
 // 1 before 0, and 2 alone: not 1, 2, 0, since 0 is free before 2 and lower.
-fn lowest_free_first() {
+fn lowest_free_first<R: Print>(rt: &R) -> io::Result<()> {
     let nodes = [0u32; 6];
     let edges: [u32; 2] = [1, 0];
     let mut table = [7u32; 4];
     let ordered = order::order(&nodes, 3, &edges, 1, &mut table);
-    replay::trap(b"three nodes are ordered", is_ordered(ordered, 0, 3));
-    say_lowest(table[0], table[1], table[2], table[3]);
+    replay::trap(rt, b"three nodes are ordered", is_ordered(ordered, 0, 3))?;
+    say_lowest(rt, table[0], table[1], table[2], table[3])
 }
 
 // The table is 1, 3, 2 and a zero.
-fn say_ring(first: u32, second: u32, third: u32, fourth: u32) {
-    replay::trap(b"1, 3, 2: first", first == 1);
-    replay::trap(b"1, 3, 2: second", second == 3);
-    replay::trap(b"1, 3, 2: third", third == 2);
-    replay::trap(b"zero behind the ring", fourth == 0);
+fn say_ring<R: Print>(rt: &R, first: u32, second: u32, third: u32, fourth: u32) -> io::Result<()> {
+    replay::trap(rt, b"1, 3, 2: first", first == 1)?;
+    replay::trap(rt, b"1, 3, 2: second", second == 3)?;
+    replay::trap(rt, b"1, 3, 2: third", third == 2)?;
+    replay::trap(rt, b"zero behind the ring", fourth == 0)
 }
 
 // 0 waits for the ring 1 to 3 to 2 to 1.
-fn ring_along_the_edges() {
+fn ring_along_the_edges<R: Print>(rt: &R) -> io::Result<()> {
     let nodes = [0u32; 8];
     let edges: [u32; 8] = [1, 3, 3, 2, 2, 1, 1, 0];
     let mut table = [7u32; 4];
     let ordered = order::order(&nodes, 4, &edges, 4, &mut table);
-    replay::trap(b"a ring of three", is_ordered(ordered, 40, 3));
-    say_ring(table[0], table[1], table[2], table[3]);
+    replay::trap(rt, b"a ring of three", is_ordered(ordered, 40, 3))?;
+    say_ring(rt, table[0], table[1], table[2], table[3])
 }
 
 // The check of a list, of a graph with one node and at most the edge from it to itself.
@@ -169,28 +176,31 @@ fn one_node_checked(m: usize, list: &[u32], number: u32, place: u32) -> bool {
     )
 }
 
-fn lists_checked() {
+fn lists_checked<R: Print>(rt: &R) -> io::Result<()> {
     let once: [u32; 1] = [0];
     let twice: [u32; 2] = [0, 0];
     replay::trap(
+        rt,
         b"a node alone is in order",
         one_node_checked(0, &once, 0, 0),
-    );
+    )?;
     replay::trap(
+        rt,
         b"a node before itself is wrong at its place",
         one_node_checked(1, &once, 42, 0),
-    );
+    )?;
     replay::trap(
+        rt,
         b"a node twice is wrong at the second place",
         one_node_checked(0, &twice, 42, 1),
-    );
+    )
 }
 
-fn main() {
+fn main(rt: HostRuntime) -> io::Result<()> {
     let mut space = [0u8; 131072];
-    let n = replay::read_file(b"orders.vec", &mut space);
-    replay_all(&space[..n]).say(b" orders");
-    lowest_free_first();
-    ring_along_the_edges();
-    lists_checked();
+    let n = replay::read_file(&rt, "orders.vec", &mut space)?;
+    replay_all(&space[..n]).say(&rt, b" orders")?;
+    lowest_free_first(&rt)?;
+    ring_along_the_edges(&rt)?;
+    lists_checked(&rt)
 }

@@ -6,6 +6,8 @@ ghost use Rattle.std.specs.Prelude.{◌≡◌};
 ghost use Rattle.text.specs.Class.{class_table};
 
 use replay::Tally;
+use std::io;
+use std::rt::Files;
 use text::{Cursor, Due, Match};
 use text_past::Skipped;
 use text_value::{Argument, Value};
@@ -28,7 +30,7 @@ fn agrees(read: Argument, store: &[u8], answer: &[u8], kept: &[u8]) -> bool {
 
 // A value and its semicolon, from a place on.
 fn value_agrees(here: Cursor, keyword: u32, s: &[u8], answer: &[u8], kept: &[u8]) -> bool {
-    let mut store = io::buffer();
+    let mut store = [0u8; 4096];
     if store.len() < s.len() {
         return false;
     }
@@ -171,11 +173,11 @@ fn replay_all(data: &[u8], values: bool) -> Tally {
     run
 }
 
-fn replay_file(name: &[u8], values: bool) {
+fn replay_file<R: Print + Files>(rt: &R, name: &str, values: bool) -> io::Result<()> {
     let mut space = [0u8; 524288];
-    let n = replay::read_file(name, &mut space);
+    let n = replay::read_file(rt, name, &mut space)?;
     let run = replay_all(&space[..n], values);
-    replay::say_file(name, run);
+    replay::say_file(rt, name.as_bytes(), run)
 }
 
 // Whether the statement at the text's start ends at a place.
@@ -191,7 +193,7 @@ fn statement_ends(s: &[u8], at: usize) -> bool {
 
 // Whether the value at the text's start is these bytes and ends at a place, read or skipped.
 fn value_is(s: &[u8], kept: &[u8], at: usize) -> bool {
-    let mut store = io::buffer();
+    let mut store = [0u8; 4096];
     if store.len() < s.len() {
         return false;
     }
@@ -220,25 +222,28 @@ fn value_is(s: &[u8], kept: &[u8], at: usize) -> bool {
 }
 
 // What document 01 calls easy to get wrong, as far as this layer goes.
-fn traps() {
+fn traps<R: Print>(rt: &R) -> io::Result<()> {
     replay::trap(
+        rt,
         b"a skipped string closed by the value rules",
         statement_ends(b"x \"\\\\\";y", 8),
-    );
+    )?;
     replay::trap(
+        rt,
         b"a skipped string in single quotes",
         statement_ends(b"'a\\';';z", 7),
-    );
+    )?;
     replay::trap(
+        rt,
         b"the first part of an unclosed added string",
         value_is(b"\"m\"+\"x", b"m", 6),
-    );
+    )
 }
 
-fn main() {
-    replay_file(b"values.vec", true);
-    replay_file(b"skips.vec", false);
-    replay_file(b"values-accents.vec", true);
-    replay_file(b"skips-accents.vec", false);
-    traps();
+fn main(rt: HostRuntime) -> io::Result<()> {
+    replay_file(&rt, "values.vec", true)?;
+    replay_file(&rt, "skips.vec", false)?;
+    replay_file(&rt, "values-accents.vec", true)?;
+    replay_file(&rt, "skips-accents.vec", false)?;
+    traps(&rt)
 }

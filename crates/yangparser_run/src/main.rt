@@ -5,6 +5,8 @@
 use replay::Tally;
 use scan_page::Page;
 use scan_rows::Span;
+use std::io;
+use std::rt::Files;
 use yangparser::Parsed;
 
 // Whether a value is the recorded one at a place.
@@ -245,20 +247,25 @@ fn replay_all(whole: bool, kind: Kind, data: &[u8]) -> Tally {
     run
 }
 
-fn replay_file(whole: bool, kind: Kind, name: &[u8]) {
+fn replay_file<R: Print + Files>(rt: &R, whole: bool, kind: Kind, name: &str) -> io::Result<()> {
     let mut space = [0u8; 524288];
-    let n = replay::read_file(name, &mut space);
+    let n = replay::read_file(rt, name, &mut space)?;
     let run = replay_all(whole, kind, &space[..n]);
-    replay::say_file(name, run);
+    replay::say_file(rt, name.as_bytes(), run)
 }
 
-fn main() {
-    replay_file(false, Kind::Dependencies, b"dependencies.vec");
-    replay_file(false, Kind::Metadata, b"metadata.vec");
-    replay_file(true, Kind::Dependencies, b"dependencies-whole.vec");
-    replay_file(true, Kind::Metadata, b"metadata-whole.vec");
-    replay_file(false, Kind::Dependencies, b"dependencies-accents.vec");
-    replay_file(false, Kind::Metadata, b"metadata-accents.vec");
-    replay_file(true, Kind::Dependencies, b"dependencies-whole-accents.vec");
-    replay_file(true, Kind::Metadata, b"metadata-whole-accents.vec");
+fn main(rt: HostRuntime) -> io::Result<()> {
+    replay_file(&rt, false, Kind::Dependencies, "dependencies.vec")?;
+    replay_file(&rt, false, Kind::Metadata, "metadata.vec")?;
+    replay_file(&rt, true, Kind::Dependencies, "dependencies-whole.vec")?;
+    replay_file(&rt, true, Kind::Metadata, "metadata-whole.vec")?;
+    replay_file(&rt, false, Kind::Dependencies, "dependencies-accents.vec")?;
+    replay_file(&rt, false, Kind::Metadata, "metadata-accents.vec")?;
+    replay_file(
+        &rt,
+        true,
+        Kind::Dependencies,
+        "dependencies-whole-accents.vec",
+    )?;
+    replay_file(&rt, true, Kind::Metadata, "metadata-whole-accents.vec")
 }
