@@ -3,7 +3,6 @@
 use mathlib.Core.Path.{◌≡◌, refl, sym, ap, ap₂, ◌∙◌}
 use mathlib.Core.Bool.{◌||◌}
 use mathlib.Core.List.{List, [], ◌∷◌, ◌++◌, map, map-append, flat_map}
-use Rattle.text.specs.Keyword.{same}
 use Rattle.library_form.specs.Form.{PlacedName}
 use Rattle.library_image.specs.Library.{Name, Module, ImportOnly, PlainModule, PlainImportOnly, Library, plain_name, plain_module, plain_import_only, plain}
 use Rattle.library_image.specs.Library.{modules_of, import_only_of, submodules_of}

@@ -1,8 +1,8 @@
 -- The tests of names and edges decide equality and membership, since the test of two names does; and membership in a list of lists.
 -- Assumes nothing.
-use mathlib.Core.Path.{◌≡◌, refl, sym, ap, ap₂, ◌∙◌, subst}
+use mathlib.Core.Path.{◌≡◌, refl, sym, ap, ◌∙◌, subst}
 use mathlib.Core.Logic.{⊎_elim, ∥∥₁_elim}
-use mathlib.Core.Bool.{Bool, true, false, cond, ◌&&◌, ◌||◌, true≢false, Bool-set}
+use mathlib.Core.Bool.{Bool, true, false, cond, ◌||◌, true≢false, Bool-set}
 use mathlib.Core.List.Memᴰ
 use mathlib.Core.List.{List, [], ◌∷◌, ◌++◌, append_assoc, flat_map, Mem, Memᴰ}
 use Rattle.text.specs.Keyword.{same}

@@ -15,7 +15,7 @@ use Rattle.text_lent.specs.Padded.{zeros}
 use Rattle.text_lent.proofs.Zeros.{zeros_zero}
 use Rattle.graph.specs.Limits.{most_nodes}
 use Rattle.graph.specs.Graph.{deepest}
-use Rattle.graph.specs.Once.{Mark, unread, reading, below, Marks, nothing_read, mark, raised}
+use Rattle.graph.specs.Once.{Mark, unread, reading, below, Marks, nothing_read, raised}
 use Rattle.graph.proofs.Remembering.{is_below}
 use Rattle.graph_memory.specs.Memory.{memory_words, mark_of, height_in, remembered, recalled, StaysRead, Remembers}
 use Rattle.graph_memory.specs.declared.Recalled.{Recalled}

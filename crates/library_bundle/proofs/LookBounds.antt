@@ -1,7 +1,7 @@
 -- What a look-up tells stands within the bundle, and no bundle is read past 16,777,216 bytes: a number, a name or a text is wrong where it starts, and
 -- it starts within the bytes or at their end.
 -- Assumes nothing.
-use mathlib.Core.Path.{◌≡◌, refl, sym, ◌∙◌}
+use mathlib.Core.Path.{◌≡◌, refl}
 use mathlib.Core.List.{List, [], ◌∷◌, ◌++◌}
 use mathlib.Core.Bool.{Bool, true, false, cond}
 use Prim.Native.Nat.{ℕ, zero, suc, ◌+◌, ◌-◌, ◌≤◌}
@@ -9,9 +9,9 @@ use native.Mathlib.Omega.{arith}
 use lib.ListN.{length}
 use lib.Dec.{ltb}
 use borrow.Author.Tests.{ltb-true, ltb-false}
-use Rattle.library_form.specs.Form.{Ans, good, bad, bind, PlacedName, number_at, name_at, many}
+use Rattle.library_form.specs.Form.{Ans, good, bad, bind, PlacedName, number_at, many}
 use Rattle.library_form.specs.declared.LookUp.TheVariants.{Broken, At as Stands}
-use Rattle.library_form.proofs.Bounds.{number_place, number_end, name_place, name_end}
+use Rattle.library_form.proofs.Bounds.{number_place, number_end, name_end}
 use Rattle.library_index.specs.Names.{new_name}
 use Rattle.library_index.proofs.Taking.{new_read, new_place}
 use Rattle.library_bundle.specs.Bundle.{most_bytes, most_texts, Text, text_of, body_at, filed_at, words, new_text, ended, texts_at, bundle_at, place_of, looked}

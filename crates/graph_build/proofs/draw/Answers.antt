@@ -2,7 +2,6 @@
 -- Assumes nothing.
 use Rattle.graph_build.proofs.Holds.{image_short, prepared, nodes_many, nodes_room, held_refused, held_built}
 use borrow.Author.Rules.{rules}
-use mathlib.Core.Path.{refl, sym}
 use Rattle.graph_build.proofs.draw.Goals as goal
 
 pub list_items-count-requires : goal.list_items-count-requires

@@ -1,8 +1,6 @@
 -- `graph_draw::draw_edges`. Each way out is one law of Drawing.
 -- Assumes nothing.
-use Prim.Native.Nat.{ℕ}
 use Rattle.graph_draw.proofs.Drawing.{no_marks, grounded, no_edges, none_read, marks_long, marks_room, cleared_long, edges_refused, edges_built}
-use lib.ListN.{length-replicate}
 use mathlib.Core.Path.{refl, sym, ◌∙◌}
 use Rattle.graph_draw.proofs.draw_edges.Goals as goal
 

@@ -1,6 +1,4 @@
-use Prim.Native.Nat.{◌-◌}
 use Rattle.graph_entries.proofs.Going.{going_none, item_there, entry_low, next_asked, placed, sent_out, going_on, all_drawn}
-use native.Mathlib.Omega.{arith}
 use Rattle.graph_entries.proofs.walk_items.Goals as goal
 
 pub loop-i-init : goal.loop-i-init

@@ -1,4 +1,3 @@
-use Prim.Native.Nat.{◌-◌}
 use Rattle.graph_link.proofs.Naming.{naming_begins, all_named, named_wrong, named_on}
 use Rattle.graph_link.proofs.link_imports.Goals as goal
 

@@ -1,4 +1,3 @@
-use Prim.Native.Nat.{◌-◌}
 use Rattle.graph_link.proofs.Saving.{included_low, saving_begins, all_saved, level_in, saved_on}
 use native.Mathlib.Omega.{arith}
 use Rattle.graph_link.proofs.save_includes.Goals as goal

@@ -1,4 +1,3 @@
-use Prim.Native.Nat.{◌-◌}
 use Rattle.graph_marks.proofs.Setting.{marks_begun, marks_ask, marks_on, marks_done}
 use borrow.Author.Rules.{rules}
 use Rattle.graph_marks.proofs.mark_nodes.Goals as goal

@@ -1,4 +1,3 @@
-use Prim.Native.Nat.{◌-◌}
 use Rattle.graph_nodes.proofs.Growing.{build_begun, build_asks, build_on, build_full, build_done}
 use Rattle.graph_nodes.proofs.construct_nodes.Goals as goal
 

@@ -1,4 +1,3 @@
-use Prim.Native.Nat.{◌-◌}
 use Rattle.graph_tables.proofs.Tables.{naming_none, naming_all, naming_more, name_row, first_word, second_set, place_fits, size_fits}
 use Rattle.graph_tables.proofs.put_nodes.Goals as goal
 

@@ -1,6 +1,4 @@
-use Prim.Native.Nat.{◌-◌}
 use Rattle.host_words.proofs.RecordLaws.{start_fits, size_fits, begun, more, all_written}
-use borrow.Author.Rules.{rules}
 use Rattle.host_words.proofs.record_words.Goals as goal
 
 pub loop-i-init : goal.loop-i-init

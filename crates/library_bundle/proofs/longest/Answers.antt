@@ -1,4 +1,3 @@
-use Prim.Native.Nat.{◌-◌}
 use Rattle.library_bundle.proofs.Measuring.{measured_none, row_held, measured_more, measured_all}
 use Rattle.library_bundle.proofs.longest.Goals as goal
 

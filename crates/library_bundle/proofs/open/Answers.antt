@@ -1,4 +1,3 @@
-use Prim.Native.Nat.{◌-◌}
 use Rattle.library_bundle.proofs.Opening.{begun, start_in, space_left, further, too_long, no_count, too_many, wrong_text, extra, opened}
 use Rattle.library_bundle.proofs.open.Goals as goal
 

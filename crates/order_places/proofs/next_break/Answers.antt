@@ -1,4 +1,3 @@
-use Prim.Native.Nat.{◌-◌}
 use Rattle.order_places.proofs.Barring.{none_sought, edge_known, one_sought, found, none_found}
 use Rattle.order_places.proofs.next_break.Goals as goal
 

@@ -1,4 +1,3 @@
-use Prim.Native.Nat.{◌-◌}
 use Rattle.order_places.proofs.Noting.{none_noted, place_fits, no_node, repeated, noted_more, ended}
 use Rattle.order_places.proofs.note_places.Goals as goal
 

@@ -1,4 +1,3 @@
-use Prim.Native.Nat.{◌-◌}
 use Rattle.order_places.proofs.Barring.{second_known, none_passed, more_passed, all_passed}
 use Rattle.order_places.proofs.unbroken.Goals as goal
 

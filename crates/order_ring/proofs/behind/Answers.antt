@@ -1,4 +1,3 @@
-use Prim.Native.Nat.{◌-◌}
 use Rattle.order_ring.proofs.Parts.{seek_begun, seek_found, seek_more, seek_ends}
 use Rattle.order_ring.proofs.behind.Goals as goal
 

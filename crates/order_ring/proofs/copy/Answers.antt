@@ -1,4 +1,3 @@
-use Prim.Native.Nat.{◌-◌}
 use Rattle.order_ring.proofs.Parts.{copy_begun, copy_kept, copy_in, copy_more, copy_done}
 use Rattle.order_ring.proofs.copy.Goals as goal
 

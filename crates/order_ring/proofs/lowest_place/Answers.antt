@@ -1,4 +1,3 @@
-use Prim.Native.Nat.{◌-◌}
 use Rattle.order_ring.proofs.Parts.{lower_begun, lower_new, lower_old, lower_done}
 use Rattle.order_ring.proofs.lowest_place.Goals as goal
 use Rattle.order_ring.proofs.lowest_place.Goals.{then-trail-i, else-trail-i}

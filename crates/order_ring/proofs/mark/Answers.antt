@@ -1,4 +1,3 @@
-use Prim.Native.Nat.{◌-◌}
 use Rattle.order_ring.proofs.Marking.{mark_begun, mark_in, mark_fits, mark_more, mark_done}
 use Rattle.order_ring.proofs.mark.Goals as goal
 

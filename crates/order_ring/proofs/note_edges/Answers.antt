@@ -1,4 +1,3 @@
-use Prim.Native.Nat.{◌-◌}
 use Rattle.order_ring.proofs.Noting.{note_begun, row_in, from_in, to_in, note_more, note_done}
 use Rattle.order_ring.proofs.note_edges.Goals as goal
 

@@ -1,4 +1,3 @@
-use Prim.Native.Nat.{◌-◌}
 use Rattle.order_tables.proofs.Lowest.{seek_on, seek_hit, seek_done}
 use mathlib.Core.Path.{refl}
 use Rattle.order_tables.proofs.first_zero.Goals as goal

@@ -1,4 +1,3 @@
-use Prim.Native.Nat.{◌-◌}
 use Rattle.text_utf8.proofs.LargestLaws.{largest_more, largest_past}
 use mathlib.Core.Path.{refl, sym, ◌∙◌}
 use Rattle.order_tables.proofs.largest.Goals as goal

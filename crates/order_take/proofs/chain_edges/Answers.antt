@@ -1,4 +1,3 @@
-use Prim.Native.Nat.{◌-◌}
 use Rattle.order_take.proofs.Chaining.{row_there, chained_all}
 use borrow.Author.Rules.{rules}
 use Rattle.order_take.proofs.chain_edges.Goals as goal

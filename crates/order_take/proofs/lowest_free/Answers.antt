@@ -1,4 +1,3 @@
-use Prim.Native.Nat.{◌-◌}
 use Rattle.order_take.proofs.Zeros.{search_begun, may_look, same_size, search_hit, search_on, search_done}
 use Rattle.order_take.proofs.lowest_free.Goals as goal
 

@@ -1,4 +1,3 @@
-use Prim.Native.Nat.{◌-◌}
 use Rattle.order_take.proofs.Turns.{rows_fit, none_chained, take_begun, may_seek, place_in}
 use Rattle.order_take.proofs.Turns.{take_stuck, take_full, same_room, may_take, take_more}
 use Rattle.order_take.proofs.take_all.Goals as goal

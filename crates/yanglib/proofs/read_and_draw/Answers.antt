@@ -2,7 +2,7 @@
 -- Assumes nothing.
 use Rattle.graph_tables.specs.Lengths.{lengths_of}
 use Rattle.yanglib.proofs.Whole.{both_read, lent, lent_nodes, no_image, no_bundle, not_enough, all_held}
-use mathlib.Core.Path.{refl, sym}
+use mathlib.Core.Path.{refl}
 use Rattle.yanglib.proofs.read_and_draw.Goals as goal
 
 pub returns-in-Wrong : goal.returns-in-Wrong

@@ -1,7 +1,6 @@
 -- `yanglib::to_graph`. One law of Whole says what is left.
 -- Assumes nothing.
 use Rattle.yanglib.proofs.Whole.{now_zero, all_left}
-use mathlib.Core.Path.{◌∙◌}
 use Rattle.yanglib.proofs.to_graph.Goals as goal
 
 pub read_and_draw-graphed-requires : goal.read_and_draw-graphed-requires
