@@ -1,9 +1,9 @@
 #!/bin/sh
-# check.sh [alone | over | behind]: the host's quick checks. `alone`: those that need no archive, so that they can run beside the proofs: the documents, the
-# picture of the crates, that an archive can be made, the packing of images and bundles, and the recorded answers of the original Rust. `over`: what is seen
-# while an archive is made; the archive from C, installed too, and under attack, the Rust crate and its command, packing with it, the examples, the README's
-# snippets; the port beside plain readings, libyang and the original. `behind`: what deps and meta print, which rt proves again where it has not run them yet.
-# With no word, all three. What needs the NetGauze source, or a newer Rust, is skipped where that is not at hand, and says so.
+# check.sh [alone | over | behind]: the host's quick checks. `alone`: those that need no archive of this repository: the documents, the picture of the crates,
+# that an archive can be made, the packing of images and bundles, and the recorded answers of the original Rust. `over`: what is seen while an archive is made;
+# the archive from C, installed too, and under attack, the Rust crate and its command, packing with it, the examples, the README's snippets; the port beside
+# plain readings, libyang and the original. `behind`: what deps and meta print, which rt proves again where it has not run them yet. With no word, all three.
+# What needs the NetGauze source, or a newer Rust, is skipped where that is not at hand, and says so.
 set -eu
 here=$(cd "$(dirname "$0")" && pwd)
 cd "$here/.."

@@ -187,7 +187,7 @@ def turn_body(body, names, place, left):
         return ""
 
     out, i = [], 0
-    let = re.compile(r"let ([A-Za-z][\w'-]*) = ([A-Za-z][\w'-]*)((?:\.[^\s().,;{}\[\]]+)*) in[ \n]*")
+    let = re.compile(r"let ([A-Za-z][\w'-]*) = ([A-Za-z][\w'-]*)((?:\.[^\s().,;{}\[\]]+)*)\s+in\b[ \n]*")
     while True:
         m = let.search(body, i)
         if not m:
@@ -259,7 +259,7 @@ def turn(crate, folder, names, report):
         if m:
             loop = names.loops.get(plain(m[2]))
             body = "\n".join(code[1:])
-            b = re.match(r"(" + re.escape(name) + r")((?: [^=\s]+)*) =(.*)", body, re.S)
+            b = re.match(r"(" + re.escape(name) + r")((?:\s+[^=\s]+)*)\s=(.*)", body, re.S)
             if not loop or not b:
                 left.append("loop " + m[2])
                 invariants.append("-- LEFT:\n" + text)

@@ -8,7 +8,7 @@ import sys
 from pathlib import Path
 
 ROOT = Path(__file__).resolve().parents[2]
-KIT = {"check", "io", "libc", "os"}
+KIT = {"check"}
 # Of each floor the colour of its band, and the one of its boxes and of the lines that leave them.
 TONES = [("#eef3fb", "#33639f"), ("#eff7ef", "#35793b"), ("#fdf4e7", "#a8690c"), ("#f7effa", "#7d449a"),
          ("#eaf7f7", "#1b7a7d"), ("#fdefef", "#ad4040"), ("#f3f3f1", "#66665e"), ("#f1f1fb", "#5a5ab0")]

@@ -18,6 +18,6 @@ refused 'is not the picture of these crates any more' '# one\na:\n# two\nb: a\n'
 refused "a, of the floor 'one', names b, of a later floor, 'two'" '# one\na: b\n# two\nb:\n'
 refused 'a stands on no floor' 'a:\n'
 refused 'a is there twice' '# one\na:\na:\n'
-refused 'a names c, which is no crate' '# one\na: c io\n'
+refused 'a names c, which is no crate' '# one\na: c check\n'
 refused 'depends on itself' '# one\na: b\nb: a\n'
 echo "architecture: what is wrong with a list or a picture is told"

@@ -5,10 +5,10 @@
 # goes a sum of the sources, as they were before the proof, and of the archive. With --kept, one that still has these sums is taken as it is.
 # Of two calls at once the second waits for the first.
 #
-# On x86-64 and aarch64 it is rt's own. For another processor the module that is proved for x86-64 is compiled anew: rt runs in a copy of its
-# kit that differs in one file, toolchain/bin/clang, a wrapper that puts the processor's name in the place of x86-64. With --covered that
-# wrapper also has the compiler count which parts of the code are reached, for a fuzzer. Archives for another processor than x86-64, and those
-# that count, are for tests and measurements only.
+# On x86-64 and aarch64 it is rt's own, for every processor of that kind. For another processor the module that is proved for x86-64 is
+# compiled anew: rt runs in a copy of its kit that differs in one file, toolchain/bin/clang, a wrapper that puts the processor's name in the
+# place of x86-64. With --covered that wrapper also has the compiler count which parts of the code are reached, for a fuzzer. Archives for
+# another processor than x86-64, and those that count, are for tests and measurements only.
 set -eu
 unset CDPATH
 exec </dev/null # what is read there is not for rt
@@ -123,7 +123,8 @@ EOF
     chmod +x "$mirror/kit/toolchain/bin/clang"
     export PATH="$mirror/kit/bin:$PATH"
 }
-target='' foreign=''
+# A static library does not look at what it runs on, so none is made for a newer processor than need be, which is what rt makes for x86-64 by itself.
+target=--cpu=x86-64 foreign=''
 case $processor in
 x86_64) ;;
 aarch64) target="--target aarch64-unknown-linux-gnu" ;;

@@ -181,21 +181,21 @@ class Archive(Repository):
 
     def test_it_is_made_of_the_static_library(self):
         self.run_piped()
-        self.assertEqual(self.calls()[0], ["lib", "in", "probe_c"])
+        self.assertEqual(self.calls()[0], ["lib", "--cpu=x86-64", "in", "probe_c"])
         self.assertEqual((self.text_of(self.archive), self.made.exists()), ("whole 1\n", False))
         self.write("crates.txt", FILES["crates.txt"].replace("probe_c staticlib:", "probe_c:").replace("probe:", "probe staticlib:"))
         self.run_piped()
         self.assertEqual([call[0] for call in self.calls()], ["lib", "clang"] * 2)
-        self.assertEqual(self.calls()[2], ["lib", "in", "probe"])
+        self.assertEqual(self.calls()[2], ["lib", "--cpu=x86-64", "in", "probe"])
         self.write("crates.txt", "other:\n")
         ran = self.run_piped()
         self.assertEqual((ran.returncode, ran.stdout, ran.stderr), (2, "", "archive: crates.txt has no crate probe\n"))
 
     def test_another_processor(self):
         for processor, lib, clang in (
-                ("x86_64", "lib", "--target=x86_64-unknown-linux-gnu -march=x86-64 -Werror -c a module.bc"),
+                ("x86_64", "lib --cpu=x86-64", "--target=x86_64-unknown-linux-gnu -march=x86-64 -Werror -c a module.bc"),
                 ("aarch64", "lib --target aarch64-unknown-linux-gnu", "--target=x86_64-unknown-linux-gnu -march=x86-64 -Werror -c a module.bc"),
-                ("riscv64", "lib", "--target=riscv64-unknown-linux-gnu -Wno-override-module -c a module.bc")):
+                ("riscv64", "lib --cpu=x86-64", "--target=riscv64-unknown-linux-gnu -Wno-override-module -c a module.bc")):
             ran = self.piped(*self.words(processor))
             where = self.archive.parent / ("" if processor == "x86_64" else processor)
             self.assertEqual((ran.returncode, ran.stdout), (0, f"{where}/libprobe.a\n"), ran.stderr)

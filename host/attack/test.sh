@@ -1,8 +1,8 @@
 #!/bin/sh
 # test.sh ARCHIVE [FILE..]: attacks the archive of crates/nuvaleta (attack.c) with a modest count, sees that each planted fault (planted.h) is
 # noticed, and runs a little of it under valgrind.
-# test.sh --x86-64 ARCHIVE: on another processor attacks an archive for x86-64 a little, by a cross compiler and the kit's emulator; not part of
-# the gate.
+# test.sh --x86-64 ARCHIVE: on another processor attacks an archive for x86-64 a little, by a cross compiler and an emulator; not part of the
+# gate.
 set -eu
 here=$(cd "$(dirname "$0")" && pwd)
 build=$here/build
@@ -12,9 +12,9 @@ cc=gcc
 compile() { "$cc" -std=c11 -Wall -Wextra -Werror -O2 -I "$here/../../include" "$@"; }
 
 if [ "$1" = --x86-64 ]; then
-    emulator=$(dirname "$(rt doc)")/../on/$(uname -m)/toolchain/bin/qemu-x86_64
-    [ -f "$2" ] && [ -x "$emulator" ] || { echo "attack: SKIPPED, no archive for x86-64 or no emulator"; exit 0; }
-    "$here/../need" gcc-x86-64-linux-gnu libc6-dev-amd64-cross
+    [ -f "$2" ] || { echo "attack: SKIPPED, no archive for x86-64"; exit 0; }
+    "$here/../need" gcc-x86-64-linux-gnu libc6-dev-amd64-cross qemu-user
+    emulator=qemu-x86_64
     cc=x86_64-linux-gnu-gcc
     compile -static -DPLANTED -o "$build/x86-64" "$here/attack.c" "$here/calls.c" "$here/form.c" "$here/judge.c" "$here/lent.c" "$here/make.c" "$2"
     "$emulator" "$build/x86-64" --short 1 500 >"$said" 2>&1 || { cat "$said" >&2; exit 1; }

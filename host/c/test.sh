@@ -1,5 +1,5 @@
 #!/bin/sh
-# test.sh ARCHIVE: compiles the programs here against include/nuvaleta.h, links them with the archive of crates/nuvaleta and runs them; compiles the header
+# test.sh ARCHIVE: compiles the programs here against include/nuvaleta.h, links them with libnuvaleta.a and runs them; compiles the header
 # alone as C and C++.
 set -eu
 here=$(cd "$(dirname "$0")" && pwd)

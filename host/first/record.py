@@ -2,8 +2,9 @@
 """record.py [--check] [PAGE]: from a fresh clone to the first order, as a person sees it.
 
 Clones this repository, as it was committed, into a folder of its own, runs the commands below there on a terminal, and writes PAGE, docs/first-order.md: each
-line with the time after which it came. With nothing else on the machine the times are those that a person waits. With --check nothing is cloned or written: the
-commands of PAGE are run over what is built here, and must print what stands there, but for what is said while it proves and builds."""
+line with the time after which it came. With nothing else on the machine, and no other checkout there whose proofs rt could take, the times are those that a
+person waits. With --check nothing is cloned or written: the commands of PAGE are run over what is built here, and must print what stands there, but for what is
+said while it proves and builds."""
 import os
 import platform
 import re

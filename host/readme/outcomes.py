@@ -1,10 +1,10 @@
 #!/usr/bin/env python3
 """outcomes.py: docs/PROMISES.md says of every public function which law gives it one outcome (the table under "One outcome"), and the law fits its promise.
 `equal`: the promise, all clauses of it, says by equations what is returned and what is left in each buffer that is lent to be written, and the right sides
-know neither. A field of `Views` (crates/demands/specs/OneOutcome.antt): the same, but of that view of what is returned. A field of `OneOutcome`: it
-speaks of the record that the promise is. `open`: the function stands in the page's table of what is left open. `system`: it is one of
-crates/replay, and speaks with the system; the page says what it promises. The table under "Inner functions" names each public function that requires
-something, and no other."""
+know neither. A field of `Views` (crates/demands/specs/OneOutcome.antt): the same, but of that view of what is returned. A field of `OneOutcome`: it speaks of
+the record that the promise is. `open`: the function stands in the page's table of what is left open. `system`: it is one of crates/host_input or crates/replay,
+and speaks with the system; the page says what it promises. The table under "Inner functions" names each public function that requires something, and no
+other."""
 import re
 import sys
 from pathlib import Path
@@ -12,6 +12,8 @@ from pathlib import Path
 ROOT = Path(__file__).resolve().parents[2]
 PAGE = (ROOT / "docs" / "PROMISES.md").read_text()
 LAWS = (ROOT / "crates" / "demands" / "specs" / "OneOutcome.antt").read_text()
+# The crates that speak with the system.
+SPEAK = ("host_input", "replay")
 # A clause, which may have a name, and whose braces hold at most one pair within another. Of a function its name; parameters and answer; its clauses.
 CLAUSE = r"\s*(?:requires|ensures)\*?(?: \w+)? \{[^{}]*(?:\{[^{}]*\}[^{}]*)*\}"
 PUBLIC = re.compile(rf'^ *pub (?:extern "C" )?fn (\w+)((?:(?!requires|ensures)[^{{])*)((?:{CLAUSE})*)\s*\{{', re.M)
@@ -121,7 +123,7 @@ def main():
         elif law == "open":
             faults += [] if name in left_open else [f"{name}: not in the table of what is left open"]
         elif law == "system":
-            faults += [] if key[0] == "replay" else [f"{name}: only crates/replay speaks with the system"]
+            faults += [] if key[0] in SPEAK else [f"{name}: only {' and '.join(SPEAK)} speak with the system"]
         else:
             promises, field = functions[key][1], fields.get(law, "")
             lost = set(named(promises, field)) - set(re.findall(r"[A-Za-z]\w*", field))

@@ -1,26 +1,26 @@
 // Reads one text from standard input and writes its imports and includes, or why they are refused.
 #![tactic(auto)]
 
-use libc::{STDIN_FILENO, STDOUT_FILENO};
+use std::io;
 use text::Refusal;
 use yangparser::Parsed;
 
 // The longest input, and room for one byte more, which tells that there is more.
 const MOST: usize = 32768;
 
-fn say_refused(r: Refusal) {
+fn say_refused<R: Print>(rt: &R, r: Refusal) -> io::Result<()> {
     let mut line = [0u8; scan_line::LINE];
     let n = scan_line::print_refused(r, &mut line);
-    io::write_all(STDOUT_FILENO, text_lent::first(&line, n));
+    rt.write_all(text_lent::first(&line, n))
 }
 
-fn say_too_long() {
+fn say_too_long<R: Print>(rt: &R) -> io::Result<()> {
     let mut line = [0u8; scan_line::LINE];
     let n = scan_line::print_too_long(&mut line);
-    io::write_all(STDOUT_FILENO, text_lent::first(&line, n));
+    rt.write_all(text_lent::first(&line, n))
 }
 
-fn say(s: &[u8]) {
+fn say<R: Print>(rt: &R, s: &[u8]) -> io::Result<()> {
     let mut store = [0u8; 32768];
     let mut imports = [0u32; 1792];
     let mut includes = [0u32; 1280];
@@ -39,21 +39,16 @@ fn say(s: &[u8]) {
             imports: _,
             includes: _,
             used: _,
-        } => {
-            io::write_all(STDOUT_FILENO, text_lent::first(&page, printed.length));
-        }
-        Parsed::Refused(r) => {
-            say_refused(r);
-        }
+        } => rt.write_all(text_lent::first(&page, printed.length)),
+        Parsed::Refused(r) => say_refused(rt, r),
     }
 }
 
-fn main() {
+fn main(rt: HostRuntime) -> io::Result<()> {
     let mut input = [0u8; 32769];
-    let n = io::read_full(STDIN_FILENO, &mut input);
+    let n = host_input::read_full(&mut rt.stdin(), &mut input)?;
     if MOST < n {
-        say_too_long();
-        return;
+        return say_too_long(&rt);
     }
-    say(text_lent::first(&input, n));
+    say(&rt, text_lent::first(&input, n))
 }

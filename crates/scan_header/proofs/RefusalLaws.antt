@@ -1,7 +1,7 @@
 -- A refusal of the scan's step has a number above 0: it is that of a value that is missing, of a byte that is due or is 128 or more, or of what broke off,
 -- and each of these has one. w: the whole-text mode.
 -- Assumes nothing.
-use mathlib.Core.Path.{◌≡◌, refl, ap, subst}
+use mathlib.Core.Path.{◌≡◌, refl, subst}
 use mathlib.Core.Bool.{Bool}
 use mathlib.Core.List.{List}
 use Prim.Native.Nat.{ℕ, ◌<◌}

@@ -22,7 +22,7 @@ use Rattle.scan_block.proofs.Spans.{may_end}
 use Rattle.scan_printed.specs.Printed.{printed, printed_rows}
 use Rattle.scan_printed.proofs.Padded.{printed_more}
 use Rattle.scan_printed.proofs.Sizes.{printed_size}
-use Rattle.yangparser.specs.Dependencies.{Dependencies, none, import_words_of, include_words_of, Scan, good, bad, page_short, dependencies, read_of, kept_of}
+use Rattle.yangparser.specs.Dependencies.{Dependencies, import_words_of, include_words_of, Scan, good, bad, page_short, dependencies, read_of, kept_of}
 use Rattle.scan_rows.specs.Short.{is_too_short}
 use Rattle.yangparser.specs.Promises.{Leaves, Extracts}
 use Rattle.yangparser.specs.declared.Parsed.{Parsed}

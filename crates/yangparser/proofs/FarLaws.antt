@@ -1,7 +1,7 @@
 -- How far one step of the scan goes and what it adds: it stands within the text, takes more bytes than it stores, adds a row only where there is
 -- room for one, and the row's values lie in the bytes added.
 -- Assumes nothing.
-use mathlib.Core.Path.{◌≡◌, refl, sym, ap, subst}
+use mathlib.Core.Path.{◌≡◌, refl, sym, subst}
 use mathlib.Core.Bool.{Bool}
 use mathlib.Core.List.{List, []}
 use Prim.Native.Nat.{ℕ, ◌+◌, ◌-◌, ◌<◌, ◌≤◌}

@@ -1,4 +1,3 @@
-use Prim.Native.Nat.{◌-◌}
 use Rattle.library_index.proofs.Chain.{hash_begun, hash_more, hash_done}
 use borrow.Author.Rules.{rules}
 use Rattle.library_index.proofs.bucket.Goals as goal

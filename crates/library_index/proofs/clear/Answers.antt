@@ -1,4 +1,3 @@
-use Prim.Native.Nat.{◌-◌}
 use Rattle.library_index.proofs.Stores.{clear_begun, clear_more, clear_done}
 use Rattle.library_index.proofs.clear.Goals as goal
 

@@ -1,4 +1,4 @@
-use Rattle.library_index.proofs.Chain.{chain_begun, name_in, name_fits, chain_hit, chain_on, chain_falls, chain_done}
+use Rattle.library_index.proofs.Chain.{chain_begun, name_fits, chain_hit, chain_on, chain_falls, chain_done}
 use Rattle.library_index.proofs.seek.Goals as goal
 
 pub loop-j-init : goal.loop-j-init

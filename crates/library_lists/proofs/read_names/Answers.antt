@@ -1,4 +1,3 @@
-use Prim.Native.Nat.{◌-◌}
 use Rattle.library_lists.proofs.Counting.{going}
 use Rattle.library_lists.proofs.Words.{no_names, word_fits, names_further, names_stopped, names_read}
 use Rattle.library_lists.proofs.read_names.Goals as goal

@@ -1,4 +1,3 @@
-use Prim.Native.Nat.{◌-◌}
 use Rattle.library_lists.proofs.Counting.{going}
 use Rattle.library_lists.proofs.Rests.{no_revisions, revisions_further, revisions_stopped, revisions_read_lem}
 use Rattle.library_lists.proofs.read_revisions.Goals as goal

@@ -1,4 +1,3 @@
-use Prim.Native.Nat.{◌-◌}
 use Rattle.library_read.proofs.Entries.{no_entries, entries_begun, entry_space, entries_further, entries_stopped, entries_read_lem}
 use Rattle.library_read.proofs.read_entries.Goals as goal
 

@@ -1,4 +1,3 @@
-use Prim.Native.Nat.{◌-◌}
 use Rattle.library_read.proofs.Sets.{no_sets, sets_begun, sets_further, sets_stopped, sets_read}
 use Rattle.library_read.proofs.read_sets.Goals as goal
 

@@ -1,4 +1,3 @@
-use Prim.Native.Nat.{◌-◌}
 use Rattle.scan_block.proofs.BlockLaws.{reading_begun, reading_long, reading_on, reading_more, reading_done, reading_refused}
 use mathlib.Core.Path.{◌∙◌}
 use native.Mathlib.Omega.{arith}

@@ -1,6 +1,5 @@
 -- `scan_line::print_refused` writes the pieces of a refusal's line, two at a time where a label goes before a number.
 -- Assumes nothing.
-use native.Mathlib.Omega.{arith}
 use borrow.Author.Rules.{rules}
 use Rattle.scan_line.proofs.Going.{puts, puts_two, fits, fits_two, ended, from_first}
 use Rattle.scan_line.proofs.Laws.{refused_begin, refused_room}

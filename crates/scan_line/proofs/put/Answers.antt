@@ -1,4 +1,3 @@
-use Prim.Native.Nat.{◌-◌}
 use Rattle.scan_line.proofs.Laws.{bytes_past}
 use Rattle.text.proofs.Here.{rest_or}
 use Rattle.text.proofs.Writing.{begun, put, written, counted}

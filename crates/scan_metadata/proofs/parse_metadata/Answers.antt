@@ -1,4 +1,3 @@
-use Prim.Native.Nat.{◌-◌}
 use Rattle.scan_metadata.proofs.LoopLaws.{loop_done, loop_refused}
 use Rattle.scan_metadata.proofs.LoopLaws.{loop_begin, loop_room, loop_long, loop_value, loop_value_nearer, loop_passed, loop_passed_nearer}
 use mathlib.Core.Path.{refl, ◌∙◌}

@@ -1,4 +1,3 @@
-use Prim.Native.Nat.{◌-◌}
 use Rattle.scan_line.proofs.Going.{puts, fits, long}
 use Rattle.scan_printed.proofs.Laws.{includes_begin}
 use Rattle.scan_printed.proofs.Lines.{lines_more, lines_done}

@@ -1,4 +1,3 @@
-use Prim.Native.Nat.{◌-◌}
 use Rattle.yangparser.proofs.LoopLaws.{read_begun, read_long, read_room, read_nearer, read_more, read_done, read_refused}
 use mathlib.Core.Path.{◌∙◌}
 use native.Mathlib.Omega.{arith}

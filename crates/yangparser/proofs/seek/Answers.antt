@@ -1,4 +1,3 @@
-use Prim.Native.Nat.{◌-◌}
 use Rattle.yangparser.proofs.SeekLaws.{sought_on, sought_nearer, sought_met}
 use mathlib.Core.Path.{refl}
 use Rattle.yangparser.proofs.seek.Goals as goal
