@@ -189,6 +189,8 @@ module _ (mode : Mode) (s s₁ b : List ℕ) (k : Lengths) (f : WellFormed s) (f
       (subst₂ Perm (sym (names_are mode s b f.bytes f.reads e)) (sym (names_are mode s₁ b f₁.bytes f₁.reads e₁)) p)
       (subst₂ Perm (sym (edges_are mode s b f.bytes f.reads e)) (sym (edges_are mode s₁ b f₁.bytes f₁.reads e₁)) q)
   graphs_alike (fault n j a) (fault n₁ j₁ a₁) e e₁ graphs-refused = both_refused refl refl
+  graphs_alike (graph ns es) (fault n₁ j₁ a₁) e e₁ agree = elim agree [ ]
+  graphs_alike (fault n j a) (graph ns₁ es₁) e e₁ agree = elim agree [ ]
 
   alike_behind : (y : Ans (List BundleText)) (short : Bool) → Alike s s₁ (result_here mode s b) (result_here mode s₁ b)
       → Alike s s₁ (unless_short y short (result_here mode s b)) (unless_short y short (result_here mode s₁ b))
