@@ -119,7 +119,7 @@ fn replay_all(complete: bool, data: &[u8]) -> Tally {
 // A file of recorded graphs, of the one mode or the other.
 fn replay_file<R: Print + Files>(
     rt: &R,
-    name: &str,
+    name: &[u8],
     complete: bool,
     what: &[u8],
 ) -> io::Result<()> {
@@ -129,6 +129,6 @@ fn replay_file<R: Print + Files>(
 }
 
 fn main(rt: HostRuntime) -> io::Result<()> {
-    replay_file(&rt, "graph.vec", false, b" graphs")?;
-    replay_file(&rt, "complete.vec", true, b" complete graphs")
+    replay_file(&rt, b"graph.vec", false, b" graphs")?;
+    replay_file(&rt, b"complete.vec", true, b" complete graphs")
 }
