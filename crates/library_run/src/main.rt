@@ -161,7 +161,7 @@ fn text_cut_short<R: Print>(rt: &R) -> io::Result<()> {
 
 fn main(rt: HostRuntime) -> io::Result<()> {
     let mut space = [0u8; 131072];
-    let n = replay::read_file(&rt, "finds.vec", &mut space)?;
+    let n = replay::read_file(&rt, b"finds.vec", &mut space)?;
     replay_all(&space[..n]).say(&rt, b" finds")?;
     import_only_submodule(&rt)?;
     count_without_sets(&rt)?;

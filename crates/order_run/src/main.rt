@@ -198,7 +198,7 @@ fn lists_checked<R: Print>(rt: &R) -> io::Result<()> {
 
 fn main(rt: HostRuntime) -> io::Result<()> {
     let mut space = [0u8; 131072];
-    let n = replay::read_file(&rt, "orders.vec", &mut space)?;
+    let n = replay::read_file(&rt, b"orders.vec", &mut space)?;
     replay_all(&space[..n]).say(&rt, b" orders")?;
     lowest_free_first(&rt)?;
     ring_along_the_edges(&rt)?;

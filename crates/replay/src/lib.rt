@@ -1,7 +1,7 @@
 // What the programs that replay recorded answers share: the fields of a file, a run over its records, and what is said of it.
 #![tactic(auto)]
 
-ghost use Rattle.std.specs.Prelude.{◌≡◌, ◌+◌, ◌%◌, ◌<◌, ◌≤◌, length, take};
+ghost use Rattle.std.specs.Prelude.{◌≡◌, ◌+◌, ◌%◌, ◌<◌, ◌≤◌, length, take, IfOk};
 ghost use Rattle.std.specs.Io.{ReadsAtMost};
 ghost use Rattle.replay.specs.Fields.{byte_at, length_at, missing_at, on_by, behind, field_at, word_at};
 ghost use Rattle.replay.specs.Records.{number_told_as, refusal_told_as, words_told_as, behind_all, begun, passed};
@@ -218,13 +218,24 @@ pub fn say_file<R: Print>(rt: &R, name: &[u8], run: Tally) -> io::Result<()> {
     run.say(rt, b"")
 }
 
+// A file's name as std takes it: a name that is no UTF-8 text opens no file.
+fn path_of(name: &[u8]) -> io::Result<&str>
+    ensures { IfOk result (λ path. path.now ≡ name.now) }
+{
+    match str::from_utf8(name) {
+        Ok(path) => Ok(path),
+        Err(_) => Err(io::Error::from(io::ErrorKind::InvalidInput)),
+    }
+}
+
 // Reads a file into what is lent, until that is full or the file ends, and answers how many bytes it read. Where the file cannot be opened or read, the error
 // is the answer.
-pub fn read_file<R: Files>(rt: &R, name: &str, space: &mut [u8]) -> io::Result<usize>
+pub fn read_file<R: Files>(rt: &R, name: &[u8], space: &mut [u8]) -> io::Result<usize>
     ensures bound { ReadsAtMost result space.new }
     ensures room { length space.new ≡ length space.old }
 {
-    let mut file = File::open(rt, name)?;
+    let path = path_of(name)?;
+    let mut file = File::open(rt, path)?;
     host_input::read_full(&mut file, space)
 }
 

@@ -173,11 +173,11 @@ fn replay_all(data: &[u8], values: bool) -> Tally {
     run
 }
 
-fn replay_file<R: Print + Files>(rt: &R, name: &str, values: bool) -> io::Result<()> {
+fn replay_file<R: Print + Files>(rt: &R, name: &[u8], values: bool) -> io::Result<()> {
     let mut space = [0u8; 524288];
     let n = replay::read_file(rt, name, &mut space)?;
     let run = replay_all(&space[..n], values);
-    replay::say_file(rt, name.as_bytes(), run)
+    replay::say_file(rt, name, run)
 }
 
 // Whether the statement at the text's start ends at a place.
@@ -241,9 +241,9 @@ fn traps<R: Print>(rt: &R) -> io::Result<()> {
 }
 
 fn main(rt: HostRuntime) -> io::Result<()> {
-    replay_file(&rt, "values.vec", true)?;
-    replay_file(&rt, "skips.vec", false)?;
-    replay_file(&rt, "values-accents.vec", true)?;
-    replay_file(&rt, "skips-accents.vec", false)?;
+    replay_file(&rt, b"values.vec", true)?;
+    replay_file(&rt, b"skips.vec", false)?;
+    replay_file(&rt, b"values-accents.vec", true)?;
+    replay_file(&rt, b"skips-accents.vec", false)?;
     traps(&rt)
 }

@@ -247,25 +247,25 @@ fn replay_all(whole: bool, kind: Kind, data: &[u8]) -> Tally {
     run
 }
 
-fn replay_file<R: Print + Files>(rt: &R, whole: bool, kind: Kind, name: &str) -> io::Result<()> {
+fn replay_file<R: Print + Files>(rt: &R, whole: bool, kind: Kind, name: &[u8]) -> io::Result<()> {
     let mut space = [0u8; 524288];
     let n = replay::read_file(rt, name, &mut space)?;
     let run = replay_all(whole, kind, &space[..n]);
-    replay::say_file(rt, name.as_bytes(), run)
+    replay::say_file(rt, name, run)
 }
 
 fn main(rt: HostRuntime) -> io::Result<()> {
-    replay_file(&rt, false, Kind::Dependencies, "dependencies.vec")?;
-    replay_file(&rt, false, Kind::Metadata, "metadata.vec")?;
-    replay_file(&rt, true, Kind::Dependencies, "dependencies-whole.vec")?;
-    replay_file(&rt, true, Kind::Metadata, "metadata-whole.vec")?;
-    replay_file(&rt, false, Kind::Dependencies, "dependencies-accents.vec")?;
-    replay_file(&rt, false, Kind::Metadata, "metadata-accents.vec")?;
+    replay_file(&rt, false, Kind::Dependencies, b"dependencies.vec")?;
+    replay_file(&rt, false, Kind::Metadata, b"metadata.vec")?;
+    replay_file(&rt, true, Kind::Dependencies, b"dependencies-whole.vec")?;
+    replay_file(&rt, true, Kind::Metadata, b"metadata-whole.vec")?;
+    replay_file(&rt, false, Kind::Dependencies, b"dependencies-accents.vec")?;
+    replay_file(&rt, false, Kind::Metadata, b"metadata-accents.vec")?;
     replay_file(
         &rt,
         true,
         Kind::Dependencies,
-        "dependencies-whole-accents.vec",
+        b"dependencies-whole-accents.vec",
     )?;
-    replay_file(&rt, true, Kind::Metadata, "metadata-whole-accents.vec")
+    replay_file(&rt, true, Kind::Metadata, b"metadata-whole-accents.vec")
 }
