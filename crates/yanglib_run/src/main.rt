@@ -3,6 +3,8 @@
 
 use graph_build::Graphed;
 use replay::Tally;
+use std::io;
+use std::rt::Files;
 use text::Refusal;
 
 // Whether the tables are the recorded ones: the places of the nodes' names, the first of each two words, and the edges.
@@ -115,13 +117,18 @@ fn replay_all(complete: bool, data: &[u8]) -> Tally {
 }
 
 // A file of recorded graphs, of the one mode or the other.
-fn replay_file(name: &[u8], complete: bool, what: &[u8]) {
+fn replay_file<R: Print + Files>(
+    rt: &R,
+    name: &str,
+    complete: bool,
+    what: &[u8],
+) -> io::Result<()> {
     let mut space = [0u8; 524288];
-    let n = replay::read_file(name, &mut space);
-    replay_all(complete, &space[..n]).say(what);
+    let n = replay::read_file(rt, name, &mut space)?;
+    replay_all(complete, &space[..n]).say(rt, what)
 }
 
-fn main() {
-    replay_file(b"graph.vec", false, b" graphs");
-    replay_file(b"complete.vec", true, b" complete graphs");
+fn main(rt: HostRuntime) -> io::Result<()> {
+    replay_file(&rt, "graph.vec", false, b" graphs")?;
+    replay_file(&rt, "complete.vec", true, b" complete graphs")
 }
