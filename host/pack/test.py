@@ -455,6 +455,7 @@ class Show(Case):
 class Words(Case):
     def test_help(self):
         page = open(os.path.join(HERE, "help.txt"), encoding="ascii").read()
+        self.assertEqual(open(os.path.join(HERE, "../rust/src/help/pack.txt"), encoding="ascii").read(), page)  # the command's own help is a copy
         self.assertTrue(all(len(line) <= 80 for line in page.splitlines()))
         for words in ["--help"], ["-h"], ["folder", "--help"], ["show", "x", "-h"], ["--all", "--help"]:
             self.assertEqual(self.run_pack(*words), (0, page, ""))
