@@ -18,7 +18,7 @@ fail() { echo "example: $*" >&2; exit 1; }
 "$here/../build" >/dev/null
 has_all() { # FOLDER
     (cd "$1" && find . ! -type d | sort) >"$work/found"
-    (cd "$here/../../target/made" && find . ! -type d | sort) >"$work/due"
+    (cd "$here/../../target/made" && find . ! -type d | sed 's,\.link$,,' | sort) >"$work/due"
     cmp -s "$work/found" "$work/due" || fail "installed are $(cat "$work/found")"
     cmp "$here/../../include/nuvaleta.h" "$1/include/nuvaleta.h"
 }

@@ -66,6 +66,7 @@ class Package(unittest.TestCase):
         self.assertEqual([name for name in there(self.prefix / "libexec/nuvaleta") if "test" in name], [])
         links = {path.name: os.readlink(path) for path in self.prefix.rglob("*") if path.is_symlink()}
         self.assertEqual(links, {"libnuvaleta.so": f"libnuvaleta.so.{KEPT}", f"libnuvaleta.so.{KEPT}": f"libnuvaleta.so.{VERSION}"})
+        self.assertEqual([path for path in (ROOT / "target").rglob("*") if path.is_symlink()], [])  # rt takes no link in a checkout
 
     def test_a_path_is_printed_for_each_file_to_be_removed(self):
         prefix = self.room / "b prefix"
