@@ -279,7 +279,8 @@ def turn(crate, folder, names, report):
                 continue
             to = dict(zip(args, want))
             order = b[3]
-            got = re.sub(r"(?<![\w.'\u2080-\u2089-])([A-Za-z\u2080-\u2089_][\w'\u2080-\u2089-]*)(?![\w'\u2080-\u2089-])", lambda w: "l." + to[w[1]] if w[1] in to else w[0], order)
+            variable = r"(?<![\w.'\u2080-\u2089-])([A-Za-z\u2080-\u2089_][\w'\u2080-\u2089-]*)(?![\w'\u2080-\u2089-])"
+            got = re.sub(variable, lambda w: "l." + to[w[1]] if w[1] in to else w[0], order)
             label = ("invariant-" if m[1] in ("invariant", "InvT", "Left") else "decreases-") + new
             invariants.append("\n".join(above + [f"abbrev pub {label} : goal.{label}", f"{label} l ={got}"]))
             continue

@@ -43,7 +43,9 @@ lib)
         echo "fn $crate::f: proved"
         echo "library another: modules loaded=3 checked=0"
         echo "crate $crate: modules loaded=0 checked=3"
-        [ "$crate" != "${FAILS:-}" ] || { echo "logic=not-proved" && echo "rt: the library $crate did not build, so nothing above it was checked" >&2 && exit 1; }
+        [ "$crate" != "${FAILS:-}" ] || {
+            echo "logic=not-proved" && echo "rt: the library $crate did not build, so nothing above it was checked" >&2 && exit 1
+        }
         echo "logic=proved functions=1"
     done
     while [ -n "${HELD_BY:-}" ] && [ ! -e "$HELD_BY" ]; do sleep 0.05; done

@@ -1,5 +1,5 @@
 #!/bin/sh
-# test.sh ARCHIVE [FILE..]: attacks the archive of crates/nuvaleta (attack.c) with a modest count, sees that each planted fault (planted.h) is
+# test.sh ARCHIVE [FILE..]: attacks the archive of crates/nuvaleta_c (attack.c) with a modest count, sees that each planted fault (planted.h) is
 # noticed, and runs a little of it under valgrind.
 # test.sh --x86-64 ARCHIVE: on another processor attacks an archive for x86-64 a little, by a cross compiler and an emulator; not part of the
 # gate.

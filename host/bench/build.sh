@@ -1,5 +1,5 @@
 #!/bin/sh
-# build.sh [SOURCE]: builds host/bench/build/release/bench over the archive of crates/nuvaleta and the original yangparser.rs and yanglib.rs, which are
+# build.sh [SOURCE]: builds host/bench/build/release/bench over the archive of crates/nuvaleta_c and the original yangparser.rs and yanglib.rs, which are
 # checked and cut as host/oracle/build.sh does it.
 set -eu
 here=$(cd "$(dirname "$0")" && pwd)
