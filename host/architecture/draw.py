@@ -2,9 +2,8 @@
 """draw.py [--check] [CRATES PICTURE]: draws the crates as an SVG picture, floor by floor, from top to bottom.
 
 CRATES is crates.txt, PICTURE is docs/architecture.svg. In CRATES a line `NAME: DEP DEP ..` is a crate, `NAME staticlib: DEP ..` too, and a `#` line right
-above a crate's line begins a
-floor. In the picture a line goes from a crate down to one that depends on it; a dependency that another path gives already is not drawn. A crate that
-names one of a later floor is refused. With --check nothing is written: the picture must be the one that would be drawn now."""
+above a crate's line begins a floor. In the picture a line goes from a crate down to one that depends on it; a dependency that another path gives already is not
+drawn. A crate that names one of a later floor is refused. With --check nothing is written: the picture must be the one that would be drawn now."""
 import sys
 from pathlib import Path
 
