@@ -1,7 +1,7 @@
 #!/usr/bin/env python3
 """Brings the repository's own definitions and lemmas to one spelling: words in snake case, types and modules in camel case.
 
-usage: python3 tools/port_names.py [--nested] [--list]      at the top of the repository, once, after /opt/rattle/port/port.py
+usage: python3 tools/port_names.py [--nested] [--list]      at the top of the repository, once, after the kit's port.py
 
 A definition `gapEnd` becomes `gap_end`, a lemma `gap-from` becomes `gap_from`. Names of src/ keep their spelling, and so do names that Rattle makes, as the
 goals of a function. Where a lemma would have a definition's name, it ends in `_lem`. Names in strings stay as they are.
