@@ -31,5 +31,3 @@ returns-in_default c =
 pub returns : goal.returns
 returns c =
     edges_built (cleared_long refl c.clear_words.ensures) c.walk_items-drawn.ensures c.in-Built.is
-
--- LEFT: refl ; sym (length-replicate {A = ℕ} 16384 0) ; c.match.keys1 ; c.match.keys2

@@ -7,10 +7,6 @@ loop-j-init c = search chain_begun
 pub overflow_add-end : goal.overflow_add-end
 overflow_add-end c = search name_fits
 
--- LEFT: slice-bounds-same-end
--- part-same-end : tie.Need-slice-bounds-same-end invariant-loop decreases-loop
--- part-same-end c = search name_in
-
 pub returns-then-same : goal.returns-then-same
 returns-then-same c = search chain_hit
 
