@@ -107,7 +107,6 @@ def names():
     tokens = collections.Counter()
     for path in files(".antt"):
         tokens.update(re.findall(WORD, text(path)))
-    new = {}
     kept = of_libraries()
     own = [n for n in found if n not in kept and not n.startswith("+")]
     camel = [n for n in own if re.match(r"[a-z][\w']*[A-Z]", n) and "-" not in n]
@@ -120,7 +119,7 @@ def names():
     return new, fields, together, tokens
 
 
-def turned(line, new, fields, code):
+def turned(line, new, fields):
     """A line with the names turned. A name behind a dot is a field's, or the last part of a module's path, which no definition is."""
 
     def one(m):
@@ -145,7 +144,7 @@ def turn_antt(t, new, fields):
         m = re.search(r"(^|\s)--(\s|$)", line)
         if m:
             code, note = line[: m.start()], line[m.start() :]
-        out.append(turned(code, new, fields, True) + turn_note(note, new))
+        out.append(turned(code, new, fields) + turn_note(note, new))
     return "\n".join(out)
 
 

@@ -221,7 +221,6 @@ def uses(head, text):
         keep = []
         for item in m[3].split(", "):
             name = item.split(" as ")[-1]
-            pieces = [x for x in name.split("\u25ef") if x and x != "\u25cc"]
             pieces = [x for x in re.split("[\u25cc\u25ef]", name) if x]
             if name in words or (name == "[]" and "[]" in text) or ("\u25cc" in name and all(x in text for x in pieces)):
                 keep.append(item)
@@ -266,9 +265,8 @@ def turn(crate, folder, names, report):
                 continue
             new, params, changed = loop
             args = b[2].split()
-            k = sum(changed)
-            order = []  # the old arguments: each variable at the loop's start, and then those that change
-            first = [(v, ch) for v, ch in zip(params, changed)]
+            # the old arguments: each variable at the loop's start, and then those that change
+            first = list(zip(params, changed))
             want = []
             for v, ch in first:
                 want.append(("initial." + v) if ch else v)
@@ -278,9 +276,8 @@ def turn(crate, folder, names, report):
                 invariants.append("-- LEFT: " + " ".join(want) + "\n" + text)
                 continue
             to = dict(zip(args, want))
-            order = b[3]
             variable = r"(?<![\w.'\u2080-\u2089-])([A-Za-z\u2080-\u2089_][\w'\u2080-\u2089-]*)(?![\w'\u2080-\u2089-])"
-            got = re.sub(variable, lambda w: "l." + to[w[1]] if w[1] in to else w[0], order)
+            got = re.sub(variable, lambda w: "l." + to[w[1]] if w[1] in to else w[0], b[3])
             label = ("invariant-" if m[1] in ("invariant", "InvT", "Left") else "decreases-") + new
             invariants.append("\n".join(above + [f"abbrev pub {label} : goal.{label}", f"{label} l ={got}"]))
             continue

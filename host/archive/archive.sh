@@ -82,7 +82,7 @@ fi
 # Who asks for a kept one does not expect to wait.
 if [ -n "$kept" ]; then
     echo "$name: proving and building, once; this takes some minutes" >&2
-    [ ! -t 2 ] || [ "$name" != nuvaleta ] || echo "$name: about 15 minutes on two processors, 4 GB of memory, 1500 MB of disk" >&2
+    [ ! -t 2 ] || [ "$name" != nuvaleta ] || echo "$name: about 20 minutes on two processors, 4 GB of memory, 1500 MB of disk" >&2
 fi
 
 mirror=''
