@@ -1,5 +1,6 @@
 -- Worked examples of gaps, keywords and required bytes, one list and one claim: each definition computes what stands beside the text.
 -- Assumes nothing.
+use Rattle.std.specs.Prelude.{Ok, Err, Result}
 use mathlib.Core.Bool.{Bool, true, false, ◌&&◌}
 use mathlib.Core.List.{List, [], ◌∷◌}
 use Prim.Native.Nat.{ℕ}
@@ -10,8 +11,8 @@ use Rattle.text.specs.Refusal.{high_byte_met, other_byte, end_of_text, is_high, 
 use Rattle.text.specs.Keyword.{starts_ident, ends_keyword, same, part, keyword_at}
 use Rattle.text.specs.Scan.{in_ident, in_run, span, run_end, pair_at, closing, block_end, comment_end, after_white, gap_turn, gap_end}
 use Rattle.text.specs.Turns.{turns}
-use Rattle.text.specs.declared.Due.{Due}
-use Rattle.text.specs.declared.Due.TheVariants.{After, Not}
+use Rattle.text.specs.declared.Cursor.{Cursor}
+use Rattle.text.specs.declared.Refusal.{Refusal}
 
 -- where a gap ends; whether a keyword stands there; past a required byte, or the refusal's number and place
 data Example : Type 0 where
@@ -25,13 +26,13 @@ same_bool true b = b
 same_bool false true = false
 same_bool false false = true
 
-is_past : ℕ → Due → Bool
-is_past n (After c) = eqb c.at n
-is_past n (Not r) = false
+is_past : ℕ → Result Cursor Refusal → Bool
+is_past n (Ok c) = eqb c.at n
+is_past n (Err r) = false
 
-is_refused : ℕ → ℕ → Due → Bool
-is_refused n at (After c) = false
-is_refused n at (Not r) = eqb r.number n && eqb r.at at
+is_refused : ℕ → ℕ → Result Cursor Refusal → Bool
+is_refused n at (Ok c) = false
+is_refused n at (Err r) = eqb r.number n && eqb r.at at
 
 holds : Example → Bool
 holds (gap s e) = eqb (gap_end s 0) e

@@ -8,20 +8,12 @@ use Prim.Native.Nat.{ℕ, ◌<◌, ◌≤◌}
 use native.Mathlib.Omega.{arith}
 use lib.Dec.{eqb, leb}
 use lib.ListN.{length, get_or}
-use borrow.Author.Tests.{le-leb, lt-leb, leb-true, eqb-false}
+use borrow.Author.Tests.{leb-true, eqb-false}
 use Rattle.text.specs.Refusal.{is_high, high_at, MetHigh, refused_at}
 use Rattle.text.specs.declared.Refusal.{Refusal}
 use Rattle.text.proofs.Here.{here, both, by_test}
 
 -- ---- the test
-
-pub high_low : (b : ℕ) → b < 128 → is_high b ≡ false
-unfolding is_high
-high_low b h = rw (lt-leb 128 b h) refl
-
-pub high_from : (b : ℕ) → 128 ≤ b → is_high b ≡ not (eqb b 256)
-unfolding is_high
-high_from b h = rw (le-leb 128 b h) refl
 
 pub high_end : {b : ℕ} → b ≡ 256 → is_high b ≡ false
 unfolding is_high

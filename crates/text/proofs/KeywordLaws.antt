@@ -1,15 +1,18 @@
 -- What a proof uses of the definitions of `specs/Keyword.antt`. What the code tests is the document's keyword, since no byte that ends a
 -- keyword belongs to an identifier: one computed test over the table.
 -- Assumes nothing.
+use Rattle.std.specs.Bool.{then_some}
+use Rattle.std.proofs.lemmas.List.{drop_min}
+use lib.Seq.{take_all}
+use Rattle.std.specs.Prelude.{Some, None, Option}
 use mathlib.Core.Path.{◌≡◌, refl, sym, ap, ap₂, ◌∙◌}
-use mathlib.Core.Logic.{◌⊎◌, inl, inr, ⊎_elim}
 use mathlib.Core.Bool.{Bool, true, false, not, ◌&&◌}
 use mathlib.Core.List.{List, [], ◌∷◌}
-use Prim.Native.Nat.{ℕ, zero, suc, ◌+◌, ◌-◌, ◌≤◌, ◌<◌}
+use Prim.Native.Nat.{ℕ, zero, suc, ◌+◌, ◌-◌, ◌≤◌, ◌<◌, min}
 use native.Mathlib.Nat.{add-zero, lt_of_not-le}
 use native.Mathlib.Decide.{dec_le}
 use native.Mathlib.Omega.{arith}
-use lib.ListN.{get_or, length, take, drop, drop_of_length-le, length-drop, length-take}
+use lib.ListN.{get_or, length, take, drop, length-drop, length-take, drop_of_length-le}
 use lib.Seq.{get_or-drop}
 use lib.Dec.{eqb, T}
 use borrow.Author.Tests.{eq-eqb, ne_eqb, eqb-true, le-leb, lt-leb}
@@ -17,35 +20,11 @@ use Rattle.text.specs.Class.{class_of, class_table}
 use Rattle.text.specs.Scan.{in_ident, in_run, span, run_end}
 use Rattle.text.specs.Keyword.{ends_keyword, starts_ident, same, part, keyword_at, match_at, or_match, first_byte, next_byte, word_rest, wordly, begins}
 use Rattle.text.specs.declared.Cursor.{Cursor}
-use Rattle.text.specs.declared.Match.{Match}
-use Rattle.text.specs.declared.Match.TheVariants.{After, Not}
 use Rattle.text.specs.declared.Run.TheVariants.{Ident}
 use Rattle.text.proofs.ClassLaws.{class_high}
 use Rattle.text.proofs.Table.{at}
-use Rattle.text.proofs.Here.{by_test, here, past, rest, inside, never, both}
+use Rattle.text.proofs.Here.{by_test, here, past, rest_or, never, both}
 use Rattle.text.proofs.Laws.{span_most, in_ident_lem, run_more, run_from, run_within}
-
--- a `match` on a number hands its keys over in their order as numbers
-abbrev pub Marks : ℕ → Type 0
-Marks b = (b ≡ 34) ⊎ ((b ≡ 39) ⊎ ((b ≡ 59) ⊎ ((b ≡ 123) ⊎ (b ≡ 256))))
-
-pub ends_mark : (b : ℕ) → Marks b → ends_keyword b ≡ true
-unfolding ends_keyword class_of
-ends_mark b m =
-    let by : (n : ℕ) → b ≡ n → ends_keyword b ≡ ends_keyword n = λ n e. ap ends_keyword e in
-    ⊎_elim (by 34) (⊎_elim (by 39) (⊎_elim (by 59) (⊎_elim (by 123) (by 256)))) m
-
-pub ends_not : (b : ℕ) → eqb (class_of b) 1 ≡ false → (Marks b → ⊥) → ends_keyword b ≡ false
-unfolding ends_keyword
-ends_not b w m =
-    simp (
-      w,
-      ne_eqb b 34 (λ e. m (inl e)),
-      ne_eqb b 39 (λ e. m (inr (inl e))),
-      ne_eqb b 59 (λ e. m (inr (inr (inl e)))),
-      ne_eqb b 123 (λ e. m (inr (inr (inr (inl e))))),
-      ne_eqb b 256 (λ e. m (inr (inr (inr (inr e))))),
-    )
 
 -- ---- equal lists
 
@@ -151,45 +130,33 @@ begins_room [] xs h = omega arith
 begins_room (w ∷ ws) [] h = absurd (never refl h)
 begins_room (w ∷ ws) (x ∷ xs) h = omega (arith, begins_room ws xs (both (eqb x w) (begins ws xs) h).1)
 
-begins_none : (ws : List ℕ) → begins ws [] ≡ eqb (length ws) 0
-unfolding begins
-begins_none [] = refl
-begins_none (w ∷ ws) = sym (ne_eqb (suc (length ws)) 0 (λ e. omega arith))
+-- the slice that holds the rest of a text from a place on, which is empty past the end
+pub rest_is : (s : List ℕ) (at : ℕ) {m : ℕ} → m ≡ min at (length s) → take (length s - m) (drop m s) ≡ drop at s
+rest_is s at {m} e = take_all (length s - m) (drop m s) (omega (arith, length-drop m s)) ∙ ap (λ i. drop i s) e ∙ drop_min at s
 
-module _ (s : List ℕ) (at : ℕ) (word : List ℕ) where
-  pub begins_past : length s ≤ at → begins word (drop at s) ≡ eqb (length word) 0
-  begins_past h = rw (drop_of_length-le s h) (begins_none word)
+pub begins_short : (ws xs : List ℕ) → length xs < length ws → begins ws xs ≡ false
+begins_short ws xs h = by_test (begins ws xs) (λ t. absurd (omega (arith, begins_room ws xs t))) (λ f. f)
 
-  pub begins_short : length s - at < length word → begins word (drop at s) ≡ false
-  begins_short h =
-      by_test (begins word (drop at s))
-      (λ t. absurd (let k = begins_room word (drop at s) t in omega (arith, length-drop at s)))
-      (λ f. f)
-
-  pub begins_first : begins (drop 0 word) (drop (at + 0) s) ≡ begins word (drop at s)
-  begins_first = rw (add-zero at) refl
-
-  module _ (i : ℕ) (h : i < length word) (k : at + i < length s) where
-    here_both : begins (drop i word) (drop (at + i) s) ≡ (eqb (get_or s (at + i) 0) (get_or word i 0) && begins (drop (i + 1) word) (drop (at + (i + 1)) s))
-    unfolding begins
-    here_both =
-        let e : at + i + 1 ≡ at + (i + 1) = omega arith in
-        rw (rest word i h, rest s (at + i) k, e, inside s (at + i) 0 256 k, inside word i 0 256 h) refl
-
-    pub begins_more : get_or s (at + i) 0 ≡ get_or word i 0 → begins (drop (i + 1) word) (drop (at + (i + 1)) s) ≡ begins (drop i word) (drop (at + i) s)
-    begins_more e = sym (here_both ∙ ap (λ t. t && begins (drop (i + 1) word) (drop (at + (i + 1)) s)) (eq-eqb (get_or s (at + i) 0) (get_or word i 0) e))
-
-    pub begins_other : (get_or s (at + i) 0 ≡ get_or word i 0 → ⊥) → begins (drop i word) (drop (at + i) s) ≡ false
-    begins_other n = here_both ∙ ap (λ t. t && begins (drop (i + 1) word) (drop (at + (i + 1)) s)) (ne_eqb (get_or s (at + i) 0) (get_or word i 0) n)
-
-  pub begins_done : (i : ℕ) → length word ≤ i → begins (drop i word) (drop (at + i) s) ≡ true
+-- a byte of the word beside one of the text
+module _ (ws xs : List ℕ) (i : ℕ) (h : i < length ws) (k : i < length xs) where
+  both_here : begins (drop i ws) (drop i xs) ≡ (eqb (get_or xs i 0) (get_or ws i 0) && begins (drop (i + 1) ws) (drop (i + 1) xs))
   unfolding begins
-  begins_done i h = rw (drop_of_length-le word h) refl
+  both_here = rw (rest_or ws i 0 h, rest_or xs i 0 k) refl
+
+  pub begins_more : get_or xs i 0 ≡ get_or ws i 0 → begins (drop (i + 1) ws) (drop (i + 1) xs) ≡ begins (drop i ws) (drop i xs)
+  begins_more e = sym (both_here ∙ rw (eq-eqb (get_or xs i 0) (get_or ws i 0) e) refl)
+
+  pub begins_other : (get_or xs i 0 ≡ get_or ws i 0 → ⊥) → begins (drop i ws) (drop i xs) ≡ false
+  begins_other n = both_here ∙ rw (ne_eqb (get_or xs i 0) (get_or ws i 0) n) refl
+
+pub begins_done : (ws xs : List ℕ) (i : ℕ) → length ws ≤ i → begins (drop i ws) (drop i xs) ≡ true
+unfolding begins
+begins_done ws xs i h = rw (drop_of_length-le ws h) refl
 
 -- ---- a keyword
 
 -- no identifier begins here: no keyword stands here
-pub match_none : (s : List ℕ) (at : ℕ) (word : List ℕ) {p : ℕ} {t : Bool} → p ≡ get_or s at 256 → t ≡ starts_ident p → t ≡ false → match_at s at word ≡ Not
+pub match_none : (s : List ℕ) (at : ℕ) (word : List ℕ) {p : ℕ} {t : Bool} → p ≡ get_or s at 256 → t ≡ starts_ident p → t ≡ false → match_at s at word ≡ None
 unfolding match_at keyword_at
 match_none s at word pe te n = let a : starts_ident (get_or s at 256) ≡ false = cc in rw a
 
@@ -275,7 +242,7 @@ module _ (s : List ℕ) (at : ℕ) (word : List ℕ) where
     -- Each law takes what the calls on the way answered, in their order: t whether the bytes here begin with the word, q what stands after
     -- it, k whether a keyword can end there.
     module _ {t : Bool} (te : t ≡ begins word (drop at s)) where
-      pub match_other : t ≡ false → match_at s at word ≡ Not
+      pub match_other : t ≡ false → match_at s at word ≡ None
       unfolding match_at
       match_other n = rw keyword_is (rw (sym te ∙ n) refl)
 
@@ -287,15 +254,19 @@ module _ (s : List ℕ) (at : ℕ) (word : List ℕ) where
           ends_is : ends_keyword (get_or s (at + length word) 256) ≡ k
           ends_is = sym (ke ∙ ap ends_keyword qe)
 
-          pub match_after : k ≡ true → match_at s at word ≡ After (record { at = at + length word })
+          match_after : k ≡ true → match_at s at word ≡ Some (record { at = at + length word })
           unfolding match_at
           match_after z =
               let h = keyword_given (sym te ∙ y) (ends_is ∙ z) in
-              rw h (ap (λ i. After (record { at = i })) (keyword_gives h).1)
+              rw h (ap (λ i. Some (record { at = i })) (keyword_gives h).1)
 
-          pub match_longer : k ≡ false → match_at s at word ≡ Not
+          match_longer : k ≡ false → match_at s at word ≡ None
           unfolding match_at
           match_longer z = rw keyword_is (rw (sym te ∙ y, ends_is ∙ z) refl)
+
+          pub match_told : (z : Bool) → k ≡ z → then_some z (record { at = at + length word }) ≡ match_at s at word
+          match_told true z = sym (match_after z)
+          match_told false z = sym (match_longer z)
 
 -- ---- how far a keyword goes
 
@@ -319,14 +290,14 @@ ident_far s at y =
     let e = in_ident_lem (get_or s at 256) ∙ starts_in (get_or s at 256) y in
     omega (arith, run_more Ident s at l refl (sym e) refl, run_from Ident s (at + 1), run_within Ident s at (omega arith))
 
-after_is : {m : Match} (a b : Cursor) → m ≡ After a → m ≡ After b → a.at ≡ b.at
+after_is : {m : Option Cursor} (a b : Cursor) → m ≡ Some a → m ≡ Some b → a.at ≡ b.at
 after_is a b e f = cc
 
-not_after : {m : Match} {a : Cursor} → m ≡ Not → m ≡ After a → ⊥
+not_after : {m : Option Cursor} {a : Cursor} → m ≡ None → m ≡ Some a → ⊥
 not_after e f = let z : ◌≡◌ {A = ℕ} 0 1 = cc in omega arith
 
 -- what a match says
-match_given : (s : List ℕ) (at : ℕ) (word : List ℕ) (c : Cursor) → match_at s at word ≡ After c → (keyword_at s at word ≡ true) × (c.at ≡ run_end Ident s at)
+match_given : (s : List ℕ) (at : ℕ) (word : List ℕ) (c : Cursor) → match_at s at word ≡ Some c → (keyword_at s at word ≡ true) × (c.at ≡ run_end Ident s at)
 unfolding match_at
 match_given s at word c h =
     by_test (keyword_at s at word)
@@ -346,8 +317,8 @@ keyword_word s at word h =
     same_eq _ _ (both (starts_ident (get_or s at 256)) (same (part s at (run_end Ident s at)) word) k.0).1
 
 -- one that matched ends behind its first byte and within the text
-abbrev pub Far : List ℕ → ℕ → Match → Type 0
-Far s at m = (c : Cursor) → m ≡ After c → (at < c.at) × (c.at ≤ length s)
+abbrev pub Far : List ℕ → ℕ → Option Cursor → Type 0
+Far s at m = (c : Cursor) → m ≡ Some c → (at < c.at) × (c.at ≤ length s)
 
 -- a keyword takes a byte at least and stands within the text
 pub match_far : (s : List ℕ) (at : ℕ) (word : List ℕ) → Far s at (match_at s at word)
@@ -356,32 +327,16 @@ match_far s at word c h =
     omega (arith, g.1, ident_far s at (keyword_starts s at word g.0))
 
 -- and so does the first of two that matched
-pub or_match_far : (s : List ℕ) (at : ℕ) (m n : Match) → Far s at m → Far s at n → Far s at (or_match m n)
+pub or_match_far : (s : List ℕ) (at : ℕ) (m n : Option Cursor) → Far s at m → Far s at n → Far s at (or_match m n)
 unfolding or_match
-or_match_far s at (After d) n p q c h = p c h
-or_match_far s at Not n p q c h = q c h
-
--- o: what a word's own match answered, x: what is given where there is none
-module _ {o n : Match} (x : Match) (e : o ≡ n) where
-  pub or_own : (c : Cursor) → o ≡ After c → o ≡ or_match n x
-  unfolding or_match
-  or_own c h = h ∙ sym (ap (λ m. or_match m x) (sym e ∙ h))
-
-  pub or_given : o ≡ Not → x ≡ or_match n x
-  unfolding or_match
-  or_given h = sym (ap (λ m. or_match m x) (sym e ∙ h))
-
--- it takes just its own bytes
-pub match_end : (s : List ℕ) (at : ℕ) (word : List ℕ) (c : Cursor) → match_at s at word ≡ After c → c.at ≡ at + length word
-match_end s at word c h =
-    let g = match_given s at word c h in
-    g.1 ∙ (keyword_gives s at word g.0).1
+or_match_far s at (Some d) n p q c h = p c h
+or_match_far s at None n p q c h = q c h
 
 -- no two keywords stand at one place
-pub match_one : (s : List ℕ) (at : ℕ) (v w : List ℕ) (c d : Cursor) → match_at s at v ≡ After c → match_at s at w ≡ After d → v ≡ w
+pub match_one : (s : List ℕ) (at : ℕ) (v w : List ℕ) (c d : Cursor) → match_at s at v ≡ Some c → match_at s at w ≡ Some d → v ≡ w
 match_one s at v w c d h k = sym (keyword_word s at v (match_given s at v c h).0) ∙ keyword_word s at w (match_given s at w d k).0
 
 -- at the end there is none
-pub match_past : (s : List ℕ) (at : ℕ) (word : List ℕ) → length s ≤ at → match_at s at word ≡ Not
+pub match_past : (s : List ℕ) (at : ℕ) (word : List ℕ) → length s ≤ at → match_at s at word ≡ None
 unfolding starts_ident class_of
 match_past s at word h = match_none s at word (sym (past s at h)) refl refl

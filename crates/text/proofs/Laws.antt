@@ -2,17 +2,17 @@
 -- turns of a gap end.
 -- Assumes nothing.
 use mathlib.Core.Path.{◌≡◌, refl, sym, ap, ◌∙◌}
-use mathlib.Core.Bool.{Bool, true, false, cond, not, ◌&&◌}
+use mathlib.Core.Bool.{Bool, true, false, cond, ◌&&◌}
 use mathlib.Core.List.{List, [], ◌∷◌}
-use Prim.Native.Nat.{ℕ, suc, ◌+◌, ◌<◌, ◌≤◌, ◌-◌}
+use Prim.Native.Nat.{ℕ, suc, ◌+◌, ◌<◌, ◌≤◌, ◌-◌, max}
 use native.Mathlib.Nat.{add-zero}
+use native.Mathlib.Decide.{dec_le}
 use native.Mathlib.Omega.{arith}
 use lib.ListN.{length, get_or, drop, drop_of_length-le, length-drop}
 use lib.Seq.{get_or-drop, drop-drop}
 use lib.Dec.{eqb}
 use borrow.Author.Tests.{eq-eqb, ne_eqb, eqb-true, eqb-false}
 use Rattle.text.specs.Scan.{in_ident, in_run, span, run_end, pair_at, closing, block_end, comment_end, after_white, gap_turn, gap_end}
-use Rattle.text.specs.Class.{class_of}
 use Rattle.text.specs.declared.Run.{Run}
 use Rattle.text.specs.declared.Run.TheVariants.{White, Line, Ident, Name}
 use Rattle.text.specs.Turns.{Turn, stop, on, turns}
@@ -21,14 +21,6 @@ use Rattle.text.proofs.Here.{rest, here, by_test}
 
 -- ---- the bytes of a run
 
-pub in_white : (b : ℕ) → in_run White b ≡ eqb (class_of b) 1
-unfolding in_run
-in_white b = refl
-
-pub in_line : (b : ℕ) → in_run Line b ≡ not (eqb b 10)
-unfolding in_run
-in_line b = refl
-
 pub in_ident_lem : (b : ℕ) → in_run Ident b ≡ in_ident b
 unfolding in_run
 in_ident_lem b = refl
@@ -36,28 +28,6 @@ in_ident_lem b = refl
 pub in_name : (b : ℕ) → in_ident b ≡ true → in_run Name b ≡ true
 unfolding in_run
 in_name b h = simp h
-
-pub in_name_too : (b : ℕ) → in_ident b ≡ false → in_run Name b ≡ eqb b 58
-unfolding in_run
-in_name_too b h = simp h
-
--- Each law takes the kind of run and what the call on the way answered: c the class, i whether the byte belongs to an identifier.
-module _ {k : Run} (b : ℕ) where
-  pub run_white : k ≡ White → {c : ℕ} → c ≡ class_of b → eqb c 1 ≡ in_run k b
-  run_white h e = ap (λ x. eqb x 1) e ∙ sym (ap (λ r. in_run r b) h ∙ in_white b)
-
-  pub run_line : k ≡ Line → not (eqb b 10) ≡ in_run k b
-  run_line h = sym (ap (λ r. in_run r b) h ∙ in_line b)
-
-  pub run_ident : k ≡ Ident → {i : Bool} → i ≡ in_ident b → i ≡ in_run k b
-  run_ident h e = e ∙ sym (ap (λ r. in_run r b) h ∙ in_ident_lem b)
-
-  module _ (h : k ≡ Name) {i : Bool} (e : i ≡ in_ident b) where
-    pub run_name : i ≡ true → in_run k b ≡ true
-    run_name y = ap (λ r. in_run r b) h ∙ in_name b (sym e ∙ y)
-
-    pub run_name_too : i ≡ false → in_run k b ≡ eqb b 58
-    run_name_too n = ap (λ r. in_run r b) h ∙ in_name_too b (sym e ∙ n)
 
 -- ---- a run
 
@@ -72,6 +42,12 @@ module _ (k : Run) (s : List ℕ) (i : ℕ) (h : i < length s) {b : ℕ} {t : Bo
   pub run_stop : t ≡ false → run_end k s i ≡ i
   unfolding run_end span
   run_stop n = let e : in_run k (get_or s i 256) ≡ false = cc in rw (rest s i h) (simp e (omega arith))
+
+-- what a loop over the places from `at` on answers where it went to the end: f, where it ends from a place, is that place from the end on
+pub max_end : (s : List ℕ) (f : ℕ → ℕ) (at i : ℕ) → ((j : ℕ) → length s ≤ j → f j ≡ j) → length s ≤ i → (at ≤ length s → i ≤ length s) → f i ≡ f at
+    → max at (length s) ≡ f at
+max_end s f at i past l near e =
+    elim (dec_le at (length s)) [ Prim.yes p ↦ omega (arith, past i l, near p) | Prim.no p ↦ omega (arith, past at (omega arith)) ]
 
 pub run_past : (k : Run) (s : List ℕ) (i : ℕ) → length s ≤ i → run_end k s i ≡ i
 unfolding run_end span
@@ -108,18 +84,6 @@ unfolding run_end
 run_within k s i h = omega (arith, span_most (in_run k) (drop i s), length-drop i s)
 
 -- ---- two bytes
-
-pub pair_yes : (s : List ℕ) (i b c : ℕ) → get_or s i 256 ≡ b → get_or s (i + 1) 256 ≡ c → pair_at s i b c ≡ true
-unfolding pair_at
-pair_yes s i b c e f = simp (eq-eqb (get_or s i 256) b e, eq-eqb (get_or s (i + 1) 256) c f)
-
-pub pair_no : (s : List ℕ) (i b c : ℕ) → (get_or s i 256 ≡ b → ⊥) → pair_at s i b c ≡ false
-unfolding pair_at
-pair_no s i b c e = simp (ne_eqb (get_or s i 256) b e)
-
-pub pair_no_more : (s : List ℕ) (i b c : ℕ) → get_or s i 256 ≡ b → (get_or s (i + 1) 256 ≡ c → ⊥) → pair_at s i b c ≡ false
-unfolding pair_at
-pair_no_more s i b c e f = simp (eq-eqb (get_or s i 256) b e, ne_eqb (get_or s (i + 1) 256) c f)
 
 second : (x y b c : ℕ) → (eqb x b && eqb y c) ≡ true → y ≡ c
 second x y b c h = eqb-true y c (right (eqb x b) (eqb y c) h)

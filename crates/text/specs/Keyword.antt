@@ -1,13 +1,12 @@
 -- A keyword matches if the identifier here (letter or `_`, then letters, digits, `_ - .`) equals it and the next byte is white, `{`, `;`,
 -- a quote, or the end.
 -- Assumes nothing.
-use Rattle.std.specs.Prelude.{ℕ, ◌-◌, Bool, true, false, cond, ◌&&◌, ◌||◌, List, [], ◌∷◌, take, drop, eqb}
+use Rattle.std.specs.Prelude.{ℕ, ◌-◌, Bool, true, false, cond, ◌&&◌, ◌||◌, List, [], ◌∷◌, take, drop, eqb, Some, None, Option}
 use Rattle.text.specs.Bytes.{quote, apostrophe, hyphen, dot, semicolon, underscore, open_brace, the_end, look}
 use Rattle.text.specs.Class.{letter, digit, class_of, white_class, letter_class}
 use Rattle.text.specs.Scan.{run_end}
-use Rattle.text.specs.declared.Match.{Match}
-use Rattle.text.specs.declared.Match.TheVariants.{After, Not}
 use Rattle.text.specs.declared.Run.TheVariants.{Ident}
+use Rattle.text.specs.declared.Cursor.{Cursor}
 
 -- a letter or _
 unfoldable pub starts_ident : ℕ → Bool
@@ -32,13 +31,13 @@ unfoldable pub keyword_at : List ℕ → ℕ → List ℕ → Bool
 keyword_at s at word =
     starts_ident (look s at) && same (part s at (run_end Ident s at)) word && ends_keyword (look s (run_end Ident s at))
 
-unfoldable pub match_at : List ℕ → ℕ → List ℕ → Match
-match_at s at word = cond (keyword_at s at word) (After (record { at = run_end Ident s at })) Not
+unfoldable pub match_at : List ℕ → ℕ → List ℕ → Option Cursor
+match_at s at word = cond (keyword_at s at word) (Some (record { at = run_end Ident s at })) None
 
 -- the first of two that matched
-unfoldable pub or_match : Match → Match → Match
-or_match (After c) n = After c
-or_match Not n = n
+unfoldable pub or_match : Option Cursor → Option Cursor → Option Cursor
+or_match (Some c) n = Some c
+or_match None n = n
 
 -- ---- what the code tests
 

@@ -6,3 +6,5 @@ pub mod Refusal
 pub mod Scan
 pub mod Turns
 pub mod Words
+pub mod Refused
+pub mod Reasons

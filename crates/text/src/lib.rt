@@ -8,10 +8,13 @@ ghost use Rattle.text.specs.Bytes.{look, the_end};
 ghost use Rattle.text.specs.Class.{class_of, class_table};
 ghost use Rattle.text.specs.Scan.{in_ident, in_run, run_end, block_end, pair_at, comment_end, gap_end};
 ghost use Rattle.text.specs.Keyword.{starts_ident, ends_keyword, wordly, begins, match_at, or_match};
-ghost use Rattle.text.specs.Due.{due_here, due_at, refusal_of};
+ghost use Rattle.text.specs.Due.{due_here, due_at};
 ghost use Rattle.text.specs.Refusal.{no_refusal, cut_at, is_high, high_at, refused_at};
+ghost use Rattle.text.specs.Reasons.{number_of};
 
-// What stands at a place: a byte, or the end.
+use std::marker::Model;
+
+// What stands at a place: a byte, or the end. A number and no Option: the theorems' `look` is that number, 256 for the end.
 pub const NEWLINE: u16 = b'\n' as u16;
 
 pub const QUOTE: u16 = b'"' as u16;
@@ -43,7 +46,7 @@ pub const END: u16 = 256;
 // Bytes from 128 on are refused (3) outside strings and comments.
 const HIGH: u16 = 128;
 
-// The classes of bytes.
+// The classes of bytes. Numbers and no enum: the table of specs/Class.antt holds them, and a table of an enum reads no plainer.
 pub const OTHER: u8 = 0;
 
 pub const WHITE: u8 = 1;
@@ -63,21 +66,37 @@ const CLASSES: [u8; 128] = [
     0, 2, 2, 2, 2, 2, 2, 2, 2, 2, 2, 2, 2, 2, 2, 2, 2, 2, 2, 2, 2, 2, 2, 2, 2, 2, 2, 0, 0, 0, 0, 0,
 ];
 
-// The table. Whoever is called from outside takes it once, `let classes = text::classes();`, and lends it down.
-pub fn classes() -> [u8; 128]
+// The table of the classes of bytes, and no other. Whoever is called from outside takes it once, `let classes = text::classes();`, and lends it down.
+#[derive(Clone, Copy)]
+pub struct ByteClasses {
+    table: [u8; 128],
+}
+
+impl Model for ByteClasses {
+    ghost use Rattle.std.specs.Prelude.{ℕ, List, ◌≡◌};
+    ghost use Rattle.text.specs.Class.{class_table};
+
+    ghost Value = { List ℕ };
+
+    ghost view = { λ c. c.table };
+
+    ghost invariant = { λ c. c.table ≡ class_table };
+
+    ghost inverse = { λ t. record { table = t } };
+}
+
+pub fn classes() -> ByteClasses
     ensures { result ≡ class_table }
 {
-    CLASSES
+    ByteClasses { table: CLASSES }
 }
 
 // The class of what stands at a place: a byte, or 256 for the end. Whatever is 128 or more is other.
-pub fn class(classes: &[u8; 128], b: u16) -> u8
-    requires { classes.now ≡ class_table }
+pub fn class(classes: &ByteClasses, b: u16) -> u8
     ensures { result ≡ class_of b }
 {
     if b < LOW {
-        let i = b as usize;
-        classes[i]
+        classes.table[b as usize]
     } else {
         OTHER
     }
@@ -89,40 +108,61 @@ pub struct Cursor {
     pub at: usize,
 }
 
-// Past a keyword, or none stands here.
-#[derive(Clone, Copy)]
-pub enum Match {
-    After(Cursor),
-    Not,
+// Why a text is refused, by document 01's numbers.
+#[derive(Clone, Copy, Debug, PartialEq, Eq)]
+pub enum Reason {
+    // Nothing is refused.
+    Nothing = 0,
+    TextTooLong = 1,
+    LentTooShort = 2,
+    // A byte of 128 or more outside strings and comments.
+    HighByte = 3,
+    // No value after the keyword.
+    NoValue = 4,
+    // Another byte than the one required, and the end instead of it.
+    OtherByte = 5,
+    EndOfText = 6,
+    // An import that its block closes without a prefix.
+    NoPrefix = 7,
+    // The end inside a block.
+    OpenEnded = 8,
+    // A module without a name.
+    NoName = 9,
+    // A row too many.
+    TooMany = 10,
+    // The text breaks off.
+    CutShort = 11,
+    NotUtf8 = 12,
 }
 
-// A refusal: its number, its keyword and its place.
+// A refusal: why, its keyword's number and its place. Contracts see the number of the reason.
 #[derive(Clone, Copy)]
 pub struct Refusal {
-    pub number: u32,
+    pub reason: Reason,
     pub keyword: u32,
     pub at: usize,
 }
 
-// No refusal, and document 01's numbers 1 to 6: a text too long, a slice lent too short, a byte of 128 or more outside strings and comments, no
-// value after the keyword, another byte than the one required, the end instead of it. 11: the text breaks off. 12: it is not UTF-8.
-pub const NO_REFUSAL: u32 = 0;
+impl Model for Refusal {
+    ghost use Rattle.text.specs.Refused.{Refused};
 
-pub const TEXT_TOO_LONG: u32 = 1;
+    ghost Value = { Refused };
 
-pub const LENT_TOO_SHORT: u32 = 2;
+    ghost use Rattle.text.specs.Reasons.{seen, unseen};
 
-pub const HIGH_BYTE: u32 = 3;
+    ghost view = { seen };
 
-pub const NO_VALUE: u32 = 4;
+    ghost inverse = { unseen };
+}
 
-pub const OTHER_BYTE: u32 = 5;
-
-pub const END_OF_TEXT: u32 = 6;
-
-pub const CUT_SHORT: u32 = 11;
-
-pub const NOT_UTF8: u32 = 12;
+impl Refusal {
+    // Document 01's number of the reason.
+    pub fn number(self) -> u32
+        ensures { result ≡ self.number }
+    {
+        self.reason as u32
+    }
+}
 
 // Document 01's numbers of the keywords.
 pub const MODULE: u32 = 1;
@@ -145,19 +185,12 @@ pub const INCLUDE: u32 = 9;
 
 pub const REVISION_DATE: u32 = 10;
 
-// Past the byte that was due, or the refusal.
-#[derive(Clone, Copy)]
-pub enum Due {
-    After(Cursor),
-    Not(Refusal),
-}
-
 // Number, keyword and place are 0 where nothing is refused.
 pub fn no_refusal() -> Refusal
     ensures { result ≡ no_refusal }
 {
     Refusal {
-        number: NO_REFUSAL,
+        reason: Reason::Nothing,
         keyword: 0,
         at: 0,
     }
@@ -168,20 +201,18 @@ pub fn cut_short(end: usize) -> Refusal
     ensures { result ≡ cut_at end }
 {
     Refusal {
-        number: CUT_SHORT,
+        reason: Reason::CutShort,
         keyword: 0,
         at: end,
     }
 }
 
 // Whether a byte of 128 or more stands at a place. The end is none.
+#[tactic(auto, unfolding(crate::specs::Refusal::is_high))]
 pub fn is_high(b: u16) -> bool
     ensures { result ≡ is_high b }
 {
-    if b < HIGH {
-        return false;
-    }
-    b != END
+    HIGH <= b && b != END
 }
 
 // The refusal of such a byte: keyword 0, at the byte.
@@ -189,40 +220,30 @@ pub fn high_byte(at: usize) -> Refusal
     ensures { result ≡ high_at at }
 {
     Refusal {
-        number: HIGH_BYTE,
+        reason: Reason::HighByte,
         keyword: 0,
         at,
     }
 }
 
-// The refusal of what stands at a place: of a byte of 128 or more (3), else with this number and keyword.
-pub fn refused_at(b: u16, number: u32, keyword: u32, at: usize) -> Refusal
-    ensures { result ≡ refused_at b number keyword at }
+// The refusal of what stands at a place: of a byte of 128 or more (3), else for this reason with the keyword.
+#[tactic(auto, unfolding(crate::specs::Refusal::refused_at))]
+pub fn refused_at(b: u16, reason: Reason, keyword: u32, at: usize) -> Refusal
+    ensures { result ≡ refused_at b (number_of reason) keyword at }
 {
     if is_high(b) {
         return high_byte(at);
     }
     Refusal {
-        number,
+        reason,
         keyword,
         at,
     }
 }
 
-// The refusal of a byte that was due, or none.
-pub fn refusal_of(d: Due) -> Refusal
-    ensures { result ≡ refusal_of d }
-{
-    match d {
-        Due::After(_) => no_refusal(),
-        Due::Not(r) => r,
-    }
-}
-
 impl Cursor {
     // Past the gap that stands here: white bytes and comments.
-    pub fn skip_whitespace_and_comments(self, classes: &[u8; 128], s: &[u8]) -> Cursor
-        requires { classes.now ≡ class_table }
+    pub fn skip_whitespace_and_comments(self, classes: &ByteClasses, s: &[u8]) -> Cursor
         ensures { result.at ≡ gap_end s.now self.at }
     {
         let mut at = self.at;
@@ -237,59 +258,62 @@ impl Cursor {
     }
     // Past the keyword `word`, where it stands here as a whole identifier. No byte that ends a keyword belongs to one, so it is enough that
     // the bytes here begin with the word: `begins` and `ends_keyword` together are the Rust's peek_identifier and its comparison.
-    pub fn match_keyword(self, classes: &[u8; 128], s: &[u8], word: &[u8]) -> Match
-        requires { (classes.now ≡ class_table) × (wordly word.now ≡ true) }
+    pub fn match_keyword(self, classes: &ByteClasses, s: &[u8], word: &[u8]) -> Option<Cursor>
+        requires { wordly word.now ≡ true }
         ensures { result ≡ match_at s.now self.at word.now }
     {
-        let at = self.at;
-        if begins(s, at, word) {
-            let end = at + word.len();
-            if ends_keyword(classes, peek_char(s, end)) {
-                return Match::After(Cursor { at: end });
-            }
+        if !begins(s, self.at, word) {
+            return None;
         }
-        Match::Not
+        let end = self.at + word.len();
+        ends_keyword(classes, peek_char(s, end)).then_some(Cursor { at: end })
     }
     // Past the byte b after a gap. The refusal has the keyword that b is due for, and stands after the gap; a byte of 128 or more is 3.
-    pub fn expect_char(self, classes: &[u8; 128], s: &[u8], b: u16, keyword: u32) -> Due
-        requires { (classes.now ≡ class_table) × (b < the_end) }
+    #[tactic(auto, unfolding(crate::specs::Due::due_at))]
+    pub fn expect_char(
+        self,
+        classes: &ByteClasses,
+        s: &[u8],
+        b: u16,
+        keyword: u32,
+    ) -> Result<Cursor, Refusal>
+        requires { b < the_end }
         ensures { result ≡ due_at s.now self.at b keyword }
     {
         let next = self.skip_whitespace_and_comments(classes, s);
         next.expect_here(s, b, keyword)
     }
     // The same where the gap was passed already.
-    pub fn expect_here(self, s: &[u8], b: u16, keyword: u32) -> Due
+    #[tactic(auto, unfolding(crate::specs::Due::due_here, crate::specs::Due::due_number, crate::specs::Refusal::refused_at, crate::specs::Refusal::is_high))]
+    pub fn expect_here(self, s: &[u8], b: u16, keyword: u32) -> Result<Cursor, Refusal>
         requires { b < the_end }
         ensures { result ≡ due_here s.now self.at b keyword }
     {
-        let at = self.at;
-        let c = peek_char(s, at);
-        if c == b {
-            let end = at + 1;
-            return Due::After(Cursor { at: end });
-        }
-        if c == END {
-            return Due::Not(Refusal {
-                number: END_OF_TEXT,
+        match peek_char(s, self.at) {
+            c if c == b => Ok(Cursor { at: self.at + 1 }),
+            END => Err(Refusal {
+                reason: Reason::EndOfText,
                 keyword,
-                at,
-            });
+                at: self.at,
+            }),
+            c => Err(refused_at(c, Reason::OtherByte, keyword, self.at)),
         }
-        Due::Not(refused_at(c, OTHER_BYTE, keyword, at))
     }
 }
 
 // Past the word where it stands here, else what is given.
-pub fn or_word(here: Cursor, classes: &[u8; 128], s: &[u8], word: &[u8], m: Match) -> Match
-    requires { (classes.now ≡ class_table) × (wordly word.now ≡ true) }
+#[tactic(auto, unfolding(crate::specs::Keyword::or_match))]
+pub fn or_word(
+    here: Cursor,
+    classes: &ByteClasses,
+    s: &[u8],
+    word: &[u8],
+    m: Option<Cursor>,
+) -> Option<Cursor>
+    requires { wordly word.now ≡ true }
     ensures { result ≡ or_match (match_at s.now here.at word.now) m }
 {
-    let own = here.match_keyword(classes, s, word);
-    match own {
-        Match::After(_) => own,
-        Match::Not => m,
-    }
+    here.match_keyword(classes, s, word).or(m)
 }
 
 // The kinds of runs: white bytes, the rest of a line, an identifier's bytes, a name's bytes.
@@ -302,43 +326,33 @@ pub enum Run {
 }
 
 // The place after the run that stands at a place.
-pub fn run_end(classes: &[u8; 128], k: Run, s: &[u8], at: usize) -> usize
-    requires { classes.now ≡ class_table }
+pub fn run_end(classes: &ByteClasses, k: Run, s: &[u8], at: usize) -> usize
     ensures { result ≡ run_end k s.now at }
 {
-    let mut i = at;
-    while i < s.len() {
-        let b = peek_char(s, i);
-        if in_run(classes, k, b) {
-            i += 1;
-        } else {
+    for i in at..s.len() {
+        if !in_run(classes, k, s[i] as u16) {
             return i;
         }
     }
-    i
+    at.max(s.len())
 }
 
 // Whether what stands at a place, and is not the end, belongs to a run.
-fn in_run(classes: &[u8; 128], k: Run, b: u16) -> bool
-    requires { classes.now ≡ class_table }
+#[tactic(auto, unfolding(crate::specs::Scan::in_run))]
+fn in_run(classes: &ByteClasses, k: Run, b: u16) -> bool
     ensures { result ≡ in_run k b }
 {
     match k {
         Run::White => class(classes, b) == WHITE,
         Run::Line => b != NEWLINE,
         Run::Ident => in_ident(classes, b),
-        Run::Name => {
-            if in_ident(classes, b) {
-                return true;
-            }
-            b == COLON
-        }
+        Run::Name => in_ident(classes, b) || b == COLON,
     }
 }
 
 // The place after the comment that stands at a place, or that place where none does.
-fn comment_end(classes: &[u8; 128], s: &[u8], at: usize) -> usize
-    requires { classes.now ≡ class_table }
+#[tactic(auto, using(crate::proofs::Laws::pair_room), unfolding(crate::specs::Scan::comment_end))]
+fn comment_end(classes: &ByteClasses, s: &[u8], at: usize) -> usize
     ensures { result ≡ comment_end s.now at }
 {
     if pair_at(s, at, SLASH, SLASH) {
@@ -354,88 +368,52 @@ fn comment_end(classes: &[u8; 128], s: &[u8], at: usize) -> usize
 fn block_end(s: &[u8], at: usize) -> usize
     ensures { result ≡ block_end s.now at }
 {
-    let mut i = at;
-    while i < s.len() {
+    for i in at..s.len() {
         if pair_at(s, i, STAR, SLASH) {
             return i + 2;
         }
-        i += 1;
     }
-    i
+    at.max(s.len())
 }
 
-// Whether the bytes at a place begin with a word.
+// Whether the bytes at a place begin with a word. By a loop: the library's `starts_with` was tried, and keywords took a quarter longer with it.
 fn begins(s: &[u8], at: usize, word: &[u8]) -> bool
     ensures { result ≡ begins word.now (drop at s.now) }
 {
-    if s.len() <= at {
-        return word.len() == 0;
-    }
-    if s.len() - at < word.len() {
+    let rest = &s[at.min(s.len())..];
+    if rest.len() < word.len() {
         return false;
     }
-    let mut i: usize = 0;
-    while i < word.len() {
-        if s[at + i] != word[i] {
+    for i in 0..word.len() {
+        if rest[i] != word[i] {
             return false;
         }
-        i += 1;
     }
     true
 }
 
 // Whether a keyword ends before this: white, {, ;, a quote, or the end.
-fn ends_keyword(classes: &[u8; 128], b: u16) -> bool
-    requires { classes.now ≡ class_table }
+#[tactic(auto, unfolding(crate::specs::Keyword::ends_keyword))]
+fn ends_keyword(classes: &ByteClasses, b: u16) -> bool
     ensures { result ≡ ends_keyword b }
 {
-    let c = class(classes, b);
-    if c == WHITE {
-        return true;
-    }
-    match b {
-        QUOTE | APOSTROPHE | SEMICOLON | OPEN_BRACE | END => true,
-        _ => false,
-    }
+    class(classes, b) == WHITE || matches!(b, QUOTE | APOSTROPHE | SEMICOLON | OPEN_BRACE | END)
 }
 
 // Whether an identifier begins so: a letter or _.
-pub fn starts_ident(classes: &[u8; 128], b: u16) -> bool
-    requires { classes.now ≡ class_table }
+#[tactic(auto, unfolding(crate::specs::Keyword::starts_ident))]
+pub fn starts_ident(classes: &ByteClasses, b: u16) -> bool
     ensures { result ≡ starts_ident b }
 {
-    let c = class(classes, b);
-    if c == LETTER {
-        return true;
-    }
-    if b == UNDERSCORE {
-        return true;
-    }
-    false
+    class(classes, b) == LETTER || b == UNDERSCORE
 }
 
 // Whether an identifier goes on so: a letter, a digit, _, - or a dot.
-fn in_ident(classes: &[u8; 128], b: u16) -> bool
-    requires { classes.now ≡ class_table }
+#[tactic(auto, unfolding(crate::specs::Scan::in_ident))]
+fn in_ident(classes: &ByteClasses, b: u16) -> bool
     ensures { result ≡ in_ident b }
 {
-    let c = class(classes, b);
-    if c == LETTER {
-        return true;
-    }
-    if c == DIGIT {
-        return true;
-    }
-    if b == UNDERSCORE {
-        return true;
-    }
-    if b == HYPHEN {
-        return true;
-    }
-    if b == DOT {
-        return true;
-    }
-    false
+    matches!(class(classes, b), LETTER | DIGIT) || matches!(b, UNDERSCORE | HYPHEN | DOT)
 }
 
 // What stands at a place: the byte, or the end.
@@ -446,14 +424,10 @@ pub fn peek_char(s: &[u8], at: usize) -> u16
 }
 
 // Whether the two bytes at a place are b and c: the Rust's peek_chars(2) and its comparison.
+#[tactic(auto, unfolding(crate::specs::Scan::pair_at))]
 fn pair_at(s: &[u8], at: usize, b: u16, c: u16) -> bool
     requires { (b < the_end) × (c < the_end) }
     ensures { result ≡ pair_at s.now at b c }
 {
-    if peek_char(s, at) == b {
-        if peek_char(s, at + 1) == c {
-            return true;
-        }
-    }
-    false
+    peek_char(s, at) == b && peek_char(s, at + 1) == c
 }

@@ -1,38 +1,13 @@
--- A slice that is filled with 0 from the front, whatever the width of its elements; and a slice of zeros into which a list is written is that list
--- and zeros.
+-- A slice of zeros into which a list is written is that list and zeros.
 -- Assumes nothing.
-use mathlib.Core.Path.{◌≡◌, refl, ap, ◌∙◌}
-use mathlib.Core.List.{List, [], ◌++◌, append-nil}
-use Prim.Native.Nat.{ℕ, zero, suc, ◌+◌, ◌-◌, ◌≤◌, ◌<◌}
+use mathlib.Core.Path.{◌≡◌, ap, ◌∙◌}
+use mathlib.Core.List.{List, [], ◌++◌}
+use Prim.Native.Nat.{ℕ, zero, suc, ◌+◌, ◌-◌, ◌≤◌}
 use native.Mathlib.Nat.{zero-add}
 use native.Mathlib.Omega.{arith}
-use lib.ListN.{length, set, take, drop, length-set, length-append, length-replicate}
-use lib.Seq.{sets, sets-eq, drop-length}
-use borrow.Author.Fill.{fill_more}
+use lib.ListN.{length, take, drop, length-append, length-replicate}
+use lib.Seq.{sets, sets-eq}
 use Rattle.text_lent.specs.Padded.{zeros, padded}
-
--- what the loop keeps
-pub record Cleared (before t : List ℕ) (i : ℕ) : Type 0 where
-  pub room : i ≤ length before
-  pub long : length t ≡ length before
-  pub sofar : t ≡ zeros i ++ drop i before
-
-pub clear_none : (t : List ℕ) → Cleared t t 0
-clear_none t = record { room = omega arith; long = refl; sofar = refl }
-
-pub clear_more : (before t : List ℕ) (i : ℕ) → Cleared before t i → i < length t → Cleared before (set t i 0) (i + 1)
-clear_more before t i c h = record {
-  room = omega (arith, c.long);
-  long = length-set t i 0 ∙ c.long;
-  sofar = let l : i < length before = omega (arith, c.long) in ap (λ t. set t i 0) c.sofar ∙ fill_more i 0 before l;
-}
-
-pub clear_all : (before t : List ℕ) (i : ℕ) → Cleared before t i → length t ≤ i → t ≡ zeros (length before)
-clear_all before t i c h =
-    let q : i ≡ length before = omega (arith, c.room, c.long) in
-    c.sofar ∙ rw (q, drop-length before, append-nil)
-
--- ---- written into zeros
 
 as_many : (k n : ℕ) → k ≡ n → zeros k ≡ zeros n
 as_many k n e = ap zeros e

@@ -1,18 +1,16 @@
 -- What a proof uses of what is past a token and past a value.
 -- Assumes nothing.
+use Rattle.std.specs.Prelude.{Ok, Err}
 use mathlib.Core.Path.{◌≡◌, refl, sym, ap, ◌∙◌}
 use mathlib.Core.Bool.{Bool, true, false}
 use mathlib.Core.List.{List}
 use Prim.Native.Nat.{ℕ, ◌<◌, ◌≤◌}
 use lib.ListN.{length}
 use Rattle.text.specs.declared.Cursor.{Cursor}
-use Rattle.text.specs.declared.Due.{Due}
-use Rattle.text.specs.declared.Due.TheVariants.{After, Not}
 use Rattle.text.specs.declared.Refusal.{Refusal}
-use Rattle.text.proofs.Here.{never}
-use Rattle.text_past.specs.Past.{broke_off, past_of}
+use Rattle.text.proofs.Here.{never, ok_pair_parts}
+use Rattle.text_past.specs.Past.{broke_off}
 use Rattle.text_past.specs.declared.How.{How}
-use Rattle.text_past.specs.declared.Skipped.{Skipped}
 use Rattle.text_past.proofs.PastLaws.{SkipRefused, SameOrCut, past_after, past_not, past_modes}
 use Rattle.text_value.specs.Value.{value_at, place_of, closed_at}
 use Rattle.text_value.proofs.JoinLaws.{open_place}
@@ -21,32 +19,21 @@ use Rattle.text_skip.proofs.SkipLaws.{token_far, token_end, token_refused}
 use Rattle.text_skip.proofs.PassLaws.{skipped_far, skipped_refused}
 
 module _ (w : Bool) (s : List ℕ) (at : ℕ) where
-  pub past_token_far : at < length s → (c : Cursor) → past_token w s at ≡ After c → (at < c.at) × (c.at ≤ length s)
+  pub past_token_far : at < length s → (c : Cursor) → past_token w s at ≡ Ok c → (at < c.at) × (c.at ≤ length s)
   unfolding past_token
   past_token_far l c e = let k = past_after w (length s) (token_at s at) c e in token_far s at l c k.0 k.1
 
-  pub past_token_not : (r : Refusal) → past_token w s at ≡ Not r → SkipRefused s r
+  pub past_token_not : (r : Refusal) → past_token w s at ≡ Err r → SkipRefused s r
   unfolding past_token
   past_token_not r e = past_not w s (token_at s at) r (token_refused s at) e
 
-  pub past_value_far : at ≤ length s → (c : Cursor) → past_value w s at ≡ After c → (at ≤ c.at) × (c.at ≤ length s)
+  pub past_value_far : at ≤ length s → (c : Cursor) → past_value w s at ≡ Ok c → (at ≤ c.at) × (c.at ≤ length s)
   unfolding past_value
   past_value_far l c e = let k = past_after w (length s) (skipped_at s at) c e in skipped_far s at l c k.0 k.1
 
-  pub past_value_not : (r : Refusal) → past_value w s at ≡ Not r → SkipRefused s r
+  pub past_value_not : (r : Refusal) → past_value w s at ≡ Err r → SkipRefused s r
   unfolding past_value
   past_value_not r e = past_not w s (skipped_at s at) r (λ q h. absurd (skipped_refused s at q h)) e
-
--- ---- past a token and past a value; k: what was skipped, d: what is past it
-
-module _ (w : Bool) (s : List ℕ) (at : ℕ) {k : Skipped} {d : Due} (de : d ≡ past_of w (length s) k) where
-  pub token_is_past : k ≡ token_at s at → d ≡ past_token w s at
-  unfolding past_token
-  token_is_past e = de ∙ ap (past_of w (length s)) e
-
-  pub value_is_past : k ≡ skipped_at s at → d ≡ past_value w s at
-  unfolding past_value
-  value_is_past e = de ∙ ap (past_of w (length s)) e
 
 -- ---- the whole-text mode beside the old one
 
@@ -63,6 +50,5 @@ pub value_modes : (s : List ℕ) (at : ℕ) → SameOrCut (length s) (past_value
 unfolding past_value skipped_at
 value_modes s at =
     past_modes (length s) (skipped_at s at)
-    (λ c h e b. let k : place_of (value_at s at) ≡ c.at = cc in
-    let w : how_closed (closed_at s at) ≡ h = cc in
-    sym k ∙ open_place s at (how_open (closed_at s at) w b))
+    (λ c h e b. let p = ok_pair_parts (record { at = place_of (value_at s at) }) c (how_closed (closed_at s at)) h e in
+    sym (ap (λ (x : Cursor). x.at) p.0) ∙ open_place s at (how_open (closed_at s at) p.1 b))

@@ -1,6 +1,7 @@
 -- Worked examples of tokens and statements, one list and one claim: each definition computes how the token or the statement at the text's
 -- start ends, and where.
 -- Assumes nothing.
+use Rattle.std.specs.Prelude.{Ok, Err, Result}
 use mathlib.Core.Bool.{Bool, true, false, ◌&&◌}
 use mathlib.Core.List.{List, [], ◌∷◌}
 use Prim.Native.Nat.{ℕ}
@@ -18,13 +19,13 @@ use Rattle.text_statement.specs.Statement.{closes, quoted_len, quoted_end, at_se
 use Rattle.text_statement.specs.Statement.{statement_turn, statement_from, statement_at}
 use Rattle.text_past.specs.declared.How.{How}
 use Rattle.text_past.specs.declared.How.TheVariants.{Whole, Semicolon, Block, Before, Text}
-use Rattle.text_past.specs.declared.Skipped.{Skipped}
-use Rattle.text_past.specs.declared.Skipped.TheVariants.{Past, Refused}
+use Rattle.text.specs.declared.Cursor.{Cursor}
+use Rattle.text.specs.declared.Refusal.{Refusal}
 
 data Example : Type 0 where
-  token : List ℕ → Skipped → Example
-  value : List ℕ → Skipped → Example
-  statement : List ℕ → Skipped → Example
+  token : List ℕ → Result (Cursor × How) Refusal → Example
+  value : List ℕ → Result (Cursor × How) Refusal → Example
+  statement : List ℕ → Result (Cursor × How) Refusal → Example
 
 kind : How → ℕ
 kind Whole = 1
@@ -33,11 +34,11 @@ kind Block = 3
 kind Before = 4
 kind Text = 5
 
-same : Skipped → Skipped → Bool
-same (Past c h) (Past d i) = eqb c.at d.at && eqb (kind h) (kind i)
-same (Past c h) (Refused r) = false
-same (Refused r) (Past c h) = false
-same (Refused r) (Refused q) = eqb r.number q.number && eqb r.keyword q.keyword && eqb r.at q.at
+same : Result (Cursor × How) Refusal → Result (Cursor × How) Refusal → Bool
+same (Ok (c, h)) (Ok (d, i)) = eqb c.at d.at && eqb (kind h) (kind i)
+same (Ok (c, h)) (Err r) = false
+same (Err r) (Ok (c, h)) = false
+same (Err r) (Err q) = eqb r.number q.number && eqb r.keyword q.keyword && eqb r.at q.at
 
 holds : Example → Bool
 holds (token s k) = same (token_at s 0) k
@@ -63,7 +64,7 @@ examples =
     ∷ token (59 ∷ 59 ∷ []) (past_whole 1)
     ∷ token [] (past_whole 0)
     ∷ token (97 ∷ 195 ∷ 169 ∷ []) (past_whole 1)
-    ∷ token (195 ∷ 169 ∷ []) (Refused (high_at 0))
+    ∷ token (195 ∷ 169 ∷ []) (Err (high_at 0))
     ∷ token (34 ∷ 195 ∷ 169 ∷ 34 ∷ []) (past_whole 4)
     ∷ token (39 ∷ 195 ∷ 169 ∷ []) (past_text 3)
     ∷ value (34 ∷ 97 ∷ 34 ∷ 32 ∷ 43 ∷ 32 ∷ 39 ∷ 98 ∷ 39 ∷ 32 ∷ 59 ∷ []) (past_whole 10)
@@ -71,22 +72,22 @@ examples =
     ∷ value (34 ∷ 97 ∷ []) (past_text 2)
     ∷ value (97 ∷ 58 ∷ 98 ∷ 59 ∷ []) (past_whole 3)
     ∷ value (59 ∷ []) (past_whole 0)
-    ∷ statement (97 ∷ 59 ∷ 98 ∷ []) (Past (record { at = 2 }) Semicolon)
-    ∷ statement (97 ∷ 32 ∷ 123 ∷ 32 ∷ 98 ∷ 59 ∷ 32 ∷ 125 ∷ 32 ∷ 99 ∷ []) (Past (record { at = 8 }) Block)
-    ∷ statement (125 ∷ 32 ∷ 120 ∷ []) (Past (record { at = 0 }) Before)
-    ∷ statement (97 ∷ []) (Past (record { at = 1 }) Text)
-    ∷ statement (34 ∷ 97 ∷ 92 ∷ 34 ∷ 59 ∷ 34 ∷ 32 ∷ 59 ∷ []) (Past (record { at = 8 }) Semicolon)
-    ∷ statement (39 ∷ 97 ∷ 92 ∷ 39 ∷ 59 ∷ 39 ∷ 32 ∷ 59 ∷ []) (Past (record { at = 8 }) Semicolon)
-    ∷ statement (34 ∷ 92 ∷ 92 ∷ 34 ∷ 32 ∷ 59 ∷ []) (Past (record { at = 6 }) Text)
-    ∷ statement (39 ∷ 92 ∷ 92 ∷ 39 ∷ 32 ∷ 59 ∷ []) (Past (record { at = 6 }) Text)
-    ∷ statement (92 ∷ 34 ∷ 59 ∷ 32 ∷ 120 ∷ []) (Past (record { at = 5 }) Text)
-    ∷ statement (97 ∷ 32 ∷ 47 ∷ 47 ∷ 32 ∷ 59 ∷ 10 ∷ 59 ∷ []) (Past (record { at = 8 }) Semicolon)
-    ∷ statement (123 ∷ 123 ∷ 125 ∷ 125 ∷ 32 ∷ 125 ∷ []) (Past (record { at = 4 }) Block)
-    ∷ statement (97 ∷ 32 ∷ 47 ∷ 42 ∷ 47 ∷ 32 ∷ 59 ∷ 32 ∷ 42 ∷ 47 ∷ 32 ∷ 59 ∷ []) (Past (record { at = 12 }) Semicolon)
-    ∷ statement (97 ∷ 123 ∷ 59 ∷ []) (Past (record { at = 3 }) Text)
-    ∷ statement (97 ∷ 32 ∷ 195 ∷ 169 ∷ 59 ∷ []) (Refused (high_at 2))
-    ∷ statement (97 ∷ 32 ∷ 34 ∷ 195 ∷ 169 ∷ 34 ∷ 32 ∷ 47 ∷ 47 ∷ 195 ∷ 169 ∷ []) (Past (record { at = 11 }) Text)
-    ∷ statement (39 ∷ 195 ∷ 169 ∷ 92 ∷ 39 ∷ 59 ∷ []) (Past (record { at = 6 }) Text)
+    ∷ statement (97 ∷ 59 ∷ 98 ∷ []) (Ok ((record { at = 2 }), Semicolon))
+    ∷ statement (97 ∷ 32 ∷ 123 ∷ 32 ∷ 98 ∷ 59 ∷ 32 ∷ 125 ∷ 32 ∷ 99 ∷ []) (Ok ((record { at = 8 }), Block))
+    ∷ statement (125 ∷ 32 ∷ 120 ∷ []) (Ok ((record { at = 0 }), Before))
+    ∷ statement (97 ∷ []) (Ok ((record { at = 1 }), Text))
+    ∷ statement (34 ∷ 97 ∷ 92 ∷ 34 ∷ 59 ∷ 34 ∷ 32 ∷ 59 ∷ []) (Ok ((record { at = 8 }), Semicolon))
+    ∷ statement (39 ∷ 97 ∷ 92 ∷ 39 ∷ 59 ∷ 39 ∷ 32 ∷ 59 ∷ []) (Ok ((record { at = 8 }), Semicolon))
+    ∷ statement (34 ∷ 92 ∷ 92 ∷ 34 ∷ 32 ∷ 59 ∷ []) (Ok ((record { at = 6 }), Text))
+    ∷ statement (39 ∷ 92 ∷ 92 ∷ 39 ∷ 32 ∷ 59 ∷ []) (Ok ((record { at = 6 }), Text))
+    ∷ statement (92 ∷ 34 ∷ 59 ∷ 32 ∷ 120 ∷ []) (Ok ((record { at = 5 }), Text))
+    ∷ statement (97 ∷ 32 ∷ 47 ∷ 47 ∷ 32 ∷ 59 ∷ 10 ∷ 59 ∷ []) (Ok ((record { at = 8 }), Semicolon))
+    ∷ statement (123 ∷ 123 ∷ 125 ∷ 125 ∷ 32 ∷ 125 ∷ []) (Ok ((record { at = 4 }), Block))
+    ∷ statement (97 ∷ 32 ∷ 47 ∷ 42 ∷ 47 ∷ 32 ∷ 59 ∷ 32 ∷ 42 ∷ 47 ∷ 32 ∷ 59 ∷ []) (Ok ((record { at = 12 }), Semicolon))
+    ∷ statement (97 ∷ 123 ∷ 59 ∷ []) (Ok ((record { at = 3 }), Text))
+    ∷ statement (97 ∷ 32 ∷ 195 ∷ 169 ∷ 59 ∷ []) (Err (high_at 2))
+    ∷ statement (97 ∷ 32 ∷ 34 ∷ 195 ∷ 169 ∷ 34 ∷ 32 ∷ 47 ∷ 47 ∷ 195 ∷ 169 ∷ []) (Ok ((record { at = 11 }), Text))
+    ∷ statement (39 ∷ 195 ∷ 169 ∷ 92 ∷ 39 ∷ 59 ∷ []) (Ok ((record { at = 6 }), Text))
     ∷ []
 
 right : T (all examples)

@@ -1,34 +1,25 @@
 -- What a proof uses of the definitions of `specs/Str.antt`: a step of a string at a place of a text, how much a string takes, and what
 -- reading it answered.
 -- Assumes nothing.
+use Rattle.std.specs.Prelude.{Some, None, Option}
+use Rattle.std.specs.List.{list_any}
+use Rattle.std.proofs.lemmas.Option.{some_pair_parts}
 use mathlib.Core.Path.{◌≡◌, refl, sym, ap, ◌∙◌}
-use mathlib.Core.Logic.{◌⊎◌, inl, inr, ⊎_elim}
 use mathlib.Core.Bool.{Bool, true, false, ◌&&◌, ◌||◌}
 use mathlib.Core.List.{List, [], ◌∷◌}
-use Prim.Native.Nat.{ℕ, zero, suc, ◌+◌, ◌<◌, ◌≤◌}
+use Prim.Native.Nat.{ℕ, ◌-◌, zero, suc, ◌+◌, ◌<◌, ◌≤◌}
 use native.Mathlib.Nat.{lt_of_not-le}
 use native.Mathlib.Decide.{dec_le}
 use native.Mathlib.Omega.{arith}
 use lib.ListN.{length, get_or, drop, take, drop_of_length-le, length-drop}
 use lib.Dec.{eqb}
 use borrow.Author.Tests.{eqb-false, eq-eqb, ne_eqb}
-use Rattle.text_string.specs.Str.{is_quote, among, escaped, escapes, str_end, str_bytes, Str, whole, cut, closed_by, str_at, answer_of, bytes_of}
+use Rattle.text_string.specs.Str.{among, escaped, escapes, str_end, str_bytes, Str, whole, cut, closed_by, str_at, answer_of, bytes_of}
 use Rattle.text.specs.Bytes.{quote, backslash}
 use Rattle.text.specs.declared.Cursor.{Cursor}
-use Rattle.text.proofs.Here.{by_test, inside, rest_or, neither, or_none}
-use Rattle.text_string.specs.declared.Close.{Close}
-use Rattle.text_string.specs.declared.Close.TheVariants.{At, Open}
-use Rattle.text_string.specs.declared.Quoted.TheVariants.{Closed, Unclosed}
+use Rattle.text.proofs.Here.{by_test, inside, rest_or, neither}
 
 -- ---- quotes
-
-pub quote_yes : (b : ℕ) → (b ≡ 34) ⊎ (b ≡ 39) → is_quote b ≡ true
-unfolding is_quote
-quote_yes b m = ⊎_elim (ap is_quote) (ap is_quote) m
-
-pub quote_no : (b : ℕ) → ((b ≡ 34) ⊎ (b ≡ 39) → ⊥) → is_quote b ≡ false
-unfolding is_quote
-quote_no b m = simp (ne_eqb b 34 (λ e. m (inl e)), ne_eqb b 39 (λ e. m (inr e)))
 
 -- ---- eight bytes at a time
 
@@ -42,32 +33,23 @@ among_step : (b : ℕ) (s : List ℕ) (n i j : ℕ) → i < length s → j ≡ i
 unfolding among
 among_step b s n i j h e = rw (e, rest_or s i 0 h)
 
-among_last : (b : ℕ) (s : List ℕ) (i : ℕ) → i < length s → among b (take 1 (drop i s)) ≡ eqb (get_or s i 0) b
+-- the library's test says the same
+among_any : (b : ℕ) (xs : List ℕ) → list_any (λ y. eqb y b) xs ≡ among b xs
 unfolding among
-among_last b s i h = rw (rest_or s i 0 h) (or_none (eqb (get_or s i 0) b))
+among_any b [] = refl
+among_any b (x ∷ xs) = rw (among_any b xs) refl
 
-pub among_eight : (b : ℕ) (s : List ℕ) (i : ℕ) → i + 8 ≤ length s
-    → (eqb (get_or s i 0) b || (eqb (get_or s (i + 1) 0) b || (eqb (get_or s (i + 2) 0) b
-    || (eqb (get_or s (i + 3) 0) b || (eqb (get_or s (i + 4) 0) b || (eqb (get_or s (i + 5) 0) b || (eqb (get_or s (i + 6) 0) b || eqb (get_or s (i + 7) 0) b)))))))
-    ≡ among b (take 8 (drop i s))
-among_eight b s i h =
-    sym (rw (
-      among_step b s 7 i (i + 1) (omega arith) refl,
-      among_step b s 6 (i + 1) (i + 2) (omega arith) (omega arith),
-      among_step b s 5 (i + 2) (i + 3) (omega arith) (omega arith),
-      among_step b s 4 (i + 3) (i + 4) (omega arith) (omega arith),
-      among_step b s 3 (i + 4) (i + 5) (omega arith) (omega arith),
-      among_step b s 2 (i + 5) (i + 6) (omega arith) (omega arith),
-      among_step b s 1 (i + 6) (i + 7) (omega arith) (omega arith),
-      among_last b s (i + 7) (omega arith),
-    ) refl)
+pub among_eight : (b : ℕ) (s : List ℕ) (i : ℕ) {r : Bool} → r ≡ list_any (λ y. eqb y b) (take (i + 8 - i) (drop i s)) → r ≡ among b (take 8 (drop i s))
+among_eight b s i {r} e =
+    let eight : i + 8 - i ≡ 8 = omega arith in
+    e ∙ among_any b _ ∙ ap (λ n. among b (take n (drop i s))) eight
 
 plain_byte : (q b : ℕ) → eqb b backslash ≡ false → escapes q b ≡ false
 unfolding escapes
 plain_byte q b e = rw e (and_none (eqb q quote))
 
 module _ (q : ℕ) (s : List ℕ) (i : ℕ) where
-  pub end_past : (e : Bool) → length s ≤ i → str_end q e (drop i s) i ≡ Open
+  pub end_past : (e : Bool) → length s ≤ i → str_end q e (drop i s) i ≡ None
   unfolding str_end
   end_past e h = rw (drop_of_length-le s h)
 
@@ -90,7 +72,7 @@ module _ (q : ℕ) (s : List ℕ) (i : ℕ) where
     module _ {esc : Bool} (n : esc ≡ false) where
       -- the closing quote
       module _ (e : get_or s i 0 ≡ q) where
-        pub end_quote : str_end q esc (drop i s) i ≡ At (i + 1)
+        pub end_quote : str_end q esc (drop i s) i ≡ Some (i + 1)
         unfolding str_end
         end_quote = rw (n, rest_or s i 0 h) (rw (eq-eqb (get_or s i 0) q e))
 
@@ -139,12 +121,12 @@ end_plain q s (suc n) i h a e =
 
 -- ---- a whole string, from its opening quote on
 
-pub str_whole : (s : List ℕ) (at end : ℕ) → at < length s → str_end (get_or s at 0) false (drop (at + 1) s) (at + 1) ≡ At end
+pub str_whole : (s : List ℕ) (at end : ℕ) → at < length s → str_end (get_or s at 0) false (drop (at + 1) s) (at + 1) ≡ Some end
     → str_at s at ≡ whole (str_bytes (get_or s at 0) false (drop (at + 1) s)) end
 unfolding str_at closed_by
 str_whole s at end h e = rw (inside s at 256 0 h) (rw e)
 
-pub str_cut : (s : List ℕ) (at : ℕ) → at < length s → str_end (get_or s at 0) false (drop (at + 1) s) (at + 1) ≡ Open → str_at s at ≡ cut
+pub str_cut : (s : List ℕ) (at : ℕ) → at < length s → str_end (get_or s at 0) false (drop (at + 1) s) (at + 1) ≡ None → str_at s at ≡ cut
 unfolding str_at closed_by
 str_cut s at h e = rw (inside s at 256 0 h) (rw e)
 
@@ -157,13 +139,13 @@ str_past s at h = rw (end_past (get_or s at 256) s (at + 1) false (omega arith))
 abbrev pub Size : List ℕ → ℕ → ℕ → ℕ → Type 0
 Size bs at e n = (at + length bs < e) × (e ≤ at + n)
 
-pub at_is : {k : Close} (a b : ℕ) → k ≡ At a → k ≡ At b → a ≡ b
+pub at_is : {k : Option ℕ} (a b : ℕ) → k ≡ Some a → k ≡ Some b → a ≡ b
 at_is a b e f = cc
 
-open_not : {k : Close} (a : ℕ) → k ≡ Open → k ≡ At a → ⊥
+open_not : {k : Option ℕ} (a : ℕ) → k ≡ None → k ≡ Some a → ⊥
 open_not a e f = let z : ◌≡◌ {A = ℕ} 0 1 = cc in omega arith
 
-pub str_size : (q : ℕ) (esc : Bool) (xs : List ℕ) (at e : ℕ) → str_end q esc xs at ≡ At e → Size (str_bytes q esc xs) at e (length xs)
+pub str_size : (q : ℕ) (esc : Bool) (xs : List ℕ) (at e : ℕ) → str_end q esc xs at ≡ Some e → Size (str_bytes q esc xs) at e (length xs)
 unfolding str_end str_bytes
 str_size q esc [] at e h = absurd (open_not e refl h)
 str_size q true (b ∷ xs) at e h = omega (arith, str_size q false xs (at + 1) e h)
@@ -175,10 +157,10 @@ str_size q false (b ∷ xs) at e h =
     (λ u. let m = str_size q true xs (at + 1) e (rw u at k) in rw t (rw u (omega arith)))
     (λ u. let m = str_size q false xs (at + 1) e (rw u at k) in rw t (rw u (omega arith))))
 
-pub closed_end : (bs : List ℕ) (k : Close) (cs : List ℕ) (e : ℕ) → closed_by bs k ≡ whole cs e → (k ≡ At e) × (bs ≡ cs)
+pub closed_end : (bs : List ℕ) (k : Option ℕ) (cs : List ℕ) (e : ℕ) → closed_by bs k ≡ whole cs e → (k ≡ Some e) × (bs ≡ cs)
 unfolding closed_by
-closed_end bs (At a) cs e h = (cc, cc)
-closed_end bs Open cs e h = (cc, cc)
+closed_end bs (Some a) cs e h = (cc, cc)
+closed_end bs None cs e h = (cc, cc)
 
 pub whole_size : (s : List ℕ) (at : ℕ) (cs : List ℕ) (e : ℕ) → str_at s at ≡ whole cs e → (at + 1 + length cs < e) × (e ≤ length s)
 unfolding str_at
@@ -190,12 +172,14 @@ whole_size s at cs e h =
 
 -- ---- what reading it answered
 
-pub closed_answer : (u : ℕ) (t : Str) (c : Cursor) (n : ℕ) → answer_of u t ≡ Closed c n → (t ≡ whole (bytes_of t) c.at) × (n ≡ u + length (bytes_of t))
+pub closed_answer : (u : ℕ) (t : Str) (c : Cursor) (n : ℕ) → answer_of u t ≡ Some (c, n) → (t ≡ whole (bytes_of t) c.at) × (n ≡ u + length (bytes_of t))
 unfolding answer_of bytes_of
-closed_answer u (whole bs e) c n h = (cc, cc)
+closed_answer u (whole bs e) c n h =
+    let p = some_pair_parts (record { at = e }) c (u + length bs) n h in
+    (ap (λ (x : Cursor). whole bs x.at) p.0, sym p.1)
 closed_answer u cut c n h = (cc, cc)
 
-pub cut_answer : (u : ℕ) (t : Str) → answer_of u t ≡ Unclosed → (t ≡ cut) × (bytes_of t ≡ [])
+pub cut_answer : (u : ℕ) (t : Str) → answer_of u t ≡ None → (t ≡ cut) × (bytes_of t ≡ [])
 unfolding answer_of bytes_of
 cut_answer u (whole bs e) h = (cc, cc)
 cut_answer u cut h = (refl, refl)

@@ -1,12 +1,9 @@
 -- In double quotes a backslash gives byte 10 for `n`, 9 for `t`, otherwise the byte after it. Single quotes have no escapes.
 -- A quoted string is closed by the quote that opens it; one that never closes is none.
 -- Assumes nothing.
-use Rattle.std.specs.Prelude.{ℕ, ◌+◌, Bool, true, false, cond, ◌&&◌, ◌||◌, List, [], ◌∷◌, length, drop, eqb}
+use Rattle.std.specs.Prelude.{ℕ, ◌+◌, Bool, true, false, cond, ◌&&◌, ◌||◌, List, [], ◌∷◌, length, drop, eqb, Some, None, Option}
 use Rattle.text.specs.Bytes.{tab, newline, quote, apostrophe, backslash, small_n, small_t, look}
-use Rattle.text_string.specs.declared.Close.{Close}
-use Rattle.text_string.specs.declared.Close.TheVariants.{At, Open}
-use Rattle.text_string.specs.declared.Quoted.{Quoted}
-use Rattle.text_string.specs.declared.Quoted.TheVariants.{Closed, Unclosed}
+use Rattle.text.specs.declared.Cursor.{Cursor}
 
 -- a string opens by " or '
 unfoldable pub is_quote : ℕ → Bool
@@ -26,10 +23,10 @@ unfoldable pub escapes : ℕ → ℕ → Bool
 escapes q b = eqb q quote && eqb b backslash
 
 -- where the string closes whose bytes xs start at a place; true: the byte before them escapes
-unfoldable pub str_end : ℕ → Bool → List ℕ → ℕ → Close
-str_end q e [] at = Open
+unfoldable pub str_end : ℕ → Bool → List ℕ → ℕ → Option ℕ
+str_end q e [] at = None
 str_end q true (b ∷ xs) at = str_end q false xs (at + 1)
-str_end q false (b ∷ xs) at = cond (eqb b q) (At (at + 1)) (str_end q (escapes q b) xs (at + 1))
+str_end q false (b ∷ xs) at = cond (eqb b q) (Some (at + 1)) (str_end q (escapes q b) xs (at + 1))
 
 -- the bytes that it gives
 unfoldable pub str_bytes : ℕ → Bool → List ℕ → List ℕ
@@ -43,18 +40,18 @@ pub data Str : Type 0 where
   cut : Str
 
 -- the bytes bs, closed or not
-unfoldable pub closed_by : List ℕ → Close → Str
-closed_by bs (At end) = whole bs end
-closed_by bs Open = cut
+unfoldable pub closed_by : List ℕ → Option ℕ → Str
+closed_by bs (Some end) = whole bs end
+closed_by bs None = cut
 
 -- the string whose opening quote stands at a place
 unfoldable pub str_at : List ℕ → ℕ → Str
 str_at s at = closed_by (str_bytes (look s at) false (drop (at + 1) s)) (str_end (look s at) false (drop (at + 1) s) (at + 1))
 
 -- what reading it answers, and what it stores
-unfoldable pub answer_of : ℕ → Str → Quoted
-answer_of used (whole bs end) = Closed (record { at = end }) (used + length bs)
-answer_of used cut = Unclosed
+unfoldable pub answer_of : ℕ → Str → Option (Cursor × ℕ)
+answer_of used (whole bs end) = Some ((record { at = end }), (used + length bs))
+answer_of used cut = None
 
 unfoldable pub bytes_of : Str → List ℕ
 bytes_of (whole bs end) = bs

@@ -2,7 +2,8 @@
 -- Assumes nothing.
 use mathlib.Core.Path.{◌≡◌, refl, ap, ◌∙◌}
 use mathlib.Core.List.{List, [], ◌∷◌}
-use Prim.Native.Nat.{ℕ, ◌+◌, ◌<◌, ◌≤◌}
+use Prim.Native.Nat.{ℕ, ◌+◌, ◌<◌, ◌≤◌, max}
+use Rattle.std.specs.List.{fold}
 use native.Mathlib.Omega.{arith}
 use lib.Dec.{leb}
 use lib.ListN.{length, get_or, drop, drop_of_length-le}
@@ -40,3 +41,13 @@ largest_first most b xs = omega (arith, larger_both most b, largest_over (larger
 pub largest_rest : (most b : ℕ) (xs : List ℕ) → largest (larger most b) xs ≡ largest most (b ∷ xs)
 unfolding largest
 largest_rest most b xs = refl
+
+-- the larger of two is the library's
+pub larger_max : (a b : ℕ) → larger a b ≡ max a b
+unfolding larger
+larger_max a b = by_test (leb b a) (λ t. rw t (omega (arith, leb-true b a t))) (λ t. rw t (omega (arith, leb-false b a t)))
+
+pub largest_fold : (most : ℕ) (xs : List ℕ) → largest most xs ≡ fold max most xs
+unfolding largest
+largest_fold most [] = refl
+largest_fold most (b ∷ xs) = rw (larger_max most b) (largest_fold (max most b) xs)

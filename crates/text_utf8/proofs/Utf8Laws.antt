@@ -1,8 +1,9 @@
 -- What a proof uses of the definitions of `specs/Utf8.antt`, so that none but this file opens them. A character takes a byte at least and
 -- stands within the text, so the turns over a text end.
 -- Assumes nothing.
+use Rattle.std.specs.Prelude.{Some, None}
 use mathlib.Core.Path.{◌≡◌, refl, sym, ap, ◌∙◌}
-use mathlib.Core.Bool.{Bool, true, false, ◌&&◌, ◌||◌, and-false}
+use mathlib.Core.Bool.{Bool, true, false, ◌&&◌}
 use mathlib.Core.List.{List, ◌∷◌}
 use Prim.Native.Nat.{ℕ, zero, suc, ◌+◌, ◌<◌, ◌≤◌, ◌-◌}
 use native.Mathlib.Omega.{arith}
@@ -13,72 +14,10 @@ use borrow.Author.Tests.{eq-eqb, ne_eqb, eqb-true, eqb-false, leb-true, leb-fals
 use Rattle.text.specs.Class.{within}
 use Rattle.text.specs.Turns.{Turn, stop, on}
 use Rattle.text.proofs.Turns.{turns_stop, turns_on, turns_rule}
-use Rattle.text.proofs.Here.{inside, rest, here, past, by_test, both, or_none}
+use Rattle.text.proofs.Here.{inside, rest, here, past, by_test, both}
 use Rattle.text_utf8.specs.Largest.{larger, largest}
-use Rattle.text_utf8.specs.Utf8.{tail, one, two, second3, three, second4, four, char_len, seq_len, char_turn, wrong_from}
+use Rattle.text_utf8.specs.Utf8.{tail, one, two, second3, three, second4, four, char_len, seq_len, some_len, char_turn, wrong_from}
 use Rattle.text_utf8.proofs.LargestLaws.{largest_first, largest_rest}
-
--- ---- the lines of the grammar, as the code tests them
-
-pub tail_is : (b : ℕ) {t : Bool} → t ≡ within 128 191 b → t ≡ tail b
-unfolding tail
-tail_is b e = e
-
-pub two_is : (a b : ℕ) {p q : Bool} → p ≡ within 194 223 a → q ≡ tail b → (p && q) ≡ two a b
-unfolding two
-two_is a b e f = rw (e, f) refl
-
--- which alternatives are left
-one_left : (w : Bool) → w ≡ (((w || false) || false) || false)
-one_left w = sym (or_none ((w || false) || false) ∙ or_none (w || false) ∙ or_none w)
-
-two_left : (p q t : Bool) → ((p || q) && t) ≡ (((p && t) || false) || (q && t))
-two_left true q true = refl
-two_left true q false = sym (and-false q)
-two_left false q t = refl
-
--- E1 to EF but for ED
-joined : (a : ℕ) → (a ≡ 237 → ⊥) → within 225 239 a ≡ (within 225 236 a || within 238 239 a)
-joined a n =
-    by_test (leb 225 a)
-    (λ t. by_test (leb a 236)
-    (λ u. rw (t, u, le-leb a 239 (omega (arith, leb-true a 236 u))) refl)
-    (λ u. let l = leb-false a 236 u in rw (t, u, le-leb 238 a (omega arith)) refl))
-    (λ t. rw (t, lt-leb 238 a (omega (arith, leb-false 225 a t))) refl)
-
-module _ (a b : ℕ) where
-  pub second3_e0 : a ≡ 224 → {t : Bool} → t ≡ within 160 191 b → t ≡ second3 a b
-  unfolding second3
-  second3_e0 h e = rw (e, h) (one_left (within 160 191 b))
-
-  pub second3_ed : a ≡ 237 → {t : Bool} → t ≡ within 128 159 b → t ≡ second3 a b
-  unfolding second3
-  second3_ed h e = rw (e, h) (sym (or_none (within 128 159 b)))
-
-  pub second3_others : (a ≡ 224 → ⊥) → (a ≡ 237 → ⊥) → {p q : Bool} → p ≡ within 225 239 a → q ≡ tail b → (p && q) ≡ second3 a b
-  unfolding second3
-  second3_others n m e f =
-      rw (e ∙ joined a m, f, ne_eqb a 224 n, ne_eqb a 237 m) (two_left (within 225 236 a) (within 238 239 a) (tail b))
-
-  pub second4_f0 : a ≡ 240 → {t : Bool} → t ≡ within 144 191 b → t ≡ second4 a b
-  unfolding second4
-  second4_f0 h e = rw (e, h) (sym (or_none (within 144 191 b || false) ∙ or_none (within 144 191 b)))
-
-  pub second4_f4 : a ≡ 244 → {t : Bool} → t ≡ within 128 143 b → t ≡ second4 a b
-  unfolding second4
-  second4_f4 h e = rw (e, h) refl
-
-  pub second4_others : (a ≡ 240 → ⊥) → (a ≡ 244 → ⊥) → {p q : Bool} → p ≡ within 241 243 a → q ≡ tail b → (p && q) ≡ second4 a b
-  unfolding second4
-  second4_others n m e f = rw (e, f, ne_eqb a 240 n, ne_eqb a 244 m) (sym (or_none (within 241 243 a && tail b)))
-
-pub three_is : (a b c : ℕ) {p q : Bool} → p ≡ second3 a b → q ≡ tail c → (p && q) ≡ three a b c
-unfolding three
-three_is a b c e f = rw (e, f) refl
-
-pub four_is : (a b c d : ℕ) {p q r : Bool} → p ≡ second4 a b → q ≡ tail c → r ≡ tail d → ((p && q) && r) ≡ four a b c d
-unfolding four
-four_is a b c d e f g = rw (e, f, g) refl
 
 -- ---- a byte below 128, a tail, the end
 
@@ -246,6 +185,15 @@ wrong_none s at =
 -- past the end there is none
 pub wrong_past : (s : List ℕ) (at : ℕ) → length s ≤ at → wrong_from s at ≡ at
 wrong_past s at h = wrong_stop s at (seq_past s at h)
+
+-- what the answer of the code says of it
+pub len_none : (k : ℕ) → some_len k ≡ None → k ≡ 0
+len_none zero e = refl
+len_none (suc k) e = cc
+
+pub len_some : (k n : ℕ) → some_len k ≡ Some n → (n ≡ k) × (n ≡ 0 → ⊥)
+len_some zero n e = cc
+len_some (suc k) n e = let q : suc k ≡ n = cc in (sym q, λ z. omega (arith, q, z))
 
 -- n: how many bytes the character has that stands here
 module _ (s : List ℕ) (at : ℕ) {n : ℕ} (ne : n ≡ seq_len s at) where

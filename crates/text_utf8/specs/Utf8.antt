@@ -8,7 +8,7 @@
 --   UTF8-tail   = %x80-BF
 -- a, b, c and d are what stands at a place and at the three after it: bytes, or the end, which none of these is.
 -- Assumes nothing.
-use Rattle.std.specs.Prelude.{ℕ, suc, ◌+◌, Bool, cond, ◌&&◌, ◌||◌, List, eqb, length}
+use Rattle.std.specs.Prelude.{ℕ, zero, suc, ◌+◌, Bool, cond, ◌&&◌, ◌||◌, List, eqb, length, Some, None, Option}
 use Rattle.text.specs.Bytes.{look}
 use Rattle.text.specs.Class.{within}
 use Rattle.text.specs.Turns.{Turn, stop, on, turns}
@@ -49,6 +49,11 @@ char_len a b c d = cond (one a) 1 (cond (two a b) 2 (cond (three a b c) 3 (cond 
 -- at a place of a text
 unfoldable pub seq_len : List ℕ → ℕ → ℕ
 seq_len s at = char_len (look s at) (look s (at + 1)) (look s (at + 2)) (look s (at + 3))
+
+-- the same as the code answers it: none where these bytes begin no character
+abbrev pub some_len : ℕ → Option ℕ
+some_len zero = None
+some_len (suc n) = Some (suc n)
 
 -- UTF8-octets: characters one behind the other; the place where the first wrong sequence starts, or the end
 unfoldable pub char_turn : List ℕ → ℕ → Turn ℕ ℕ

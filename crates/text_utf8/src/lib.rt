@@ -2,51 +2,35 @@
 #![tactic(auto)]
 
 ghost use Rattle.std.specs.Prelude.{◌≡◌, ◌<◌, ◌≤◌, length};
-ghost use Rattle.text.specs.Class.{within};
-ghost use Rattle.text_utf8.specs.Largest.{larger, largest};
-ghost use Rattle.text_utf8.specs.Utf8.{tail, two, second3, three, second4, four, seq_len, wrong_from};
+ghost use Rattle.text_utf8.specs.Largest.{largest};
+ghost use Rattle.text_utf8.specs.Utf8.{tail, two, second3, three, second4, four, seq_len, some_len, wrong_from};
 
 use text::peek_char;
 
 // How many bytes are looked at together where no byte from 128 on was met yet.
 const BLOCK: usize = 256;
 
-fn larger(a: u8, b: u8) -> u8
-    ensures { result ≡ larger a b }
-{
-    if a < b { b } else { a }
-}
-
 // The largest byte, found with no early exit, many bytes at a time.
 fn largest(s: &[u8]) -> u8
     ensures { result ≡ largest 0 s.now }
 {
-    let mut most: u8 = 0;
-    let mut i: usize = 0;
-    while i < s.len() {
-        most = larger(most, s[i]);
-        i += 1;
-    }
-    most
+    s.iter().fold(0, |most, b| most.max(*b))
 }
 
-// Passes blocks of so many bytes as long as all of a block are below 128.
+// Passes blocks of so many bytes as long as all of a block are below 128. The place is the answer, so a loop over `chunks_exact` would count it too.
 fn low_blocks(s: &[u8], at: usize, size: usize) -> usize
     requires { 0 < size }
     ensures { (at ≤ result) × (wrong_from s.now result ≡ wrong_from s.now at) }
 {
-    if s.len() < size {
+    let Some(last) = s.len().checked_sub(size) else {
         return at;
-    }
-    let last = s.len() - size;
+    };
     let mut i = at;
     while i <= last {
-        let end = i + size;
-        let most = largest(&s[i..end]);
-        if 128 <= most {
+        if 128 <= largest(&s[i..i + size]) {
             return i;
         }
-        i = end;
+        i += size;
     }
     i
 }
@@ -56,110 +40,93 @@ fn low_end(s: &[u8], at: usize) -> usize
     ensures { (at ≤ result) × (wrong_from s.now result ≡ wrong_from s.now at) }
 {
     let near = low_blocks(s, at, BLOCK);
-    let mut i = low_blocks(s, near, 16);
-    while i < s.len() {
+    let nearer = low_blocks(s, near, 16);
+    for i in nearer..s.len() {
         if 128 <= s[i] {
             return i;
         }
-        i += 1;
     }
-    i
-}
-
-// From a byte to another, both included.
-fn within(from: u16, to: u16, b: u16) -> bool
-    ensures { result ≡ within from to b }
-{
-    let above = from <= b;
-    let below = b <= to;
-    above & below
+    nearer.max(s.len())
 }
 
 // A byte that goes on with a character: 80 to BF.
+#[tactic(auto, unfolding(crate::specs::Utf8::tail))]
 fn tail(b: u16) -> bool
     ensures { result ≡ tail b }
 {
-    within(128, 191, b)
+    matches!(b, 128..=191)
 }
 
 // A character of two bytes, of three and of four, by RFC 3629's grammar. The first byte tells which, C0 and C1 begin none.
+#[tactic(auto, unfolding(crate::specs::Utf8::two))]
 fn two(a: u16, b: u16) -> bool
     ensures { result ≡ two a b }
 {
-    let first = within(194, 223, a);
-    let second = tail(b);
-    first & second
+    matches!(a, 194..=223) && tail(b)
 }
 
 // The second byte of three: E0, ED and the others each have their own.
+#[tactic(auto, unfolding(crate::specs::Utf8::second3))]
 fn second3(a: u16, b: u16) -> bool
     ensures { result ≡ second3 a b }
 {
-    if a == 224 {
-        return within(160, 191, b);
+    match a {
+        224 => matches!(b, 160..=191),
+        237 => matches!(b, 128..=159),
+        225..=239 => tail(b),
+        _ => false,
     }
-    if a == 237 {
-        return within(128, 159, b);
-    }
-    let first = within(225, 239, a);
-    let second = tail(b);
-    first & second
 }
 
+#[tactic(auto, unfolding(crate::specs::Utf8::three))]
 fn three(a: u16, b: u16, c: u16) -> bool
     ensures { result ≡ three a b c }
 {
-    let second = second3(a, b);
-    let third = tail(c);
-    second & third
+    second3(a, b) && tail(c)
 }
 
 // The second byte of four: F0, F4 and the others each have their own.
+#[tactic(auto, unfolding(crate::specs::Utf8::second4))]
 fn second4(a: u16, b: u16) -> bool
     ensures { result ≡ second4 a b }
 {
-    if a == 240 {
-        return within(144, 191, b);
+    match a {
+        240 => matches!(b, 144..=191),
+        244 => matches!(b, 128..=143),
+        241..=243 => tail(b),
+        _ => false,
     }
-    if a == 244 {
-        return within(128, 143, b);
-    }
-    let first = within(241, 243, a);
-    let second = tail(b);
-    first & second
 }
 
+#[tactic(auto, unfolding(crate::specs::Utf8::four))]
 fn four(a: u16, b: u16, c: u16, d: u16) -> bool
     ensures { result ≡ four a b c d }
 {
-    let second = second4(a, b);
-    let third = tail(c);
-    let fourth = tail(d);
-    (second & third) & fourth
+    second4(a, b) && tail(c) && tail(d)
 }
 
-// How many bytes the character has that stands at a place, or 0 where none does.
-fn seq_len(s: &[u8], at: usize) -> usize
+// How many bytes the character has that stands at a place, if one does.
+fn seq_len(s: &[u8], at: usize) -> Option<usize>
     requires { at < length s.now }
-    ensures { result ≡ seq_len s.now at }
+    ensures { result ≡ some_len (seq_len s.now at) }
 {
     let a = peek_char(s, at);
     if a < 128 {
-        return 1;
+        return Some(1);
     }
     let b = peek_char(s, at + 1);
     if two(a, b) {
-        return 2;
+        return Some(2);
     }
     let c = peek_char(s, at + 2);
     if three(a, b, c) {
-        return 3;
+        return Some(3);
     }
     let d = peek_char(s, at + 3);
     if four(a, b, c, d) {
-        return 4;
+        return Some(4);
     }
-    0
+    None
 }
 
 // The place where the first wrong sequence of a text starts, or its end. Most texts are all below 128: these take blocks alone. The last block ends where the
@@ -167,16 +134,12 @@ fn seq_len(s: &[u8], at: usize) -> usize
 pub fn utf8_end(s: &[u8]) -> usize
     ensures { result ≡ wrong_from s.now 0 }
 {
-    if s.len() < BLOCK {
+    let Some(last) = s.len().checked_sub(BLOCK) else {
         return short_end(s);
-    }
+    };
     let near = low_blocks(s, 0, BLOCK);
-    let last = s.len() - BLOCK;
-    if last <= near {
-        let most = largest(&s[last..s.len()]);
-        if most < 128 {
-            return s.len();
-        }
+    if last <= near && largest(&s[last..]) < 128 {
+        return s.len();
     }
     characters_from(s, near)
 }
@@ -188,29 +151,21 @@ fn short_end(s: &[u8]) -> usize
     if largest(s) < 128 {
         return s.len();
     }
-    characters_end(s)
-}
-
-// The same, character by character.
-fn characters_end(s: &[u8]) -> usize
-    ensures { result ≡ wrong_from s.now 0 }
-{
     characters_from(s, 0)
 }
 
-// The same from a place on.
+// The same from a place on, character by character.
 fn characters_from(s: &[u8], from: usize) -> usize
     ensures { result ≡ wrong_from s.now from }
 {
-    let mut i: usize = from;
+    let mut i = from;
     while i < s.len() {
         if s[i] < 128 {
             i = low_end(s, i + 1);
         } else {
-            let n = seq_len(s, i);
-            if n == 0 {
+            let Some(n) = seq_len(s, i) else {
                 return i;
-            }
+            };
             i += n;
         }
     }

@@ -1,6 +1,7 @@
 -- Worked examples of values, of what follows a string, and of a keyword's value with the byte due after it, one list and one claim: each
 -- definition computes what stands beside the text.
 -- Assumes nothing.
+use Rattle.std.specs.Prelude.{Ok, Err, Result}
 use mathlib.Core.Bool.{Bool, true, false, ◌&&◌}
 use mathlib.Core.List.{List, [], ◌∷◌}
 use Prim.Native.Nat.{ℕ}
@@ -16,8 +17,8 @@ use Rattle.text_string.specs.Str.{is_quote, escaped, escapes, str_end, str_bytes
 use Rattle.text_value.specs.Value.{starts_name, More, added, ends, broken, added_by, after_plus, after_gap, more_at, add_to, join_turn, joined_with}
 use Rattle.text_value.specs.Value.{joined, of_string, value_here, value_at, Val, value, none, closed_more, closed_turn, closed_from, closed_string, closed_here}
 use Rattle.text_value.specs.Value.{closed_at}
-use Rattle.text_value.specs.declared.Argument.{Argument}
-use Rattle.text_value.specs.declared.Argument.TheVariants.{Read, Refused}
+use Rattle.text.specs.declared.Cursor.{Cursor}
+use Rattle.text.specs.declared.Refusal.{Refusal}
 
 -- the value at the text's start; what follows a string that ends at a place; the value at the start and a byte after it, read up to a place
 -- with so many bytes stored, or refused with a number at a place, in the whole-text mode or not
@@ -44,13 +45,13 @@ same_more (ends e) (broken f) = false
 same_more (broken e) (added ys f) = false
 same_more (broken e) (ends f) = false
 
-is_read : ℕ → ℕ → Argument → Bool
-is_read at n (Read c m) = eqb c.at at && eqb m n
-is_read at n (Refused r) = false
+is_read : ℕ → ℕ → Result (Cursor × ℕ) Refusal → Bool
+is_read at n (Ok (c, m)) = eqb c.at at && eqb m n
+is_read at n (Err r) = false
 
-is_refused : ℕ → ℕ → Argument → Bool
-is_refused k at (Read c m) = false
-is_refused k at (Refused r) = eqb r.number k && eqb r.at at
+is_refused : ℕ → ℕ → Result (Cursor × ℕ) Refusal → Bool
+is_refused k at (Ok (c, m)) = false
+is_refused k at (Err r) = eqb r.number k && eqb r.at at
 
 holds : Example → Bool
 holds (val s v) = same_val (value_at s 0) v

@@ -1,6 +1,7 @@
 -- What a proof uses of all that is added to a string, and of a whole value. Each addition takes its bytes and more, so the turns end and
 -- there is room.
 -- Assumes nothing.
+use Rattle.std.specs.Prelude.{Some, None}
 use mathlib.Core.Path.{◌≡◌, refl, sym, ap, ap₂, ◌∙◌}
 use mathlib.Core.Bool.{Bool, true, false, cond}
 use mathlib.Core.List.{List, [], ◌++◌}
@@ -21,14 +22,10 @@ use Rattle.text.proofs.Laws.{in_name, gap_from, gap_within, run_more, run_from, 
 use Rattle.text_string.specs.Str.{is_quote, Str, whole, cut, str_at}
 use Rattle.text_value.specs.Value.{More, added, ends, broken, added_by, more_at, Bytes, add_to, join_turn, joined_with, joined, more_answer, more_bytes}
 use Rattle.text_value.specs.Value.{join_answer, Val, value, none, of_string, name_at, value_here, value_at, starts_name, closed_more, closed_turn, closed_from}
-use Rattle.text_value.specs.Value.{closed_string, closed_here, closed_at, value_answer, value_bytes, value_end, value_closed, place_of}
-use Rattle.text.specs.declared.Cursor.{Cursor}
+use Rattle.text_value.specs.Value.{closed_string, closed_here, closed_at, value_answer, value_bytes, place_of}
 use Rattle.text.proofs.Writing.{sets_append}
-use Rattle.text_value.specs.declared.Joined.{Joined}
 use Rattle.text_string.proofs.StrLaws.{whole_size}
-use Rattle.text_value.specs.declared.Value.TheVariants.{Read}
-use Rattle.text_value.specs.declared.Addition.{Addition}
-use Rattle.text_value.specs.declared.Addition.TheVariants.{Added, Last, Cut}
+use Rattle.text_value.specs.declared.Value.{Value}
 use Rattle.text_value.proofs.ValueLaws.{part_length, more_plain, more_bare, more_string}
 
 -- ---- how much an addition takes
@@ -81,19 +78,21 @@ module _ (s bs : List ℕ) (at : ℕ) where
       (suc (length s)) (suc (length s)) (record { bytes = bs; end = at }) (record { bytes = bs ++ cs; end = e })
       (omega arith) (omega arith) (ap (add_to bs) h)
 
+  join_last : (r : Bytes) → add_to bs (more_at s at) ≡ stop r → joined_with s bs at ≡ r
+  unfolding joined_with join_turn
+  join_last r h =
+      turns_stop (join_turn s) (record { bytes = []; end = 0 }) (λ b. length s - b.end) (join_falls s)
+      (suc (length s)) (record { bytes = bs; end = at }) r (omega arith) h
+
   -- nothing more
   pub join_stop : (e : ℕ) → more_at s at ≡ ends e → joined_with s bs at ≡ record { bytes = bs; end = e }
-  unfolding joined_with join_turn add_to
-  join_stop e h =
-      turns_stop (join_turn s) (record { bytes = []; end = 0 }) (λ b. length s - b.end) (join_falls s)
-      (suc (length s)) (record { bytes = bs; end = at }) (record { bytes = bs; end = e }) (omega arith) (ap (add_to bs) h)
+  unfolding add_to
+  join_stop e h = join_last (record { bytes = bs; end = e }) (ap (add_to bs) h)
 
   -- a string that never closes
   pub join_broken : (e : ℕ) → more_at s at ≡ broken e → joined_with s bs at ≡ record { bytes = bs; end = e }
-  unfolding joined_with join_turn add_to
-  join_broken e h =
-      turns_stop (join_turn s) (record { bytes = []; end = 0 }) (λ b. length s - b.end) (join_falls s)
-      (suc (length s)) (record { bytes = bs; end = at }) (record { bytes = bs; end = e }) (omega arith) (ap (add_to bs) h)
+  unfolding add_to
+  join_broken e h = join_last (record { bytes = bs; end = e }) (ap (add_to bs) h)
 
 -- ---- whether all that is added closes
 
@@ -128,23 +127,20 @@ module _ (s : List ℕ) (at e : ℕ) where
 
 -- ---- what an answer says
 
-pub added_answer : (n : ℕ) (m : More) (c : Cursor) (k : ℕ) → more_answer n m ≡ Added c k → (m ≡ added (more_bytes m) c.at) × (k ≡ n + length (more_bytes m))
+pub added_answer : (n : ℕ) (m : More) (k : ℕ) → (more_answer n m).used ≡ Some k
+    → (m ≡ added (more_bytes m) (more_answer n m).end.at) × (k ≡ n + length (more_bytes m))
 unfolding more_answer more_bytes
-added_answer n (added cs e) c k h = (cc, cc)
-added_answer n (ends e) c k h = (cc, cc)
-added_answer n (broken e) c k h = (cc, cc)
+added_answer n (added cs e) k h = (refl, cc)
+added_answer n (ends e) k h = (cc, cc)
+added_answer n (broken e) k h = (cc, cc)
 
-pub last_answer : (n : ℕ) (m : More) (c : Cursor) → more_answer n m ≡ Last c → (m ≡ ends c.at) × (more_bytes m ≡ [])
-unfolding more_answer more_bytes
-last_answer n (added cs e) c h = (cc, cc)
-last_answer n (ends e) c h = (cc, refl)
-last_answer n (broken e) c h = (cc, refl)
-
-pub broken_answer : (n : ℕ) (m : More) (c : Cursor) → more_answer n m ≡ Cut c → (m ≡ broken c.at) × (more_bytes m ≡ [])
-unfolding more_answer more_bytes
-broken_answer n (added cs e) c h = (cc, cc)
-broken_answer n (ends e) c h = (cc, refl)
-broken_answer n (broken e) c h = (cc, refl)
+-- nothing was added: the turn is the last; bs: what was added before
+pub last_answer : (n : ℕ) (m : More) (bs : List ℕ) → (more_answer n m).used ≡ None
+    → (add_to bs m ≡ stop (record { bytes = bs; end = (more_answer n m).end.at })) × (closed_more m ≡ stop (more_answer n m).closed) × (more_bytes m ≡ [])
+unfolding more_answer more_bytes add_to closed_more
+last_answer n (added cs e) bs h = let z : ◌≡◌ {A = ℕ} 0 1 = cc in absurd (omega arith)
+last_answer n (ends e) bs h = (refl, refl, refl)
+last_answer n (broken e) bs h = (refl, refl, refl)
 
 -- a list stored after another
 pub sets_twice : (d e f : List ℕ) (u n : ℕ) (bs cs : List ℕ) → e ≡ sets d u bs → n ≡ u + length bs → f ≡ sets e n cs → f ≡ sets d u (bs ++ cs)
@@ -170,46 +166,42 @@ module _ {s d : List ℕ} {u from : ℕ} where
   join_long j = ap length j.kept ∙ length-sets d u j.bytes
 
   -- p: what reading the next part answered
-  module _ {e : List ℕ} {at n : ℕ} (j : Joining s d u from e at n) {p : Addition} (pe : p ≡ more_answer n (more_at s at)) where
-    pub join_nearer : (next : Cursor) (k : ℕ) → p ≡ Added next k → length s - next.at < length s - at
-    join_nearer next k h = omega (arith, more_size s at (more_bytes (more_at s at)) next.at (added_answer n (more_at s at) next k (sym pe ∙ h)).0)
+  module _ {e : List ℕ} {at n : ℕ} (j : Joining s d u from e at n) {p : Value} (pe : p ≡ more_answer n (more_at s at)) where
+    part_added : (k : ℕ) → p.used ≡ Some k → (more_at s at ≡ added (more_bytes (more_at s at)) p.end.at) × (k ≡ n + length (more_bytes (more_at s at)))
+    part_added k h =
+        let m = added_answer n (more_at s at) k (sym (ap (λ (x : Value). x.used) pe) ∙ h) in
+        (m.0 ∙ sym (ap (λ (x : Value). added (more_bytes (more_at s at)) x.end.at) pe), m.1)
+
+    pub join_nearer : (k : ℕ) → p.used ≡ Some k → length s - p.end.at < length s - at
+    join_nearer k h = omega (arith, more_size s at (more_bytes (more_at s at)) p.end.at (part_added k h).0)
 
     -- f: the store after it
     module _ {f : List ℕ} (fe : f ≡ sets e n (more_bytes (more_at s at))) where
-      pub join_more : (next : Cursor) (k : ℕ) → p ≡ Added next k → Joining s d u from f next.at k
-      join_more next k h =
+      pub join_more : (k : ℕ) → p.used ≡ Some k → Joining s d u from f p.end.at k
+      join_more k h =
           let cs = more_bytes (more_at s at) in
-          let m = added_answer n (more_at s at) next k (sym pe ∙ h) in
+          let next = p.end.at in
+          let m = part_added k h in
           record {
             bytes = j.bytes ++ cs;
-            same = sym (join_on s j.bytes at cs next.at m.0) ∙ j.same;
-            closes = sym (closed_on s at next.at cs m.0) ∙ j.closes;
+            same = sym (join_on s j.bytes at cs next m.0) ∙ j.same;
+            closes = sym (closed_on s at next cs m.0) ∙ j.closes;
             kept = sets_twice d e f u n j.bytes cs j.kept j.count fe;
             count = omega (arith, m.1, j.count, length-append j.bytes cs);
-            room = omega (arith, m.1, j.room, more_size s at cs next.at m.0);
+            room = omega (arith, m.1, j.room, more_size s at cs next m.0);
           }
 
-      -- nothing is added: the loop is at its end; y: whether the last part closes
-      join_ended : (end : Cursor) (y : Bool) → joined_with s j.bytes at ≡ record { bytes = j.bytes; end = end.at } → closed_from s at ≡ y
-          → more_bytes (more_at s at) ≡ []
-          → (record { next = end; used = n; closed = y } ≡ join_answer u (closed_from s from) (joined s from)) × (f ≡ sets d u (joined s from).bytes)
+      -- nothing is added: the loop is at its end
+      pub join_done : p.used ≡ None
+          → (record { end = p.end; used = Some n; closed = p.closed } ≡ join_answer u (closed_from s from) (joined s from)) × (f ≡ sets d u (joined s from).bytes)
       unfolding join_answer
-      join_ended end y w o z =
-          let r : joined s from ≡ record { bytes = j.bytes; end = end.at } = sym j.same ∙ w in
-          let q : y ≡ closed_from s from = sym o ∙ j.closes in
-          (rw r (ap₂ (λ k x. record { next = end; used = k; closed = x }) j.count q), fe ∙ ap (sets e n) z ∙ j.kept ∙ rw r)
-
-      pub join_done : (end : Cursor) → p ≡ Last end
-          → (record { next = end; used = n; closed = true } ≡ join_answer u (closed_from s from) (joined s from)) × (f ≡ sets d u (joined s from).bytes)
-      join_done end h =
-          let m = last_answer n (more_at s at) end (sym pe ∙ h) in
-          join_ended end true (join_stop s j.bytes at end.at m.0) (closed_stop s at end.at m.0) m.1
-
-      pub join_cut : (end : Cursor) → p ≡ Cut end
-          → (record { next = end; used = n; closed = false } ≡ join_answer u (closed_from s from) (joined s from)) × (f ≡ sets d u (joined s from).bytes)
-      join_cut end h =
-          let m = broken_answer n (more_at s at) end (sym pe ∙ h) in
-          join_ended end false (join_broken s j.bytes at end.at m.0) (closed_broken s at end.at m.0) m.1
+      join_done h =
+          let m = last_answer n (more_at s at) j.bytes (sym (ap (λ (x : Value). x.used) pe) ∙ h) in
+          let w = m.0 ∙ sym (ap (λ (x : Value). stop (record { bytes = j.bytes; end = x.end.at })) pe) in
+          let r : joined s from ≡ record { bytes = j.bytes; end = p.end.at } = sym j.same ∙ join_last s j.bytes at (record { bytes = j.bytes; end = p.end.at }) w in
+          let o : closed_more (more_at s at) ≡ stop p.closed = m.1 ∙ sym (ap (λ (x : Value). stop x.closed) pe) in
+          let y : p.closed ≡ closed_from s from = sym (closed_last s at p.end.at p.closed o) ∙ j.closes in
+          (rw r (ap₂ (λ k x. record { end = p.end; used = Some k; closed = x }) j.count y), fe ∙ ap (sets e n) m.2 ∙ j.kept ∙ rw r)
 
 -- ---- a value
 
@@ -250,12 +242,11 @@ unfolding starts_name class_of
 name_here s i be ne y = here s i (λ e. never (ne ∙ ap starts_name (be ∙ e)) y)
 
 -- a string and what was added to it
-pub read_joined : (u n : ℕ) (y : Bool) (bs : List ℕ) (j : Bytes) (r : Joined) → r ≡ join_answer n y j → n ≡ u + length bs
-    → Read r.next r.used r.closed ≡ value_answer u y (value (bs ++ j.bytes) j.end)
+pub read_joined : (u n : ℕ) (y : Bool) (bs : List ℕ) (j : Bytes) → n ≡ u + length bs → join_answer n y j ≡ value_answer u y (value (bs ++ j.bytes) j.end)
 unfolding join_answer value_answer
-read_joined u n y bs j r h k =
+read_joined u n y bs j k =
     let m : n + length j.bytes ≡ u + length (bs ++ j.bytes) = omega (arith, length-append bs j.bytes) in
-    ap (λ (x : Joined). Read x.next x.used x.closed) h ∙ ap (λ i. Read (record { at = j.end }) i y) m
+    ap (λ i. record { end = record { at = j.end }; used = Some i; closed = y }) m
 
 -- ---- how much a value takes
 
@@ -482,18 +473,6 @@ module _ (s : List ℕ) (at : ℕ) {g b : ℕ} {t : Bool} (ge : g ≡ gap_end s 
   closed_name f = closed_here_lem ∙ ap (λ k. cond k (closed_string s (str_at s g)) true) f
 
 -- ---- where the scan stands
-
--- the answer and the value say the same place
-pub place_is : (u : ℕ) (y : Bool) (v : Val) → value_end (value_answer u y v) ≡ place_of v
-unfolding value_end value_answer place_of
-place_is u y (value bs e) = refl
-place_is u y (none at) = refl
-
--- and whether each string closes
-pub closed_is : (u : ℕ) (y : Bool) (v : Val) → value_closed (value_answer u y v) ≡ y
-unfolding value_closed value_answer
-closed_is u y (value bs e) = refl
-closed_is u y (none at) = refl
 
 -- it is within the text, where the scan stands within it
 pub place_size : (s : List ℕ) (at : ℕ) → at ≤ length s → (at ≤ place_of (value_at s at)) × (place_of (value_at s at) ≤ length s)

@@ -1,50 +1,45 @@
 -- What a proof uses of what follows a string, and of the bytes that are copied: one law for each way out of `read_part`.
 -- Assumes nothing.
-use mathlib.Core.Path.{◌≡◌, refl, sym, ap, ◌∙◌}
+use Rattle.std.specs.Prelude.{Some, None, Option}
+use Rattle.std.proofs.lemmas.Option.{some_pair_parts}
+use Rattle.std.proofs.lemmas.List.{append_assoc}
+use mathlib.Core.Path.{◌≡◌, refl, sym, ap, ap₂, ◌∙◌}
 use mathlib.Core.Bool.{Bool, true, false}
-use mathlib.Core.List.{List, [], ◌∷◌}
-use Prim.Native.Nat.{ℕ, suc, ◌+◌, ◌-◌, ◌<◌, ◌≤◌}
-use native.Mathlib.Numerals.{add-one}
+use mathlib.Core.List.{List}
+use Prim.Native.Nat.{ℕ, ◌+◌, ◌-◌, ◌≤◌}
 use native.Mathlib.Omega.{arith}
-use lib.ListN.{length, get_or, drop, length-take, length-drop}
-use lib.Seq.{drop-cons}
+use lib.ListN.{length, get_or, length-take, length-drop}
+use lib.Seq.{drop-drop, sets, sets-eq}
+use borrow.Rule.Slice.PartMut.{put_mid}
 use borrow.Author.Tests.{eq-eqb, ne_eqb}
 use Rattle.text.specs.Keyword.{part}
 use Rattle.text.specs.Scan.{gap_end}
 use Rattle.text.specs.declared.Cursor.{Cursor}
 use Rattle.text_string.specs.Str.{is_quote, Str, whole, cut, str_at, answer_of, bytes_of}
 use Rattle.text_value.specs.Value.{ends, added_by, after_plus, after_gap, more_at, more_answer, more_bytes}
-use Rattle.text_string.specs.declared.Quoted.{Quoted}
-use Rattle.text_string.specs.declared.Quoted.TheVariants.{Closed, Unclosed}
-use Rattle.text_value.specs.declared.Addition.TheVariants.{Added, Cut}
 
 -- ---- a part
-
-pub part_none : (s : List ℕ) (i end : ℕ) → end ≤ i → part s i end ≡ []
-unfolding part
-part_none s i end h = let e : end - i ≡ 0 = omega arith in rw e
-
-pub part_cons : (s : List ℕ) (i end : ℕ) → i < end → end ≤ length s → part s i end ≡ get_or s i 0 ∷ part s (i + 1) end
-unfolding part
-part_cons s i end h k =
-    let e : end - i ≡ suc (end - (i + 1)) = omega arith in
-    let r : drop i s ≡ get_or s i 0 ∷ drop (i + 1) s = rw (add-one, drop-cons s i 0 (omega arith)) in
-    rw (e, r)
 
 pub part_length : (s : List ℕ) (i end : ℕ) → i ≤ end → end ≤ length s → length (part s i end) ≡ end - i
 unfolding part
 part_length s i end h k = simp (length-take, length-drop) (omega arith)
 
+-- written over the part of a store from u on, whose bytes were as many
+pub put_part : (d : List ℕ) (u : ℕ) (xs ys : List ℕ) {k : ℕ} → u + length xs ≤ length d → k ≡ length xs → ys ≡ xs → put_mid u k d ys ≡ sets d u xs
+put_part d u xs ys {k} h e q = rw (q, e, sets-eq xs d u h, drop-drop (length xs) u d, append_assoc) refl
+
 -- ---- what follows a string
 
 -- what reading the string answered says what is added
 module _ (s : List ℕ) (used : ℕ) where
-  added_closed : (t : Str) (c : Cursor) (n : ℕ) → answer_of used t ≡ Closed c n → more_answer used (added_by s t) ≡ Added c n
+  added_closed : (t : Str) (c : Cursor) (n : ℕ) → answer_of used t ≡ Some (c, n)
+      → more_answer used (added_by s t) ≡ record { end = c; used = Some n; closed = true }
   unfolding answer_of more_answer added_by
-  added_closed (whole bs end) c n e = cc
+  added_closed (whole bs end) c n e =
+      let p = some_pair_parts (record { at = end }) c (used + length bs) n e in ap₂ (λ x k. record { end = x; used = Some k; closed = true }) p.0 p.1
   added_closed cut c n e = cc
 
-  added_cut : (t : Str) → answer_of used t ≡ Unclosed → more_answer used (added_by s t) ≡ Cut (record { at = length s })
+  added_cut : (t : Str) → answer_of used t ≡ None → more_answer used (added_by s t) ≡ record { end = record { at = length s }; used = None; closed = false }
   unfolding answer_of more_answer added_by
   added_cut (whole bs end) e = cc
   added_cut cut e = refl
@@ -75,11 +70,11 @@ module _ (s : List ℕ) (at : ℕ) {g p : ℕ} (ge : g ≡ gap_end s at) (pe : p
         rw (← ge, eq-eqb (get_or s g 256) 43 (sym pe ∙ plus)) (rw (← he) (rw quote))
 
     -- a: what reading the string there answered
-    module _ (y : t ≡ true) (used : ℕ) {a : Quoted} (ae : a ≡ answer_of used (str_at s h)) where
-      pub more_added : (c : Cursor) (n : ℕ) → a ≡ Closed c n → more_answer used (more_at s at) ≡ Added c n
+    module _ (y : t ≡ true) (used : ℕ) {a : Option (Cursor × ℕ)} (ae : a ≡ answer_of used (str_at s h)) where
+      pub more_added : (c : Cursor) (n : ℕ) → a ≡ Some (c, n) → more_answer used (more_at s at) ≡ record { end = c; used = Some n; closed = true }
       more_added c n m = ap (more_answer used) (more_string y) ∙ added_closed s used (str_at s h) c n (sym ae ∙ m)
 
-      pub more_cut : a ≡ Unclosed → more_answer used (more_at s at) ≡ Cut (record { at = length s })
+      pub more_cut : a ≡ None → more_answer used (more_at s at) ≡ record { end = record { at = length s }; used = None; closed = false }
       more_cut m = ap (more_answer used) (more_string y) ∙ added_cut s used (str_at s h) (sym ae ∙ m)
 
       pub more_stored : more_bytes (more_at s at) ≡ bytes_of (str_at s h)

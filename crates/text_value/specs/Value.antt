@@ -2,7 +2,7 @@
 -- string: gap, and if `+` follows it is consumed, gap, then a quote adds that string and this repeats. A `+` with no quote after it ends
 -- the value. An added part that never closes adds nothing. A first string that never closes is no value.
 -- Assumes nothing.
-use Rattle.std.specs.Prelude.{ℕ, suc, ◌+◌, Bool, true, false, cond, ◌||◌, List, [], ◌++◌, length, eqb}
+use Rattle.std.specs.Prelude.{ℕ, suc, ◌+◌, Bool, true, false, cond, ◌||◌, List, [], ◌++◌, length, eqb, Some, None}
 use Rattle.text.specs.Bytes.{plus, underscore, look}
 use Rattle.text.specs.Class.{class_of, letter_class, digit_class}
 use Rattle.text.specs.Keyword.{part}
@@ -10,11 +10,7 @@ use Rattle.text.specs.Scan.{run_end, gap_end}
 use Rattle.text.specs.Turns.{Turn, stop, on, turns}
 use Rattle.text.specs.declared.Run.TheVariants.{Name}
 use Rattle.text_string.specs.Str.{is_quote, Str, whole, cut, str_at}
-use Rattle.text_value.specs.declared.Addition.{Addition}
-use Rattle.text_value.specs.declared.Addition.TheVariants.{Added, Last, Cut}
-use Rattle.text_value.specs.declared.Joined.{Joined}
 use Rattle.text_value.specs.declared.Value.{Value}
-use Rattle.text_value.specs.declared.Value.TheVariants.{Read, Missing}
 
 -- a letter, a digit or _
 unfoldable pub starts_name : ℕ → Bool
@@ -114,10 +110,10 @@ closed_at s at = closed_here s (gap_end s at)
 
 -- ---- what the functions answer and store
 
-unfoldable pub more_answer : ℕ → More → Addition
-more_answer used (added bs end) = Added (record { at = end }) (used + length bs)
-more_answer used (ends end) = Last (record { at = end })
-more_answer used (broken end) = Cut (record { at = end })
+unfoldable pub more_answer : ℕ → More → Value
+more_answer used (added bs end) = record { end = record { at = end }; used = Some (used + length bs); closed = true }
+more_answer used (ends end) = record { end = record { at = end }; used = None; closed = true }
+more_answer used (broken end) = record { end = record { at = end }; used = None; closed = false }
 
 unfoldable pub more_bytes : More → List ℕ
 more_bytes (added bs end) = bs
@@ -125,27 +121,18 @@ more_bytes (ends end) = []
 more_bytes (broken end) = []
 
 -- closed: whether each string closes
-unfoldable pub join_answer : ℕ → Bool → Bytes → Joined
-join_answer used closed b = record { next = record { at = b.end }; used = used + length b.bytes; closed = closed }
+unfoldable pub join_answer : ℕ → Bool → Bytes → Value
+join_answer used closed b = record { end = record { at = b.end }; used = Some (used + length b.bytes); closed = closed }
 
 unfoldable pub value_answer : ℕ → Bool → Val → Value
-value_answer used closed (value bs end) = Read (record { at = end }) (used + length bs) closed
-value_answer used closed (none at) = Missing (record { at = at }) closed
+value_answer used closed (value bs end) = record { end = record { at = end }; used = Some (used + length bs); closed = closed }
+value_answer used closed (none at) = record { end = record { at = at }; used = None; closed = closed }
 
 unfoldable pub value_bytes : Val → List ℕ
 value_bytes (value bs end) = bs
 value_bytes (none at) = []
 
--- where the scan stands then, by the answer and by the value
-unfoldable pub value_end : Value → ℕ
-value_end (Read c n b) = c.at
-value_end (Missing c b) = c.at
-
+-- where the scan stands then
 unfoldable pub place_of : Val → ℕ
 place_of (value bs end) = end
 place_of (none at) = at
-
--- whether each string of it closes, by the answer
-unfoldable pub value_closed : Value → Bool
-value_closed (Read c n b) = b
-value_closed (Missing c b) = b

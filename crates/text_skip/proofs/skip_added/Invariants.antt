@@ -7,7 +7,7 @@ use mathlib.Core.Path.{◌≡◌}
 use Rattle.text_skip.proofs.skip_added.Given as goal
 
 abbrev pub invariant-loop-next : goal.invariant-loop-next
-invariant-loop-next l = added_at l.s l.at ≡ added_at l.s l.initial.at
+invariant-loop-next l = added_at l.s l.at.at ≡ added_at l.s l.initial.at.at
 
 abbrev pub decreases-loop-next : goal.decreases-loop-next
-decreases-loop-next l = length l.s - l.at
+decreases-loop-next l = length l.s - l.at.at

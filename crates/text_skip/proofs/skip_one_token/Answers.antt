@@ -20,20 +20,20 @@ returns-then-is_high c =
     sym (token_high a.s.now a.here.at c.if-s-at.false c.peek_char-b.ensures c.starts_ident.ensures c.if-starts_ident.false
     c.is_high.ensures c.if-is_high.true c.high_byte.ensures)
 
-pub returns-in_default : goal.returns-in_default
-returns-in_default c =
+pub returns-in-None : goal.returns-in-None
+returns-in-None c =
     let a = c.args in
-    sym (token_cut a.s.now a.here.at c.if-s-at.false c.peek_char-b.ensures c.is_quote.ensures c.if-is_quote.true
-    c.close_of.ensures c.in_default.is)
+    sym (token_cut a.s.now a.here.at c.if-s-at.false c.peek_char-b.ensures c.is_quote.ensures c.if-not-is_quote.false
+    c.close_of.ensures c.in-None.is)
 
-pub returns-then-is_quote : goal.returns-then-is_quote
-returns-then-is_quote c =
+pub returns-in-Some : goal.returns-in-Some
+returns-in-Some c =
     let a = c.args in
-    sym (token_closed a.s.now a.here.at c.if-s-at.false c.peek_char-b.ensures c.is_quote.ensures c.if-is_quote.true
-    c.close_of.ensures c.in-At.end c.in-At.is)
+    sym (token_closed a.s.now a.here.at c.if-s-at.false c.peek_char-b.ensures c.is_quote.ensures c.if-not-is_quote.false
+    c.close_of.ensures c.in-Some.end c.in-Some.is)
 
-pub returns : goal.returns
-returns c =
+pub returns-then-not-is_quote : goal.returns-then-not-is_quote
+returns-then-not-is_quote c =
     let a = c.args in
     sym (token_byte a.s.now a.here.at c.if-s-at.false c.peek_char-b.ensures c.starts_ident.ensures c.if-starts_ident.false
-    c.is_high.ensures c.if-is_high.false c.is_quote.ensures c.if-is_quote.false)
+    c.is_high.ensures c.if-is_high.false c.is_quote.ensures c.if-not-is_quote.true)

@@ -2,17 +2,18 @@
 -- says.
 -- Assumes nothing.
 use Rattle.text_skip.proofs.PassLaws.{passed_refused, passed_string, passed_cut, passed_name, passed_none}
+use borrow.Author.Rules.{rules}
 use mathlib.Core.Path.{sym}
 use Rattle.text_skip.proofs.skip_value.Goals as goal
 
-pub returns-in_default : goal.returns-in_default
-returns-in_default c = sym (search passed_refused)
+pub returns-in_err-next : goal.returns-in_err-next
+returns-in_err-next c = search (rules, passed_refused, c.in_err-next.was)
 
 pub returns-then-broke_off : goal.returns-then-broke_off
-returns-then-broke_off c = sym (search passed_cut)
+returns-then-broke_off c = sym (search (passed_cut, c.in_ok-next.was))
 
 pub returns-then-is_quote : goal.returns-then-is_quote
-returns-then-is_quote c = sym (search passed_string)
+returns-then-is_quote c = sym (search (passed_string, c.in_ok-next.was))
 
 pub returns-then-starts_name : goal.returns-then-starts_name
 returns-then-starts_name c = sym (search passed_name)

@@ -7,7 +7,7 @@ use Rattle.text_statement.proofs.past_statement.Goals as goal
 
 pub past_statement_here-requires : goal.past_statement_here-requires
 past_statement_here-requires c =
-    (c.requires, gap_done c.args.s.now c.args.from.at c.skip_whitespace_and_comments-here.ensures)
+    gap_done c.args.s.now c.args.from.at c.skip_whitespace_and_comments-here.ensures
 
 pub returns : goal.returns
 returns c =

@@ -9,7 +9,7 @@ use mathlib.Core.Path.{◌≡◌}
 use Rattle.text_statement.proofs.skip_statement.Given as goal
 
 abbrev pub invariant-loop-next : goal.invariant-loop-next
-invariant-loop-next l = (l.depth ≤ l.at) × (gap_end l.s l.at ≡ l.at) × (statement_from l.s l.at l.depth ≡ statement_at l.s l.initial.at)
+invariant-loop-next l = (l.depth ≤ l.at.at) × (gap_end l.s l.at.at ≡ l.at.at) × (statement_from l.s l.at.at l.depth ≡ statement_at l.s l.initial.at.at)
 
 abbrev pub decreases-loop-next : goal.decreases-loop-next
-decreases-loop-next l = length l.s - l.at
+decreases-loop-next l = length l.s - l.at.at

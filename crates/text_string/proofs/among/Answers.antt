@@ -1,11 +1,7 @@
--- `text_string::among`. The eight tests joined are the definition's own, one byte after the other.
+-- `text_string::among`. The library's test is the definition's, one byte after the other.
 -- Assumes nothing.
--- src/lib.rt:283:1
 use Rattle.text_string.proofs.StrLaws.{among_eight}
-use native.Mathlib.Omega.{arith}
 use Rattle.text_string.proofs.among.Goals as goal
 
 pub returns : goal.returns
-returns c =
-    let a = c.args in
-    among_eight a.b a.s.now a.at (omega arith)
+returns c = among_eight c.args.b c.args.s.now c.args.at c.contains.ensures.value

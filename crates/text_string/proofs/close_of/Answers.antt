@@ -1,37 +1,12 @@
 use Rattle.text_string.proofs.StrLaws.{end_past, end_escape, end_quote, end_more}
 use mathlib.Core.Bool.{false}
 use mathlib.Core.Path.{refl, sym, ◌∙◌}
-use native.Mathlib.Omega.{arith}
 use Rattle.text_string.proofs.close_of.Goals as goal
-
-pub plain_end-i-requires : goal.plain_end-i-requires
-plain_end-i-requires c = tt
-
-pub loop-i-init : goal.loop-i-init
-loop-i-init c = c.plain_end-i.ensures.1
-
-pub bounds-s-i : goal.bounds-s-i
-bounds-s-i c = omega arith
-
-pub overflow_add-end : goal.overflow_add-end
-overflow_add-end c = omega arith
 
 pub returns-then-b-q : goal.returns-then-b-q
 returns-then-b-q c =
     let a = c.args in
     sym (end_quote a.q a.s.now c.loop-i.i c.loop-i-test.true refl c.if-b-q.true) ∙ c.loop-i.invariant
-
-pub escapes-requires : goal.escapes-requires
-escapes-requires c = tt
-
-pub overflow_add-i : goal.overflow_add-i
-overflow_add-i c = omega arith
-
-pub plain_end-i-requires-then-escapes : goal.plain_end-i-requires-then-escapes
-plain_end-i-requires-then-escapes c = tt
-
-pub loop-i-smaller-then-escapes : goal.loop-i-smaller-then-escapes
-loop-i-smaller-then-escapes c = omega arith
 
 pub loop-i-preserved-then-escapes : goal.loop-i-preserved-then-escapes
 loop-i-preserved-then-escapes c =
@@ -40,12 +15,6 @@ loop-i-preserved-then-escapes c =
     ∙ sym (end_escape a.q a.s.now c.loop-i.i c.loop-i-test.true
     c.if-b-q.false c.escapes.ensures c.if-escapes.true)
     ∙ c.loop-i.invariant
-
-pub overflow_add-i-else-escapes : goal.overflow_add-i-else-escapes
-overflow_add-i-else-escapes c = omega arith
-
-pub loop-i-smaller : goal.loop-i-smaller
-loop-i-smaller c = omega arith
 
 pub loop-i-preserved : goal.loop-i-preserved
 loop-i-preserved c =

@@ -11,6 +11,3 @@ use Rattle.text_string.proofs.copy_string.Given as goal
 abbrev pub invariant-loop-i : goal.invariant-loop-i
 invariant-loop-i l =
     (l.n + (length l.s - l.i) ≤ length l.store) × Writing l.initial.store l.used (str_bytes l.q false (drop l.at l.s)) l.store l.n (str_bytes l.q l.esc (drop l.i l.s))
-
-abbrev pub decreases-loop-i : goal.decreases-loop-i
-decreases-loop-i l = length l.s - l.i

@@ -3,9 +3,6 @@ use mathlib.Core.Path.{refl, ◌∙◌}
 use native.Mathlib.Omega.{arith}
 use Rattle.text_utf8.proofs.low_blocks.Goals as goal
 
-pub returns-then-s-size : goal.returns-then-s-size
-returns-then-s-size c = (omega arith, refl)
-
 pub loop-i-init : goal.loop-i-init
 loop-i-init c = (omega arith, refl)
 
@@ -15,4 +12,4 @@ loop-i-smaller c = omega arith
 pub loop-i-preserved : goal.loop-i-preserved
 loop-i-preserved c =
     let a = c.args in
-    (omega arith, low_block a.s.now c.loop-i.i a.size (omega arith) c.largest-most.ensures (omega arith) ∙ c.loop-i.invariant.1)
+    (omega arith, low_block a.s.now c.loop-i.i a.size (omega arith) c.largest.ensures (omega arith) ∙ c.loop-i.invariant.1)

@@ -3,15 +3,6 @@ use mathlib.Core.Path.{◌∙◌}
 use native.Mathlib.Omega.{arith}
 use Rattle.text_utf8.proofs.low_end.Goals as goal
 
-pub loop-i-init : goal.loop-i-init
-loop-i-init c =
-    let far = c.low_blocks-near.ensures in
-    let near = c.low_blocks-i.ensures in
-    (omega (arith, far.0, near.0), near.1 ∙ far.1)
-
-pub loop-i-smaller : goal.loop-i-smaller
-loop-i-smaller c = omega arith
-
 pub loop-i-preserved : goal.loop-i-preserved
 loop-i-preserved c =
     let s = c.args.s.now in

@@ -2,7 +2,6 @@
 -- A string that never closes has left the store alone.
 -- Assumes nothing.
 use Prim.Native.Nat.{◌+◌}
-use Rattle.text.proofs.Here.{here}
 use Rattle.text.proofs.Laws.{gap_from}
 use Rattle.text_value.proofs.ValueLaws.{more_plain, more_bare, more_added, more_cut, more_stored}
 use Rattle.text_value.specs.Value.{more_answer, more_bytes}
@@ -18,45 +17,39 @@ returns-then-peek_char-ne-PLUS c =
     let e = more_plain a.s.now a.here.at c.skip_whitespace_and_comments-plus.ensures c.peek_char.ensures c.if-peek_char-ne-PLUS.true in
     (sym (ap (more_answer a.used) e), sym (ap (λ t. sets a.store.now a.used (more_bytes t)) e))
 
-pub overflow_add-next : goal.overflow_add-next
-overflow_add-next c =
-    omega (arith, here c.args.s.now c.skip_whitespace_and_comments-plus.result.at (λ e. omega arith))
+pub returns-then-not-is_quote : goal.returns-then-not-is_quote
+unfolding more_answer more_bytes
+returns-then-not-is_quote c =
+    let a = c.args in
+    let e = more_bare a.s.now a.here.at c.skip_whitespace_and_comments-plus.ensures c.peek_char.ensures c.if-peek_char-ne-PLUS.false
+    c.skip_whitespace_and_comments-quote.ensures c.peek_char-2.ensures c.is_quote.ensures c.if-not-is_quote.true in
+    (sym (ap (more_answer a.used) e), sym (ap (λ t. sets a.store.now a.used (more_bytes t)) e))
 
 pub read_quoted_string-requires : goal.read_quoted_string-requires
 read_quoted_string-requires c =
     let a = c.args in
     omega (arith, gap_from a.s.now a.here.at, gap_from a.s.now (c.skip_whitespace_and_comments-plus.result.at + 1))
 
-pub returns-in_default : goal.returns-in_default
-returns-in_default c =
+pub returns-in-Some : goal.returns-in-Some
+returns-in-Some c =
     let a = c.args in
-    let read = c.read_quoted_string in (
-      sym (more_cut a.s.now a.here.at c.skip_whitespace_and_comments-plus.ensures c.peek_char.ensures c.if-peek_char-ne-PLUS.false
-          c.skip_whitespace_and_comments-quote.ensures c.peek_char-2.ensures c.is_quote.ensures c.if-is_quote.true a.used read.ensures.0
-          c.in_default.is),
-      read.ensures.1
-          ∙ sym (ap (sets a.store.now a.used) (more_stored a.s.now a.here.at c.skip_whitespace_and_comments-plus.ensures
-          c.peek_char.ensures c.if-peek_char-ne-PLUS.false c.skip_whitespace_and_comments-quote.ensures c.peek_char-2.ensures
-          c.is_quote.ensures c.if-is_quote.true a.used read.ensures.0)),
-    )
-
-pub returns-then-is_quote : goal.returns-then-is_quote
-returns-then-is_quote c =
-    let a = c.args in
-    let read = c.read_quoted_string in (
+    let read = c.read_quoted_string.ensures in (
       sym (more_added a.s.now a.here.at c.skip_whitespace_and_comments-plus.ensures c.peek_char.ensures c.if-peek_char-ne-PLUS.false
-          c.skip_whitespace_and_comments-quote.ensures c.peek_char-2.ensures c.is_quote.ensures c.if-is_quote.true a.used read.ensures.0
-          c.in-Closed.next c.in-Closed.n c.in-Closed.is),
-      read.ensures.1
-          ∙ sym (ap (sets a.store.now a.used) (more_stored a.s.now a.here.at c.skip_whitespace_and_comments-plus.ensures
+          c.skip_whitespace_and_comments-quote.ensures c.peek_char-2.ensures c.is_quote.ensures c.if-not-is_quote.false a.used read.0
+          c.in-Some.next c.in-Some.n c.in-Some.is),
+      read.1 ∙ sym (ap (sets a.store.now a.used) (more_stored a.s.now a.here.at c.skip_whitespace_and_comments-plus.ensures
           c.peek_char.ensures c.if-peek_char-ne-PLUS.false c.skip_whitespace_and_comments-quote.ensures c.peek_char-2.ensures
-          c.is_quote.ensures c.if-is_quote.true a.used read.ensures.0)),
+          c.is_quote.ensures c.if-not-is_quote.false a.used read.0)),
     )
 
-pub returns : goal.returns
-unfolding more_answer more_bytes
-returns c =
+pub returns-in-None : goal.returns-in-None
+returns-in-None c =
     let a = c.args in
-    let e = more_bare a.s.now a.here.at c.skip_whitespace_and_comments-plus.ensures c.peek_char.ensures c.if-peek_char-ne-PLUS.false
-    c.skip_whitespace_and_comments-quote.ensures c.peek_char-2.ensures c.is_quote.ensures c.if-is_quote.false in
-    (sym (ap (more_answer a.used) e), sym (ap (λ t. sets a.store.now a.used (more_bytes t)) e))
+    let read = c.read_quoted_string.ensures in (
+      sym (more_cut a.s.now a.here.at c.skip_whitespace_and_comments-plus.ensures c.peek_char.ensures c.if-peek_char-ne-PLUS.false
+          c.skip_whitespace_and_comments-quote.ensures c.peek_char-2.ensures c.is_quote.ensures c.if-not-is_quote.false a.used read.0
+          c.in-None.is),
+      read.1 ∙ sym (ap (sets a.store.now a.used) (more_stored a.s.now a.here.at c.skip_whitespace_and_comments-plus.ensures
+          c.peek_char.ensures c.if-peek_char-ne-PLUS.false c.skip_whitespace_and_comments-quote.ensures c.peek_char-2.ensures
+          c.is_quote.ensures c.if-not-is_quote.false a.used read.0)),
+    )

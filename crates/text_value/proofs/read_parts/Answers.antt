@@ -1,37 +1,18 @@
-use Rattle.text_value.proofs.JoinLaws.{join_begun, join_long, join_nearer, join_more, join_done, join_cut}
-use mathlib.Core.Path.{◌∙◌}
+use Rattle.text_value.proofs.JoinLaws.{join_begun, join_long, join_nearer, join_more, join_done}
 use native.Mathlib.Omega.{arith}
 use Rattle.text_value.proofs.read_parts.Goals as goal
 
-pub loop-next-init : goal.loop-next-init
-loop-next-init c = join_begun (omega arith)
+pub loop-m-init : goal.loop-m-init
+loop-m-init c = join_begun (omega arith)
 
-pub read_part-requires : goal.read_part-requires
-read_part-requires c = (c.requires.0, omega (arith, join_long c.loop-next.invariant))
+pub read_part-part-requires : goal.read_part-part-requires
+read_part-part-requires c = omega (arith, join_long c.loop-m.invariant)
 
-pub loop-next-smaller : goal.loop-next-smaller
-loop-next-smaller c =
-    join_nearer c.loop-next.invariant c.read_part.ensures.0 c.in-Added.next c.in-Added.m c.in-Added.is
+pub loop-m-smaller : goal.loop-m-smaller
+loop-m-smaller c = join_nearer c.loop-m.invariant c.read_part-part.ensures.0 c.in-Some.m c.in-Some.is
 
-pub loop-next-preserved : goal.loop-next-preserved
-loop-next-preserved c =
-    let read = c.read_part in
-    join_more c.loop-next.invariant read.ensures.0 read.ensures.1 c.in-Added.next c.in-Added.m c.in-Added.is
+pub loop-m-preserved : goal.loop-m-preserved
+loop-m-preserved c = let part = c.read_part-part.ensures in join_more c.loop-m.invariant part.0 part.1 c.in-Some.m c.in-Some.is
 
-pub shape_of-store-in-Last : goal.shape_of-store-in-Last
-shape_of-store-in-Last c =
-    c.read_part.auto.store ∙ join_long c.loop-next.invariant
-
-pub returns-in-Last : goal.returns-in-Last
-returns-in-Last c =
-    let read = c.read_part in
-    join_done c.loop-next.invariant read.ensures.0 read.ensures.1 c.in-Last.end c.in-Last.is
-
-pub shape_of-store-in-Cut : goal.shape_of-store-in-Cut
-shape_of-store-in-Cut c =
-    c.read_part.auto.store ∙ join_long c.loop-next.invariant
-
-pub returns-in-Cut : goal.returns-in-Cut
-returns-in-Cut c =
-    let read = c.read_part in
-    join_cut c.loop-next.invariant read.ensures.0 read.ensures.1 c.in-Cut.end c.in-Cut.is
+pub returns-in_default : goal.returns-in_default
+returns-in_default c = let part = c.read_part-part.ensures in join_done c.loop-m.invariant part.0 part.1 c.in_default.is

@@ -6,8 +6,8 @@ use Rattle.text_value.proofs.JoinLaws.{Joining}
 use lib.ListN.{length}
 use Rattle.text_value.proofs.read_parts.Given as goal
 
-abbrev pub invariant-loop-next : goal.invariant-loop-next
-invariant-loop-next l = Joining l.s l.initial.store l.used l.initial.at l.store l.at l.n
+abbrev pub invariant-loop-m : goal.invariant-loop-m
+invariant-loop-m l = Joining l.s l.initial.store l.used l.initial.at.at l.store l.at.at l.n
 
-abbrev pub decreases-loop-next : goal.decreases-loop-next
-decreases-loop-next l = length l.s - l.at
+abbrev pub decreases-loop-m : goal.decreases-loop-m
+decreases-loop-m l = length l.s - l.at.at
