@@ -1,7 +1,8 @@
 -- What a proof uses of one statement of a block: which one it is, and what reading or skipping it answers. Each law takes what the calls on
 -- the way answered.
 -- Assumes nothing.
-use mathlib.Core.Path.{◌≡◌, refl, sym, ap, ap₂, ◌∙◌}
+use Rattle.std.specs.Prelude.{Some, None, Ok, Err, Option, Result}
+use mathlib.Core.Path.{◌≡◌, refl, sym, ap, ◌∙◌}
 use mathlib.Core.Bool.{Bool, false}
 use mathlib.Core.List.{List}
 use Prim.Native.Nat.{ℕ, ◌+◌, ◌-◌, ◌<◌, ◌≤◌}
@@ -10,33 +11,25 @@ use lib.ListN.{length, get_or}
 use lib.Seq.{sets}
 use lib.Dec.{eqb}
 use borrow.Author.Tests.{eq-eqb, ne_eqb}
-use Rattle.text.specs.Keyword.{starts_ident, match_at}
+use Rattle.text.specs.Bytes.{look}
+use Rattle.text.specs.Keyword.{starts_ident}
 use Rattle.text.specs.Scan.{gap_end}
 use Rattle.text.specs.Words.{prefix_word, revision_date_word}
-use Rattle.text.specs.Due.{refusal_of}
 use Rattle.text.specs.declared.Cursor.{Cursor}
-use Rattle.text.specs.declared.Due.{Due}
-use Rattle.text.specs.declared.Due.TheVariants.{After as Past, Not as NotPast}
-use Rattle.text.specs.declared.Match.{Match}
-use Rattle.text.specs.declared.Match.TheVariants.{After, Not}
 use Rattle.text.specs.declared.Refusal.{Refusal}
 use Rattle.text.proofs.Here.{by_test}
 use Rattle.text.proofs.KeywordLaws.{match_none}
-use Rattle.text_value.specs.Argument.{line_at, argument_refusal}
+use Rattle.text_value.specs.Argument.{line_at}
 use Rattle.text_value.specs.Value.{value_at, value_bytes}
-use Rattle.text_value.specs.declared.Argument.{Argument}
-use Rattle.text_value.specs.declared.Argument.TheVariants.{Read, Refused as RefusedLine}
-use Rattle.text_value.proofs.ArgumentLaws.{refusal_is, line_far, line_room}
+use Rattle.text_value.proofs.ArgumentLaws.{line_far, line_room}
 use Rattle.text_statement.specs.Statement.{past_statement}
-use Rattle.scan_rows.specs.Span.{held, missing}
+use Rattle.scan_rows.specs.Span.{held}
 use Rattle.scan_rows.specs.declared.Span.{Span}
 use Rattle.scan_block.specs.Left.{Left, nothing}
-use Rattle.scan_block.specs.Block.{or_line, revision_line, line_kind, kept, with_value, with_skipped, begun, moved, after_kind, inside_here, inside_at}
+use Rattle.scan_block.specs.Block.{or_line, line_kind, kept, with_value, with_skipped, moved, after_kind, inside_here, inside_at}
 use Rattle.scan_block.specs.declared.Body.{Body}
-use Rattle.scan_block.specs.declared.Line.{Line}
-use Rattle.scan_block.specs.declared.Line.TheVariants.{Value, Other}
 use Rattle.scan_block.specs.declared.Inside.{Inside}
-use Rattle.scan_block.specs.declared.Inside.TheVariants.{On, Closed, Refused}
+use Rattle.scan_block.specs.declared.Inside.TheVariants.{On, Closed}
 
 -- ---- what is answered, and what is left in the store: it was d and is e, from the place u on
 
@@ -47,38 +40,10 @@ module _ {A : Type 0} where
   pub leaves : {x y : Left A} → x ≡ y → (d : List ℕ) (u : ℕ) {r : A} {e : List ℕ} → Leaves y d u r e → Leaves x d u r e
   leaves p d u l = (l.0 ∙ ap (λ z. z.answer) (sym p), l.1 ∙ ap (λ z. sets d u z.bytes) (sym p))
 
-pub begun_is : (at u : ℕ) {p q : Span} → p ≡ missing → q ≡ missing → record { at = at; used = u; prefix = p; revision = q } ≡ begun at u
-begun_is at u h k = ap₂ (λ p q. record { at = at; used = u; prefix = p; revision = q }) h k
-
 -- ---- which statement it is
 
--- m: what revision-date answered
-module _ (s : List ℕ) (at : ℕ) {m : Match} (e : m ≡ match_at s at revision_date_word) where
-  pub revision_after : (c : Cursor) → m ≡ After c → Value 10 c ≡ revision_line s at
-  unfolding or_line
-  revision_after c h = sym (ap (λ z. or_line 10 z Other) (sym e ∙ h))
-
-  pub revision_not : m ≡ Not → Other ≡ revision_line s at
-  unfolding or_line
-  revision_not h = sym (ap (λ z. or_line 10 z Other) (sym e ∙ h))
-
--- m: what prefix answered
-module _ (s : List ℕ) (at k : ℕ) where
-  pub kind_prefix : k ≡ 8 → {m : Match} → m ≡ match_at s at prefix_word → (c : Cursor) → m ≡ After c → Value 5 c ≡ line_kind s at k
-  unfolding line_kind or_line
-  kind_prefix h e c q = rw (eq-eqb k 8 h) (sym (ap (λ z. or_line 5 z (revision_line s at)) (sym e ∙ q)))
-
-  module _ {r : Line} (re : r ≡ revision_line s at) where
-    pub kind_import : k ≡ 8 → {m : Match} → m ≡ match_at s at prefix_word → m ≡ Not → r ≡ line_kind s at k
-    unfolding line_kind or_line
-    kind_import h e q = rw (eq-eqb k 8 h) (re ∙ sym (ap (λ z. or_line 5 z (revision_line s at)) (sym e ∙ q)))
-
-    pub kind_include : (k ≡ 8 → ⊥) → r ≡ line_kind s at k
-    unfolding line_kind
-    kind_include h = rw (ne_eqb k 8 h) re
-
 -- where no identifier begins, no keyword matches
-pub kind_none : (s : List ℕ) (at k : ℕ) {b : ℕ} {t : Bool} → b ≡ get_or s at 256 → t ≡ starts_ident b → t ≡ false → Other ≡ line_kind s at k
+pub kind_none : (s : List ℕ) (at k : ℕ) {b : ℕ} {t : Bool} → b ≡ look s at → t ≡ starts_ident b → t ≡ false → None ≡ line_kind s at k
 unfolding line_kind or_line
 kind_none s at k be te f =
     rw (match_none s at prefix_word be te f, match_none s at revision_date_word be te f)
@@ -86,70 +51,49 @@ kind_none s at k be te f =
 
 -- ---- a value read
 
-pub line_grows : (w : Bool) (s : List ℕ) (at u k b : ℕ) (c : Cursor) (n : ℕ) → b < 256 → {l : Argument} → l ≡ line_at w s at u k b → l ≡ Read c n → u ≤ n
+pub line_grows : (w : Bool) (s : List ℕ) (at u k b : ℕ) (c : Cursor) (n : ℕ) → b < 256 → {l : Result (Cursor × ℕ) Refusal} → l ≡ line_at w s at u k b → l ≡ Ok (c, n) → u ≤ n
 line_grows w s at u k b c n small e h = omega (arith, line_far w s at u k b c n small (sym e ∙ h))
 
 -- room in the store for the rest of the text stays
-pub room_left : (w : Bool) (s : List ℕ) (at u k b m : ℕ) (c : Cursor) (n : ℕ) → b < 256 → {l : Argument} → l ≡ line_at w s at u k b → l ≡ Read c n
+pub room_left : (w : Bool) (s : List ℕ) (at u k b m : ℕ) (c : Cursor) (n : ℕ) → b < 256 → {l : Result (Cursor × ℕ) Refusal} → l ≡ line_at w s at u k b → l ≡ Ok (c, n)
     → u + (length s - at) ≤ m → n + (length s - c.at) ≤ m
 room_left w s at u k b m c n small e h r = line_room w s at u k b m c n small (sym e ∙ h) r
 
-module _ (b : Body) (j at n : ℕ) (x : Span) where
-  pub kept_prefix : j ≡ 5 → {y : Span} → y ≡ b.revision → record { at = at; used = n; prefix = x; revision = y } ≡ kept b j at n x
-  unfolding kept
-  kept_prefix h e = rw h (rw e refl)
-
-  pub kept_revision : (j ≡ 5 → ⊥) → {y : Span} → y ≡ b.prefix → record { at = at; used = n; prefix = y; revision = x } ≡ kept b j at n x
-  unfolding kept
-  kept_revision h e = rw (ne_eqb j 5 h) (rw e refl)
-
 -- l: the line of the keyword j
-module _ (w : Bool) (s : List ℕ) (at : ℕ) (b : Body) (j : ℕ) {l : Argument} (e : l ≡ line_at w s at b.used j 59) where
-  pub value_refused : (r : Refusal) → l ≡ RefusedLine r → {q : Refusal} → q ≡ argument_refusal l → Refused q ≡ with_value b j (line_at w s at b.used j 59)
+module _ (w : Bool) (s : List ℕ) (at : ℕ) (b : Body) (j : ℕ) {l : Result (Cursor × ℕ) Refusal} (e : l ≡ line_at w s at b.used j 59) where
+  pub value_refused : (r : Refusal) → l ≡ Err r → Err r ≡ with_value b j (line_at w s at b.used j 59)
   unfolding with_value
-  value_refused r h p = ap Refused (refusal_is h p) ∙ sym (ap (with_value b j) (sym e ∙ h))
+  value_refused r h = sym (ap (with_value b j) (sym e ∙ h))
 
-  pub value_read : (c : Cursor) (n : ℕ) → l ≡ Read c n → {x : Span} → x ≡ held b.used (n - b.used) → {y : Body} → y ≡ kept b j c.at n x
-      → On y ≡ with_value b j (line_at w s at b.used j 59)
+  pub value_read : (c : Cursor) (n : ℕ) → l ≡ Ok (c, n) → {x : Span} → x ≡ held b.used (n - b.used) → {y : Body} → y ≡ kept b j c.at n x
+      → Ok (On y) ≡ with_value b j (line_at w s at b.used j 59)
   unfolding with_value
-  value_read c n h p q = ap On (q ∙ ap (kept b j c.at n) p) ∙ sym (ap (with_value b j) (sym e ∙ h))
-
--- ---- a statement skipped
-
--- k: what is past it
-module _ (b : Body) {k x : Due} (e : k ≡ x) where
-  pub skip_refused : (r : Refusal) → k ≡ NotPast r → {q : Refusal} → q ≡ refusal_of k → Refused q ≡ with_skipped b x
-  unfolding with_skipped refusal_of
-  skip_refused r h p = ap Refused (p ∙ ap refusal_of h) ∙ sym (ap (with_skipped b) (sym e ∙ h))
-
-  pub skip_past : (c : Cursor) → k ≡ Past c → {y : Body} → y ≡ moved b c.at → On y ≡ with_skipped b x
-  unfolding with_skipped
-  skip_past c m p = ap On p ∙ sym (ap (with_skipped b) (sym e ∙ m))
+  value_read c n h p q = ap (λ y. Ok (On y)) (q ∙ ap (kept b j c.at n) p) ∙ sym (ap (with_value b j) (sym e ∙ h))
 
 -- ---- a statement, or the end of the block
 
 -- g after the gap, p what stands there
 module _ (w : Bool) (s : List ℕ) (k : ℕ) (b : Body) {g p : ℕ} (ge : g ≡ gap_end s b.at) (pe : p ≡ get_or s g 256) where
-  pub inside_end : p ≡ 256 → inside_at w s k b ≡ nothing (Refused (record { number = 8; keyword = k; at = g }))
+  pub inside_end : p ≡ 256 → inside_at w s k b ≡ nothing (Err (record { number = 8; keyword = k; at = g }))
   unfolding inside_at inside_here
   inside_end h = rw (← ge) (rw (eq-eqb (get_or s g 256) 256 (sym pe ∙ h)) refl)
 
   module _ (n : p ≡ 256 → ⊥) where
-    pub inside_close : p ≡ 125 → inside_at w s k b ≡ nothing (Closed (moved b (g + 1)))
+    pub inside_close : p ≡ 125 → inside_at w s k b ≡ nothing (Ok (Closed (moved b (g + 1))))
     unfolding inside_at inside_here
     inside_close h = rw (← ge) (rw (ne_eqb (get_or s g 256) 256 (λ z. n (pe ∙ z))) (rw (eq-eqb (get_or s g 256) 125 (sym pe ∙ h)) refl))
 
-    module _ (m : p ≡ 125 → ⊥) {l : Line} (le : l ≡ line_kind s g k) where
+    module _ (m : p ≡ 125 → ⊥) {l : Option (ℕ × Cursor)} (le : l ≡ line_kind s g k) where
       pub inside_kind : inside_at w s k b ≡ after_kind w s g b l
       unfolding inside_at inside_here
       inside_kind =
           rw (← ge) (rw (ne_eqb (get_or s g 256) 256 (λ z. n (pe ∙ z))) (rw (ne_eqb (get_or s g 256) 125 (λ z. m (pe ∙ z))) (rw (← le) refl)))
 
-      pub inside_value : (j : ℕ) (c : Cursor) → l ≡ Value j c
+      pub inside_value : (j : ℕ) (c : Cursor) → l ≡ Some (j, c)
           → inside_at w s k b ≡ record { answer = with_value b j (line_at w s c.at b.used j 59); bytes = value_bytes (value_at s c.at) }
       unfolding after_kind
       inside_value j c h = inside_kind ∙ ap (after_kind w s g b) h
 
-      pub inside_other : l ≡ Other → {r : Inside} → r ≡ with_skipped b (past_statement w s g) → inside_at w s k b ≡ nothing r
+      pub inside_other : l ≡ None → {r : Result Inside Refusal} → r ≡ with_skipped b (past_statement w s g) → inside_at w s k b ≡ nothing r
       unfolding after_kind
       inside_other h q = inside_kind ∙ ap (after_kind w s g b) h ∙ sym (ap nothing q)

@@ -1,6 +1,7 @@
 -- A refusal of the scan's step has a number above 0: it is that of a value that is missing, of a byte that is due or is 128 or more, or of what broke off,
 -- and each of these has one. w: the whole-text mode.
 -- Assumes nothing.
+use Rattle.std.specs.Prelude.{Ok, Err, Result}
 use mathlib.Core.Path.{◌≡◌, refl, subst}
 use mathlib.Core.Bool.{Bool}
 use mathlib.Core.List.{List}
@@ -10,8 +11,6 @@ use lib.Dec.{eqb, leb}
 use lib.ListN.{length, get_or}
 use Rattle.text.specs.Due.{due_number, due_here, due_at}
 use Rattle.text.specs.Scan.{gap_end}
-use Rattle.text.specs.declared.Due.{Due}
-use Rattle.text.specs.declared.Due.TheVariants.{After, Not}
 use Rattle.text.specs.declared.Refusal.{Refusal}
 use Rattle.text.proofs.Here.{by_test}
 use Rattle.text.proofs.HighLaws.{refused_numbered}
@@ -26,15 +25,16 @@ use Rattle.scan_header.specs.Header.{later_prefix, due_for, after_revision, afte
 use Rattle.scan_header.specs.Header.{statement_said, tag_said, said_here, said_at}
 use Rattle.scan_tag.specs.Tag.{tag_at}
 use Rattle.scan_header.specs.declared.Heard.{Heard}
-use Rattle.scan_header.specs.declared.Heard.TheVariants.{Value, Passed, Done, Refused}
+use Rattle.scan_header.specs.declared.Heard.TheVariants.{Value, Passed, Done}
 use Rattle.scan_tag.specs.declared.Tag.{Tag}
 use Rattle.scan_tag.specs.declared.Tag.TheVariants.{Statement, Last, Other}
+use Rattle.text.specs.declared.Cursor.{Cursor}
 
 -- ---- a byte that is due, and what follows a value
 
-abbrev DueNumbered : Due → Type 0
-DueNumbered (After c) = Unit {0}
-DueNumbered (Not r) = 0 < r.number
+abbrev DueNumbered : Result Cursor Refusal → Type 0
+DueNumbered (Ok c) = Unit {0}
+DueNumbered (Err r) = 0 < r.number
 
 due_numbered : (s : List ℕ) (at b k : ℕ) → DueNumbered (due_at s at b k)
 unfolding due_at due_here due_number
@@ -46,9 +46,9 @@ due_numbered s at b k =
     (λ u. rw u (refused_numbered c 5 k (gap_end s at) (omega arith)))))
 
 -- d: what is past a skip
-past_numbered : (s : List ℕ) (d : Due) → ((r : Refusal) → d ≡ Not r → SkipRefused s r) → DueNumbered d
-past_numbered s (After c) h = tt
-past_numbered s (Not r) h = refused_number s r (h r refl)
+past_numbered : (s : List ℕ) (d : Result Cursor Refusal) → ((r : Refusal) → d ≡ Err r → SkipRefused s r) → DueNumbered d
+past_numbered s (Ok c) h = tt
+past_numbered s (Err r) h = refused_number s r (h r refl)
 
 ended_numbered : (w : Bool) (s : List ℕ) (at : ℕ) → DueNumbered (past_statement w s at)
 ended_numbered w s at = past_numbered s (past_statement w s at) (past_statement_not w s at)
@@ -65,21 +65,21 @@ value_numbered w s at k =
 
 -- ---- a step
 
-abbrev Numbered : Heard → Type 0
-Numbered (Value k x c n) = Unit {0}
-Numbered (Passed c) = Unit {0}
-Numbered (Done c) = Unit {0}
-Numbered (Refused r) = 0 < r.number
+abbrev Numbered : Result Heard Refusal → Type 0
+Numbered (Ok (Value k x c n)) = Unit {0}
+Numbered (Ok (Passed c)) = Unit {0}
+Numbered (Ok (Done c)) = Unit {0}
+Numbered (Err r) = 0 < r.number
 
-passed_numbered : (d : Due) → DueNumbered d → Numbered (passed d)
+passed_numbered : (d : Result Cursor Refusal) → DueNumbered d → Numbered (passed d)
 unfolding passed
-passed_numbered (After c) h = tt
-passed_numbered (Not r) h = h
+passed_numbered (Ok c) h = tt
+passed_numbered (Err r) h = h
 
-kept_numbered : (k u n : ℕ) (d : Due) → DueNumbered d → Numbered (kept k u n d)
+kept_numbered : (k u n : ℕ) (d : Result Cursor Refusal) → DueNumbered d → Numbered (kept k u n d)
 unfolding kept
-kept_numbered k u n (After c) h = tt
-kept_numbered k u n (Not r) h = h
+kept_numbered k u n (Ok c) h = tt
+kept_numbered k u n (Err r) h = h
 
 rest_numbered : (w : Bool) (s : List ℕ) (k u : ℕ) (v : Val) → Numbered (with_rest w s k u (argument_of s u k v))
 unfolding with_rest argument_of
@@ -91,10 +91,10 @@ unfolding field_at with_rest argument_at
 field_numbered w s at k u =
     by_test (breaks_off w (closed_at s at)) (λ t. rw t (omega arith)) (λ t. rw t (rest_numbered w s k u (value_at s at)))
 
-skipped_numbered : (w : Bool) (s : List ℕ) (k : ℕ) (d : Due) → DueNumbered d → Numbered (after_skipped w s k d)
+skipped_numbered : (w : Bool) (s : List ℕ) (k : ℕ) (d : Result Cursor Refusal) → DueNumbered d → Numbered (after_skipped w s k d)
 unfolding after_skipped
-skipped_numbered w s k (After c) h = passed_numbered (after_value w s c.at k) (value_numbered w s c.at k)
-skipped_numbered w s k (Not r) h = h
+skipped_numbered w s k (Ok c) h = passed_numbered (after_value w s c.at k) (value_numbered w s c.at k)
+skipped_numbered w s k (Err r) h = h
 
 statement_numbered : (w : Bool) (s : List ℕ) (at k u : ℕ) (p : Bool) → Numbered (statement_said w s at k u p).answer
 unfolding statement_said
@@ -117,5 +117,5 @@ said_numbered w s at u p =
     let g = gap_end s at in
     by_test (leb (length s) g) (λ t. rw t tt) (λ t. rw t (tag_numbered w s g u p (tag_at s g)))
 
-pub said_number : (w : Bool) (s : List ℕ) (at u : ℕ) (p : Bool) (r : Refusal) → (said_at w s at u p).answer ≡ Refused r → 0 < r.number
+pub said_number : (w : Bool) (s : List ℕ) (at u : ℕ) (p : Bool) (r : Refusal) → (said_at w s at u p).answer ≡ Err r → 0 < r.number
 said_number w s at u p r h = subst Numbered h (said_numbered w s at u p)

@@ -2,6 +2,7 @@
 -- the scan ends and the values fit the store.
 -- w: the whole-text mode.
 -- Assumes nothing.
+use Rattle.std.specs.Prelude.{Ok, Err, Result}
 use mathlib.Core.Path.{◌≡◌, refl, ap, subst}
 use mathlib.Core.Bool.{Bool, true, false, cond, ◌||◌}
 use mathlib.Core.List.{List, []}
@@ -13,15 +14,11 @@ use borrow.Author.Tests.{leb-false}
 use Rattle.text.specs.Due.{due_at}
 use Rattle.text.specs.Scan.{gap_end}
 use Rattle.text.specs.declared.Cursor.{Cursor}
-use Rattle.text.specs.declared.Due.{Due}
-use Rattle.text.specs.declared.Due.TheVariants.{After, Not}
 use Rattle.text.specs.declared.Refusal.{Refusal}
 use Rattle.text.proofs.DueLaws.{due_far, due_refused_within}
 use Rattle.text.proofs.Laws.{gap_from, gap_within}
 use Rattle.text_value.specs.Argument.{argument_at}
 use Rattle.text_value.specs.Value.{value_at, value_bytes}
-use Rattle.text_value.specs.declared.Argument.{Argument}
-use Rattle.text_value.specs.declared.Argument.TheVariants.{Read, Refused as NoArgument}
 use Rattle.text_value.proofs.ArgumentLaws.{argument_far, argument_refused}
 use Rattle.text_value.proofs.JoinLaws.{bytes_fit}
 use Rattle.text_skip.specs.Skip.{past_token, past_value}
@@ -35,7 +32,7 @@ use Rattle.scan_header.specs.Header.{later_prefix, due_for, after_revision, afte
 use Rattle.scan_header.specs.Header.{after_skipped, statement_said, tag_said, said_here, said_at}
 use Rattle.scan_tag.specs.Tag.{tag_at}
 use Rattle.scan_header.specs.declared.Heard.{Heard}
-use Rattle.scan_header.specs.declared.Heard.TheVariants.{Value, Passed, Done, Refused}
+use Rattle.scan_header.specs.declared.Heard.TheVariants.{Value, Passed, Done}
 use Rattle.scan_tag.specs.declared.Tag.{Tag}
 use Rattle.scan_tag.specs.declared.Tag.TheVariants.{Statement, Last, Other}
 use Rattle.scan_tag.proofs.TagLaws.{tag_far, tag_last_far}
@@ -47,31 +44,31 @@ by_cond P false x y f g = g refl
 
 -- ---- what follows a value
 
-abbrev Ends : List ℕ → ℕ → Due → Type 0
-Ends s at (After c) = (at ≤ c.at) × (c.at ≤ length s)
-Ends s at (Not r) = r.at ≤ length s
+abbrev Ends : List ℕ → ℕ → Result Cursor Refusal → Type 0
+Ends s at (Ok c) = (at ≤ c.at) × (c.at ≤ length s)
+Ends s at (Err r) = r.at ≤ length s
 
 due_ends : (s : List ℕ) (at b k : ℕ) → at ≤ length s → b < 256 → Ends s at (due_at s at b k)
 due_ends s at b k l small = of (due_at s at b k) refl
   where
-    of : (d : Due) → due_at s at b k ≡ d → Ends s at d
-    of (After c) h = omega (arith, due_far s at b k c small h)
-    of (Not r) h = (due_refused_within s at b k r l h).1
+    of : (d : Result Cursor Refusal) → due_at s at b k ≡ d → Ends s at d
+    of (Ok c) h = omega (arith, due_far s at b k c small h)
+    of (Err r) h = (due_refused_within s at b k r l h).1
 
 past_ends : (w : Bool) (s : List ℕ) (at : ℕ) → at ≤ length s → Ends s at (past_statement w s at)
 past_ends w s at l = of (past_statement w s at) refl
   where
-    of : (d : Due) → past_statement w s at ≡ d → Ends s at d
-    of (After c) e = past_statement_far w s at l c e
-    of (Not r) e = refused_within s r (past_statement_not w s at r e)
+    of : (d : Result Cursor Refusal) → past_statement w s at ≡ d → Ends s at d
+    of (Ok c) e = past_statement_far w s at l c e
+    of (Err r) e = refused_within s r (past_statement_not w s at r e)
 
 due_small : (k : ℕ) → due_for k < 256
 unfolding due_for
 due_small k = by_cond (λ b. b < 256) (eqb k 1 || eqb k 2) 123 59 (λ t. omega arith) (λ t. omega arith)
 
-ends_from : (s : List ℕ) (at g : ℕ) (d : Due) → at ≤ g → Ends s g d → Ends s at d
-ends_from s at g (After c) l e = (omega (arith, e.0), e.1)
-ends_from s at g (Not r) l e = e
+ends_from : (s : List ℕ) (at g : ℕ) (d : Result Cursor Refusal) → at ≤ g → Ends s g d → Ends s at d
+ends_from s at g (Ok c) l e = (omega (arith, e.0), e.1)
+ends_from s at g (Err r) l e = e
 
 revision_ends : (w : Bool) (s : List ℕ) (at : ℕ) → at ≤ length s → Ends s at (after_revision w s at)
 unfolding after_revision
@@ -92,45 +89,45 @@ value_ends w s at k l =
 -- ---- a step
 
 -- from at, with the bytes bs stored from u on
-abbrev Went : List ℕ → ℕ → ℕ → List ℕ → Heard → Type 0
-Went s at u bs (Value k y c n) = (at + length bs < c.at) × (c.at ≤ length s) × (y ≡ held u (length bs)) × (n ≡ u + length bs)
-Went s at u bs (Passed c) = (at < c.at) × (c.at ≤ length s) × (bs ≡ [])
-Went s at u bs (Done c) = (at ≤ c.at) × (at ≤ length s → c.at ≤ length s) × (bs ≡ [])
-Went s at u bs (Refused r) = (r.at ≤ length s) × (length bs ≤ length s - at)
+abbrev Went : List ℕ → ℕ → ℕ → List ℕ → Result Heard Refusal → Type 0
+Went s at u bs (Ok (Value k y c n)) = (at + length bs < c.at) × (c.at ≤ length s) × (y ≡ held u (length bs)) × (n ≡ u + length bs)
+Went s at u bs (Ok (Passed c)) = (at < c.at) × (c.at ≤ length s) × (bs ≡ [])
+Went s at u bs (Ok (Done c)) = (at ≤ c.at) × (at ≤ length s → c.at ≤ length s) × (bs ≡ [])
+Went s at u bs (Err r) = (r.at ≤ length s) × (length bs ≤ length s - at)
 
 abbrev Goes : List ℕ → ℕ → ℕ → Said → Type 0
 Goes s at u x = Went s at u x.bytes x.answer
 
 -- i: behind the keyword
 module _ (w : Bool) (s : List ℕ) (at i u : ℕ) (behind : at < i) (in-text : i ≤ length s) where
-  passed_went : (j : ℕ) (d : Due) → i ≤ j → Ends s j d → Went s at u [] (passed d)
+  passed_went : (j : ℕ) (d : Result Cursor Refusal) → i ≤ j → Ends s j d → Went s at u [] (passed d)
   unfolding passed
-  passed_went j (After c) l e = (omega (arith, e.0), e.1, refl)
-  passed_went j (Not r) l e = (e, omega arith)
+  passed_went j (Ok c) l e = (omega (arith, e.0), e.1, refl)
+  passed_went j (Err r) l e = (e, omega arith)
 
   -- j: behind the value
-  kept_went : (k j n : ℕ) (bs : List ℕ) (d : Due) → i + length bs ≤ j → j ≤ length s → n ≡ u + length bs → Ends s j d → Went s at u bs (kept k u n d)
+  kept_went : (k j n : ℕ) (bs : List ℕ) (d : Result Cursor Refusal) → i + length bs ≤ j → j ≤ length s → n ≡ u + length bs → Ends s j d → Went s at u bs (kept k u n d)
   unfolding kept
-  kept_went k j n bs (After c) l t m e = (omega (arith, e.0), e.1, ap (held u) (omega arith), m)
-  kept_went k j n bs (Not r) l t m e = (e, omega arith)
+  kept_went k j n bs (Ok c) l t m e = (omega (arith, e.0), e.1, ap (held u) (omega arith), m)
+  kept_went k j n bs (Err r) l t m e = (e, omega arith)
 
-  rest_went : (k : ℕ) (a : Argument) → argument_at w s i u k ≡ a → Went s at u (value_bytes (value_at s i)) (with_rest w s k u a)
+  rest_went : (k : ℕ) (a : Result (Cursor × ℕ) Refusal) → argument_at w s i u k ≡ a → Went s at u (value_bytes (value_at s i)) (with_rest w s k u a)
   unfolding with_rest
-  rest_went k (Read c n) h =
+  rest_went k (Ok (c, n)) h =
       let f = argument_far w s i u k c n h in
       kept_went k c.at n (value_bytes (value_at s i)) (after_value w s c.at k) f.1 f.2 f.3 (value_ends w s c.at k f.2)
-  rest_went k (NoArgument r) h = ((argument_refused w s i u k r in-text h).1, omega (arith, bytes_fit s i))
+  rest_went k (Err r) h = ((argument_refused w s i u k r in-text h).1, omega (arith, bytes_fit s i))
 
   field_goes : (k : ℕ) → Goes s at u (field_at w s i k u)
   unfolding field_at
   field_goes k = rest_went k (argument_at w s i u k) refl
 
-  skipped_went : (k : ℕ) (d : Due) → past_value w s i ≡ d → Went s at u [] (after_skipped w s k d)
+  skipped_went : (k : ℕ) (d : Result Cursor Refusal) → past_value w s i ≡ d → Went s at u [] (after_skipped w s k d)
   unfolding after_skipped
-  skipped_went k (After c) e =
+  skipped_went k (Ok c) e =
       let f = past_value_far w s i in-text c e in
       passed_went c.at (after_value w s c.at k) f.0 (value_ends w s c.at k f.1)
-  skipped_went k (Not r) e = (refused_within s r (past_value_not w s i r e), omega arith)
+  skipped_went k (Err r) e = (refused_within s r (past_value_not w s i r e), omega arith)
 
   statement_goes : (k : ℕ) (p : Bool) → Goes s at u (statement_said w s i k u p)
   unfolding statement_said
@@ -144,10 +141,10 @@ module _ (w : Bool) (s : List ℕ) (at i u : ℕ) (behind : at < i) (in-text : i
       (λ v. field_goes k))
 
 -- at the place g after the gap
-token_went : (w : Bool) (s : List ℕ) (at g u : ℕ) → at ≤ g → g < length s → (d : Due) → past_token w s g ≡ d → Went s at u [] (passed d)
+token_went : (w : Bool) (s : List ℕ) (at g u : ℕ) → at ≤ g → g < length s → (d : Result Cursor Refusal) → past_token w s g ≡ d → Went s at u [] (passed d)
 unfolding passed
-token_went w s at g u from in-text (After c) e = let f = past_token_far w s g in-text c e in (omega (arith, f.0), f.1, refl)
-token_went w s at g u from in-text (Not r) e = (refused_within s r (past_token_not w s g r e), omega arith)
+token_went w s at g u from in-text (Ok c) e = let f = past_token_far w s g in-text c e in (omega (arith, f.0), f.1, refl)
+token_went w s at g u from in-text (Err r) e = (refused_within s r (past_token_not w s g r e), omega arith)
 
 tag_goes : (w : Bool) (s : List ℕ) (at g u : ℕ) (p : Bool) → at ≤ g → g < length s → (t : Tag) → tag_at s g ≡ t → Goes s at u (tag_said w s g u p t)
 unfolding tag_said
@@ -161,18 +158,18 @@ said_goes : (w : Bool) (s : List ℕ) (at u : ℕ) (p : Bool) → Goes s at u (s
 unfolding said_at said_here
 said_goes w s at u p =
     let g = gap_end s at in
-    by_cond (Goes s at u) (leb (length s) g) (said (Done (record { at = g }))) (tag_said w s g u p (tag_at s g))
+    by_cond (Goes s at u) (leb (length s) g) (said (Ok (Done (record { at = g })))) (tag_said w s g u p (tag_at s g))
     (λ t. (gap_from s at, gap_within s at, refl))
     (λ t. tag_goes w s at g u p (gap_from s at) (leb-false (length s) g t) (tag_at s g) refl)
 
-went_room : (s : List ℕ) (at u : ℕ) (bs : List ℕ) (x : Heard) → Went s at u bs x → u + length bs ≤ u + (length s - at)
-went_room s at u bs (Value k y c n) w = omega (arith, w.0, w.1)
-went_room s at u bs (Passed c) w = omega (arith, ap length w.2)
-went_room s at u bs (Done c) w = omega (arith, ap length w.2)
-went_room s at u bs (Refused r) w = omega (arith, w.1)
+went_room : (s : List ℕ) (at u : ℕ) (bs : List ℕ) (x : Result Heard Refusal) → Went s at u bs x → u + length bs ≤ u + (length s - at)
+went_room s at u bs (Ok (Value k y c n)) w = omega (arith, w.0, w.1)
+went_room s at u bs (Ok (Passed c)) w = omega (arith, ap length w.2)
+went_room s at u bs (Ok (Done c)) w = omega (arith, ap length w.2)
+went_room s at u bs (Err r) w = omega (arith, w.1)
 
 module _ (w : Bool) (s : List ℕ) (at u : ℕ) (p : Bool) where
-  went : (x : Heard) → (said_at w s at u p).answer ≡ x → Went s at u (said_at w s at u p).bytes x
+  went : (x : Result Heard Refusal) → (said_at w s at u p).answer ≡ x → Went s at u (said_at w s at u p).bytes x
   went x h = subst (Went s at u (said_at w s at u p).bytes) h (said_goes w s at u p)
 
   -- the bytes stored fit the rest of the text
@@ -180,18 +177,18 @@ module _ (w : Bool) (s : List ℕ) (at u : ℕ) (p : Bool) where
   said_room = went_room s at u (said_at w s at u p).bytes (said_at w s at u p).answer (said_goes w s at u p)
 
   -- a value: its bytes are those stored, and room for the rest of the text stays
-  pub said_value : (k : ℕ) (y : Span) (c : Cursor) (n : ℕ) → (said_at w s at u p).answer ≡ Value k y c n
+  pub said_value : (k : ℕ) (y : Span) (c : Cursor) (n : ℕ) → (said_at w s at u p).answer ≡ Ok (Value k y c n)
       → (at < c.at) × (c.at ≤ length s) × (y ≡ held u (length (said_at w s at u p).bytes)) × (n ≡ u + length (said_at w s at u p).bytes)
       × (n + (length s - c.at) ≤ u + (length s - at))
   said_value k y c n h =
-      let f = went (Value k y c n) h in
+      let f = went (Ok (Value k y c n)) h in
       (omega (arith, f.0), f.1, f.2, f.3, omega (arith, f.0, f.1, f.3))
 
-  pub said_passed : (c : Cursor) → (said_at w s at u p).answer ≡ Passed c → (at < c.at) × (c.at ≤ length s) × ((said_at w s at u p).bytes ≡ [])
-  said_passed c h = went (Passed c) h
+  pub said_passed : (c : Cursor) → (said_at w s at u p).answer ≡ Ok (Passed c) → (at < c.at) × (c.at ≤ length s) × ((said_at w s at u p).bytes ≡ [])
+  said_passed c h = went (Ok (Passed c)) h
 
-  pub said_done : at ≤ length s → (c : Cursor) → (said_at w s at u p).answer ≡ Done c → (at ≤ c.at) × (c.at ≤ length s) × ((said_at w s at u p).bytes ≡ [])
-  said_done l c h = let f = went (Done c) h in (f.0, f.1 l, f.2)
+  pub said_done : at ≤ length s → (c : Cursor) → (said_at w s at u p).answer ≡ Ok (Done c) → (at ≤ c.at) × (c.at ≤ length s) × ((said_at w s at u p).bytes ≡ [])
+  said_done l c h = let f = went (Ok (Done c)) h in (f.0, f.1 l, f.2)
 
-  pub said_refused : (r : Refusal) → (said_at w s at u p).answer ≡ Refused r → (r.at ≤ length s) × (u + length (said_at w s at u p).bytes ≤ u + (length s - at))
-  said_refused r h = ((went (Refused r) h).0, said_room)
+  pub said_refused : (r : Refusal) → (said_at w s at u p).answer ≡ Err r → (r.at ≤ length s) × (u + length (said_at w s at u p).bytes ≤ u + (length s - at))
+  said_refused r h = ((went (Err r) h).0, said_room)

@@ -1,5 +1,6 @@
 -- Worked examples of import and include statements, one list and one claim: each definition computes what stands beside the text.
 -- Assumes nothing.
+use Rattle.std.specs.Prelude.{Ok, Err, Result}
 use mathlib.Core.Bool.{Bool, true, false, ◌&&◌}
 use mathlib.Core.List.{List, [], ◌∷◌}
 use Prim.Native.Nat.{ℕ}
@@ -24,10 +25,9 @@ use Rattle.scan_block.specs.Block.{open_ended, or_line, line_kind, kept, with_va
 use Rattle.scan_block.specs.Block.{block_from, block_at}
 use Rattle.scan_imports.specs.Statement.{no_prefix, of_body, import_of, with_name, after_name, import_at, include_of, plain_of, block_of, open_or_plain, after_value}
 use Rattle.scan_imports.specs.Statement.{include_at}
-use Rattle.scan_imports.specs.declared.ParsedImport.{ParsedImport}
-use Rattle.scan_imports.specs.declared.ParsedImport.TheVariants.{Import, NoImport}
-use Rattle.scan_imports.specs.declared.ParsedInclude.{ParsedInclude}
-use Rattle.scan_imports.specs.declared.ParsedInclude.TheVariants.{Include, NoInclude}
+use Rattle.text.specs.declared.Cursor.{Cursor}
+use Rattle.scan_rows.specs.declared.YangImport.{YangImport}
+use Rattle.scan_rows.specs.declared.YangInclude.{YangInclude}
 
 -- an import or include at the text's start: the place after it, the bytes stored and the words of its row; or the number, keyword and place
 -- of its refusal, in the whole-text mode too
@@ -42,21 +42,21 @@ data Example : Type 0 where
 is_refusal : ℕ → ℕ → ℕ → Refusal → Bool
 is_refusal n k at r = eqb r.number n && eqb r.keyword k && eqb r.at at
 
-is_import : ℕ → List ℕ → ParsedImport → Bool
-is_import at ws (Import c n i) = eqb c.at at && same (import_words i) ws
-is_import at ws (NoImport r) = false
+is_import : ℕ → List ℕ → Result (Cursor × ℕ × YangImport) Refusal → Bool
+is_import at ws (Ok (c, n, i)) = eqb c.at at && same (import_words i) ws
+is_import at ws (Err r) = false
 
-is_no_import : ℕ → ℕ → ℕ → ParsedImport → Bool
-is_no_import n k at (Import c m i) = false
-is_no_import n k at (NoImport r) = is_refusal n k at r
+is_no_import : ℕ → ℕ → ℕ → Result (Cursor × ℕ × YangImport) Refusal → Bool
+is_no_import n k at (Ok (c, m, i)) = false
+is_no_import n k at (Err r) = is_refusal n k at r
 
-is_include : ℕ → List ℕ → ParsedInclude → Bool
-is_include at ws (Include c n i) = eqb c.at at && same (include_words i) ws
-is_include at ws (NoInclude r) = false
+is_include : ℕ → List ℕ → Result (Cursor × ℕ × YangInclude) Refusal → Bool
+is_include at ws (Ok (c, n, i)) = eqb c.at at && same (include_words i) ws
+is_include at ws (Err r) = false
 
-is_no_include : ℕ → ℕ → ℕ → ParsedInclude → Bool
-is_no_include n k at (Include c m i) = false
-is_no_include n k at (NoInclude r) = is_refusal n k at r
+is_no_include : ℕ → ℕ → ℕ → Result (Cursor × ℕ × YangInclude) Refusal → Bool
+is_no_include n k at (Ok (c, m, i)) = false
+is_no_include n k at (Err r) = is_refusal n k at r
 
 -- behind the keyword, at the store's place 0
 holds : Example → Bool

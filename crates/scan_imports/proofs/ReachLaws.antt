@@ -1,6 +1,7 @@
 -- How far an import or include goes, how much it stores, and where its values lie: what holds of each statement of a block and is kept by
 -- the next holds of the whole.
 -- Assumes nothing.
+use Rattle.std.specs.Prelude.{Ok, Err, Result}
 use mathlib.Core.Path.{◌≡◌, refl, ap, subst, ◌∙◌}
 use mathlib.Core.Logic.{inl}
 use mathlib.Core.Bool.{Bool}
@@ -15,16 +16,12 @@ use Rattle.text.specs.Due.{due_here, due_at}
 use Rattle.text.specs.Scan.{gap_end}
 use Rattle.text.specs.Turns.{stop}
 use Rattle.text.specs.declared.Cursor.{Cursor}
-use Rattle.text.specs.declared.Due.{Due}
-use Rattle.text.specs.declared.Due.TheVariants.{After, Not}
 use Rattle.text.proofs.DueLaws.{due_far, due_refused_within}
 use Rattle.text.proofs.Here.{by_test, here}
 use Rattle.text.proofs.Laws.{gap_from}
 use Rattle.text.proofs.Turns.{turns_rule}
 use Rattle.text_value.specs.Argument.{argument_at, line_at}
 use Rattle.text_value.specs.Value.{value_at, value_bytes}
-use Rattle.text_value.specs.declared.Argument.{Argument}
-use Rattle.text_value.specs.declared.Argument.TheVariants.{Read, Refused as RefusedValue}
 use Rattle.text_value.proofs.ArgumentLaws.{argument_far, argument_refused, line_far, line_refusal}
 use Rattle.text_value.proofs.JoinLaws.{bytes_fit}
 use Rattle.scan_rows.specs.Span.{held}
@@ -33,64 +30,59 @@ use Rattle.scan_rows.specs.declared.YangInclude.{YangInclude}
 use Rattle.scan_block.specs.Left.{Left, nothing}
 use Rattle.scan_block.specs.Block.{inside_at, Stored, after_inside, block_turn, block_from, begun, block_at}
 use Rattle.scan_imports.specs.Statement.{of_body, import_of, with_name, after_name, import_at, include_of, plain_of, block_of, open_or_plain, after_value, include_at}
-use Rattle.scan_block.specs.declared.Block.{Block}
-use Rattle.scan_block.specs.declared.Block.TheVariants.{Whole, Broken}
 use Rattle.scan_block.specs.declared.Body.{Body}
 use Rattle.scan_block.specs.declared.Inside.{Inside}
-use Rattle.scan_block.specs.declared.Inside.TheVariants.{On, Closed, Refused}
-use Rattle.scan_imports.specs.declared.ParsedImport.{ParsedImport}
-use Rattle.scan_imports.specs.declared.ParsedImport.TheVariants.{Import, NoImport}
-use Rattle.scan_imports.specs.declared.ParsedInclude.{ParsedInclude}
-use Rattle.scan_imports.specs.declared.ParsedInclude.TheVariants.{Include, NoInclude}
+use Rattle.scan_block.specs.declared.Inside.TheVariants.{On, Closed}
 use Rattle.scan_block.proofs.BlockLaws.{turn_far, block_falls}
 use Rattle.scan_block.proofs.FarLaws.{Forth, Went, inside_went}
 use Rattle.scan_block.proofs.Spans.{Lies, MayLie, Sound, lies_held, lies_more, may_more, may_lies, sound_begun}
+use Rattle.text.specs.declared.Refusal.{Refusal}
 
 -- ---- a block
 
 -- from g, with the bytes cs stored at its end
-abbrev Ends : List ℕ → Stored → List ℕ → Block → Type 0
-Ends s g cs (Whole y) =
+abbrev Ends : List ℕ → Stored → List ℕ → Result Body Refusal → Type 0
+Ends s g cs (Ok y) =
     (g.body.at + length cs < y.at + length g.bytes) × (y.at ≤ length s) × (y.used + length g.bytes ≡ g.body.used + length cs)
     × ((u : ℕ) → Sound u g.body → Sound u y)
-Ends s g cs (Broken r) = (length cs ≤ length g.bytes + (length s - g.body.at)) × (g.body.at ≤ length s → r.at ≤ length s)
+Ends s g cs (Err r) = (length cs ≤ length g.bytes + (length s - g.body.at)) × (g.body.at ≤ length s → r.at ≤ length s)
 
-stop_ends : (s : List ℕ) (g : Stored) (bs : List ℕ) (i : Inside) (r : Left Block) → Went s g.body bs i → after_inside (g.bytes ++ bs) i ≡ stop r
+stop_ends : (s : List ℕ) (g : Stored) (bs : List ℕ) (i : Result Inside Refusal) (r : Left (Result Body Refusal)) → Went s g.body bs i → after_inside (g.bytes ++ bs) i ≡ stop r
     → Ends s g r.bytes r.answer
 unfolding after_inside
-stop_ends s g bs (On y) r w e = let z : ◌≡◌ {A = ℕ} 0 1 = cc in absurd (omega arith)
-stop_ends s g bs (Closed y) r w e =
-    let k : ◌≡◌ {A = Left Block} (record { answer = Whole y; bytes = g.bytes ++ bs }) r = cc in
+stop_ends s g bs (Ok (On y)) r w e = let z : ◌≡◌ {A = ℕ} 0 1 = cc in absurd (omega arith)
+stop_ends s g bs (Ok (Closed y)) r w e =
+    let k : ◌≡◌ {A = Left (Result Body Refusal)} (record { answer = Ok y; bytes = g.bytes ++ bs }) r = cc in
     let l = length-append g.bytes bs in
     subst (λ z. Ends s g z.bytes z.answer) k (omega (arith, l, w.0), w.1, omega (arith, l, w.2), w.3)
-stop_ends s g bs (Refused q) r w e =
-    let k : ◌≡◌ {A = Left Block} (record { answer = Broken q; bytes = g.bytes ++ bs }) r = cc in
+stop_ends s g bs (Err q) r w e =
+    let k : ◌≡◌ {A = Left (Result Body Refusal)} (record { answer = Err q; bytes = g.bytes ++ bs }) r = cc in
     let l = length-append g.bytes bs in
     subst (λ z. Ends s g z.bytes z.answer) k (omega (arith, l, w.0), w.1)
 
-on_ends : (s : List ℕ) (g h : Stored) (bs cs : List ℕ) (b : Block) → Forth s g.body bs h.body → length h.bytes ≡ length g.bytes + length bs
+on_ends : (s : List ℕ) (g h : Stored) (bs cs : List ℕ) (b : Result Body Refusal) → Forth s g.body bs h.body → length h.bytes ≡ length g.bytes + length bs
     → Ends s h cs b → Ends s g cs b
-on_ends s g h bs cs (Whole y) f l e =
+on_ends s g h bs cs (Ok y) f l e =
     (omega (arith, f.0, f.1, e.0), e.1, omega (arith, f.2, e.2), λ u d. e.3 u (f.3 u d))
-on_ends s g h bs cs (Broken r) f l e = (omega (arith, f.0, f.1, e.0), λ i. e.1 f.1)
+on_ends s g h bs cs (Err r) f l e = (omega (arith, f.0, f.1, e.0), λ i. e.1 f.1)
 
 block_ends : (w : Bool) (s : List ℕ) (k : ℕ) (g : Stored) → Ends s g (block_from w s k g).bytes (block_from w s k g).answer
 unfolding block_from block_turn
 block_ends w s k g =
-    turns_rule (block_turn w s k) (nothing (Broken no_refusal)) (λ b. length s - b.body.at) (block_falls w s k)
+    turns_rule (block_turn w s k) (nothing (Err no_refusal)) (λ b. length s - b.body.at) (block_falls w s k)
     (λ a r. Ends s a r.bytes r.answer) (turn_stops w s k)
     (λ a b r h e. let f = turn_far w s k a b h in
     let bs = (inside_at w s k a.body).bytes in
     on_ends s a b bs r.bytes r.answer f.0 (ap length f.1 ∙ length-append a.bytes bs) e)
     (suc (length s)) g (omega arith)
   where
-    turn_stops : (w : Bool) (s : List ℕ) (k : ℕ) (a : Stored) (r : Left Block) → block_turn w s k a ≡ stop r → Ends s a r.bytes r.answer
+    turn_stops : (w : Bool) (s : List ℕ) (k : ℕ) (a : Stored) (r : Left (Result Body Refusal)) → block_turn w s k a ≡ stop r → Ends s a r.bytes r.answer
     turn_stops w s k a r h = stop_ends s a (inside_at w s k a.body).bytes (inside_at w s k a.body).answer r (inside_went w s k a.body) h
 
 -- a block behind its brace, at the store's place u
-abbrev BlockSaid : List ℕ → ℕ → ℕ → List ℕ → Block → Type 0
-BlockSaid s at u bs (Whole y) = (at + length bs < y.at) × (y.at ≤ length s) × (y.used ≡ u + length bs) × Sound u y
-BlockSaid s at u bs (Broken r) = (length bs ≤ length s - at) × (at ≤ length s → r.at ≤ length s)
+abbrev BlockSaid : List ℕ → ℕ → ℕ → List ℕ → Result Body Refusal → Type 0
+BlockSaid s at u bs (Ok y) = (at + length bs < y.at) × (y.at ≤ length s) × (y.used ≡ u + length bs) × Sound u y
+BlockSaid s at u bs (Err r) = (length bs ≤ length s - at) × (at ≤ length s → r.at ≤ length s)
 
 block_said : (w : Bool) (s : List ℕ) (at u k : ℕ) → BlockSaid s at u (block_at w s at u k).bytes (block_at w s at u k).answer
 unfolding block_at
@@ -98,25 +90,25 @@ block_said w s at u k =
     let g : Stored = record { body = begun at u; bytes = [] } in
     said (block_from w s k g).bytes (block_from w s k g).answer (block_ends w s k g)
   where
-    said : (cs : List ℕ) (b : Block) → Ends s (record { body = begun at u; bytes = [] }) cs b → BlockSaid s at u cs b
-    said cs (Whole y) e = (omega (arith, e.0), e.1, omega (arith, e.2), e.3 u (sound_begun at u))
-    said cs (Broken r) e = (omega (arith, e.0), e.1)
+    said : (cs : List ℕ) (b : Result Body Refusal) → Ends s (record { body = begun at u; bytes = [] }) cs b → BlockSaid s at u cs b
+    said cs (Ok y) e = (omega (arith, e.0), e.1, omega (arith, e.2), e.3 u (sound_begun at u))
+    said cs (Err r) e = (omega (arith, e.0), e.1)
 
 -- ---- an import
 
 -- read: behind its start, within the text, more bytes taken than stored; its values lie in what was stored, no two at one place.
 -- refused: what was stored fits the rest of the text, and the refusal's place is within it
-abbrev pub ImportSaid : List ℕ → ℕ → ℕ → List ℕ → ParsedImport → Type 0
-ImportSaid s at u bs (Import c n i) =
+abbrev pub ImportSaid : List ℕ → ℕ → ℕ → List ℕ → Result (Cursor × ℕ × YangImport) Refusal → Type 0
+ImportSaid s at u bs (Ok (c, n, i)) =
     (at + length bs < c.at) × (c.at ≤ length s) × (n ≡ u + length bs)
     × Lies u n i.module_name × Lies u n i.prefix × MayLie u n i.revision_date
     × (u + (i.module_name.size + (i.prefix.size + i.revision_date.size)) ≤ n)
-ImportSaid s at u bs (NoImport r) = (length bs ≤ length s - at) × (at ≤ length s → r.at ≤ length s)
+ImportSaid s at u bs (Err r) = (length bs ≤ length s - at) × (at ≤ length s → r.at ≤ length s)
 
 -- bs: the name's bytes, n: the store's place behind it; cs: those of the block
 module _ (s : List ℕ) (at u : ℕ) (bs : List ℕ) (c : Cursor) (n : ℕ) (far : at + length bs < c.at) (in-text : c.at ≤ length s)
     (count : n ≡ u + length bs) where
-  body_said : (cs : List ℕ) (y : Body) → BlockSaid s c.at n cs (Whole y) → ImportSaid s at u (bs ++ cs) (of_body (held u (n - u)) y)
+  body_said : (cs : List ℕ) (y : Body) → BlockSaid s c.at n cs (Ok y) → ImportSaid s at u (bs ++ cs) (of_body (held u (n - u)) y)
   unfolding of_body
   body_said cs y d =
       let l = length-append bs cs in
@@ -133,29 +125,29 @@ module _ (s : List ℕ) (at u : ℕ) (bs : List ℕ) (c : Cursor) (n : ℕ) (far
       ))
       (λ t. rw t (omega (arith, d.0, d.1), λ i. d.1))
 
-  of_said : (cs : List ℕ) (b : Block) → BlockSaid s c.at n cs b → ImportSaid s at u (bs ++ cs) (import_of (held u (n - u)) b)
+  of_said : (cs : List ℕ) (b : Result Body Refusal) → BlockSaid s c.at n cs b → ImportSaid s at u (bs ++ cs) (import_of (held u (n - u)) b)
   unfolding import_of
-  of_said cs (Whole y) d = body_said cs y d
-  of_said cs (Broken r) d = (omega (arith, d.0, length-append bs cs), λ i. d.1 in-text)
+  of_said cs (Ok y) d = body_said cs y d
+  of_said cs (Err r) d = (omega (arith, d.0, length-append bs cs), λ i. d.1 in-text)
 
-name_said : (w : Bool) (s : List ℕ) (at u : ℕ) (a : Argument) → line_at w s at u 8 123 ≡ a
+name_said : (w : Bool) (s : List ℕ) (at u : ℕ) (a : Result (Cursor × ℕ) Refusal) → line_at w s at u 8 123 ≡ a
     → ImportSaid s at u (after_name w s u (value_bytes (value_at s at)) a).bytes (after_name w s u (value_bytes (value_at s at)) a).answer
 unfolding after_name with_name
-name_said w s at u (Read c n) h =
+name_said w s at u (Ok (c, n)) h =
     let f = line_far w s at u 8 123 c n (omega arith) h in
     let b = block_at w s c.at n 8 in
     of_said s at u (value_bytes (value_at s at)) c n f.0 f.1 f.2 b.bytes b.answer (block_said w s c.at n 8)
-name_said w s at u (RefusedValue r) h = (bytes_fit s at, λ i. (line_refusal w s at u 8 123 r i h).1)
+name_said w s at u (Err r) h = (bytes_fit s at, λ i. (line_refusal w s at u 8 123 r i h).1)
 
 pub import_said : (w : Bool) (s : List ℕ) (at u : ℕ) → ImportSaid s at u (import_at w s at u).bytes (import_at w s at u).answer
 unfolding import_at
 import_said w s at u = name_said w s at u (line_at w s at u 8 123) refl
 
 module _ (w : Bool) (s : List ℕ) (at u : ℕ) where
-  told : {r : ParsedImport} → (import_at w s at u).answer ≡ r → ImportSaid s at u (import_at w s at u).bytes r
+  told : {r : Result (Cursor × ℕ × YangImport) Refusal} → (import_at w s at u).answer ≡ r → ImportSaid s at u (import_at w s at u).bytes r
   told h = subst (ImportSaid s at u (import_at w s at u).bytes) h (import_said w s at u)
 
-  module _ (c : Cursor) (n : ℕ) (i : YangImport) (h : (import_at w s at u).answer ≡ Import c n i) where
+  module _ (c : Cursor) (n : ℕ) (i : YangImport) (h : (import_at w s at u).answer ≡ Ok (c, n, i)) where
     -- room in the store for the rest of the text stays
     pub import_room : (l : ℕ) → u + (length s - at) ≤ l → n + (length s - c.at) ≤ l
     import_room l r = let d = told h in omega (arith, d.0, d.1, d.2)
@@ -166,20 +158,20 @@ module _ (w : Bool) (s : List ℕ) (at u : ℕ) where
 
 -- ---- an include
 
-abbrev pub IncludeSaid : List ℕ → ℕ → ℕ → List ℕ → ParsedInclude → Type 0
-IncludeSaid s at u bs (Include c n i) =
+abbrev pub IncludeSaid : List ℕ → ℕ → ℕ → List ℕ → Result (Cursor × ℕ × YangInclude) Refusal → Type 0
+IncludeSaid s at u bs (Ok (c, n, i)) =
     (at + length bs < c.at) × (c.at ≤ length s) × (n ≡ u + length bs) × Lies u n i.submodule_name × MayLie u n i.revision_date
     × (u + (i.submodule_name.size + i.revision_date.size) ≤ n)
-IncludeSaid s at u bs (NoInclude r) = (length bs ≤ length s - at) × (at ≤ length s → r.at ≤ length s)
+IncludeSaid s at u bs (Err r) = (length bs ≤ length s - at) × (at ≤ length s → r.at ≤ length s)
 
 -- bs: the name's bytes, n: the store's place behind it
 module _ (s : List ℕ) (at u : ℕ) (bs : List ℕ) (c : Cursor) (n : ℕ) (far : at + length bs ≤ c.at) (in-text : c.at ≤ length s)
     (count : n ≡ u + length bs) where
   -- the block from a place behind c; cs: its bytes
-  open_said : (from : ℕ) (cs : List ℕ) (b : Block) → c.at < from → from ≤ length s → BlockSaid s from n cs b
+  open_said : (from : ℕ) (cs : List ℕ) (b : Result Body Refusal) → c.at < from → from ≤ length s → BlockSaid s from n cs b
       → IncludeSaid s at u (bs ++ cs) (include_of (held u (n - u)) b)
   unfolding include_of
-  open_said from cs (Whole y) behind inner d =
+  open_said from cs (Ok y) behind inner d =
       let l = length-append bs cs in (
         omega (arith, d.0),
         d.1,
@@ -188,14 +180,14 @@ module _ (s : List ℕ) (at u : ℕ) (bs : List ℕ) (c : Cursor) (n : ℕ) (far
         may_more (omega arith) (omega arith) d.3.2,
         omega (arith, d.3.3),
       )
-  open_said from cs (Broken r) behind inner d = (omega (arith, d.0, length-append bs cs), λ i. d.1 inner)
+  open_said from cs (Err r) behind inner d = (omega (arith, d.0, length-append bs cs), λ i. d.1 inner)
 
-  plain_said : (t : Due) → due_at s c.at 59 9 ≡ t → IncludeSaid s at u bs (plain_of (held u (n - u)) n t)
+  plain_said : (t : Result Cursor Refusal) → due_at s c.at 59 9 ≡ t → IncludeSaid s at u bs (plain_of (held u (n - u)) n t)
   unfolding plain_of
-  plain_said (After e) h =
+  plain_said (Ok e) h =
       let f = due_far s c.at 59 9 e (omega arith) h in
       (omega (arith, f.0), f.1, count, lies_held u u n (omega arith) (omega arith), inl refl, omega arith)
-  plain_said (Not r) h = (omega arith, λ i. (due_refused_within s c.at 59 9 r in-text h).1)
+  plain_said (Err r) h = (omega arith, λ i. (due_refused_within s c.at 59 9 r in-text h).1)
 
   either_said : (w : Bool) → IncludeSaid s at u (open_or_plain w s (gap_end s c.at) n (held u (n - u)) bs).bytes
       (open_or_plain w s (gap_end s c.at) n (held u (n - u)) bs).answer
@@ -208,23 +200,23 @@ module _ (s : List ℕ) (at u : ℕ) (bs : List ℕ) (c : Cursor) (n : ℕ) (far
       rw t (open_said (g + 1) b.bytes b.answer (omega (arith, gap_from s c.at)) (omega arith) (block_said w s (g + 1) n 9)))
       (λ t. rw t (plain_said (due_here s g 59 9) refl))
 
-value_said : (w : Bool) (s : List ℕ) (at u : ℕ) (a : Argument) → argument_at w s at u 9 ≡ a
+value_said : (w : Bool) (s : List ℕ) (at u : ℕ) (a : Result (Cursor × ℕ) Refusal) → argument_at w s at u 9 ≡ a
     → IncludeSaid s at u (after_value w s u (value_bytes (value_at s at)) a).bytes (after_value w s u (value_bytes (value_at s at)) a).answer
 unfolding after_value
-value_said w s at u (Read c n) h =
+value_said w s at u (Ok (c, n)) h =
     let f = argument_far w s at u 9 c n h in
     either_said s at u (value_bytes (value_at s at)) c n f.1 f.2 f.3 w
-value_said w s at u (RefusedValue r) h = (bytes_fit s at, λ i. (argument_refused w s at u 9 r i h).1)
+value_said w s at u (Err r) h = (bytes_fit s at, λ i. (argument_refused w s at u 9 r i h).1)
 
 pub include_said : (w : Bool) (s : List ℕ) (at u : ℕ) → IncludeSaid s at u (include_at w s at u).bytes (include_at w s at u).answer
 unfolding include_at
 include_said w s at u = value_said w s at u (argument_at w s at u 9) refl
 
 module _ (w : Bool) (s : List ℕ) (at u : ℕ) where
-  given : {r : ParsedInclude} → (include_at w s at u).answer ≡ r → IncludeSaid s at u (include_at w s at u).bytes r
+  given : {r : Result (Cursor × ℕ × YangInclude) Refusal} → (include_at w s at u).answer ≡ r → IncludeSaid s at u (include_at w s at u).bytes r
   given h = subst (IncludeSaid s at u (include_at w s at u).bytes) h (include_said w s at u)
 
-  module _ (c : Cursor) (n : ℕ) (i : YangInclude) (h : (include_at w s at u).answer ≡ Include c n i) where
+  module _ (c : Cursor) (n : ℕ) (i : YangInclude) (h : (include_at w s at u).answer ≡ Ok (c, n, i)) where
     pub include_room : (l : ℕ) → u + (length s - at) ≤ l → n + (length s - c.at) ≤ l
     include_room l r = let d = given h in omega (arith, d.0, d.1, d.2)
 

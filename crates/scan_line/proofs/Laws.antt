@@ -1,19 +1,15 @@
--- The bytes that are left to a loop, and the line of a refusal: its pieces, in the order of the code, and its room.
+-- The line of a refusal: its pieces, in the order of the code, and its room.
 -- Assumes nothing.
 use mathlib.Core.Path.{◌≡◌}
 use mathlib.Core.List.{List, [], ◌∷◌}
 use Prim.Native.Nat.{ℕ, ◌+◌, ◌^◌, ◌<◌, ◌≤◌}
 use native.Mathlib.Omega.{arith}
-use lib.ListN.{length, drop, drop_of_length-le}
+use lib.ListN.{length}
 use Rattle.text.specs.declared.Refusal.{Refusal}
 use Rattle.scan_line.specs.Line.{newline, decimal}
 use Rattle.scan_line.specs.Refused.{refused_word, keyword_word, at_word, refused_line}
 use Rattle.scan_line.proofs.Decimal.{decimal_size}
 use Rattle.scan_line.proofs.Going.{Going, begin, sum, flatten_length}
-
--- the bytes of a list from a place on
-pub bytes_past : (s : List ℕ) (i : ℕ) → length s ≤ i → drop i s ≡ []
-bytes_past s i h = drop_of_length-le s h
 
 pub refused_begin : (d : List ℕ) (at : ℕ) (x : Refusal)
     → Going d at (refused_line x) d at

@@ -15,14 +15,9 @@ pub fn put(page: &mut [u8], at: usize, bytes: &[u8]) -> usize
     requires { at + length bytes.now ≤ length page.old }
     ensures { Wrote page.old at bytes.now page.new result }
 {
-    let mut i = 0;
-    let mut n = at;
-    while i < bytes.len() {
-        page[n] = bytes[i];
-        n += 1;
-        i += 1;
-    }
-    n
+    let end = at + bytes.len();
+    page[at..end].copy_from_slice(bytes);
+    end
 }
 
 // A digit's byte.
@@ -59,18 +54,24 @@ pub fn put_number(page: &mut [u8], at: usize, label: &[u8], n: usize) -> usize
 // Room for the line of any refusal: it has 62 bytes at the most.
 pub const LINE: usize = 64;
 
+// The line of a refusal with this number, keyword and place, from the first byte of the page on, and its length.
+fn put_refused(page: &mut [u8; LINE], number: u32, keyword: u32, at: usize) -> usize
+    ensures as_long { 64 ≡ length page.new }
+    ensures line { (result ≡ length (refused_line (record { number = number; keyword = keyword; at = at })))
+        × (page.new ≡ sets page.old 0 (refused_line (record { number = number; keyword = keyword; at = at }))) }
+{
+    let first = put_number(page, 0, b"refused ", number as usize);
+    let second = put_number(page, first, b" keyword ", keyword as usize);
+    let third = put_number(page, second, b" at ", at);
+    put(page, third, b"\n")
+}
+
 // The line of a refusal, from the first byte of the page on, and its length. That the page is as long as before is said for a caller who lends it on.
 pub fn print_refused(x: Refusal, page: &mut [u8; LINE]) -> usize
     ensures as_long { 64 ≡ length page.new }
     ensures line { (result ≡ length (refused_line x)) × (page.new ≡ sets page.old 0 (refused_line x)) }
 {
-    let number = x.number as usize;
-    let keyword = x.keyword as usize;
-    let at = x.at;
-    let first = put_number(page, 0, b"refused ", number);
-    let second = put_number(page, first, b" keyword ", keyword);
-    let third = put_number(page, second, b" at ", at);
-    put(page, third, b"\n")
+    put_refused(page, x.number(), x.keyword, x.at)
 }
 
 // The line of an input that is too long for a program, from the first byte of the page on, and its length.

@@ -1,6 +1,7 @@
 -- The entry: what a scan writes into zeros is what it read and zeros behind it, and a refusal, which its number tells, leaves zeros.
 -- w: the whole-text mode.
 -- Assumes nothing.
+use Rattle.std.specs.Prelude.{Ok, Err, Result}
 use mathlib.Core.Path.{◌≡◌, refl, sym, ap, subst, ◌∙◌}
 use mathlib.Core.Bool.{Bool}
 use mathlib.Core.List.{List, []}
@@ -10,14 +11,11 @@ use lib.Dec.{ltb}
 use lib.ListN.{length, length-replicate}
 use lib.Seq.{length-sets}
 use borrow.Author.Tests.{ltb-false}
-use Rattle.text.specs.Class.{class_table}
 use Rattle.text.specs.declared.Refusal.{Refusal}
-use Rattle.text_lent.specs.Lent.{lent_at, lent_refusal}
+use Rattle.text_lent.specs.Lent.{lent_at}
 use Rattle.text_lent.specs.Padded.{zeros, padded}
-use Rattle.text_lent.specs.declared.Lent.{Lent}
-use Rattle.text_lent.specs.declared.Lent.TheVariants.{Fit, Unfit}
 use Rattle.text_lent.proofs.Clears.{written_zero, padded_none}
-use Rattle.text_lent.proofs.LentLaws.{unfit_is, fit_said}
+use Rattle.text_lent.proofs.LentLaws.{fit_said}
 use Rattle.scan_metadata.specs.Metadata.{Scan, good, bad, scanned, if_fit, metadata, refused_with, answer_of, stored_of, kept_of}
 use Rattle.scan_metadata.specs.Promises.{Parses, Cleared, Leaves, Extracts}
 use Rattle.scan_metadata.specs.declared.YangModuleMetadata.{YangModuleMetadata}
@@ -42,7 +40,7 @@ stored_short w s (bad r bs) h = (scan_bad w s r bs h).1
 
 -- ---- the scan over zeros; e: after it
 
-module _ {w : Bool} {classes s d : List ℕ} (c : Cleared classes s d) {r : YangModuleMetadata} {e : List ℕ} (p : Parses w s d r e) where
+module _ {w : Bool} {s d : List ℕ} (c : Cleared s d) {r : YangModuleMetadata} {e : List ℕ} (p : Parses w s d r e) where
   -- numbered: by `scan_number`
   pub leaves_good : ((q : Refusal) (bs : List ℕ) → scanned w s ≡ bad q bs → 0 < q.number) → r.answer.number ≡ 0 → Leaves (scanned w s) d r e
   leaves_good numbered h =
@@ -62,29 +60,29 @@ module _ {w : Bool} {classes s d : List ℕ} (c : Cleared classes s d) {r : Yang
 
 -- ---- the entry; d: what was lent, e: the same cleared
 
-module _ (w : Bool) (s d : List ℕ) {e : List ℕ} (ee : e ≡ zeros (length d)) {short : Bool} (se : short ≡ ltb (length e) (length s)) {lent : Lent}
+module _ (w : Bool) (s d : List ℕ) {e : List ℕ} (ee : e ≡ zeros (length d)) {short : Bool} (se : short ≡ ltb (length e) (length s)) {lent : Result (Unit {0}) Refusal}
     (le : lent ≡ lent_at s short) where
   as_long : length e ≡ length d
   as_long = ap length ee ∙ length-replicate {A = ℕ} (length d) 0
 
-  scan_is : {x : Lent} → lent ≡ x → metadata w s (ltb (length d) (length s)) ≡ if_fit x (scanned w s)
+  scan_is : {x : Result (Unit {0}) Refusal} → lent ≡ x → metadata w s (ltb (length d) (length s)) ≡ if_fit x (scanned w s)
   unfolding metadata
   scan_is h =
       ap (λ n. if_fit (lent_at s (ltb n (length s))) (scanned w s)) (sym as_long)
       ∙ ap (λ b. if_fit (lent_at s b) (scanned w s)) (sym se) ∙ ap (λ l. if_fit l (scanned w s)) (sym le ∙ h)
 
-  pub entry_cleared : lent ≡ Fit → {classes : List ℕ} → classes ≡ class_table → Cleared classes s e
-  entry_cleared h ce =
+  pub entry_cleared : lent ≡ (Ok tt) → Cleared s e
+  entry_cleared h =
       let k = fit_said s short (sym le ∙ h) in
-      record { table = ce; store = ee ∙ ap zeros (sym as_long); room = ltb-false (length e) (length s) (sym se ∙ k.1) }
+      record { store = ee ∙ ap zeros (sym as_long); room = ltb-false (length e) (length s) (sym se ∙ k.1) }
 
-  pub entry_scanned : lent ≡ Fit → {r : YangModuleMetadata} {e' : List ℕ} → Leaves (scanned w s) e r e' → Extracts w s d r e'
+  pub entry_scanned : lent ≡ (Ok tt) → {r : YangModuleMetadata} {e' : List ℕ} → Leaves (scanned w s) e r e' → Extracts w s d r e'
   unfolding if_fit
   entry_scanned h {r} {e'} l =
       subst (λ x. Leaves x d r e') (sym (scan_is h))
       (record { answer = l.answer; stored = l.stored ∙ ap (λ n. padded n (kept_of (scanned w s))) as_long })
 
-  pub entry_refused : (q : Refusal) → lent ≡ Unfit q → {p : Refusal} → p ≡ lent_refusal lent → {r : YangModuleMetadata} → r ≡ refused_with p → Extracts w s d r e
+  pub entry_refused : (q : Refusal) → lent ≡ Err q → {r : YangModuleMetadata} → r ≡ refused_with q → Extracts w s d r e
   unfolding if_fit answer_of kept_of
-  entry_refused q h f {r} a =
-      subst (λ x. Leaves x d r e) (sym (scan_is h)) (record { answer = a ∙ ap refused_with (unfit_is h f); stored = ee ∙ padded_none (length d) })
+  entry_refused q h {r} a =
+      subst (λ x. Leaves x d r e) (sym (scan_is h)) (record { answer = a; stored = ee ∙ padded_none (length d) })

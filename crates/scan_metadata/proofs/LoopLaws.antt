@@ -1,6 +1,7 @@
 -- The loop of the scan: what was read so far stands in the store and the six values, and the scan from here is the scan of the text.
 -- w: the whole-text mode.
 -- Assumes nothing.
+use Rattle.std.specs.Prelude.{Ok, Err, Result}
 use mathlib.Core.Path.{◌≡◌, refl, sym, ap, ◌∙◌}
 use mathlib.Core.Bool.{Bool}
 use mathlib.Core.List.{List, [], ◌++◌}
@@ -19,9 +20,9 @@ use Rattle.scan_rows.proofs.Laws.{each_of}
 use Rattle.scan_rows.proofs.Values.{value_stored}
 use Rattle.scan_newest.specs.Newest.{Revision, Read, newest, newest_from}
 use Rattle.scan_newest.proofs.NewestLaws.{newest_valued}
-use Rattle.scan_header.specs.Header.{said_at, heard_refusal}
+use Rattle.scan_header.specs.Header.{said_at}
 use Rattle.scan_header.specs.declared.Heard.{Heard}
-use Rattle.scan_header.specs.declared.Heard.TheVariants.{Value, Passed, Done, Refused}
+use Rattle.scan_header.specs.declared.Heard.TheVariants.{Value, Passed, Done}
 use Rattle.scan_header.proofs.SaidLaws.{said_value, said_passed, said_done, said_room}
 use Rattle.scan_metadata.specs.Metadata.{Metadata, nothing, told, first_of, values_of, no_values, Reading, Scan, bad, ended, scan_from, scanned, refused_with}
 use Rattle.scan_metadata.specs.Metadata.{answer_of, stored_of}
@@ -68,14 +69,14 @@ module _ {w : Bool} {s d : List ℕ} where
     here = record { at = at; read = j.read }
 
     -- p: whether a prefix was read; r: what the step answered; e': the store then
-    module _ {p : Bool} (pe : p ≡ (get_or values 2 missing).present) {r : Heard} (re : r ≡ (said_at w s at used p).answer)
+    module _ {p : Bool} (pe : p ≡ (get_or values 2 missing).present) {r : Result Heard Refusal} (re : r ≡ (said_at w s at used p).answer)
         {e' : List ℕ} (ee : e' ≡ sets e used (said_at w s at used p).bytes) where
       step_is : said_at w s at used p ≡ heard w s here
       step_is =
           let q : p ≡ j.read.prefix.present = pe ∙ ap (λ vs. (get_or vs 2 missing).present) j.held ∙ ap (λ x. x.present) (values_prefix j.read) in
           ap (λ u. said_at w s at u p) j.count ∙ ap (said_at w s at (length j.read.bytes)) q
 
-      step_answer : {x : Heard} → r ≡ x → (heard w s here).answer ≡ x
+      step_answer : {x : Result Heard Refusal} → r ≡ x → (heard w s here).answer ≡ x
       step_answer h = sym (ap (λ y. y.answer) step_is) ∙ sym re ∙ h
 
       -- what is stored then
@@ -90,7 +91,7 @@ module _ {w : Bool} {s d : List ℕ} where
       same_stored : (heard w s here).bytes ≡ [] → e' ≡ sets d 0 j.read.bytes
       same_stored h = ee ∙ ap (λ y. sets e used y.bytes) step_is ∙ ap (sets e used) h ∙ j.stored
 
-      module _ (k : ℕ) (x : Span) (c : Cursor) (n : ℕ) (h : r ≡ Value k x c n) where
+      module _ (k : ℕ) (x : Span) (c : Cursor) (n : ℕ) (h : r ≡ Ok (Value k x c n)) where
         value_held : kept_in e' values k x ≡ values_of (told j.read k x (heard w s here).bytes)
         value_held =
             let m = j.read in
@@ -123,7 +124,7 @@ module _ {w : Bool} {s d : List ℕ} where
         pub loop_value_nearer : length s - c.at < length s - at
         loop_value_nearer = told_nearer w s here k x c n (step_answer h)
 
-      module _ (c : Cursor) (h : r ≡ Passed c) where
+      module _ (c : Cursor) (h : r ≡ Ok (Passed c)) where
         pub loop_passed : Sofar w s d values c.at used e'
         loop_passed =
             let m = j.read in
@@ -147,7 +148,7 @@ module _ {w : Bool} {s d : List ℕ} where
           let k : x ≡ scanned w s = sym q ∙ j.same in
           record { answer = ae ∙ ap answer_of k; stored = se ∙ ap (λ y. sets d 0 (stored_of y)) k }
 
-      pub loop_done : (c : Cursor) → r ≡ Done c → {a : YangModuleMetadata} → a ≡ ended_with values used c.at → Parses w s d a e'
+      pub loop_done : (c : Cursor) → r ≡ Ok (Done c) → {a : YangModuleMetadata} → a ≡ ended_with values used c.at → Parses w s d a e'
       loop_done c h ae =
           let m = j.read in
           let i = said_done w s at (length m.bytes) m.prefix.present j.sound.inside c (step_answer h) in
@@ -155,8 +156,8 @@ module _ {w : Bool} {s d : List ℕ} where
           (ae ∙ ap (λ vs. ended_with vs used c.at) j.held ∙ ap (λ n. ended_with (values_of m) n c.at) j.count ∙ ended_is m c.at)
           (same_stored i.2 ∙ ap (sets d 0) (sym (stored_is m c.at)))
 
-      pub loop_refused : (q : Refusal) → r ≡ Refused q → {p : Refusal} → p ≡ heard_refusal r → {a : YangModuleMetadata} → a ≡ refused_with p → Parses w s d a e'
-      unfolding answer_of stored_of heard_refusal
-      loop_refused q h f ae =
+      pub loop_refused : (q : Refusal) → r ≡ Err q → {a : YangModuleMetadata} → a ≡ refused_with q → Parses w s d a e'
+      unfolding answer_of stored_of
+      loop_refused q h ae =
           loop_ends (bad q (j.read.bytes ++ (heard w s here).bytes))
-          (scan_refused_lem w s here q (step_answer h)) (ae ∙ ap refused_with (f ∙ ap heard_refusal h)) step_stored
+          (scan_refused_lem w s here q (step_answer h)) ae step_stored

@@ -1,6 +1,7 @@
 -- The scan as a whole: each step comes nearer the text's end, so the turns end; each value lies in the bytes stored where its span says, and more
 -- bytes behind change nothing of that, so it holds when the scan ends. w: the whole-text mode.
 -- Assumes nothing.
+use Rattle.std.specs.Prelude.{Ok, Err, Result}
 use mathlib.Core.Path.{◌≡◌, refl, ap, subst, ◌∙◌}
 use mathlib.Core.Bool.{Bool, true, false, cond}
 use mathlib.Core.List.{List, [], ◌∷◌, ◌++◌}
@@ -23,7 +24,7 @@ use Rattle.scan_newest.specs.Newest.{Revision, Read}
 use Rattle.scan_newest.proofs.NewestLaws.{newest_within}
 use Rattle.scan_header.specs.Header.{Said, said_at}
 use Rattle.scan_header.specs.declared.Heard.{Heard}
-use Rattle.scan_header.specs.declared.Heard.TheVariants.{Value, Passed, Done, Refused}
+use Rattle.scan_header.specs.declared.Heard.TheVariants.{Value, Passed, Done}
 use Rattle.scan_header.proofs.SaidLaws.{said_value, said_passed, said_done, said_refused}
 use Rattle.scan_metadata.specs.Metadata.{Metadata, nothing, told, first_of, values_of, Reading, Scan, good, bad, ended, after_heard, metadata_turn, scan_from}
 use Rattle.scan_metadata.specs.Metadata.{scanned}
@@ -123,7 +124,7 @@ heard w s g = said_at w s g.at (length g.read.bytes) g.read.prefix.present
 
 module _ (w : Bool) (s : List ℕ) (g : Reading) where
   module _ (f : Sound s g) where
-    pub sound_told : (k : ℕ) (x : Span) (c : Cursor) (n : ℕ) → (heard w s g).answer ≡ Value k x c n
+    pub sound_told : (k : ℕ) (x : Span) (c : Cursor) (n : ℕ) → (heard w s g).answer ≡ Ok (Value k x c n)
         → Sound s (record { at = c.at; read = told g.read k x (heard w s g).bytes })
     sound_told k x c n h =
         let m = g.read in
@@ -132,17 +133,17 @@ module _ (w : Bool) (s : List ℕ) (g : Reading) where
         let l : length (told m k x bs).bytes ≡ length m.bytes + length bs = ap length (told_bytes m k x bs) ∙ length-append m.bytes bs in
         record { inside = i.1; room = omega (arith, l, i.3, i.4, f.room); placed = placed_told m k x bs i.2 f.placed }
 
-    pub sound_passed : (c : Cursor) → (heard w s g).answer ≡ Passed c → Sound s (record { at = c.at; read = g.read })
+    pub sound_passed : (c : Cursor) → (heard w s g).answer ≡ Ok (Passed c) → Sound s (record { at = c.at; read = g.read })
     sound_passed c h =
         let i = said_passed w s g.at (length g.read.bytes) g.read.prefix.present c h in
         record { inside = i.1; room = omega (arith, i.0, i.1, f.room); placed = f.placed }
 
   -- the step comes nearer the end
-  pub told_nearer : (k : ℕ) (x : Span) (c : Cursor) (n : ℕ) → (heard w s g).answer ≡ Value k x c n → length s - c.at < length s - g.at
+  pub told_nearer : (k : ℕ) (x : Span) (c : Cursor) (n : ℕ) → (heard w s g).answer ≡ Ok (Value k x c n) → length s - c.at < length s - g.at
   told_nearer k x c n h =
       let i = said_value w s g.at (length g.read.bytes) g.read.prefix.present k x c n h in omega (arith, i.0, i.1)
 
-  pub passed_nearer : (c : Cursor) → (heard w s g).answer ≡ Passed c → length s - c.at < length s - g.at
+  pub passed_nearer : (c : Cursor) → (heard w s g).answer ≡ Ok (Passed c) → length s - c.at < length s - g.at
   passed_nearer c h =
       let i = said_passed w s g.at (length g.read.bytes) g.read.prefix.present c h in omega (arith, i.0, i.1)
 
@@ -151,18 +152,18 @@ module _ (w : Bool) (s : List ℕ) (g : Reading) where
 module _ (w : Bool) (s : List ℕ) (g : Reading) where
   -- what holds behind a value and behind what is passed holds behind the turn
   turn_keeps : (P : Reading → Type 0)
-      → ((k : ℕ) (x : Span) (c : Cursor) (n : ℕ) → (heard w s g).answer ≡ Value k x c n
+      → ((k : ℕ) (x : Span) (c : Cursor) (n : ℕ) → (heard w s g).answer ≡ Ok (Value k x c n)
       → P (record { at = c.at; read = told g.read k x (heard w s g).bytes }))
-      → ((c : Cursor) → (heard w s g).answer ≡ Passed c → P (record { at = c.at; read = g.read }))
+      → ((c : Cursor) → (heard w s g).answer ≡ Ok (Passed c) → P (record { at = c.at; read = g.read }))
       → (h : Reading) → metadata_turn w s g ≡ on h → P h
   unfolding metadata_turn after_heard
   turn_keeps P v p h t = of (heard w s g).answer refl t
     where
-      of : (r : Heard) → (heard w s g).answer ≡ r → after_heard g.read (heard w s g).bytes r ≡ on h → P h
-      of (Value k x c n) e t = let q : record { at = c.at; read = told g.read k x (heard w s g).bytes } ≡ h = cc in subst P q (v k x c n e)
-      of (Passed c) e t = let q : record { at = c.at; read = g.read } ≡ h = cc in subst P q (p c e)
-      of (Done c) e t = let z : ◌≡◌ {A = ℕ} 0 1 = cc in absurd (omega arith)
-      of (Refused r) e t = let z : ◌≡◌ {A = ℕ} 0 1 = cc in absurd (omega arith)
+      of : (r : Result Heard Refusal) → (heard w s g).answer ≡ r → after_heard g.read (heard w s g).bytes r ≡ on h → P h
+      of (Ok (Value k x c n)) e t = let q : record { at = c.at; read = told g.read k x (heard w s g).bytes } ≡ h = cc in subst P q (v k x c n e)
+      of (Ok (Passed c)) e t = let q : record { at = c.at; read = g.read } ≡ h = cc in subst P q (p c e)
+      of (Ok (Done c)) e t = let z : ◌≡◌ {A = ℕ} 0 1 = cc in absurd (omega arith)
+      of (Err r) e t = let z : ◌≡◌ {A = ℕ} 0 1 = cc in absurd (omega arith)
 
   pub turn_sound : Sound s g → (h : Reading) → metadata_turn w s g ≡ on h → Sound s h
   turn_sound f = turn_keeps (Sound s) (sound_told w s g f) (sound_passed w s g f)
@@ -181,25 +182,25 @@ module _ (w : Bool) (s : List ℕ) (g : Reading) where
   unfolding scan_from
   scan_stop x t = turns_stop (metadata_turn w s) (good nothing) (λ b. length s - b.at) (turn_falls w s) (suc (length s)) g x (omega arith) t
 
-  turn_is : {r : Heard} → (heard w s g).answer ≡ r → metadata_turn w s g ≡ after_heard g.read (heard w s g).bytes r
+  turn_is : {r : Result Heard Refusal} → (heard w s g).answer ≡ r → metadata_turn w s g ≡ after_heard g.read (heard w s g).bytes r
   unfolding metadata_turn
   turn_is h = ap (after_heard g.read (heard w s g).bytes) h
 
   -- the step's answers
-  pub scan_value : (k : ℕ) (x : Span) (c : Cursor) (n : ℕ) → (heard w s g).answer ≡ Value k x c n
+  pub scan_value : (k : ℕ) (x : Span) (c : Cursor) (n : ℕ) → (heard w s g).answer ≡ Ok (Value k x c n)
       → scan_from w s g ≡ scan_from w s (record { at = c.at; read = told g.read k x (heard w s g).bytes })
   unfolding after_heard
   scan_value k x c n h = scan_on _ (turn_is h)
 
-  pub scan_passed : (c : Cursor) → (heard w s g).answer ≡ Passed c → scan_from w s g ≡ scan_from w s (record { at = c.at; read = g.read })
+  pub scan_passed : (c : Cursor) → (heard w s g).answer ≡ Ok (Passed c) → scan_from w s g ≡ scan_from w s (record { at = c.at; read = g.read })
   unfolding after_heard
   scan_passed c h = scan_on _ (turn_is h)
 
-  pub scan_done : (c : Cursor) → (heard w s g).answer ≡ Done c → scan_from w s g ≡ ended g.read c.at
+  pub scan_done : (c : Cursor) → (heard w s g).answer ≡ Ok (Done c) → scan_from w s g ≡ ended g.read c.at
   unfolding after_heard
   scan_done c h = scan_stop _ (turn_is h)
 
-  pub scan_refused_lem : (r : Refusal) → (heard w s g).answer ≡ Refused r → scan_from w s g ≡ bad r (g.read.bytes ++ (heard w s g).bytes)
+  pub scan_refused_lem : (r : Refusal) → (heard w s g).answer ≡ Err r → scan_from w s g ≡ bad r (g.read.bytes ++ (heard w s g).bytes)
   unfolding after_heard
   scan_refused_lem r h = scan_stop _ (turn_is h)
 
@@ -221,19 +222,19 @@ module _ (s : List ℕ) (N : Refusal → Type 0) where
       of false e = (k, l, n)
 
   module _ (w : Bool) (no_name : (at : ℕ) → N (record { number = 9; keyword = 0; at = at }))
-      (said : (at u : ℕ) (p : Bool) (r : Refusal) → (said_at w s at u p).answer ≡ Refused r → N r) where
+      (said : (at u : ℕ) (p : Bool) (r : Refusal) → (said_at w s at u p).answer ≡ Err r → N r) where
     stop_ends : (g : Reading) → Sound s g → (x : Scan) → metadata_turn w s g ≡ stop x → Ends x
     unfolding metadata_turn after_heard
     stop_ends g f x t = of (heard w s g).answer refl t
       where
-        of : (r : Heard) → (heard w s g).answer ≡ r → after_heard g.read (heard w s g).bytes r ≡ stop x → Ends x
-        of (Value k y c n) e t = let z : ◌≡◌ {A = ℕ} 0 1 = cc in absurd (omega arith)
-        of (Passed c) e t = let z : ◌≡◌ {A = ℕ} 0 1 = cc in absurd (omega arith)
-        of (Done c) e t =
+        of : (r : Result Heard Refusal) → (heard w s g).answer ≡ r → after_heard g.read (heard w s g).bytes r ≡ stop x → Ends x
+        of (Ok (Value k y c n)) e t = let z : ◌≡◌ {A = ℕ} 0 1 = cc in absurd (omega arith)
+        of (Ok (Passed c)) e t = let z : ◌≡◌ {A = ℕ} 0 1 = cc in absurd (omega arith)
+        of (Ok (Done c)) e t =
             let q : ended g.read c.at ≡ x = cc in
             let i = said_done w s g.at (length g.read.bytes) g.read.prefix.present f.inside c e in
             subst Ends q (ended_ends g.read c.at f.placed (omega (arith, f.room)) i.1 (no_name c.at))
-        of (Refused r) e t =
+        of (Err r) e t =
             let q : bad r (g.read.bytes ++ (heard w s g).bytes) ≡ x = cc in
             let i = said_refused w s g.at (length g.read.bytes) g.read.prefix.present r e in
             let l = length-append g.read.bytes (heard w s g).bytes in
@@ -265,6 +266,6 @@ module _ (w : Bool) (s : List ℕ) where
   scan_bad r bs h = let i = any_ends (bad r bs) h in (i.0, i.1)
 
   -- a refusal has a number, if a step's has
-  pub scan_number : ((at u : ℕ) (p : Bool) (r : Refusal) → (said_at w s at u p).answer ≡ Refused r → 0 < r.number)
+  pub scan_number : ((at u : ℕ) (p : Bool) (r : Refusal) → (said_at w s at u p).answer ≡ Err r → 0 < r.number)
       → (r : Refusal) (bs : List ℕ) → scanned w s ≡ bad r bs → 0 < r.number
   scan_number n r bs h = (scan_ends s (λ q. 0 < q.number) w (λ at. omega arith) n (bad r bs) h).2

@@ -3,20 +3,18 @@
 -- 2026-07: beside this mode there is a whole-text mode. In it the first string of a token or value that never closes, and the first skipped statement that the
 -- text's end ends, is refused by 11.
 -- Assumes nothing.
-use Rattle.std.specs.Prelude.{ℕ, suc, Bool, cond, List, [], ◌∷◌, ◌++◌, eqb, length}
+use Rattle.std.specs.Prelude.{ℕ, suc, Bool, cond, List, [], ◌∷◌, ◌++◌, eqb, length, Ok, Err, Result}
 use Rattle.text.specs.Refusal.{no_refusal}
 use Rattle.text.specs.Turns.{Turn, stop, on, turns}
 use Rattle.text.specs.Words.{belongs_to_keyword, namespace_keyword, prefix_keyword, revision_keyword}
 use Rattle.text.specs.declared.Refusal.{Refusal}
 use Rattle.text_lent.specs.Lent.{lent_at}
-use Rattle.text_lent.specs.declared.Lent.{Lent}
-use Rattle.text_lent.specs.declared.Lent.TheVariants.{Fit, Unfit}
 use Rattle.scan_rows.specs.Span.{missing}
 use Rattle.scan_rows.specs.declared.Span.{Span}
 use Rattle.scan_newest.specs.Newest.{Revision, newest}
 use Rattle.scan_header.specs.Header.{said_at}
 use Rattle.scan_header.specs.declared.Heard.{Heard}
-use Rattle.scan_header.specs.declared.Heard.TheVariants.{Value, Passed, Done, Refused}
+use Rattle.scan_header.specs.declared.Heard.TheVariants.{Value, Passed, Done}
 use Rattle.scan_metadata.specs.declared.YangModuleMetadata.{YangModuleMetadata}
 
 abbrev pub no_name : ℕ
@@ -84,11 +82,11 @@ pub data Scan : Type 0 where
 unfoldable pub ended : Metadata → ℕ → Scan
 ended m at = cond m.name.present (good m) (bad (record { number = no_name; keyword = 0; at = at }) m.bytes)
 
-unfoldable pub after_heard : Metadata → List ℕ → Heard → Turn Reading Scan
-after_heard m bs (Value k x c n) = on (record { at = c.at; read = told m k x bs })
-after_heard m bs (Passed c) = on (record { at = c.at; read = m })
-after_heard m bs (Done c) = stop (ended m c.at)
-after_heard m bs (Refused r) = stop (bad r (m.bytes ++ bs))
+unfoldable pub after_heard : Metadata → List ℕ → Result Heard Refusal → Turn Reading Scan
+after_heard m bs (Ok (Value k x c n)) = on (record { at = c.at; read = told m k x bs })
+after_heard m bs (Ok (Passed c)) = on (record { at = c.at; read = m })
+after_heard m bs (Ok (Done c)) = stop (ended m c.at)
+after_heard m bs (Err r) = stop (bad r (m.bytes ++ bs))
 
 -- whole: the whole-text mode
 unfoldable pub metadata_turn : Bool → List ℕ → Reading → Turn Reading Scan
@@ -104,9 +102,9 @@ scanned whole s = scan_from whole s (record { at = 0; read = nothing })
 
 -- ---- with the checks that come first; short: whether something lent is too short
 
-unfoldable pub if_fit : Lent → Scan → Scan
-if_fit Fit x = x
-if_fit (Unfit r) x = bad r []
+unfoldable pub if_fit : Result (Unit {0}) Refusal → Scan → Scan
+if_fit (Ok tt) x = x
+if_fit (Err r) x = bad r []
 
 unfoldable pub metadata : Bool → List ℕ → Bool → Scan
 metadata whole s short = if_fit (lent_at s short) (scanned whole s)

@@ -2,7 +2,6 @@
 -- Assumes nothing.
 use Rattle.std.specs.Prelude.{ℕ, ◌≤◌, ◌≡◌, Bool, List, ltb, length}
 use Rattle.std.proofs.lemmas.List.Edits.{sets}
-use Rattle.text.specs.Class.{class_table}
 use Rattle.text_lent.specs.Padded.{zeros, padded}
 use Rattle.scan_metadata.specs.Metadata.{Scan, scanned, metadata, answer_of, stored_of, kept_of}
 use Rattle.scan_metadata.specs.declared.YangModuleMetadata.{YangModuleMetadata}
@@ -13,8 +12,7 @@ pub record Parses (whole : Bool) (s d : List ℕ) (r : YangModuleMetadata) (e : 
   pub stored : e ≡ sets d 0 (stored_of (scanned whole s))
 
 -- the lent store is zero and long enough
-pub record Cleared (classes s d : List ℕ) : Type 0 where
-  pub table : classes ≡ class_table
+pub record Cleared (s d : List ℕ) : Type 0 where
   pub store : d ≡ zeros (length d)
   pub room : length s ≤ length d
 

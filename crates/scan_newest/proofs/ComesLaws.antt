@@ -1,5 +1,8 @@
 -- What the code tells is what the definition does: where there is none yet, or it is less, the value read comes in its place.
 -- Assumes nothing.
+use Rattle.std.specs.Cmp.Lexicographic.{slice_partial_cmp}
+use Rattle.std.specs.Ordering.{is_lt, is_some_and, nat_cmp}
+use Rattle.std.specs.Prelude.{Some}
 use mathlib.Core.Path.{◌≡◌, refl, sym, ap, ap₂, ◌∙◌}
 use mathlib.Core.Bool.{Bool, true, false, cond, not, ◌&&◌, ◌||◌}
 use mathlib.Core.List.{List}
@@ -7,17 +10,19 @@ use Prim.Native.Nat.{ℕ}
 use Rattle.scan_rows.specs.Span.{value_in}
 use Rattle.scan_rows.specs.declared.Span.{Span}
 use Rattle.scan_newest.specs.Newest.{less, Revision, newer, comes_newer}
+use Rattle.scan_newest.proofs.LessLaws.{less_is}
 
 -- ---- the code's ways out
 
 module _ (store : List ℕ) (old x : Span) where
-  pub comes_none : old.present ≡ false → comes_newer store old x ≡ true
+  pub comes_none : not old.present ≡ true → not old.present ≡ comes_newer store old x
   unfolding comes_newer
   comes_none h = rw h refl
 
-  pub comes_less : {n v : List ℕ} {t : Bool} → n ≡ value_in store old → v ≡ value_in store x → t ≡ less n v → old.present ≡ true → t ≡ comes_newer store old x
+  pub comes_less : {n v : List ℕ} {t : Bool} → not old.present ≡ false → n ≡ value_in store old → v ≡ value_in store x
+      → t ≡ is_some_and is_lt (slice_partial_cmp (λ x y. Some (nat_cmp x y)) n v) → t ≡ comes_newer store old x
   unfolding comes_newer
-  comes_less ne ve te h = te ∙ ap₂ less ne ve ∙ sym (ap (λ p. not p || less (value_in store old) (value_in store x)) h)
+  comes_less {n} {v} {t} h ne ve te = less_is n v t te ∙ ap₂ less ne ve ∙ sym (ap (λ p. p || less (value_in store old) (value_in store x)) h)
 
 -- ---- the code and the definition
 

@@ -1,16 +1,20 @@
 -- What a proof uses of the byte order. The first bytes that differ decide, so no value is less than itself, less passes on, and of two that
 -- differ one is less.
 -- Assumes nothing.
+use Rattle.std.proofs.lemmas.Bool.Decides.{nat_tests}
+use Rattle.std.proofs.lemmas.Cmp.{same_from_slice_cmp_tested}
+use Rattle.std.specs.Cmp.Lexicographic.{slice_partial_cmp}
+use Rattle.std.specs.Ordering.{is_lt, is_some_and, nat_cmp}
+use Rattle.std.specs.Prelude.{Some}
 use mathlib.Core.Path.{◌≡◌, refl, sym, ap, ap₂, ◌∙◌}
 use mathlib.Core.Logic.{◌⊎◌, inl, inr, ⊎_elim}
-use mathlib.Core.Bool.{true, false}
+use mathlib.Core.Bool.{Bool, true, false}
 use mathlib.Core.List.{List, [], ◌∷◌}
-use Prim.Native.Nat.{ℕ, ◌+◌, ◌≤◌, ◌<◌}
+use Prim.Native.Nat.{ℕ, ◌≤◌, ◌<◌}
 use native.Mathlib.Omega.{arith}
 use lib.Dec.{ltb}
-use lib.ListN.{length, get_or, drop, drop_of_length-le}
 use borrow.Author.Tests.{lt-ltb, le-ltb, ltb-true, ltb-false}
-use Rattle.text.proofs.Here.{by_test, never, rest, inside}
+use Rattle.text.proofs.Here.{by_test, never}
 use Rattle.scan_newest.specs.Newest.{less}
 
 -- ---- by the first bytes
@@ -86,29 +90,9 @@ module _ (xs ys zs : List ℕ) where
   pub least_trans : less xs ys ≡ false → less ys zs ≡ false → less xs zs ≡ false
   least_trans h k = by_test (less xs zs) (λ t. absurd (never k (less_above h t))) (λ f. f)
 
--- ---- the loop: from the place i on
+-- ---- the library's order of slices is this one
 
-module _ (a b : List ℕ) where
-  -- the second is at its end
-  pub less_done : (i : ℕ) → length b ≤ i → less (drop i a) (drop i b) ≡ false
-  unfolding less
-  less_done i h = rw (drop_of_length-le b h) refl
-
-  module _ (i : ℕ) (k : i < length b) where
-    -- the first alone is at its end
-    pub less_short : length a ≤ i → less (drop i a) (drop i b) ≡ true
-    unfolding less
-    less_short h = rw (drop_of_length-le a h) (rw (rest b i k) refl)
-
-    module _ (h : i < length a) where
-      here_both : less (drop i a) (drop i b) ≡ less (get_or a i 0 ∷ drop (i + 1) a) (get_or b i 0 ∷ drop (i + 1) b)
-      here_both = rw (rest a i h, rest b i k, inside a i 0 256 h, inside b i 0 256 k) refl
-
-      pub less_yes : get_or a i 0 < get_or b i 0 → less (drop i a) (drop i b) ≡ true
-      less_yes l = here_both ∙ less_lower (get_or a i 0) (get_or b i 0) (drop (i + 1) a) (drop (i + 1) b) l
-
-      pub less_no : get_or b i 0 < get_or a i 0 → less (drop i a) (drop i b) ≡ false
-      less_no l = here_both ∙ less_higher (get_or a i 0) (get_or b i 0) (drop (i + 1) a) (drop (i + 1) b) l
-
-      pub less_more : get_or b i 0 ≤ get_or a i 0 → get_or a i 0 ≤ get_or b i 0 → less (drop (i + 1) a) (drop (i + 1) b) ≡ less (drop i a) (drop i b)
-      less_more l m = sym (here_both ∙ less_equal (get_or a i 0) (get_or b i 0) (drop (i + 1) a) (drop (i + 1) b) l m)
+pub less_is : (xs ys : List ℕ) (t : Bool) → t ≡ is_some_and is_lt (slice_partial_cmp (λ x y. Some (nat_cmp x y)) xs ys) → t ≡ less xs ys
+unfolding less
+less_is =
+    same_from_slice_cmp_tested nat_cmp is_lt less refl (λ _ _. refl) (λ _ _. refl) (λ x y xs ys o h. grind (arith, nat_tests))

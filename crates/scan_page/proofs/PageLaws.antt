@@ -1,17 +1,16 @@
 -- The page: rows read back are the rows that were read, values lie among the bytes that were stored, and what goes around them fits into the 6,944 bytes by
 -- which the page is longer than the text.
 -- Assumes nothing.
+use Rattle.std.specs.Prelude.{Ok, Err, Result}
 use mathlib.Core.Path.{◌≡◌, refl, sym, ap, subst, ◌∙◌}
 use mathlib.Core.Bool.{Bool, true, false}
 use mathlib.Core.List.{List, []}
-use Prim.Native.Nat.{ℕ, ◌+◌, ◌-◌, ◌*◌, ◌<◌, ◌≤◌}
+use Prim.Native.Nat.{ℕ, ◌+◌, ◌-◌, ◌*◌, ◌≤◌}
 use native.Mathlib.Omega.{arith}
-use lib.Dec.{ltb}
 use lib.ListN.{length}
 use lib.Seq.{sets}
-use borrow.Author.Tests.{lt-ltb, le-ltb, ltb-true, ltb-false}
+use borrow.Author.Tests.{ltb-false}
 use Rattle.text.specs.declared.Refusal.{Refusal}
-use Rattle.text.proofs.Here.{by_test}
 use Rattle.text_lent.specs.Padded.{zeros, padded}
 use Rattle.text_lent.proofs.Clears.{written_zero, padded_none}
 use Rattle.scan_rows.specs.Rows.{ImportWithin, IncludeWithin}
@@ -25,8 +24,7 @@ use Rattle.scan_printed.proofs.Sizes.{printed_size}
 use Rattle.yangparser.specs.Dependencies.{Dependencies, import_words_of, include_words_of, Scan, good, bad, page_short, dependencies, read_of, kept_of}
 use Rattle.scan_rows.specs.Short.{is_too_short}
 use Rattle.yangparser.specs.Promises.{Leaves, Extracts}
-use Rattle.yangparser.specs.declared.Parsed.{Parsed}
-use Rattle.yangparser.specs.declared.Parsed.TheVariants.{Good, Refused}
+use Rattle.yangparser.specs.declared.Rows.{Rows}
 use Rattle.yangparser.proofs.KeptLaws.{entry_good, parsed_good, parsed_refused, padded_imports, padded_includes}
 use Rattle.scan_rows.proofs.ShortLaws.{long_enough}
 use Rattle.scan_rows.proofs.Laws.{each_of}
@@ -37,17 +35,6 @@ use Rattle.scan_page.specs.Page.{page_of, Prints}
 -- ---- lengths
 
 module _ (text page : ℕ) where
-  pub page_less : page < 6944 → true ≡ page_short text page
-  unfolding page_short
-  page_less h = rw (lt-ltb page (text + 6944) (omega arith)) refl
-
-  pub page_more : 6944 ≤ page → ltb (page - 6944) text ≡ page_short text page
-  unfolding page_short
-  page_more h =
-      by_test (ltb (page - 6944) text)
-      (λ t. t ∙ sym (lt-ltb page (text + 6944) (omega (arith, ltb-true (page - 6944) text t))))
-      (λ f. f ∙ sym (le-ltb page (text + 6944) (omega (arith, ltb-false (page - 6944) text f))))
-
   -- nothing else is too short
   not_else : (a : Bool) (store imports includes : ℕ) → is_too_short a text store imports includes ≡ false → a ≡ false
   unfolding is_too_short
@@ -102,12 +89,12 @@ same_rows p q o v w = rw p (rw q (rw o (rw v (rw w refl))))
 
 -- ---- what a scan left, and the page of it; z: whether something lent was too short
 
-module _ (whole : Bool) (s : List ℕ) (z : Bool) (d t u : List ℕ) {r : Parsed} {e f g : List ℕ} (w : Leaves (dependencies whole s z) d t u r e f g) where
-  refused_page : (y : Refusal) → r ≡ Refused y → [] ≡ page_of (dependencies whole s z)
+module _ (whole : Bool) (s : List ℕ) (z : Bool) (d t u : List ℕ) {r : Result Rows Refusal} {e f g : List ℕ} (w : Leaves (dependencies whole s z) d t u r e f g) where
+  refused_page : (y : Refusal) → r ≡ Err y → [] ≡ page_of (dependencies whole s z)
   unfolding page_of
   refused_page y h = sym (ap page_of (parsed_refused (dependencies whole s z) y (sym w.answer ∙ h)).1)
 
-  module _ (m n k : ℕ) (h : r ≡ Good m n k) where
+  module _ (m n k : ℕ) (h : r ≡ Ok (record { imports = m; includes = n; used = k })) where
     was : (x : Dependencies) × (dependencies whole s z ≡ good x) × (m ≡ length x.imports) × (n ≡ length x.includes) × (k ≡ length x.bytes)
     was = parsed_good (dependencies whole s z) m n k (sym w.answer ∙ h)
 
@@ -150,18 +137,18 @@ module _ (whole : Bool) (s : List ℕ) (z : Bool) (d t u : List ℕ) {r : Parsed
 
 module _ (whole : Bool) (s d t u p : List ℕ) {q : List ℕ} (qe : q ≡ zeros (length p)) (ql : length q ≡ length p) {short : Bool}
     (se : short ≡ page_short (length s) (length q))
-    {r : Parsed} {e f g : List ℕ} (w : Extracts whole s short d t u r e f g) where
+    {r : Result Rows Refusal} {e f g : List ℕ} (w : Extracts whole s short d t u r e f g) where
   left : Extracts whole s (page_short (length s) (length p)) d t u r e f g
   left =
       subst (λ b. Extracts whole s b d t u r e f g) (se ∙ ap (page_short (length s)) ql) w
 
-  pub page_refused : (y : Refusal) → r ≡ Refused y → Prints whole s d t u p (record { parsed = r; length = 0 }) e f g q
+  pub page_refused : (y : Refusal) → r ≡ Err y → Prints whole s d t u p (record { parsed = r; length = 0 }) e f g q
   page_refused y h =
       let b = is_too_short (page_short (length s) (length p)) (length s) (length d) (length t) (length u) in
       let none = refused_page whole s b d t u left y h in
       record { scan = left; length_is = ap length none; page = qe ∙ padded_none (length p) ∙ ap (padded (length p)) none }
 
-  module _ (m n k : ℕ) (h : r ≡ Good m n k) where
+  module _ (m n k : ℕ) (h : r ≡ Ok (record { imports = m; includes = n; used = k })) where
     -- all that was lent is long enough
     long : is_too_short (page_short (length s) (length p)) (length s) (length d) (length t) (length u) ≡ false
     long = enough whole s (is_too_short (page_short (length s) (length p)) (length s) (length d) (length t) (length u)) d t u left m n k h
@@ -186,7 +173,7 @@ module _ (whole : Bool) (s d t u p : List ℕ) {q : List ℕ} (qe : q ≡ zeros 
         (c.0, omega (arith, l.1, fl), c.1, omega (arith, l.2, gl), page_room)
 
     pub page_printed : {l : ℕ} {o : List ℕ} → l ≡ length (printed_rows e f m g n) → o ≡ sets q 0 (printed_rows e f m g n)
-        → Prints whole s d t u p (record { parsed = Good m n k; length = l }) e f g o
+        → Prints whole s d t u p (record { parsed = Ok (record { imports = m; includes = n; used = k }); length = l }) e f g o
     page_printed {l} {o} le oe = record {
       scan = subst (λ y. Extracts whole s (page_short (length s) (length p)) d t u y e f g) h left;
       length_is = le ∙ ap length all;

@@ -5,15 +5,16 @@ ghost use Rattle.std.specs.Prelude.{◌≡◌};
 ghost use Rattle.yangparser.specs.Dependencies.{page_short};
 ghost use Rattle.scan_page.specs.Page.{Prints};
 
-use yangparser::Parsed;
+use text::Refusal;
+use yangparser::Rows;
 
 // The page must be longer than the text by this: room for the headings, and for what stands around the values of 256 imports and 256 includes.
 pub const PAGE_MORE: usize = 6944;
 
-// What the scan read, and the page's length.
+// What the scan read, and the page's length. No Result of both: `PageLeft` says what `yangparser` answered as it stands, and of a refusal that the length is 0.
 #[derive(Clone, Copy)]
 pub struct Page {
-    pub parsed: Parsed,
+    pub parsed: Result<Rows, Refusal>,
     pub length: usize,
 }
 
@@ -30,28 +31,29 @@ pub fn print_yang_dependencies(
     ensures { Prints whole s.now store.old imports.old includes.old page.old result
         store.new imports.new includes.new page.new }
 {
-    text_lent::clear_bytes(page);
+    page.fill(0);
     let short = page_short(s.len(), page.len());
     let parsed = yangparser::scan_lent(whole, s, short, store, imports, includes);
     match parsed {
-        Parsed::Good {
-            imports: m,
-            includes: n,
-            used: _,
-        } => {
-            let length = scan_printed::print(store, imports, m, includes, n, page);
+        Ok(rows) => {
+            let length = scan_printed::print(
+                store,
+                imports,
+                rows.imports,
+                includes,
+                rows.includes,
+                page,
+            );
             Page { parsed, length }
         }
-        Parsed::Refused(_) => Page { parsed, length: 0 },
+        Err(_) => Page { parsed, length: 0 },
     }
 }
 
 // Whether the page is too short for a text.
+#[tactic(auto, unfolding(yangparser::specs::Dependencies::page_short))]
 fn page_short(text: usize, page: usize) -> bool
     ensures { result ≡ page_short text page }
 {
-    if page < PAGE_MORE {
-        return true;
-    }
-    page - PAGE_MORE < text
+    page < PAGE_MORE || page - PAGE_MORE < text
 }

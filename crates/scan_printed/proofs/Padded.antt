@@ -15,7 +15,7 @@ use Rattle.scan_printed.specs.Printed.{revision, import_line, include_line, impo
 -- lines that are the same, one by one
 module _ {A : Type 0} (P : A → Type 0) (f g : A → List ℕ) (each : (i : A) → P i → f i ≡ g i) where
   lines_same : (is : List A) → Each P is → flatten (map f is) ≡ flatten (map g is)
-  unfolding Each flatten map
+  unfolding Each flatten
   lines_same [] h = refl
   lines_same (i ∷ is) h = rw (each i h.0) (ap (λ l. g i ++ l) (lines_same is h.1))
 

@@ -27,9 +27,10 @@ fn put_line_end(page: &mut [u8], at: usize, store: &[u8], x: Span) -> usize
 {
     if x.present {
         let n = put_value(page, at, b" @ ", store, x);
-        return scan_line::put(page, n, b"\n");
+        scan_line::put(page, n, b"\n")
+    } else {
+        scan_line::put(page, at, b"\n")
     }
-    scan_line::put(page, at, b"\n")
 }
 
 // An import's line.
@@ -61,19 +62,16 @@ fn put_heading(page: &mut [u8], at: usize, word: &[u8], n: usize) -> usize
     scan_line::put(page, close, b"):\n")
 }
 
-// A line for each row of imports.
+// A line for each row of imports. One function for both kinds of rows would need a trait with ghost members for size, row and line: no plainer than two loops.
 fn put_import_lines(page: &mut [u8], at: usize, store: &[u8], table: &[u32], count: usize) -> usize
     requires { (count ≤ most_rows)
         × (most_rows * import_size ≤ length table.now)
         × (at + length (import_lines store.now (imports_in table.now count)) ≤ length page.old) }
     ensures { Wrote page.old at (import_lines store.now (imports_in table.now count)) page.new result }
 {
-    let mut row = 0;
     let mut n = at;
-    while row < count {
-        let i = scan_rows::get_import(table, row);
-        n = put_import_line(page, n, store, i);
-        row += 1;
+    for row in 0..count {
+        n = put_import_line(page, n, store, scan_rows::get_import(table, row));
     }
     n
 }
@@ -85,12 +83,9 @@ fn put_include_lines(page: &mut [u8], at: usize, store: &[u8], table: &[u32], co
         × (at + length (include_lines store.now (includes_in table.now count)) ≤ length page.old) }
     ensures { Wrote page.old at (include_lines store.now (includes_in table.now count)) page.new result }
 {
-    let mut row = 0;
     let mut n = at;
-    while row < count {
-        let i = scan_rows::get_include(table, row);
-        n = put_include_line(page, n, store, i);
-        row += 1;
+    for row in 0..count {
+        n = put_include_line(page, n, store, scan_rows::get_include(table, row));
     }
     n
 }

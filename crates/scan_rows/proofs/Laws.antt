@@ -1,33 +1,22 @@
--- Stores one behind the other write a row, and rows of one size one behind the other make the table.
+-- A row is copied into the table, and rows of one size one behind the other make the table.
 -- Assumes nothing.
 use mathlib.Core.Path.{◌≡◌, refl, sym, ap, ◌∙◌}
 use mathlib.Core.List.{List, [], ◌∷◌, ◌++◌, append-nil, append_assoc}
 use Prim.Native.Nat.{ℕ, zero, suc, ◌+◌, ◌-◌, ◌*◌, ◌<◌, ◌≤◌}
 use native.Mathlib.Nat.{zero-mul, suc-mul}
 use native.Mathlib.Omega.{arith}
-use lib.ListN.{length, set, length-append}
-use lib.Seq.{sets}
+use lib.ListN.{length, take, length-append}
+use lib.Seq.{sets, sets-eq, drop-drop}
+use borrow.Rule.Slice.PartMut.{put_mid}
 use Rattle.text.proofs.Writing.{sets_append}
 use Rattle.scan_rows.specs.Rows.{import_size, include_size, import_words, include_words, table, import_table, include_table, rows_of, Each}
 use Rattle.scan_rows.specs.declared.YangImport.{YangImport}
 use Rattle.scan_rows.specs.declared.YangInclude.{YangInclude}
 
--- ---- five and seven stores in a row
+-- ---- a row copied at once: k of the words were from `at` on, and the table holds ys there now
 
-pub five : (d : List ℕ) (i a b c e f : ℕ) → set (set (set (set (set d i a) (i + 1) b) (i + 2) c) (i + 3) e) (i + 4) f ≡ sets d i (a ∷ b ∷ c ∷ e ∷ f ∷ [])
-five d i a b c e f =
-    let p : i + 1 ≡ suc i = omega arith in
-    let q : i + 2 ≡ suc (suc i) = omega arith in
-    let r : i + 3 ≡ suc (suc (suc i)) = omega arith in
-    let t : i + 4 ≡ suc (suc (suc (suc i))) = omega arith in
-    rw (p, q, r, t)
-
-pub seven : (d : List ℕ) (i a b c e f g h : ℕ)
-    → set (set (set (set (set (set (set d i a) (i + 1) b) (i + 2) c) (i + 3) e) (i + 4) f) (i + 5) g) (i + 6) h ≡ sets d i (a ∷ b ∷ c ∷ e ∷ f ∷ g ∷ h ∷ [])
-seven d i a b c e f g h =
-    let p : i + 5 ≡ suc (suc (suc (suc (suc i)))) = omega arith in
-    let q : i + 6 ≡ suc (suc (suc (suc (suc (suc i))))) = omega arith in
-    rw (p, q) (ap (λ l. set (set l (suc (suc (suc (suc (suc i))))) g) (suc (suc (suc (suc (suc (suc i)))))) h) (five d i a b c e f))
+pub row_put : (t ws : List ℕ) (at : ℕ) {ys : List ℕ} {k : ℕ} → ys ≡ ws → k ≡ length ws → at + length ws ≤ length t → put_mid at k t ys ≡ sets t at ws
+row_put t ws at ye ke room = rw (ye, ke, sets-eq ws t at room, drop-drop (length ws) at t) (sym (append_assoc (take at t) ws _))
 
 -- ---- a table of rows of one size, of any kind
 

@@ -9,7 +9,6 @@ use native.Mathlib.Omega.{arith}
 use lib.Dec.{eqb}
 use lib.ListN.{length, get_or, drop, length-append}
 use lib.Seq.{sets, sets-eq, get_or-append-add}
-use borrow.Author.Tests.{eq-eqb, ne_eqb}
 use Rattle.text.proofs.Here.{by_test}
 use Rattle.scan_rows.specs.Span.{held, missing, mark_of}
 use Rattle.scan_rows.specs.Rows.{import_size, include_size, import_words, include_words, Plain, PlainImport, PlainInclude, Each, table, import_table}
@@ -18,27 +17,6 @@ use Rattle.scan_rows.specs.declared.Span.{Span}
 use Rattle.scan_rows.specs.declared.YangImport.{YangImport}
 use Rattle.scan_rows.specs.declared.YangInclude.{YangInclude}
 use Rattle.scan_rows.proofs.Laws.{import_words_lem, include_words_lem, imports_length, includes_length}
-
--- ---- what the code reads of the words t
-
-module _ (t : List ℕ) (at : ℕ) where
-  pub marked_missing : get_or t at 0 ≡ 0 → missing ≡ marked_at t at
-  unfolding marked_at
-  marked_missing e = rw (eq-eqb (get_or t at 0) 0 e) refl
-
-  pub marked_held : (get_or t at 0 ≡ 0 → ⊥) → {x : Span} → x ≡ span_at t (at + 1) → x ≡ marked_at t at
-  unfolding marked_at
-  marked_held n e = rw (ne_eqb (get_or t at 0) 0 n) e
-
-  pub import_is : {a b c : Span} → a ≡ span_at t at → b ≡ span_at t (at + 2) → c ≡ marked_at t (at + 4)
-      → ◌≡◌ {A = YangImport} (record { module_name = a; prefix = b; revision_date = c }) (import_at t at)
-  unfolding import_at
-  import_is p q r = rw p (rw q (rw r refl))
-
-  pub include_is : {a c : Span} → a ≡ span_at t at → c ≡ marked_at t (at + 2)
-      → ◌≡◌ {A = YangInclude} (record { submodule_name = a; revision_date = c }) (include_at t at)
-  unfolding include_at
-  include_is p r = rw p (rw r refl)
 
 -- ---- the words that a row reads, from the word o of t on, are those of u
 module _ (t u : List ℕ) (o : ℕ) (same : (k : ℕ) → get_or t (o + k) 0 ≡ get_or u k 0) where

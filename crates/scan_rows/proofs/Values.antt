@@ -10,7 +10,7 @@ use lib.Seq.{sets, sets-eq, take_all, take-length, drop-length, take-append-le, 
 use Rattle.scan_rows.specs.Span.{value_in, Within}
 use Rattle.scan_rows.specs.declared.Span.{Span}
 
--- ---- a value's bytes, from the place f, z of them
+-- ---- a value's bytes, from the place f, z of what is there
 
 drop_least : (s : List ℕ) (k : ℕ) → drop (min k (length s)) s ≡ drop k s
 drop_least s k =
@@ -26,11 +26,13 @@ take_least s k =
       | no h ↦ let e : min k (length s) ≡ length s = omega arith in rw e (take-length s ∙ sym (take_all k s (omega arith)))
     ]
 
-pub value_is : (s : List ℕ) (x : Span) {f z : ℕ} → f ≡ min x.start (length s) → z ≡ min x.size (length s - f) → take (f + z - f) (drop f s) ≡ value_in s x
+pub value_is : (s : List ℕ) (x : Span) {f z : ℕ} → f ≡ min x.start (length s) → z ≡ min x.size (length (take (length s - f) (drop f s)))
+    → take z (take (length s - f) (drop f s)) ≡ value_in s x
 unfolding value_in
 value_is s x {f} {z} fe ze =
-    let e : f + z - f ≡ min x.size (length (drop f s)) = omega (arith, length-drop f s, ze) in
-    ap (λ k. take k (drop f s)) e ∙ take_least (drop f s) x.size ∙ ap (λ k. take x.size (drop k s)) fe ∙ ap (take x.size) (drop_least s x.start)
+    let all : take (length s - f) (drop f s) ≡ drop x.start s
+    = take_all (length s - f) (drop f s) (omega (arith, length-drop f s)) ∙ ap (λ k. drop k s) fe ∙ drop_least s x.start in
+    ap (λ k. take k (take (length s - f) (drop f s))) ze ∙ ap (λ l. take (min x.size (length l)) l) all ∙ take_least (drop x.start s) x.size
 
 -- a value among the bytes is the same with more behind them
 pub value_more : (bytes zs : List ℕ) (x : Span) → Within (length bytes) x → value_in (bytes ++ zs) x ≡ value_in bytes x

@@ -1,3 +1,4 @@
+pub mod Room
 pub mod Rows
 pub mod Short
 pub mod Sizes

@@ -1,7 +1,8 @@
 -- Which keyword of the header stands at a place: each is an answer of a keyword's own match, so it ends behind its first byte and within the
 -- text, and where no identifier begins there is none.
 -- Assumes nothing.
-use mathlib.Core.Path.{◌≡◌, refl, sym, ap, ◌∙◌, subst}
+use Rattle.std.specs.Prelude.{Some, None, Option}
+use mathlib.Core.Path.{◌≡◌, refl, subst}
 use mathlib.Core.Bool.{Bool, false}
 use mathlib.Core.List.{List}
 use Prim.Native.Nat.{ℕ, ◌<◌, ◌≤◌}
@@ -10,48 +11,10 @@ use Rattle.text.specs.Keyword.{starts_ident, match_at, or_match}
 use Rattle.text.specs.Words.{module_word, submodule_word, belongs_to_word, namespace_word, prefix_word, yang_version_word, revision_word, container_word, list_word}
 use Rattle.text.specs.Words.{leaf_word, grouping_word, typedef_word, identity_word, augment_word, rpc_word, notification_word}
 use Rattle.text.specs.declared.Cursor.{Cursor}
-use Rattle.text.specs.declared.Match.{Match}
-use Rattle.text.specs.declared.Match.TheVariants.{After, Not}
 use Rattle.text.proofs.KeywordLaws.{Far, match_none, match_far, or_match_far}
-use Rattle.scan_tag.specs.Tag.{later_data_at, data_at, last_tag, or_tag, later_tag_at, tag_at}
+use Rattle.scan_tag.specs.Tag.{data_at, last_tag, or_tag, tag_at}
 use Rattle.scan_tag.specs.declared.Tag.{Tag}
 use Rattle.scan_tag.specs.declared.Tag.TheVariants.{Statement, Last, Other}
-
--- ---- what each function answers, by what its calls answered
-
-module _ {m : Match} where
-  pub last_after : (c : Cursor) → m ≡ After c → Last c ≡ last_tag m
-  unfolding last_tag
-  last_after c h = sym (ap last_tag h)
-
-  module _ (k : ℕ) (t : Tag) {n : Match} (e : m ≡ n) where
-    pub tag_after : (c : Cursor) → m ≡ After c → Statement k c ≡ or_tag k n t
-    unfolding or_tag
-    tag_after c h = sym (ap (λ z. or_tag k z t) (sym e ∙ h))
-
-    pub tag_not : m ≡ Not → t ≡ or_tag k n t
-    unfolding or_tag
-    tag_not h = sym (ap (λ z. or_tag k z t) (sym e ∙ h))
-
--- each word before those after it
-module _ (s : List ℕ) (at : ℕ) where
-  pub later_data_is : {n r a i t : Match} → n ≡ match_at s at notification_word → r ≡ or_match (match_at s at rpc_word) n → a ≡ or_match (match_at s at augment_word) r
-      → i ≡ or_match (match_at s at identity_word) a → t ≡ or_match (match_at s at typedef_word) i → t ≡ later_data_at s at
-  later_data_is ne re ae ie te = te ∙ ap (or_match _) (ie ∙ ap (or_match _) (ae ∙ ap (or_match _) (re ∙ ap (or_match _) ne)))
-
-  pub data_is : {t g l k c : Match} → t ≡ later_data_at s at → g ≡ or_match (match_at s at grouping_word) t → l ≡ or_match (match_at s at leaf_word) g
-      → k ≡ or_match (match_at s at list_word) l → c ≡ or_match (match_at s at container_word) k → c ≡ data_at s at
-  unfolding data_at
-  data_is te ge le ke ce = ce ∙ ap (or_match _) (ke ∙ ap (or_match _) (le ∙ ap (or_match _) (ge ∙ ap (or_match _) te)))
-
-  pub later_tag_is : {d : Match} {l r v p : Tag} → d ≡ data_at s at → l ≡ last_tag d → r ≡ or_tag 7 (match_at s at revision_word) l
-      → v ≡ or_tag 6 (match_at s at yang_version_word) r → p ≡ or_tag 5 (match_at s at prefix_word) v → p ≡ later_tag_at s at
-  later_tag_is de le re ve pe = pe ∙ ap (or_tag 5 _) (ve ∙ ap (or_tag 6 _) (re ∙ ap (or_tag 7 _) (le ∙ ap last_tag de)))
-
-  pub tag_is : {l n b k m : Tag} → l ≡ later_tag_at s at → n ≡ or_tag 4 (match_at s at namespace_word) l → b ≡ or_tag 3 (match_at s at belongs_to_word) n
-      → k ≡ or_tag 2 (match_at s at submodule_word) b → m ≡ or_tag 1 (match_at s at module_word) k → m ≡ tag_at s at
-  unfolding tag_at
-  tag_is le ne be ke me = me ∙ ap (or_tag 1 _) (ke ∙ ap (or_tag 2 _) (be ∙ ap (or_tag 3 _) (ne ∙ ap (or_tag 4 _) le)))
 
 -- ---- where it ends
 
@@ -68,15 +31,15 @@ TagFar s at (Statement k c) = (at < c.at) × (c.at ≤ length s)
 TagFar s at (Last c) = (at < c.at) × (c.at ≤ length s)
 TagFar s at Other = Unit {0}
 
-last_tag_far : (s : List ℕ) (at : ℕ) (m : Match) → Far s at m → TagFar s at (last_tag m)
+last_tag_far : (s : List ℕ) (at : ℕ) (m : Option Cursor) → Far s at m → TagFar s at (last_tag m)
 unfolding last_tag
-last_tag_far s at (After c) f = f c refl
-last_tag_far s at Not f = tt
+last_tag_far s at (Some c) f = f c refl
+last_tag_far s at None f = tt
 
-or_tag_far : (s : List ℕ) (at k : ℕ) (m : Match) (t : Tag) → Far s at m → TagFar s at t → TagFar s at (or_tag k m t)
+or_tag_far : (s : List ℕ) (at k : ℕ) (m : Option Cursor) (t : Tag) → Far s at m → TagFar s at t → TagFar s at (or_tag k m t)
 unfolding or_tag
-or_tag_far s at k (After c) t f g = f c refl
-or_tag_far s at k Not t f g = g
+or_tag_far s at k (Some c) t f g = f c refl
+or_tag_far s at k None t f g = g
 
 tag_goes : (s : List ℕ) (at : ℕ) → TagFar s at (tag_at s at)
 unfolding tag_at
@@ -98,6 +61,6 @@ tag_last_far s at c h = subst (TagFar s at) h (tag_goes s at)
 pub tag_none : (s : List ℕ) (at : ℕ) {p : ℕ} {t : Bool} → p ≡ get_or s at 256 → t ≡ starts_ident p → t ≡ false → tag_at s at ≡ Other
 unfolding tag_at or_tag last_tag data_at or_match
 tag_none s at pe te n =
-    let no : (word : List ℕ) → match_at s at word ≡ Not = λ word. match_none s at word pe te n in
+    let no : (word : List ℕ) → match_at s at word ≡ None = λ word. match_none s at word pe te n in
     rw (no module_word, no submodule_word, no belongs_to_word, no namespace_word, no prefix_word, no yang_version_word, no revision_word)
     (rw (no container_word, no list_word, no leaf_word, no grouping_word, no typedef_word, no identity_word, no augment_word, no rpc_word, no notification_word) refl)

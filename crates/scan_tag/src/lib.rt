@@ -2,11 +2,10 @@
 #![tactic(auto)]
 
 ghost use Rattle.std.specs.Prelude.{◌≡◌, true};
-ghost use Rattle.text.specs.Class.{class_table};
 ghost use Rattle.text.specs.Keyword.{wordly, match_at};
 ghost use Rattle.scan_tag.specs.Tag.{later_data_at, data_at, last_tag, or_tag, later_tag_at, tag_at};
 
-use text::{Cursor, Match};
+use text::{ByteClasses, Cursor};
 
 // What stands at a place: a keyword of the header, one of the nine that end the scan, or neither.
 #[derive(Clone, Copy)]
@@ -17,21 +16,19 @@ pub enum Tag {
 }
 
 // No keyword is tried where no identifier begins.
-pub fn read_tag(here: Cursor, classes: &[u8; 128], s: &[u8]) -> Tag
-    requires { classes.now ≡ class_table }
+pub fn read_tag(here: Cursor, classes: &ByteClasses, s: &[u8]) -> Tag
     ensures { result ≡ tag_at s.now here.at }
 {
-    let at = here.at;
-    let b = text::peek_char(s, at);
-    if text::starts_ident(classes, b) {
-        return try_tags(here, classes, s);
+    if text::starts_ident(classes, text::peek_char(s, here.at)) {
+        try_tags(here, classes, s)
+    } else {
+        Tag::Other
     }
-    Tag::Other
 }
 
 // At most one keyword matches, so all can be tried in a row.
-fn try_tags(here: Cursor, classes: &[u8; 128], s: &[u8]) -> Tag
-    requires { classes.now ≡ class_table }
+#[tactic(auto, unfolding(crate::specs::Tag::tag_at))]
+fn try_tags(here: Cursor, classes: &ByteClasses, s: &[u8]) -> Tag
     ensures { result ≡ tag_at s.now here.at }
 {
     let later = try_later_tags(here, classes, s);
@@ -41,8 +38,7 @@ fn try_tags(here: Cursor, classes: &[u8; 128], s: &[u8]) -> Tag
     or_tag(here, classes, s, b"module", text::MODULE, submodule)
 }
 
-fn try_later_tags(here: Cursor, classes: &[u8; 128], s: &[u8]) -> Tag
-    requires { classes.now ≡ class_table }
+fn try_later_tags(here: Cursor, classes: &ByteClasses, s: &[u8]) -> Tag
     ensures { result ≡ later_tag_at s.now here.at }
 {
     let last = last_tag(match_data(here, classes, s));
@@ -59,29 +55,30 @@ fn try_later_tags(here: Cursor, classes: &[u8; 128], s: &[u8]) -> Tag
 }
 
 // The keyword, if its word stands here.
-fn or_tag(here: Cursor, classes: &[u8; 128], s: &[u8], word: &[u8], keyword: u32, t: Tag) -> Tag
-    requires { (classes.now ≡ class_table) × (wordly word.now ≡ true) }
+#[tactic(auto, unfolding(crate::specs::Tag::or_tag))]
+fn or_tag(here: Cursor, classes: &ByteClasses, s: &[u8], word: &[u8], keyword: u32, t: Tag) -> Tag
+    requires { wordly word.now ≡ true }
     ensures { result ≡ or_tag keyword (match_at s.now here.at word.now) t }
 {
-    let m = here.match_keyword(classes, s, word);
-    match m {
-        Match::After(after) => Tag::Statement { keyword, after },
-        Match::Not => t,
+    match here.match_keyword(classes, s, word) {
+        Some(after) => Tag::Statement { keyword, after },
+        None => t,
     }
 }
 
-fn last_tag(m: Match) -> Tag
+#[tactic(auto, unfolding(crate::specs::Tag::last_tag))]
+fn last_tag(m: Option<Cursor>) -> Tag
     ensures { result ≡ last_tag m }
 {
     match m {
-        Match::After(c) => Tag::Last(c),
-        Match::Not => Tag::Other,
+        Some(c) => Tag::Last(c),
+        None => Tag::Other,
     }
 }
 
 // Past one of the nine keywords that end the scan.
-fn match_data(here: Cursor, classes: &[u8; 128], s: &[u8]) -> Match
-    requires { classes.now ≡ class_table }
+#[tactic(auto, unfolding(crate::specs::Tag::data_at))]
+fn match_data(here: Cursor, classes: &ByteClasses, s: &[u8]) -> Option<Cursor>
     ensures { result ≡ data_at s.now here.at }
 {
     let later = match_later_data(here, classes, s);
@@ -91,8 +88,7 @@ fn match_data(here: Cursor, classes: &[u8; 128], s: &[u8]) -> Match
     text::or_word(here, classes, s, b"container", list)
 }
 
-fn match_later_data(here: Cursor, classes: &[u8; 128], s: &[u8]) -> Match
-    requires { classes.now ≡ class_table }
+fn match_later_data(here: Cursor, classes: &ByteClasses, s: &[u8]) -> Option<Cursor>
     ensures { result ≡ later_data_at s.now here.at }
 {
     let notification = here.match_keyword(classes, s, b"notification");

@@ -1,5 +1,6 @@
 -- The loop of the scan: what was read so far stands in the store and the tables, and the scan from here is the scan of the text.
 -- Assumes nothing.
+use Rattle.std.specs.Prelude.{Ok, Some, None, Err, Result, Option}
 use mathlib.Core.Path.{◌≡◌, refl, sym, ap, subst, ◌∙◌}
 use mathlib.Core.Bool.{Bool}
 use mathlib.Core.List.{List, [], ◌∷◌, ◌++◌, append_assoc}
@@ -15,10 +16,7 @@ use Rattle.yangparser.specs.Dependencies.{Dependencies, none, joined, import_wor
 use Rattle.yangparser.specs.Dependencies.{scanned, parsed_of, read_of}
 use Rattle.yangparser.specs.Promises.{Steps, Holds, Parses}
 use Rattle.yangparser.specs.Seek.{step_from}
-use Rattle.yangparser.specs.declared.Next.{Next}
-use Rattle.yangparser.specs.declared.Next.TheVariants.{On, Done, Stop}
-use Rattle.yangparser.specs.declared.Parsed.{Parsed}
-use Rattle.yangparser.specs.declared.Parsed.TheVariants.{Good, Refused}
+use Rattle.yangparser.specs.declared.Rows.{Rows}
 use Rattle.yangparser.specs.declared.Sofar.{Sofar}
 use Rattle.yangparser.proofs.ScanLaws.{Stands, stands_first, step_on, stands_step}
 use Rattle.yangparser.proofs.SeekLaws.{from_said, from_ends, from_on, from_done, from_stop}
@@ -47,7 +45,8 @@ pub include_words_count : (x : Dependencies) → length (include_words_of x) ≡
 unfolding include_words_of
 include_words_count x = includes_length x.includes
 
-good_is : {i j b i' j' b' : ℕ} → i ≡ i' → j ≡ j' → b ≡ b' → Good i j b ≡ Good i' j' b'
+good_is : {i j b i' j' b' : ℕ} → i ≡ i' → j ≡ j' → b ≡ b'
+    → ◌≡◌ {A = Result Rows Refusal} (Ok (record { imports = i; includes = j; used = b })) (Ok (record { imports = i'; includes = j'; used = b' }))
 good_is p q r = rw p (rw q (rw r refl))
 
 -- ---- the invariant: d, t and u at entry, e, f and g now
@@ -78,7 +77,7 @@ module _ {whole : Bool} {s d t u : List ℕ} where
     read_room = j.stands.room
 
     -- r: what the step answered; e', f' and g' then
-    module _ {r : Next} {e' f' g' : List ℕ} (w : Steps (step_from whole s far) far e f g r e' f' g') where
+    module _ {r : Result (Option Sofar) Refusal} {e' f' g' : List ℕ} (w : Steps (step_from whole s far) far e f g r e' f' g') where
       read_holds : Holds (joined j.read (step_from whole s far).adds) d t u e' f' g'
       unfolding joined
       read_holds =
@@ -98,12 +97,12 @@ module _ {whole : Bool} {s d t u : List ℕ} where
                 ∙ ap (sets u 0) (include_words_joined x y);
           }
 
-      pub read_nearer : (n : Sofar) → r ≡ On n → length s - n.at < length s - far.at
+      pub read_nearer : (n : Sofar) → r ≡ Ok (Some n) → length s - n.at < length s - far.at
       read_nearer n h =
           let z = step_on s (record { far = far; read = j.read }) j.stands (step_from whole s far) (from_said whole s far) n (sym w.answer ∙ h) in
           omega (arith, z.0, z.1)
 
-      pub read_more : (n : Sofar) → r ≡ On n → Reading whole s d t u e' f' g' n
+      pub read_more : (n : Sofar) → r ≡ Ok (Some n) → Reading whole s d t u e' f' g' n
       read_more n h =
           let k = sym w.answer ∙ h in
           let a : Scanning = record { far = far; read = j.read } in
@@ -115,13 +114,13 @@ module _ {whole : Bool} {s d t u : List ℕ} where
           }
 
       -- x: the scan from here
-      read_ends : (x : Scan) → scan_from whole s (record { far = far; read = j.read }) ≡ x → {p : Parsed} → p ≡ parsed_of x → Holds (read_of x) d t u e' f' g'
+      read_ends : (x : Scan) → scan_from whole s (record { far = far; read = j.read }) ≡ x → {p : Result Rows Refusal} → p ≡ parsed_of x → Holds (read_of x) d t u e' f' g'
           → Parses (scanned whole s) d t u p e' f' g'
       read_ends x q a h =
           let k : scanned whole s ≡ x = sym j.same ∙ q in
           record { answer = a ∙ ap parsed_of (sym k); holds = subst (λ y. Holds (read_of y) d t u e' f' g') (sym k) h }
 
-      pub read_done : r ≡ Done → Parses (scanned whole s) d t u (Good far.imports far.includes far.used) e' f' g'
+      pub read_done : r ≡ (Ok None) → Parses (scanned whole s) d t u (Ok (record { imports = far.imports; includes = far.includes; used = far.used })) e' f' g'
       unfolding parsed_of read_of joined
       read_done h =
           let k = sym w.answer ∙ h in
@@ -136,8 +135,8 @@ module _ {whole : Bool} {s d t u : List ℕ} where
           let b : far.used ≡ length (x.bytes ++ y.bytes) = omega (arith, c.used, length-append x.bytes y.bytes, ap (λ z. length z.bytes) n) in
           read_ends (good (joined x y)) (from_done whole s (record { far = far; read = x }) k) (good_is i l b) read_holds
 
-      pub read_refused : (q : Refusal) → r ≡ Stop q → Parses (scanned whole s) d t u (Refused q) e' f' g'
+      pub read_refused : (q : Refusal) → r ≡ Err q → {p : Result Rows Refusal} → p ≡ Err q → Parses (scanned whole s) d t u p e' f' g'
       unfolding parsed_of read_of
-      read_refused q h =
+      read_refused q h pe =
           let k = sym w.answer ∙ h in
-          read_ends (bad q (joined j.read (step_from whole s far).adds)) (from_stop whole s (record { far = far; read = j.read }) q k) refl read_holds
+          read_ends (bad q (joined j.read (step_from whole s far).adds)) (from_stop whole s (record { far = far; read = j.read }) q k) pe read_holds

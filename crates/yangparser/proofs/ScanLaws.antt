@@ -1,6 +1,7 @@
 -- The scan as a whole: each step comes nearer the text's end, so the turns end; what was read stays sound with each step, so it is when the scan
 -- ends, on a refusal too.
 -- Assumes nothing.
+use Rattle.std.specs.Prelude.{Ok, Some, None, Err, Result, Option}
 use mathlib.Core.Path.{◌≡◌, refl, ap, subst}
 use mathlib.Core.Bool.{Bool}
 use mathlib.Core.List.{List, [], ◌++◌}
@@ -14,8 +15,6 @@ use Rattle.scan_rows.proofs.Laws.{each_of}
 use Rattle.scan_rows.specs.Rows.{most_rows, PlainImport, PlainInclude, Each}
 use Rattle.yangparser.specs.Dependencies.{Dependencies, none, joined, Step, step_at, Scanning, Scan, good, bad, after_step, scan_turn, scan_from, start}
 use Rattle.yangparser.specs.Dependencies.{scanned, read_of}
-use Rattle.yangparser.specs.declared.Next.{Next}
-use Rattle.yangparser.specs.declared.Next.TheVariants.{On, Done, Stop}
 use Rattle.yangparser.specs.declared.Sofar.{Sofar}
 use Rattle.yangparser.proofs.FarLaws.{Went, Said, step_said}
 use Rattle.yangparser.proofs.Placed.{ImportIn, IncludeIn, Placed, placed_bytes, placed_joined, import_plain, include_plain}
@@ -73,10 +72,10 @@ module _ (s : List ℕ) (g : Scanning) (f : Stands s g) (x : Step) (said : Said 
         placed = placed_joined 0 m (length (g.read.bytes ++ x.adds.bytes)) g.read x.adds f.sound.placed behind;
       }
 
-  pub step_on : (n : Sofar) → x.answer ≡ On n → Went s g.far x.adds (On n)
+  pub step_on : (n : Sofar) → x.answer ≡ Ok (Some n) → Went s g.far x.adds (Ok (Some n))
   step_on n h = subst (Went s g.far x.adds) h said.went
 
-  pub stands_step : (n : Sofar) → x.answer ≡ On n → Stands s (record { far = n; read = joined g.read x.adds })
+  pub stands_step : (n : Sofar) → x.answer ≡ Ok (Some n) → Stands s (record { far = n; read = joined g.read x.adds })
   unfolding joined
   stands_step n h =
       let w = step_on n h in
@@ -91,42 +90,42 @@ module _ (s : List ℕ) (g : Scanning) (f : Stands s g) (x : Step) (said : Said 
 
 -- ---- the turns
 
-on_next : (d : Dependencies) (r : Next) (b : Scanning) → after_step d r ≡ on b → (r ≡ On b.far) × (d ≡ b.read)
+on_next : (d : Dependencies) (r : Result (Option Sofar) Refusal) (b : Scanning) → after_step d r ≡ on b → (r ≡ Ok (Some b.far)) × (d ≡ b.read)
 unfolding after_step
-on_next d (On n) b h = (cc, cc)
-on_next d Done b h = (cc, cc)
-on_next d (Stop r) b h = (cc, cc)
+on_next d (Ok (Some n)) b h = (cc, cc)
+on_next d (Ok None) b h = (cc, cc)
+on_next d (Err r) b h = (cc, cc)
 
-stop_read : (d : Dependencies) (r : Next) (x : Scan) → after_step d r ≡ stop x → d ≡ read_of x
+stop_read : (d : Dependencies) (r : Result (Option Sofar) Refusal) (x : Scan) → after_step d r ≡ stop x → d ≡ read_of x
 unfolding after_step read_of
-stop_read d (On n) x h = let z : ◌≡◌ {A = ℕ} 0 1 = cc in absurd (omega arith)
-stop_read d Done x h = let e : good d ≡ x = cc in ap read_of e
-stop_read d (Stop r) x h = let e : bad r d ≡ x = cc in ap read_of e
+stop_read d (Ok (Some n)) x h = let z : ◌≡◌ {A = ℕ} 0 1 = cc in absurd (omega arith)
+stop_read d (Ok None) x h = let e : good d ≡ x = cc in ap read_of e
+stop_read d (Err r) x h = let e : bad r d ≡ x = cc in ap read_of e
 
 scan_falls : (whole : Bool) (s : List ℕ) (a b : Scanning) → scan_turn whole s a ≡ on b → length s - b.far.at < length s - a.far.at
 unfolding scan_turn
 scan_falls whole s a b h =
     let x = step_at whole s a.far in
     let n = on_next (joined a.read x.adds) x.answer b h in
-    let w : Went s a.far x.adds (On b.far) = subst (Went s a.far x.adds) n.0 (step_said whole s a.far).went in
+    let w : Went s a.far x.adds (Ok (Some b.far)) = subst (Went s a.far x.adds) n.0 (step_said whole s a.far).went in
     omega (arith, w.0, w.1)
 
 -- from g with the step x
 module _ (whole : Bool) (s : List ℕ) (g : Scanning) where
-  pub scan_on : (n : Sofar) → (step_at whole s g.far).answer ≡ On n → scan_from whole s g
+  pub scan_on : (n : Sofar) → (step_at whole s g.far).answer ≡ Ok (Some n) → scan_from whole s g
       ≡ scan_from whole s (record { far = n; read = joined g.read (step_at whole s g.far).adds })
   unfolding scan_from scan_turn after_step
   scan_on n h =
       turns_on (scan_turn whole s) (good none) (λ b. length s - b.far.at) (scan_falls whole s)
       (suc (length s)) (suc (length s)) g _ (omega arith) (omega arith) (ap (after_step (joined g.read (step_at whole s g.far).adds)) h)
 
-  pub scan_done : (step_at whole s g.far).answer ≡ Done → scan_from whole s g ≡ good (joined g.read (step_at whole s g.far).adds)
+  pub scan_done : (step_at whole s g.far).answer ≡ (Ok None) → scan_from whole s g ≡ good (joined g.read (step_at whole s g.far).adds)
   unfolding scan_from scan_turn after_step
   scan_done h =
       turns_stop (scan_turn whole s) (good none) (λ b. length s - b.far.at) (scan_falls whole s)
       (suc (length s)) g _ (omega arith) (ap (after_step (joined g.read (step_at whole s g.far).adds)) h)
 
-  pub scan_stop : (r : Refusal) → (step_at whole s g.far).answer ≡ Stop r → scan_from whole s g ≡ bad r (joined g.read (step_at whole s g.far).adds)
+  pub scan_stop : (r : Refusal) → (step_at whole s g.far).answer ≡ Err r → scan_from whole s g ≡ bad r (joined g.read (step_at whole s g.far).adds)
   unfolding scan_from scan_turn after_step
   scan_stop r h =
       turns_stop (scan_turn whole s) (good none) (λ b. length s - b.far.at) (scan_falls whole s)
@@ -139,11 +138,11 @@ abbrev pub Within : List ℕ → Scan → Type 0
 Within s (good d) = Unit {0}
 Within s (bad r d) = r.at ≤ length s
 
-stop_within : (s : List ℕ) (far : Sofar) (a d : Dependencies) (r : Next) (x : Scan) → far.at ≤ length s → Went s far a r → after_step d r ≡ stop x → Within s x
+stop_within : (s : List ℕ) (far : Sofar) (a d : Dependencies) (r : Result (Option Sofar) Refusal) (x : Scan) → far.at ≤ length s → Went s far a r → after_step d r ≡ stop x → Within s x
 unfolding after_step
-stop_within s far a d (On n) x i w h = let z : ◌≡◌ {A = ℕ} 0 1 = cc in absurd (omega arith)
-stop_within s far a d Done x i w h = let e : good d ≡ x = cc in subst (Within s) e tt
-stop_within s far a d (Stop r) x i w h = let e : bad r d ≡ x = cc in subst (Within s) e (w i)
+stop_within s far a d (Ok (Some n)) x i w h = let z : ◌≡◌ {A = ℕ} 0 1 = cc in absurd (omega arith)
+stop_within s far a d (Ok None) x i w h = let e : good d ≡ x = cc in subst (Within s) e tt
+stop_within s far a d (Err r) x i w h = let e : bad r d ≡ x = cc in subst (Within s) e (w i)
 
 from_said : (whole : Bool) (s : List ℕ) (g : Scanning) → Stands s g → Sound s (read_of (scan_from whole s g)) × Within s (scan_from whole s g)
 unfolding scan_from scan_turn

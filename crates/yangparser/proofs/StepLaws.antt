@@ -1,5 +1,6 @@
 -- One statement or token: after the gap the keyword decides, and what an import adds has no includes and the other way round.
 -- Assumes nothing.
+use Rattle.std.specs.Prelude.{Ok, Err, None, Result}
 use mathlib.Core.Path.{◌≡◌, refl, sym, ap, subst, ◌∙◌}
 use mathlib.Core.Bool.{Bool}
 use mathlib.Core.List.{List, []}
@@ -11,17 +12,16 @@ use Rattle.text.specs.Scan.{gap_end}
 use Rattle.text.proofs.Here.{by_test}
 use Rattle.scan_rows.specs.Rows.{most_rows}
 use Rattle.scan_imports.specs.Statement.{import_at, include_at}
-use Rattle.scan_imports.specs.declared.ParsedImport.{ParsedImport}
-use Rattle.scan_imports.specs.declared.ParsedImport.TheVariants.{Import as ReadImport, NoImport}
-use Rattle.scan_imports.specs.declared.ParsedInclude.{ParsedInclude}
-use Rattle.scan_imports.specs.declared.ParsedInclude.TheVariants.{Include as ReadInclude, NoInclude}
 use Rattle.yangparser.specs.Dependencies.{Dependencies, none, Step, import_step, include_step, unless_full, import_here, include_here, head_step, step_here}
 use Rattle.yangparser.specs.Dependencies.{step_at}
 use Rattle.scan_head.specs.Head.{head_at}
-use Rattle.yangparser.specs.declared.Next.TheVariants.{Done}
 use Rattle.yangparser.specs.declared.Sofar.{Sofar}
 use Rattle.scan_head.specs.declared.Head.{Head}
 use Rattle.yangparser.proofs.AddLaws.{full_is, room_is}
+use Rattle.text.specs.declared.Cursor.{Cursor}
+use Rattle.scan_rows.specs.declared.YangImport.{YangImport}
+use Rattle.scan_rows.specs.declared.YangInclude.{YangInclude}
+use Rattle.text.specs.declared.Refusal.{Refusal}
 
 -- ---- rows of one kind only
 
@@ -39,9 +39,9 @@ import_only whole s far at =
     (import_at whole s at far.used).answer) refl
     (only (import_at whole s at far.used).bytes (import_at whole s at far.used).answer)
   where
-    only : (bs : List ℕ) (x : ParsedImport) → (import_step far bs x).adds.includes ≡ []
-    only bs (ReadImport c n i) = refl
-    only bs (NoImport r) = refl
+    only : (bs : List ℕ) (x : Result (Cursor × ℕ × YangImport) Refusal) → (import_step far bs x).adds.includes ≡ []
+    only bs (Ok (c, n, i)) = refl
+    only bs (Err r) = refl
 
 pub include_only : (whole : Bool) (s : List ℕ) (far : Sofar) (at : ℕ) → (include_here whole s far at).adds.imports ≡ []
 unfolding include_here include_step
@@ -50,14 +50,14 @@ include_only whole s far at =
     (include_at whole s at far.used).answer) refl
     (only (include_at whole s at far.used).bytes (include_at whole s at far.used).answer)
   where
-    only : (bs : List ℕ) (x : ParsedInclude) → (include_step far bs x).adds.imports ≡ []
-    only bs (ReadInclude c n i) = refl
-    only bs (NoInclude r) = refl
+    only : (bs : List ℕ) (x : Result (Cursor × ℕ × YangInclude) Refusal) → (include_step far bs x).adds.imports ≡ []
+    only bs (Ok (c, n, i)) = refl
+    only bs (Err r) = refl
 
 -- ---- what a step is; g after the gap, w the keyword there
 
 module _ (whole : Bool) (s : List ℕ) (far : Sofar) {g : ℕ} (ge : g ≡ gap_end s far.at) where
-  pub step_past : length s ≤ g → step_at whole s far ≡ record { answer = Done; adds = none }
+  pub step_past : length s ≤ g → step_at whole s far ≡ record { answer = (Ok None); adds = none }
   unfolding step_at step_here
   step_past h = rw (← ge) (rw (le-leb (length s) g h) refl)
 

@@ -2,33 +2,23 @@
 -- 2026-07: beside this mode there is a whole-text mode. In it the first string of a token or value that never closes, and the first skipped statement that the
 -- text's end ends, is refused by 11.
 -- Assumes nothing.
-use Rattle.std.specs.Prelude.{ℕ, suc, ◌+◌, Bool, cond, List, [], ◌∷◌, ◌++◌, leb, ltb, length}
+use Rattle.std.specs.Prelude.{ℕ, suc, ◌+◌, Bool, cond, List, [], ◌∷◌, ◌++◌, leb, ltb, length, Ok, Err, Some, None, Result, Option}
 use Rattle.text.specs.Scan.{gap_end}
 use Rattle.text.specs.Turns.{Turn, stop, on, turns}
 use Rattle.text.specs.Words.{import_keyword, include_keyword}
-use Rattle.text.specs.declared.Due.{Due}
-use Rattle.text.specs.declared.Due.TheVariants.{After, Not}
 use Rattle.text.specs.declared.Refusal.{Refusal}
 use Rattle.text_skip.specs.Skip.{past_token}
 use Rattle.text_lent.specs.Lent.{lent_at}
-use Rattle.text_lent.specs.declared.Lent.{Lent}
-use Rattle.text_lent.specs.declared.Lent.TheVariants.{Fit, Unfit}
 use Rattle.scan_rows.specs.Rows.{most_rows, import_table, include_table}
 use Rattle.scan_rows.specs.declared.YangImport.{YangImport}
 use Rattle.scan_rows.specs.declared.YangInclude.{YangInclude}
 use Rattle.scan_imports.specs.Statement.{import_at, include_at}
-use Rattle.scan_imports.specs.declared.ParsedImport.{ParsedImport}
-use Rattle.scan_imports.specs.declared.ParsedImport.TheVariants.{Import as ReadImport, NoImport}
-use Rattle.scan_imports.specs.declared.ParsedInclude.{ParsedInclude}
-use Rattle.scan_imports.specs.declared.ParsedInclude.TheVariants.{Include as ReadInclude, NoInclude}
 use Rattle.scan_head.specs.Head.{head_at}
-use Rattle.yangparser.specs.declared.Next.{Next}
-use Rattle.yangparser.specs.declared.Next.TheVariants.{On, Done, Stop}
-use Rattle.yangparser.specs.declared.Parsed.{Parsed}
-use Rattle.yangparser.specs.declared.Parsed.TheVariants.{Good, Refused}
+use Rattle.yangparser.specs.declared.Rows.{Rows}
 use Rattle.yangparser.specs.declared.Sofar.{Sofar}
 use Rattle.scan_head.specs.declared.Head.{Head}
 use Rattle.scan_head.specs.declared.Head.TheVariants.{Import, Include, Last, Other}
+use Rattle.text.specs.declared.Cursor.{Cursor}
 
 -- the number of this layer
 abbrev pub too_many : ℕ
@@ -62,27 +52,27 @@ joined d e = record { imports = d.imports ++ e.imports; includes = d.includes ++
 
 -- the answer, and what it adds: at most one row, and the bytes of a refused statement too
 pub record Step : Type 0 where
-  pub answer : Next
+  pub answer : Result (Option Sofar) Refusal
   pub adds : Dependencies
 
-abbrev pub adding : Next → Dependencies → Step
+abbrev pub adding : Result (Option Sofar) Refusal → Dependencies → Step
 adding r d = record { answer = r; adds = d }
 
-unfoldable pub import_step : Sofar → List ℕ → ParsedImport → Step
-import_step far bs (ReadImport c n i) =
-    adding (On (record { at = c.at; used = n; imports = far.imports + 1; includes = far.includes }))
+unfoldable pub import_step : Sofar → List ℕ → Result (Cursor × ℕ × YangImport) Refusal → Step
+import_step far bs (Ok (c, n, i)) =
+    adding (Ok (Some (record { at = c.at; used = n; imports = far.imports + 1; includes = far.includes })))
     (record { imports = i ∷ []; includes = []; bytes = bs })
-import_step far bs (NoImport r) = adding (Stop r) (record { imports = []; includes = []; bytes = bs })
+import_step far bs (Err r) = adding (Err r) (record { imports = []; includes = []; bytes = bs })
 
-unfoldable pub include_step : Sofar → List ℕ → ParsedInclude → Step
-include_step far bs (ReadInclude c n i) =
-    adding (On (record { at = c.at; used = n; imports = far.imports; includes = far.includes + 1 }))
+unfoldable pub include_step : Sofar → List ℕ → Result (Cursor × ℕ × YangInclude) Refusal → Step
+include_step far bs (Ok (c, n, i)) =
+    adding (Ok (Some (record { at = c.at; used = n; imports = far.imports; includes = far.includes + 1 })))
     (record { imports = []; includes = i ∷ []; bytes = bs })
-include_step far bs (NoInclude r) = adding (Stop r) (record { imports = []; includes = []; bytes = bs })
+include_step far bs (Err r) = adding (Err r) (record { imports = []; includes = []; bytes = bs })
 
 -- the answer to a row too many, behind its keyword k
-abbrev pub full : ℕ → ℕ → Next
-full k at = Stop (record { number = too_many; keyword = k; at = at })
+abbrev pub full : ℕ → ℕ → Result (Option Sofar) Refusal
+full k at = Err (record { number = too_many; keyword = k; at = at })
 
 -- 10 where the rows are full; else what stands there
 unfoldable pub unless_full : ℕ → ℕ → ℕ → Step → Step
@@ -100,19 +90,19 @@ unfoldable pub moved_to : Sofar → ℕ → Sofar
 moved_to far at = record { at = at; used = far.used; imports = far.imports; includes = far.includes }
 
 -- past a token
-unfoldable pub after_token : Sofar → Due → Next
-after_token far (After c) = On (moved_to far c.at)
-after_token far (Not r) = Stop r
+unfoldable pub after_token : Sofar → Result Cursor Refusal → Result (Option Sofar) Refusal
+after_token far (Ok c) = Ok (Some (moved_to far c.at))
+after_token far (Err r) = Err r
 
 unfoldable pub head_step : Bool → List ℕ → Sofar → ℕ → Head → Step
 head_step whole s far at (Import c) = import_here whole s far c.at
 head_step whole s far at (Include c) = include_here whole s far c.at
-head_step whole s far at (Last c) = adding Done none
+head_step whole s far at (Last c) = adding (Ok None) none
 head_step whole s far at Other = adding (after_token far (past_token whole s at)) none
 
 -- at the place after the gap
 unfoldable pub step_here : Bool → List ℕ → Sofar → ℕ → Step
-step_here whole s far at = cond (leb (length s) at) (adding Done none) (head_step whole s far at (head_at s at))
+step_here whole s far at = cond (leb (length s) at) (adding (Ok None) none) (head_step whole s far at (head_at s at))
 
 unfoldable pub step_at : Bool → List ℕ → Sofar → Step
 step_at whole s far = step_here whole s far (gap_end s far.at)
@@ -129,10 +119,10 @@ pub data Scan : Type 0 where
   good : Dependencies → Scan
   bad : Refusal → Dependencies → Scan
 
-unfoldable pub after_step : Dependencies → Next → Turn Scanning Scan
-after_step d (On far) = on (record { far = far; read = d })
-after_step d Done = stop (good d)
-after_step d (Stop r) = stop (bad r d)
+unfoldable pub after_step : Dependencies → Result (Option Sofar) Refusal → Turn Scanning Scan
+after_step d (Ok (Some far)) = on (record { far = far; read = d })
+after_step d (Ok None) = stop (good d)
+after_step d (Err r) = stop (bad r d)
 
 unfoldable pub scan_turn : Bool → List ℕ → Scanning → Turn Scanning Scan
 scan_turn whole s g = after_step (joined g.read (step_at whole s g.far).adds) (step_at whole s g.far).answer
@@ -152,9 +142,9 @@ scanned whole s = scan_from whole s (record { far = start; read = none })
 unfoldable pub page_short : ℕ → ℕ → Bool
 page_short text page = ltb page (text + page_more)
 
-unfoldable pub if_fit : Lent → Scan → Scan
-if_fit Fit x = x
-if_fit (Unfit r) x = bad r none
+unfoldable pub if_fit : Result (Unit {0}) Refusal → Scan → Scan
+if_fit (Ok tt) x = x
+if_fit (Err r) x = bad r none
 
 -- short: whether something lent is too short
 unfoldable pub dependencies : Bool → List ℕ → Bool → Scan
@@ -162,9 +152,9 @@ dependencies whole s short = if_fit (lent_at s short) (scanned whole s)
 
 -- ---- what is answered, written and kept
 
-unfoldable pub parsed_of : Scan → Parsed
-parsed_of (good d) = Good (length d.imports) (length d.includes) (length d.bytes)
-parsed_of (bad r d) = Refused r
+unfoldable pub parsed_of : Scan → Result Rows Refusal
+parsed_of (good d) = Ok (record { imports = (length d.imports); includes = (length d.includes); used = (length d.bytes) })
+parsed_of (bad r d) = Err r
 
 -- what the inner scan leaves, on a refusal too
 unfoldable pub read_of : Scan → Dependencies

@@ -1,30 +1,22 @@
 // The dependency scan: import and include statements, their values in the store that the caller lends, their rows in its tables.
 #![tactic(auto)]
 
-ghost use Rattle.std.specs.Prelude.{◌≡◌, false, ◌+◌, ◌-◌, ◌*◌, ◌≤◌, ◌<◌, length};
-ghost use Rattle.text.specs.Class.{class_table};
+ghost use Rattle.std.specs.Prelude.{◌≡◌, false, ◌*◌, ◌≤◌, ◌<◌, length};
+ghost use Rattle.scan_rows.specs.Room.{Room};
 ghost use Rattle.scan_rows.specs.Rows.{import_size, include_size, most_rows};
 ghost use Rattle.yangparser.specs.Dependencies.{full, scanned};
 ghost use Rattle.yangparser.specs.Promises.{AddsImport, AddsInclude, Steps, Parses, Scans, Extracts};
-ghost use Rattle.yangparser.specs.Seek.{look_past, look_at, sought_at, step_from};
+ghost use Rattle.yangparser.specs.Seek.{look_at, sought_at, step_from};
 
 use scan_head::Head;
-use scan_imports::{ParsedImport, ParsedInclude};
-use text::{Cursor, Due, Refusal};
-use text_lent::Lent;
+use text::{ByteClasses, Cursor, Reason, Refusal};
 
-// The refusal of this layer.
-pub const TOO_MANY: u32 = 10;
-
-// What the scan read: how many rows of each, and how many bytes are stored; or its refusal.
+// What the scan read: how many rows of each, and how many bytes are stored.
 #[derive(Clone, Copy)]
-pub enum Parsed {
-    Good {
-        imports: usize,
-        includes: usize,
-        used: usize,
-    },
-    Refused(Refusal),
+pub struct Rows {
+    pub imports: usize,
+    pub includes: usize,
+    pub used: usize,
 }
 
 // Extract import and include statements from a text. What was lent is zero but for what is used, and all of it on a refusal. `whole`: the text must be
@@ -35,7 +27,7 @@ pub fn extract_yang_dependencies(
     store: &mut [u8],
     imports: &mut [u32],
     includes: &mut [u32],
-) -> Parsed
+) -> Result<Rows, Refusal>
     ensures { Extracts whole s.now false store.old imports.old includes.old result
         store.new imports.new includes.new }
 {
@@ -50,27 +42,20 @@ pub fn scan_lent(
     store: &mut [u8],
     imports: &mut [u32],
     includes: &mut [u32],
-) -> Parsed
+) -> Result<Rows, Refusal>
     ensures { Extracts whole s.now short store.old imports.old includes.old result
         store.new imports.new includes.new }
 {
-    text_lent::clear_bytes(store);
-    text_lent::clear_words(imports);
-    text_lent::clear_words(includes);
+    store.fill(0);
+    imports.fill(0);
+    includes.fill(0);
     let parsed = scan_over(whole, s, short, store, imports, includes);
-    match parsed {
-        Parsed::Good {
-            imports: _,
-            includes: _,
-            used: _,
-        } => parsed,
-        Parsed::Refused(_) => {
-            text_lent::clear_bytes(store);
-            text_lent::clear_words(imports);
-            text_lent::clear_words(includes);
-            parsed
-        }
+    if parsed.is_err() {
+        store.fill(0);
+        imports.fill(0);
+        includes.fill(0);
     }
+    parsed
 }
 
 // The same over whatever was lent holds: it writes only what it uses, and clears nothing.
@@ -81,16 +66,13 @@ pub fn scan_over(
     store: &mut [u8],
     imports: &mut [u32],
     includes: &mut [u32],
-) -> Parsed
+) -> Result<Rows, Refusal>
     ensures { Scans whole s.now short store.old imports.old includes.old result
         store.new imports.new includes.new }
 {
     let classes = text::classes();
     let unfit = scan_rows::too_short(short, s.len(), store.len(), imports.len(), includes.len());
-    let lent = text_lent::check_lent(s, unfit);
-    let Lent::Fit = lent else {
-        return Parsed::Refused(text_lent::lent_refusal(lent));
-    };
+    text_lent::check_lent(s, unfit)?;
     parse(&classes, whole, s, store, imports, includes)
 }
 
@@ -103,24 +85,16 @@ pub struct Sofar {
     pub includes: usize,
 }
 
-// After a statement; or nothing more is read; or a refusal.
-#[derive(Clone, Copy)]
-pub enum Next {
-    On(Sofar),
-    Done,
-    Stop(Refusal),
-}
-
 // Reads all imports and includes. It writes only what it uses: the store from its start on, and the rows.
 fn parse(
-    classes: &[u8; 128],
+    classes: &ByteClasses,
     whole: bool,
     s: &[u8],
     store: &mut [u8],
     imports: &mut [u32],
     includes: &mut [u32],
-) -> Parsed
-    requires { (classes.now ≡ class_table) × (length s.now ≤ length store.old) × (length s.now < 4294967296)
+) -> Result<Rows, Refusal>
+    requires { (length s.now ≤ length store.old) × (length s.now < 4294967296)
         × (most_rows * import_size ≤ length imports.old) × (most_rows * include_size ≤ length includes.old) }
     ensures { Parses (scanned whole s.now) store.old imports.old includes.old result
         store.new imports.new includes.new }
@@ -131,74 +105,56 @@ fn parse(
         imports: 0,
         includes: 0,
     };
-    loop {
-        match parse_next(far, classes, whole, s, store, imports, includes) {
-            Next::On(next) => {
-                far = next;
-            }
-            Next::Done => {
-                return Parsed::Good {
-                    imports: far.imports,
-                    includes: far.includes,
-                    used: far.used,
-                };
-            }
-            Next::Stop(r) => {
-                return Parsed::Refused(r);
-            }
-        }
+    while let Some(next) = parse_next(far, classes, whole, s, store, imports, includes)? {
+        far = next;
     }
+    Ok(Rows {
+        imports: far.imports,
+        includes: far.includes,
+        used: far.used,
+    })
 }
 
 // Reads the next import or include, past all tokens before it.
 fn parse_next(
     far: Sofar,
-    classes: &[u8; 128],
+    classes: &ByteClasses,
     whole: bool,
     s: &[u8],
     store: &mut [u8],
     imports: &mut [u32],
     includes: &mut [u32],
-) -> Next
-    requires { (classes.now ≡ class_table) × (far.used + (length s.now - far.at) ≤ length s.now)
+) -> Result<Option<Sofar>, Refusal>
+    requires { (Room s.now far.at s.now far.used)
         × (length s.now ≤ length store.old) × (length s.now < 4294967296) × (most_rows * import_size ≤ length imports.old)
         × (most_rows * include_size ≤ length includes.old) }
     ensures { Steps (step_from whole s.now far) far store.old imports.old includes.old result
         store.new imports.new includes.new }
 {
-    let from = Cursor { at: far.at };
-    match seek(from, classes, whole, s) {
+    match seek(Cursor { at: far.at }, classes, whole, s)? {
         Sought::Import(c) => add_import(far, c, classes, whole, s, store, imports),
         Sought::Include(c) => add_include(far, c, classes, whole, s, store, includes),
-        Sought::End => Next::Done,
-        Sought::Refused(r) => Next::Stop(r),
+        Sought::End => Ok(None),
     }
 }
 
-// What ends a search: an import or include, and the cursor behind its keyword; nothing more is read; or a refusal.
+// What ends a search: an import or include, and the cursor behind its keyword; nothing more is read.
 #[derive(Clone, Copy)]
 pub enum Sought {
     Import(Cursor),
     Include(Cursor),
     End,
-    Refused(Refusal),
 }
 
 // Skips tokens until something ends the search. It is a loop of its own: at each token only the place moves.
-fn seek(from: Cursor, classes: &[u8; 128], whole: bool, s: &[u8]) -> Sought
-    requires { classes.now ≡ class_table }
+fn seek(from: Cursor, classes: &ByteClasses, whole: bool, s: &[u8]) -> Result<Sought, Refusal>
     ensures { result ≡ sought_at whole s.now from.at }
 {
-    let mut at = from.at;
+    let mut here = from;
     loop {
-        let here = Cursor { at };
-        match look_at(here, classes, whole, s) {
-            Look::Past(next) => {
-                at = next.at;
-            }
-            Look::Met(x) => {
-                return x;
-            }
+        match look_at(here, classes, whole, s)? {
+            Look::Past(next) => here = next,
+            Look::Met(x) => return Ok(x),
         }
     }
 }
@@ -211,112 +167,93 @@ pub enum Look {
 }
 
 // What stands after a gap.
-fn look_at(from: Cursor, classes: &[u8; 128], whole: bool, s: &[u8]) -> Look
-    requires { classes.now ≡ class_table }
+#[tactic(auto, unfolding(crate::specs::Seek::look_at, crate::specs::Seek::look_here, crate::specs::Seek::look_head, crate::specs::Seek::look_past))]
+fn look_at(from: Cursor, classes: &ByteClasses, whole: bool, s: &[u8]) -> Result<Look, Refusal>
     ensures { result ≡ look_at whole s.now from.at }
 {
     let here = from.skip_whitespace_and_comments(classes, s);
-    let at = here.at;
-    if s.len() <= at {
-        return Look::Met(Sought::End);
+    if s.len() <= here.at {
+        return Ok(Look::Met(Sought::End));
     }
-    let head = scan_head::read_head(here, classes, s);
-    match head {
-        Head::Import(c) => Look::Met(Sought::Import(c)),
-        Head::Include(c) => Look::Met(Sought::Include(c)),
-        Head::Last(_) => Look::Met(Sought::End),
-        Head::Other => passed(text_skip::past_token(here, classes, whole, s)),
+    match scan_head::read_head(here, classes, s) {
+        Head::Import(c) => Ok(Look::Met(Sought::Import(c))),
+        Head::Include(c) => Ok(Look::Met(Sought::Include(c))),
+        Head::Last(_) => Ok(Look::Met(Sought::End)),
+        Head::Other => {
+            let next = text_skip::past_token(here, classes, whole, s)?;
+            Ok(Look::Past(next))
+        }
     }
-}
-
-// Past a token, or the refusal.
-fn passed(token: Due) -> Look
-    ensures { result ≡ look_past token }
-{
-    let Due::After(next) = token else {
-        return Look::Met(Sought::Refused(text::refusal_of(token)));
-    };
-    Look::Past(next)
 }
 
 // The answer to a row too many: a refusal behind its keyword.
-fn full(keyword: u32, here: Cursor) -> Next
+fn full(keyword: u32, here: Cursor) -> Result<Option<Sofar>, Refusal>
     ensures { result ≡ full keyword here.at }
 {
-    Next::Stop(Refusal {
-        number: TOO_MANY,
+    Err(Refusal {
+        reason: Reason::TooMany,
         keyword,
         at: here.at,
     })
 }
 
-// Reads an import and writes its row; the 257th is refused.
+// Reads an import and writes its row; the 257th is refused. One function for imports and includes would take what reads, what writes and which count grows
+// as closures over two lent slices, and be no plainer than the two.
 fn add_import(
     far: Sofar,
     here: Cursor,
-    classes: &[u8; 128],
+    classes: &ByteClasses,
     whole: bool,
     s: &[u8],
     store: &mut [u8],
     imports: &mut [u32],
-) -> Next
-    requires { (classes.now ≡ class_table) × (far.used + (length s.now - here.at) ≤ length s.now)
+) -> Result<Option<Sofar>, Refusal>
+    requires { (Room s.now here.at s.now far.used)
         × (length s.now ≤ length store.old) × (length s.now < 4294967296) × (most_rows * import_size ≤ length imports.old) }
     ensures { AddsImport whole s.now far here.at store.old imports.old result
         store.new imports.new }
 {
-    let rows = far.imports;
-    if scan_rows::MOST_ROWS <= rows {
+    if scan_rows::MOST_ROWS <= far.imports {
         return full(text::IMPORT, here);
     }
-    let read = scan_imports::parse_import(here, classes, whole, s, store, far.used);
-    let ParsedImport::Import { next, used, import } = read else {
-        return Next::Stop(scan_imports::import_refusal(read));
-    };
-    scan_rows::put_import(imports, rows, import);
-    let more = rows + 1;
-    Next::On(Sofar {
+    let (next, used, import) = scan_imports::parse_import(
+        here, classes, whole, s, store, far.used,
+    )?;
+    scan_rows::put_import(imports, far.imports, import);
+    Ok(Some(Sofar {
         at: next.at,
         used,
-        imports: more,
-        includes: far.includes,
-    })
+        imports: far.imports + 1,
+        ..far
+    }))
 }
 
 // Reads an include and writes its row; the 257th is refused.
 fn add_include(
     far: Sofar,
     here: Cursor,
-    classes: &[u8; 128],
+    classes: &ByteClasses,
     whole: bool,
     s: &[u8],
     store: &mut [u8],
     includes: &mut [u32],
-) -> Next
-    requires { (classes.now ≡ class_table) × (far.used + (length s.now - here.at) ≤ length s.now)
+) -> Result<Option<Sofar>, Refusal>
+    requires { (Room s.now here.at s.now far.used)
         × (length s.now ≤ length store.old) × (length s.now < 4294967296) × (most_rows * include_size ≤ length includes.old) }
     ensures { AddsInclude whole s.now far here.at store.old includes.old result
         store.new includes.new }
 {
-    let rows = far.includes;
-    if scan_rows::MOST_ROWS <= rows {
+    if scan_rows::MOST_ROWS <= far.includes {
         return full(text::INCLUDE, here);
     }
-    let read = scan_imports::parse_include(here, classes, whole, s, store, far.used);
-    let ParsedInclude::Include {
-        next,
-        used,
-        include,
-    } = read
-    else {
-        return Next::Stop(scan_imports::include_refusal(read));
-    };
-    scan_rows::put_include(includes, rows, include);
-    let more = rows + 1;
-    Next::On(Sofar {
+    let (next, used, include) = scan_imports::parse_include(
+        here, classes, whole, s, store, far.used,
+    )?;
+    scan_rows::put_include(includes, far.includes, include);
+    Ok(Some(Sofar {
         at: next.at,
         used,
-        imports: far.imports,
-        includes: more,
-    })
+        includes: far.includes + 1,
+        ..far
+    }))
 }

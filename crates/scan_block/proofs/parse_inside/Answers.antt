@@ -1,5 +1,6 @@
 -- `scan_block::parse_inside`. Each way out is a law of the statement that stands after the gap.
 -- Assumes nothing.
+use Rattle.std.specs.Prelude.{Ok}
 use Rattle.scan_block.proofs.FarLaws.{kind_value_far}
 use Rattle.scan_block.proofs.InsideLaws.{leaves, inside_end, inside_close, inside_value, inside_other}
 use Rattle.scan_block.specs.declared.Inside.TheVariants.{Closed}
@@ -20,8 +21,8 @@ returns-then-b-eq-END c =
     (inside_end a.whole a.s.now a.keyword a.body c.skip_whitespace_and_comments-here.ensures c.peek_char-b.ensures c.if-b-eq-END.true)
     a.store.now a.body.used (refl, refl)
 
-pub overflow_add-end : goal.overflow_add-end
-overflow_add-end c =
+pub overflow_add-here : goal.overflow_add-here
+overflow_add-here c =
     let a = c.args in
     omega (arith, here a.s.now c.skip_whitespace_and_comments-here.result.at (λ e. omega arith))
 
@@ -31,28 +32,28 @@ returns-then-b-eq-CLOSE_BRACE c =
     leaves
     (inside_close a.whole a.s.now a.keyword a.body c.skip_whitespace_and_comments-here.ensures c.peek_char-b.ensures
     c.if-b-eq-END.false c.if-b-eq-CLOSE_BRACE.true)
-    a.store.now a.body.used (ap Closed c.moved.ensures, refl)
+    a.store.now a.body.used (ap (λ b. Ok (Closed b)) c.moved.ensures, refl)
 
 pub read_inside-requires : goal.read_inside-requires
 read_inside-requires c =
     let a = c.args in
     let g = c.skip_whitespace_and_comments-here.result.at in
-    let far = kind_value_far a.s.now g a.keyword c.in-Value.own c.in-Value.after (sym c.line_kind.ensures ∙ c.in-Value.is) in
-    (c.requires.0, omega (arith, far, gap_from a.s.now a.body.at))
+    let far = kind_value_far a.s.now g a.keyword c.in-Some.own c.in-Some.after (sym c.line_kind.ensures ∙ c.in-Some.is) in
+    omega (arith, far, gap_from a.s.now a.body.at)
 
-pub returns-in-Value : goal.returns-in-Value
-returns-in-Value c =
+pub returns-in-Some : goal.returns-in-Some
+returns-in-Some c =
     let a = c.args in
     leaves
     (inside_value a.whole a.s.now a.keyword a.body c.skip_whitespace_and_comments-here.ensures c.peek_char-b.ensures
-    c.if-b-eq-END.false c.if-b-eq-CLOSE_BRACE.false c.line_kind.ensures c.in-Value.own c.in-Value.after c.in-Value.is)
+    c.if-b-eq-END.false c.if-b-eq-CLOSE_BRACE.false c.line_kind.ensures c.in-Some.own c.in-Some.after c.in-Some.is)
     a.store.now a.body.used c.read_inside.ensures
 
-pub returns-in-Other : goal.returns-in-Other
-returns-in-Other c =
+pub returns-in-None : goal.returns-in-None
+returns-in-None c =
     let a = c.args in
     leaves
     (inside_other a.whole a.s.now a.keyword a.body c.skip_whitespace_and_comments-here.ensures c.peek_char-b.ensures
-    c.if-b-eq-END.false c.if-b-eq-CLOSE_BRACE.false c.line_kind.ensures c.in-Other.is
+    c.if-b-eq-END.false c.if-b-eq-CLOSE_BRACE.false c.line_kind.ensures c.in-None.is
     c.skip_other.ensures)
     a.store.now a.body.used (refl, refl)

@@ -5,14 +5,13 @@ use borrow.Author.Rules.{rules}
 use native.Mathlib.Omega.{arith}
 use Rattle.scan_block.proofs.read_inside.Goals as goal
 
-pub returns-in_default : goal.returns-in_default
-returns-in_default c = (search value_refused, search rules)
+pub returns-in_err-next : goal.returns-in_err-next
+returns-in_err-next c = (search (rules, value_refused, c.in_err-next.was), search rules)
 
-pub overflow_sub-size : goal.overflow_sub-size
-overflow_sub-size c =
+pub overflow_sub-n : goal.overflow_sub-n
+overflow_sub-n c =
     let a = c.args in
-    line_grows a.whole a.s.now a.here.at a.body.used a.keyword 59 c.in-Read.next c.in-Read.n (omega arith) c.read_argument-line.ensures.0
-    c.in-Read.is
+    line_grows a.whole a.s.now a.here.at a.body.used a.keyword 59 c.in_ok-next.next c.in_ok-next.n (omega arith) c.read_argument.ensures.0 c.in_ok-next.was
 
 pub returns : goal.returns
-returns c = (search value_read, search rules)
+returns c = (search (rules, value_read, c.in_ok-next.was), search rules)

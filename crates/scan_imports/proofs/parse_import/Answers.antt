@@ -2,39 +2,41 @@
 -- Assumes nothing.
 use Rattle.scan_block.proofs.InsideLaws.{line_grows, room_left}
 use Rattle.scan_imports.proofs.StatementLaws.{import_refused, import_broken, import_whole}
+use borrow.Author.Rules.{rules}
 use lib.ListN.{length}
 use native.Mathlib.Omega.{arith}
 use Rattle.scan_imports.proofs.parse_import.Goals as goal
 
-pub returns-in_default : goal.returns-in_default
-returns-in_default c =
+pub returns-in_err-next : goal.returns-in_err-next
+returns-in_err-next c =
     let a = c.args in
-    let v = c.read_argument-name.ensures in
-    import_refused a.whole a.s.now a.here.at a.used a.store.now v.0 v.1 c.in_default.field-0 c.in_default.is c.argument_refusal.ensures
+    let v = c.read_argument.ensures in
+    let l = import_refused a.whole a.s.now a.here.at a.used a.store.now v.0 v.1 c.in_err-next.field-0.0 c.in_err-next.was in
+    (search (rules, l.0), l.1)
 
-pub overflow_sub-size : goal.overflow_sub-size
-overflow_sub-size c =
+pub overflow_sub-n : goal.overflow_sub-n
+overflow_sub-n c =
     let a = c.args in
-    line_grows a.whole a.s.now a.here.at a.used 8 123 c.in-Read.next c.in-Read.n (omega arith) c.read_argument-name.ensures.0 c.in-Read.is
+    line_grows a.whole a.s.now a.here.at a.used 8 123 c.in_ok-next.next c.in_ok-next.n (omega arith) c.read_argument.ensures.0 c.in_ok-next.was
 
-pub parse_block-block-requires : goal.parse_block-block-requires
-parse_block-block-requires c =
+pub parse_block-requires : goal.parse_block-requires
+parse_block-requires c =
     let a = c.args in
-    let room = room_left a.whole a.s.now a.here.at a.used 8 123 (length a.store.now) c.in-Read.next c.in-Read.n (omega arith)
-    c.read_argument-name.ensures.0 c.in-Read.is c.requires.1 in
-    (c.requires.0, omega (arith, room, c.read_argument-name.auto.store))
+    let room = room_left a.whole a.s.now a.here.at a.used 8 123 (length a.store.now) c.in_ok-next.next c.in_ok-next.n (omega arith)
+    c.read_argument.ensures.0 c.in_ok-next.was c.requires in
+    omega (arith, room, c.read_argument.auto.store)
 
-pub returns-in_default-block : goal.returns-in_default-block
-returns-in_default-block c =
+pub returns-in_err-body : goal.returns-in_err-body
+returns-in_err-body c =
     let a = c.args in
-    let v = c.read_argument-name.ensures in
-    import_broken a.whole a.s.now a.here.at a.used a.store.now v.0 v.1 c.in-Read.next c.in-Read.n c.in-Read.is c.parse_block-block.ensures
-    c.in_default-block.field-0
-    c.in_default-block.is c.block_refusal.ensures
+    let v = c.read_argument.ensures in
+    let l = import_broken a.whole a.s.now a.here.at a.used a.store.now v.0 v.1 c.in_ok-next.next c.in_ok-next.n c.in_ok-next.was c.parse_block.ensures
+    c.in_err-body.field-0.0 c.in_err-body.was in
+    (search (rules, l.0), l.1)
 
 pub returns : goal.returns
 returns c =
     let a = c.args in
-    let v = c.read_argument-name.ensures in
-    import_whole a.whole a.s.now a.here.at a.used a.store.now v.0 v.1 c.in-Read.next c.in-Read.n c.in-Read.is c.parse_block-block.ensures
-    c.held-module_name.ensures c.in-Whole.body c.in-Whole.is c.import_of.ensures
+    let v = c.read_argument.ensures in
+    import_whole a.whole a.s.now a.here.at a.used a.store.now v.0 v.1 c.in_ok-next.next c.in_ok-next.n c.in_ok-next.was c.parse_block.ensures
+    c.held-module_name.ensures c.in_ok-body.body c.in_ok-body.was c.import_of.ensures

@@ -4,20 +4,18 @@ use Rattle.scan_metadata.proofs.EntryLaws.{entry_cleared, entry_scanned, entry_r
 use mathlib.Core.Path.{refl}
 use Rattle.scan_metadata.proofs.extract_yang_metadata.Goals as goal
 
-pub returns-in_default : goal.returns-in_default
-returns-in_default c =
+pub returns-in-Err : goal.returns-in-Err
+returns-in-Err c =
     let a = c.args in
-    entry_refused a.whole a.s.now a.store.now c.clear_bytes.ensures refl c.check_lent-lent.ensures c.in_default.field-0 c.in_default.is
-    c.lent_refusal.ensures c.refused.ensures
+    entry_refused a.whole a.s.now a.store.now (c.fill.ensures.after (λ y e. e)) refl c.check_lent.ensures c.in-Err.r c.in-Err.is c.refused.ensures
 
 pub parse_cleared-requires : goal.parse_cleared-requires
 parse_cleared-requires c =
     let a = c.args in
-    entry_cleared a.whole a.s.now a.store.now c.clear_bytes.ensures refl c.check_lent-lent.ensures c.in-Fit.is
-    c.classes-classes.ensures
+    entry_cleared a.whole a.s.now a.store.now (c.fill.ensures.after (λ y e. e)) refl c.check_lent.ensures c.in-Ok.is
 
-pub returns : goal.returns
-returns c =
+pub returns-in-Ok : goal.returns-in-Ok
+returns-in-Ok c =
     let a = c.args in
-    entry_scanned a.whole a.s.now a.store.now c.clear_bytes.ensures refl c.check_lent-lent.ensures c.in-Fit.is
+    entry_scanned a.whole a.s.now a.store.now (c.fill.ensures.after (λ y e. e)) refl c.check_lent.ensures c.in-Ok.is
     c.parse_cleared.ensures

@@ -6,7 +6,7 @@ use lib.ListN.{length}
 use Rattle.scan_metadata.proofs.parse_metadata.Given as goal
 
 abbrev pub invariant-loop-keyword : goal.invariant-loop-keyword
-invariant-loop-keyword l = Sofar l.whole l.s l.initial.store l.values l.at l.used l.store
+invariant-loop-keyword l = Sofar l.whole l.s l.initial.store l.values l.here.at l.used l.store
 
 abbrev pub decreases-loop-keyword : goal.decreases-loop-keyword
-decreases-loop-keyword l = length l.s - l.at
+decreases-loop-keyword l = length l.s - l.here.at

@@ -20,13 +20,13 @@ returns-then-x c =
     ended (puts (puts (end_there a.store.now a.x a.page.now a.at c.if-x.true) c.put_value-n.ensures)
     c.put.ensures)
 
-pub put-requires-2 : goal.put-requires-2
-put-requires-2 c =
+pub put-requires-else-x : goal.put-requires-else-x
+put-requires-else-x c =
     let a = c.args in
     fits c.requires (end_none a.store.now a.x a.page.now a.at c.if-x.false)
 
-pub returns : goal.returns
-returns c =
+pub returns-else-x : goal.returns-else-x
+returns-else-x c =
     let a = c.args in
     ended (puts (end_none a.store.now a.x a.page.now a.at c.if-x.false)
-    c.put-2.ensures)
+    c.put-else-x.ensures)

@@ -4,6 +4,4 @@ use Rattle.scan_rows.proofs.Values.{value_is}
 use Rattle.scan_rows.proofs.value_in.Goals as goal
 
 pub returns : goal.returns
-returns c =
-    let start = c.args in
-    value_is start.store.now start.x c.least-from.ensures c.least-size.ensures
+returns c = value_is c.args.store.now c.args.x c.min.ensures c.min-2.ensures

@@ -4,7 +4,5 @@ use Rattle.scan_tag.proofs.TagLaws.{tag_none}
 use mathlib.Core.Path.{sym}
 use Rattle.scan_tag.proofs.read_tag.Goals as goal
 
-pub returns : goal.returns
-returns c =
-    let a = c.args in
-    sym (tag_none a.s.now a.here.at c.peek_char-b.ensures c.starts_ident.ensures c.if-starts_ident.false)
+pub returns-else-starts_ident : goal.returns-else-starts_ident
+returns-else-starts_ident c = sym (search tag_none)

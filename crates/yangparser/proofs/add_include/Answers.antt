@@ -5,14 +5,17 @@ use borrow.Author.Rules.{rules}
 use native.Mathlib.Omega.{arith}
 use Rattle.yangparser.proofs.add_include.Goals as goal
 
-pub returns-then-rows-ge-MOST_ROWS : goal.returns-then-rows-ge-MOST_ROWS
-returns-then-rows-ge-MOST_ROWS c = search include_full
+pub returns-then-far-ge-MOST_ROWS : goal.returns-then-far-ge-MOST_ROWS
+returns-then-far-ge-MOST_ROWS c = search include_full
 
-pub returns-in_default : goal.returns-in_default
-returns-in_default c = search include_not
+pub returns-in_err-next : goal.returns-in_err-next
+returns-in_err-next c =
+    let a = c.args in
+    let v = c.parse_include.ensures in
+    include_not a.whole a.s.now a.far a.here.at a.store.now a.includes.now c.if-far-ge-MOST_ROWS.false v.0 v.1 c.in_err-next.field-0.0 c.in_err-next.was (search rules)
 
 pub put_include-requires : goal.put_include-requires
-put_include-requires c = (omega arith, search rules, search include_words_fit)
+put_include-requires c = (omega arith, search rules, search (include_words_fit, c.in_ok-next.was))
 
 pub returns : goal.returns
-returns c = search include_added
+returns c = search (rules, include_added, c.in_ok-next.was)

@@ -1,5 +1,7 @@
+use Rattle.std.specs.Prelude.{Ok}
 use Rattle.yangparser.proofs.LoopLaws.{read_begun, read_long, read_room, read_nearer, read_more, read_done, read_refused}
-use mathlib.Core.Path.{◌∙◌}
+use borrow.Author.Rules.{rules}
+use mathlib.Core.Path.{ap, ◌∙◌}
 use native.Mathlib.Omega.{arith}
 use Rattle.yangparser.proofs.parse.Goals as goal
 
@@ -9,44 +11,20 @@ loop-next-init c = read_begun
 pub parse_next-requires : goal.parse_next-requires
 parse_next-requires c =
     let l = read_long c.loop-next.invariant in
-    (c.requires.0, read_room c.loop-next.invariant, omega (arith, l), c.requires.2, omega (arith, l), omega (arith, l))
+    (read_room c.loop-next.invariant, omega (arith, l), c.requires.1, omega (arith, l), omega (arith, l))
 
 pub loop-next-smaller : goal.loop-next-smaller
 loop-next-smaller c =
-    read_nearer c.loop-next.invariant c.parse_next.ensures c.in-On.next c.in-On.is
+    read_nearer c.loop-next.invariant c.parse_next.ensures c.in-Some.next (c.in_ok-next.was ∙ ap Ok c.in-Some.is)
 
 pub loop-next-preserved : goal.loop-next-preserved
 loop-next-preserved c =
-    read_more c.loop-next.invariant c.parse_next.ensures c.in-On.next c.in-On.is
+    read_more c.loop-next.invariant c.parse_next.ensures c.in-Some.next (c.in_ok-next.was ∙ ap Ok c.in-Some.is)
 
-pub shape_of-store-in-Done : goal.shape_of-store-in-Done
-shape_of-store-in-Done c =
-    c.parse_next.auto.store ∙ (read_long c.loop-next.invariant).0
+pub returns : goal.returns
+returns c =
+    read_done c.loop-next.invariant c.parse_next.ensures (c.in_ok-next.was ∙ ap Ok c.in_default.is)
 
-pub shape_of-imports-in-Done : goal.shape_of-imports-in-Done
-shape_of-imports-in-Done c =
-    c.parse_next.auto.imports ∙ (read_long c.loop-next.invariant).1
-
-pub shape_of-includes-in-Done : goal.shape_of-includes-in-Done
-shape_of-includes-in-Done c =
-    c.parse_next.auto.includes ∙ (read_long c.loop-next.invariant).2
-
-pub returns-in-Done : goal.returns-in-Done
-returns-in-Done c =
-    read_done c.loop-next.invariant c.parse_next.ensures c.in-Done.is
-
-pub shape_of-store-in-Stop : goal.shape_of-store-in-Stop
-shape_of-store-in-Stop c =
-    c.parse_next.auto.store ∙ (read_long c.loop-next.invariant).0
-
-pub shape_of-imports-in-Stop : goal.shape_of-imports-in-Stop
-shape_of-imports-in-Stop c =
-    c.parse_next.auto.imports ∙ (read_long c.loop-next.invariant).1
-
-pub shape_of-includes-in-Stop : goal.shape_of-includes-in-Stop
-shape_of-includes-in-Stop c =
-    c.parse_next.auto.includes ∙ (read_long c.loop-next.invariant).2
-
-pub returns-in-Stop : goal.returns-in-Stop
-returns-in-Stop c =
-    read_refused c.loop-next.invariant c.parse_next.ensures c.in-Stop.r c.in-Stop.is
+pub returns-in_err-next : goal.returns-in_err-next
+returns-in_err-next c =
+    read_refused c.loop-next.invariant c.parse_next.ensures c.in_err-next.field-0.0 c.in_err-next.was (search rules)

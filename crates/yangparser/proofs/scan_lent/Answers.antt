@@ -1,17 +1,22 @@
 -- `yangparser::scan_lent`. A good scan wrote into zeros what it read; a refused one is cleared again.
 -- Assumes nothing.
-use Rattle.yangparser.proofs.EntryLaws.{entry_scanned, entry_refused}
+use Rattle.yangparser.proofs.EntryLaws.{entry_kept, entry_cleared}
 use Rattle.yangparser.proofs.scan_lent.Goals as goal
 
-pub returns-in-Good : goal.returns-in-Good
-returns-in-Good c = search entry_scanned
+pub returns-else-is_err : goal.returns-else-is_err
+returns-else-is_err c =
+    let a = c.args in
+    entry_kept a.whole a.s.now a.short a.store.now a.imports.now a.includes.now
+    (c.fill.ensures.after (λ y e. e)) (c.fill-2.ensures.after (λ y e. e)) (c.fill-3.ensures.after (λ y e. e))
+    c.fill.ensures.len c.fill-2.ensures.len c.fill-3.ensures.len
+    c.scan_over-parsed.ensures c.is_err.ensures.value c.if-is_err.false
 
-pub returns-in-Refused : goal.returns-in-Refused
-returns-in-Refused c =
+pub returns-then-is_err : goal.returns-then-is_err
+returns-then-is_err c =
     let a = c.args in
     let kept = c.scan_over-parsed.auto in
-    entry_refused a.whole a.s.now a.short a.store.now a.imports.now a.includes.now
-    c.clear_bytes.ensures c.clear_words.ensures c.clear_words-2.ensures
-    c.clear_bytes.auto.t c.clear_words.auto.t c.clear_words-2.auto.t
-    c.scan_over-parsed.ensures c.in-Refused.field-0 c.in-Refused.is kept.store kept.imports kept.includes
-    c.clear_bytes-in-Refused.ensures c.clear_words-in-Refused.ensures c.clear_words-in-Refused-2.ensures
+    entry_cleared a.whole a.s.now a.short a.store.now a.imports.now a.includes.now
+    (c.fill.ensures.after (λ y e. e)) (c.fill-2.ensures.after (λ y e. e)) (c.fill-3.ensures.after (λ y e. e))
+    c.fill.ensures.len c.fill-2.ensures.len c.fill-3.ensures.len
+    c.scan_over-parsed.ensures c.is_err.ensures.value c.if-is_err.true kept.store kept.imports kept.includes
+    (c.fill-then-is_err.ensures.after (λ y e. e)) (c.fill-then-is_err-2.ensures.after (λ y e. e)) (c.fill-then-is_err-3.ensures.after (λ y e. e))

@@ -7,7 +7,7 @@ use mathlib.Core.Path.{◌≡◌}
 use Rattle.yangparser.proofs.seek.Given as goal
 
 abbrev pub invariant-loop-next : goal.invariant-loop-next
-invariant-loop-next l = sought_at l.whole l.s l.at ≡ sought_at l.whole l.s l.initial.at
+invariant-loop-next l = sought_at l.whole l.s l.here.at ≡ sought_at l.whole l.s l.initial.here.at
 
 abbrev pub decreases-loop-next : goal.decreases-loop-next
-decreases-loop-next l = length l.s - l.at
+decreases-loop-next l = length l.s - l.here.at
