@@ -1,5 +1,6 @@
 -- Worked examples: each definition computes what stands beside it.
 -- Assumes nothing.
+use Rattle.std.specs.Prelude.{Err, Ok, None, Some}
 use mathlib.Core.Path.{◌≡◌, refl}
 use mathlib.Core.List.{List, [], ◌∷◌}
 use Prim.Native.Nat.{ℕ}
@@ -9,7 +10,6 @@ use Rattle.library_form.specs.Writer.{write_number, write_name}
 use Rattle.library_index.specs.Names.{among, new_name}
 use Rattle.library_bundle.specs.Bundle.{text_of, body_at, filed_at, texts_at, bundle_at, look_up, text_under}
 use Rattle.library_bundle.specs.BundleWriter.{write_text, write_texts, write_bundle}
-use Rattle.library_form.specs.declared.LookUp.TheVariants.{Broken, Nothing, At}
 
 -- m
 abbrev m : List ℕ
@@ -30,7 +30,7 @@ unfolding bundle_at number_at groups texts_at many filed_at new_name among name_
 empty_text_lem = refl
 
 -- an empty text is there
-empty_there : look_up empty_text m ≡ At 4 0
+empty_there : look_up empty_text m ≡ Ok (Some (4, 0))
 unfolding look_up bundle_at number_at groups texts_at many filed_at new_name among name_at name_body printable_at body_at same
 empty_there = refl
 
@@ -46,11 +46,11 @@ second_text : text_under two (109 ∷ 109 ∷ []) ≡ 9 ∷ []
 unfolding text_under look_up bundle_at number_at groups texts_at many filed_at new_name among name_at name_body printable_at body_at same
 second_text = refl
 
-none_there : look_up two (110 ∷ []) ≡ Nothing
+none_there : look_up two (110 ∷ []) ≡ (Ok None)
 unfolding look_up bundle_at number_at groups texts_at many filed_at new_name among name_at name_body printable_at body_at same
 none_there = refl
 
-no_name : look_up two [] ≡ Nothing
+no_name : look_up two [] ≡ (Ok None)
 unfolding look_up bundle_at number_at groups texts_at many filed_at new_name among name_at name_body printable_at body_at same
 no_name = refl
 
@@ -92,7 +92,7 @@ too_many : bundle_at (129 ∷ 16 ∷ []) ≡ bad 0
 unfolding bundle_at number_at groups texts_at
 too_many = refl
 
-broken : look_up (1 ∷ 1 ∷ 109 ∷ 0 ∷ 5 ∷ []) m ≡ Broken 4
+broken : look_up (1 ∷ 1 ∷ 109 ∷ 0 ∷ 5 ∷ []) m ≡ Err 4
 unfolding look_up bundle_at number_at groups texts_at many filed_at new_name among name_at name_body printable_at body_at
 broken = refl
 

@@ -1,6 +1,7 @@
 -- What a look-up tells stands within the bundle, and no bundle is read past 16,777,216 bytes: a number, a name or a text is wrong where it starts, and
 -- it starts within the bytes or at their end.
 -- Assumes nothing.
+use Rattle.std.specs.Prelude.{Some, None, Err, Ok, Option}
 use mathlib.Core.Path.{◌≡◌, refl}
 use mathlib.Core.List.{List, [], ◌∷◌, ◌++◌}
 use mathlib.Core.Bool.{Bool, true, false, cond}
@@ -10,14 +11,11 @@ use lib.ListN.{length}
 use lib.Dec.{ltb}
 use borrow.Author.Tests.{ltb-true, ltb-false}
 use Rattle.library_form.specs.Form.{Ans, good, bad, bind, PlacedName, number_at, many}
-use Rattle.library_form.specs.declared.LookUp.TheVariants.{Broken, At as Stands}
 use Rattle.library_form.proofs.Bounds.{number_place, number_end, name_end}
 use Rattle.library_index.specs.Names.{new_name}
 use Rattle.library_index.proofs.Taking.{new_read, new_place}
 use Rattle.library_bundle.specs.Bundle.{most_bytes, most_texts, Text, text_of, body_at, filed_at, words, new_text, ended, texts_at, bundle_at, place_of, looked}
 use Rattle.library_bundle.specs.Bundle.{look_in, look_up}
-use Rattle.library_bundle.specs.declared.TextPlace.{TextPlace}
-use Rattle.library_bundle.specs.declared.TextPlace.TheVariants.{At, Nothing}
 use Rattle.library_bundle.proofs.Entries.{text_sized}
 use Rattle.library_bundle.proofs.Looking.{place_in, is_at}
 use Rattle.library_bundle.proofs.Parts.{bundle_parted, texts_sized}
@@ -82,23 +80,23 @@ bundle_place s {p} e = go (ltb most_bytes (length s)) refl e
 -- ---- what a look-up tells
 
 module _ (s t : List ℕ) where
-  pub broken_in : (p : ℕ) → look_up s t ≡ Broken p → p ≤ most_bytes
+  pub broken_in : (p : ℕ) → look_up s t ≡ Err p → p ≤ most_bytes
   unfolding look_up
   broken_in p e = go (bundle_at s) refl e
     where
-      told : (x : TextPlace) → looked x ≡ Broken p → p ≤ most_bytes
-      told (At from size) k = let z : ◌≡◌ {A = ℕ} 0 1 = cc in absurd (omega arith)
-      told Nothing k = let z : ◌≡◌ {A = ℕ} 0 1 = cc in absurd (omega arith)
+      told : (x : Option (ℕ × ℕ)) → looked x ≡ Err p → p ≤ most_bytes
+      told (Some (from, size)) k = let z : ◌≡◌ {A = ℕ} 0 1 = cc in absurd (omega arith)
+      told None k = let z : ◌≡◌ {A = ℕ} 0 1 = cc in absurd (omega arith)
 
-      go : (a : Ans (List Text)) → bundle_at s ≡ a → look_in t a ≡ Broken p → p ≤ most_bytes
+      go : (a : Ans (List Text)) → bundle_at s ≡ a → look_in t a ≡ Err p → p ≤ most_bytes
       go (good es n) h k = told (place_of t es) k
       go (bad q) h k = let z : q ≡ p = cc in omega (arith, bundle_place s h)
 
-  pub stands_in : (from size : ℕ) → look_up s t ≡ Stands from size → (from + size ≤ length s) × (length s ≤ most_bytes)
+  pub stands_in : (from size : ℕ) → look_up s t ≡ Ok (Some (from, size)) → (from + size ≤ length s) × (length s ≤ most_bytes)
   unfolding look_up
   stands_in from size e = go (bundle_at s) refl e
     where
-      go : (a : Ans (List Text)) → bundle_at s ≡ a → look_in t a ≡ Stands from size → (from + size ≤ length s) × (length s ≤ most_bytes)
+      go : (a : Ans (List Text)) → bundle_at s ≡ a → look_in t a ≡ Ok (Some (from, size)) → (from + size ≤ length s) × (length s ≤ most_bytes)
       go (good es n) h k =
           let o = bundle_parted s h in
           (place_in s t es (texts_sized s o.count o.first [] tt o.texts) (is_at (place_of t es) k), o.short)

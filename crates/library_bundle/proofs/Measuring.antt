@@ -1,37 +1,32 @@
 -- The longest text. Behind the i-th name of the table stands the length of the i-th text, so the largest of the lengths behind the first i names is
 -- that of the first i texts; and a text that is found is one of them.
 -- Assumes nothing.
-use mathlib.Core.Path.{◌≡◌, refl, sym, ap, ap₂, ◌∙◌}
+use Rattle.std.specs.Prelude.{Ok, Some}
+use mathlib.Core.Path.{◌≡◌, refl, sym, ap, ◌∙◌}
 use mathlib.Core.List.{List, [], ◌∷◌, ◌++◌}
 use mathlib.Core.Bool.{Bool, true, false, cond}
 use Prim.Native.Nat.{ℕ, suc, max, ◌+◌, ◌≤◌, ◌<◌}
 use native.Mathlib.Omega.{arith}
 use lib.ListN.{get_or}
 use Rattle.text.specs.Keyword.{same}
-use Rattle.library_form.specs.Form.{PlacedName, number_at, number_seen}
-use Rattle.library_form.specs.declared.ImageCursor.{ImageCursor}
-use Rattle.library_form.specs.declared.LookUp.TheVariants.{At as Stands}
-use Rattle.library_form.specs.declared.Number.{Number}
-use Rattle.library_form.specs.declared.Number.TheVariants.{Value, Wrong as WrongNumber}
+use Rattle.library_form.specs.Form.{Ans, good, bad, PlacedName, number_at}
 use Rattle.library_index.specs.Names.{row_of, name_in_row, names_in}
 use Rattle.library_bundle.specs.Bundle.{Text, words, place_of, look_up}
 use Rattle.library_bundle.specs.Reading.{Sizes, Held, longest_of, texts_or, longest_text, size_read, size_behind, size_in, NameHeld}
-use Rattle.library_bundle.specs.declared.TextPlace.TheVariants.{At}
 use Rattle.library_bundle.proofs.Looking.{held_look, is_at}
 
 -- ---- the ways out of `size_of`
 
 module _ (s tab : List ℕ) (i : ℕ) {place len : ℕ} (p : place ≡ get_or tab (row_of i) 0) (l : len ≡ get_or tab (row_of i + 1) 0) where
-  module _ (q : Number) (f : number_seen q ≡ number_at s (place + len)) where
-    size_seen : size_read (number_seen q) ≡ size_in s tab i
-    unfolding size_in
-    size_seen = rw (← p, ← l) (ap size_read f)
+  size_seen : {a : Ans ℕ} → a ≡ number_at s (place + len) → size_read a ≡ size_in s tab i
+  unfolding size_in
+  size_seen f = rw (← p, ← l) (ap size_read f)
 
-    pub no_size : {x : ℕ} → q ≡ WrongNumber x → 0 ≡ size_in s tab i
-    no_size h = sym (ap (λ (b : Number). size_read (number_seen b)) h) ∙ size_seen
+  pub no_size : {x : ℕ} → bad x ≡ number_at s (place + len) → 0 ≡ size_in s tab i
+  no_size h = size_seen h
 
-    pub the_size : {size : ℕ} {c : ImageCursor} → q ≡ Value size c → size ≡ size_in s tab i
-    the_size h = sym (ap (λ (b : Number). size_read (number_seen b)) h) ∙ size_seen
+  pub the_size : {size from : ℕ} → good size from ≡ number_at s (place + len) → size ≡ size_in s tab i
+  the_size h = size_seen h
 
 -- ---- the largest of the lengths behind names
 
@@ -69,8 +64,8 @@ module _ (s tab : List ℕ) (n : ℕ) where
     pub row_held : i < n → NameHeld s tab i
     row_held h = record { row = omega (arith, g.held.indexed.long); inside = g.held.indexed.inside i h }
 
-    pub measured_more : {z m : ℕ} → z ≡ size_in s tab i → m ≡ max most z → i < n → Measured s tab n m (i + 1)
-    measured_more {z} {m} e f h = record { held = g.held; room = omega arith; most_is = f ∙ ap₂ max g.most_is e ∙ sym (most_more s tab i) }
+    pub measured_more : {z m : ℕ} → z ≡ size_in s tab i → m ≡ max z most → i < n → Measured s tab n m (i + 1)
+    measured_more {z} {m} e f h = record { held = g.held; room = omega arith; most_is = omega (arith, f, e, g.most_is, most_more s tab i) }
 
     pub measured_all : n ≤ i → most ≡ longest_text s
     unfolding longest_text
@@ -84,17 +79,18 @@ module _ (s tab : List ℕ) (n : ℕ) where
 
 -- ---- a text that is found
 
-place_low : (t : List ℕ) (es : List Text) {f z : ℕ} → place_of t es ≡ At f z → z ≤ longest_of es
+place_low : (t : List ℕ) (es : List Text) {f z : ℕ} → place_of t es ≡ Some (f, z) → z ≤ longest_of es
 unfolding longest_of
 place_low t [] e = let z : ◌≡◌ {A = ℕ} 0 1 = cc in absurd (omega arith)
 place_low t (d ∷ es) {f} {z} e = go (same d.word.text t) (place_low t es) e
   where
-    go : (b : Bool) → (place_of t es ≡ At f z → z ≤ longest_of es) → cond b (At d.from d.size) (place_of t es) ≡ At f z → z ≤ max d.size (longest_of es)
-    go true ih e = let y : d.size ≡ z = cc in omega arith
+    go : (b : Bool) → (place_of t es ≡ Some (f, z) → z ≤ longest_of es) → cond b (Some (d.from, d.size)) (place_of t es) ≡ Some (f, z)
+        → z ≤ max d.size (longest_of es)
+    go true ih e = let q : ◌≡◌ {A = ℕ × ℕ} (d.from, d.size) (f, z) = cc in omega (arith, ap (λ (p : ℕ × ℕ). p.1) q)
     go false ih e = omega (arith, ih e)
 
-module _ (s tab t : List ℕ) (n : ℕ) (g : Held s tab n) {from size : ℕ} (e : look_up s t ≡ Stands from size) where
-  found : place_of t g.texts ≡ At from size
+module _ (s tab t : List ℕ) (n : ℕ) (g : Held s tab n) {from size : ℕ} (e : look_up s t ≡ Ok (Some (from, size))) where
+  found : place_of t g.texts ≡ Some (from, size)
   found = is_at (place_of t g.texts) (sym (held_look s tab t n g) ∙ e)
 
   pub found_low : size ≤ longest_text s

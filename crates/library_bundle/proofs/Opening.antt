@@ -1,24 +1,19 @@
 -- What the loop of `open` keeps, and one law for each way out.
 -- Assumes nothing.
+use Rattle.std.specs.Prelude.{Ok, Err}
 use mathlib.Core.Path.{◌≡◌, refl, sym, ap, ◌∙◌}
 use mathlib.Core.List.{List, [], ◌∷◌, ◌++◌, map-append}
 use Prim.Native.Nat.{ℕ, suc, ◌+◌, ◌-◌, ◌≤◌, ◌<◌}
 use native.Mathlib.Omega.{arith}
 use lib.ListN.{length, length-map}
 use borrow.Author.Tests.{lt-ltb, le-ltb}
-use Rattle.library_form.specs.Form.{good, bad, bind, PlacedName, number_at, number_seen, many}
-use Rattle.library_form.specs.declared.ImageCursor.{ImageCursor}
-use Rattle.library_form.specs.declared.Number.{Number}
-use Rattle.library_form.specs.declared.Number.TheVariants.{Value, Wrong as WrongNumber}
-use Rattle.library_form.proofs.Bounds.{number_place, number_end}
+use Rattle.library_form.specs.Form.{good, bad, bind, PlacedName, number_at, many}
+use Rattle.library_form.proofs.Bounds.{number_end}
 use Rattle.library_index.specs.Names.{names_in, Indexed, Cleared, Space}
 use Rattle.library_index.proofs.Chain.{length_names}
 use Rattle.library_index.proofs.Insert.{none_yet}
 use Rattle.library_bundle.specs.Bundle.{most_bytes, most_texts, Text, filed_at, words, new_text, ended, texts_at, bundle_at}
 use Rattle.library_bundle.specs.Reading.{table_words, counted, Sized, Sizes, Entered, FiledAs, OpenedAs}
-use Rattle.library_bundle.specs.declared.Filed.{Filed}
-use Rattle.library_bundle.specs.declared.Filed.TheVariants.{Next, Wrong as WrongText}
-use Rattle.library_bundle.specs.declared.Opened.TheVariants.{Texts, Wrong}
 use Rattle.library_bundle.proofs.Entries.{text_sized}
 
 -- ---- one text more
@@ -70,10 +65,8 @@ module _ (s before tab : List ℕ) (count start i at : ℕ) (g : Reading s befor
   unfolding many
   next h = rw (left h, g.names)
 
-  pub stopped : (r : Filed) {p : ℕ} (after : List ℕ) → i < count → r ≡ WrongText p → FiledAs s tab i at r after → many (new_text s) count [] start ≡ bad p
-  stopped r {p} after h e f =
-      let k : filed_at s (names_in s tab i) at ≡ bad p = rw e at f in
-      g.rest ∙ next h ∙ rw k
+  pub stopped : {p : ℕ} (after : List ℕ) → i < count → FiledAs s tab i at (Err p) after → many (new_text s) count [] start ≡ bad p
+  stopped {p} after h f = let k : filed_at s (names_in s tab i) at ≡ bad p = f in g.rest ∙ next h ∙ rw k
 
   more : {n : ℕ} {after : List ℕ} → i < count → Entered s tab i at n after → Reading s before after count start (i + 1) n
   more {n} {after} h k = record {
@@ -88,8 +81,8 @@ module _ (s before tab : List ℕ) (count start i at : ℕ) (g : Reading s befor
     sizes = sizes_snoc s g.seen k.entry g.sizes (text_sized s (names_in s tab i) at k.read).0;
   }
 
-  pub further : (r : Filed) {n : ℕ} {after : List ℕ} → i < count → r ≡ Next n → FiledAs s tab i at r after → Reading s before after count start (i + 1) n
-  further r h e f = more h (rw e at f)
+  pub further : {n : ℕ} {after : List ℕ} → i < count → FiledAs s tab i at (Ok n) after → Reading s before after count start (i + 1) n
+  further h f = more h f
 
   pub all_read : count ≤ i → many (new_text s) count [] start ≡ good g.seen at
   unfolding many
@@ -101,48 +94,45 @@ module _ (s before tab : List ℕ) (count start i at : ℕ) (g : Reading s befor
 -- ---- the ways out
 
 -- a wrong bundle leaves nothing to be held
-refused : (s after : List ℕ) {p : ℕ} → bundle_at s ≡ bad p → OpenedAs s (Wrong p) after
+refused : (s after : List ℕ) {p : ℕ} → bundle_at s ≡ bad p → OpenedAs s (Err p) after
 refused s after {p} e = record { answer = sym (ap counted e); held = λ n q. let z : ◌≡◌ {A = ℕ} 0 1 = cc in absurd (omega arith) }
 
-pub too_long : (s tab : List ℕ) → most_bytes < length s → OpenedAs s (Wrong 0) tab
+pub too_long : (s tab : List ℕ) → most_bytes < length s → OpenedAs s (Err 0) tab
 unfolding bundle_at
 too_long s tab h = refused s tab (rw (lt-ltb _ _ h))
 
-module _ (s : List ℕ) (short : length s ≤ most_bytes) (q : Number) where
-  pub no_count : (tab : List ℕ) {p : ℕ} → q ≡ WrongNumber p → number_seen q ≡ number_at s 0 → OpenedAs s (Wrong 0) tab
+module _ (s : List ℕ) (short : length s ≤ most_bytes) where
+  pub no_count : (tab : List ℕ) {p : ℕ} → bad p ≡ number_at s 0 → OpenedAs s (Err p) tab
   unfolding bundle_at
-  no_count tab {p} e f = let g : number_at s 0 ≡ bad p = sym f ∙ ap number_seen e in refused s tab (rw (le-ltb _ _ short, g, number_place s 0 g))
+  no_count tab e = refused s tab (rw (le-ltb _ _ short, ← e) refl)
 
-  module _ {count : ℕ} {c : ImageCursor} (e : q ≡ Value count c) (f : number_seen q ≡ number_at s 0) where
-    number : number_at s 0 ≡ good count c.at
-    number = sym f ∙ ap number_seen e
+  module _ {count start : ℕ} (e : good count start ≡ number_at s 0) where
+    pub start_in : start ≤ length s
+    start_in = (number_end s 0 (sym e)).1
 
-    pub start_in : c.at ≤ length s
-    start_in = (number_end s 0 number).1
-
-    pub too_many : (tab : List ℕ) → most_texts < count → OpenedAs s (Wrong 0) tab
+    pub too_many : (tab : List ℕ) → most_texts < count → OpenedAs s (Err 0) tab
     unfolding bundle_at texts_at
-    too_many tab h = refused s tab (rw (le-ltb _ _ short, number, lt-ltb _ _ h))
+    too_many tab h = refused s tab (rw (le-ltb _ _ short, ← e) (rw (lt-ltb _ _ h)))
 
     module _ (few : count ≤ most_texts) where
-      whole : bundle_at s ≡ bind (many (new_text s) count [] c.at) (ended s)
+      whole : bundle_at s ≡ bind (many (new_text s) count [] start) (ended s)
       unfolding bundle_at texts_at
-      whole = rw (le-ltb _ _ short, number, le-ltb _ _ few)
+      whole = rw (le-ltb _ _ short, ← e) (rw (le-ltb _ _ few))
 
-      module _ {before tab : List ℕ} {i at : ℕ} (g : Reading s before tab count c.at i at) where
-        pub wrong_text : (r : Filed) {p : ℕ} {after : List ℕ} → i < count → r ≡ WrongText p → FiledAs s tab i at r after → OpenedAs s (Wrong p) after
-        wrong_text r {p} {after} h k l = refused s after (whole ∙ rw (stopped s before tab count c.at i at g r after h k l))
+      module _ {before tab : List ℕ} {i at : ℕ} (g : Reading s before tab count start i at) where
+        pub wrong_text : {p : ℕ} {after : List ℕ} → i < count → FiledAs s tab i at (Err p) after → OpenedAs s (Err p) after
+        wrong_text {p} {after} h l = refused s after (whole ∙ rw (stopped s before tab count start i at g after h l))
 
-        pub extra : count ≤ i → at < length s → OpenedAs s (Wrong at) tab
-        extra h l = refused s tab (whole ∙ rw (all_read s before tab count c.at i at g h, lt-ltb _ _ l))
+        pub extra : count ≤ i → at < length s → OpenedAs s (Err at) tab
+        extra h l = refused s tab (whole ∙ rw (all_read s before tab count start i at g h, lt-ltb _ _ l))
 
-        pub opened : count ≤ i → length s ≤ at → OpenedAs s (Texts count) tab
+        pub opened : count ≤ i → length s ≤ at → OpenedAs s (Ok count) tab
         opened h l =
             let z : at ≡ length s = omega (arith, g.within) in
             let j : i ≡ count = omega (arith, g.room) in
-            let b : bundle_at s ≡ good g.seen (length s) = whole ∙ rw (all_read s before tab count c.at i at g h, le-ltb _ _ l) (ap (good g.seen) z) in
+            let b : bundle_at s ≡ good g.seen (length s) = whole ∙ rw (all_read s before tab count start i at g h, le-ltb _ _ l) (ap (good g.seen) z) in
             record {
-              answer = sym (ap counted b ∙ ap (λ (k : ℕ). good k (length s)) (all_counted s before tab count c.at i at g h));
+              answer = sym (ap counted b ∙ ap (λ (k : ℕ). good k (length s)) (all_counted s before tab count start i at g h));
               held = λ n q. let k : i ≡ n = j ∙ (cc) in record {
                 texts = g.seen;
                 read = b;

@@ -1,5 +1,6 @@
 -- A bundle that was read, by its parts; and bytes that are no name are under none of its texts.
 -- Assumes nothing.
+use Rattle.std.specs.Prelude.{None, Ok}
 use mathlib.Core.Path.{◌≡◌, refl, ap, ◌∙◌}
 use mathlib.Core.List.{List, [], ◌∷◌, ◌++◌}
 use mathlib.Core.Bool.{Bool, true, false, cond}
@@ -14,8 +15,6 @@ use Rattle.library_form.specs.Form.{Ans, good, bad, bind, number_at, many}
 use Rattle.library_form.specs.Writer.{NameBytes}
 use Rattle.library_bundle.specs.Bundle.{most_bytes, most_texts, Text, filed_at, words, new_text, ended, texts_at, bundle_at, place_of, looked, look_in, look_up}
 use Rattle.library_bundle.specs.Reading.{Sizes}
-use Rattle.library_bundle.specs.declared.TextPlace.TheVariants.{Nothing}
-use Rattle.library_form.specs.declared.LookUp.TheVariants.{Nothing as Missing}
 use Rattle.library_bundle.proofs.Entries.{text_sized}
 use Rattle.library_bundle.proofs.Opening.{sizes_snoc}
 
@@ -71,14 +70,14 @@ texts_sized s (suc k) at seen {es} {n} z h = go (filed_at s (words seen) at) ref
     go (good e m) p ih q = ih e m (sizes_snoc s seen e z (text_sized s (words seen) at p).0) q
     go (bad y) p ih q = let x : ◌≡◌ {A = ℕ} 0 1 = cc in absurd (omega arith)
 
-no_place : (s t : List ℕ) (es : List Text) → (NameBytes t → ⊥) → Sizes s es → place_of t es ≡ Nothing
+no_place : (s t : List ℕ) (es : List Text) → (NameBytes t → ⊥) → Sizes s es → place_of t es ≡ None
 no_place s t [] h z = refl
 no_place s t (e ∷ es) h z =
     let d : same e.word.text t ≡ false = same_no e.word.text t (λ p. h (rw p at z.0.named)) in
     rw d (no_place s t es h z.1)
 
 -- in a good bundle there is no text under them
-pub not_a_name : (s t : List ℕ) {es : List Text} {n : ℕ} → bundle_at s ≡ good es n → (NameBytes t → ⊥) → look_up s t ≡ Missing
+pub not_a_name : (s t : List ℕ) {es : List Text} {n : ℕ} → bundle_at s ≡ good es n → (NameBytes t → ⊥) → look_up s t ≡ (Ok None)
 unfolding look_up
 not_a_name s t {es} {n} e h =
     let o = bundle_parted s e in

@@ -3,13 +3,9 @@
 -- wrong number or name in reading order, or the first extra byte; a repeated name is wrong where it comes again, a text cut short at its length;
 -- 0 for over-length.
 -- Assumes nothing.
-use Rattle.std.specs.Prelude.{ℕ, ◌+◌, ◌-◌, cond, List, [], map, length, take, drop, ltb}
+use Rattle.std.specs.Prelude.{ℕ, ◌+◌, ◌-◌, cond, List, [], map, length, take, drop, ltb, Some, None, Err, Ok, Option, Result}
 use Rattle.library_form.specs.Form.{Ans, good, bad, bind, PlacedName, number_at, many}
 use Rattle.library_index.specs.Names.{first_by, new_name}
-use Rattle.library_bundle.specs.declared.TextPlace.{TextPlace}
-use Rattle.library_bundle.specs.declared.TextPlace.TheVariants.{At, Nothing}
-use Rattle.library_form.specs.declared.LookUp.{LookUp}
-use Rattle.library_form.specs.declared.LookUp.TheVariants.{Broken, Nothing as Missing, At as Stands}
 
 -- the refusal of a bundle that breaks its form
 abbrev pub bundle_broken : ℕ
@@ -61,25 +57,25 @@ bundle_at s = cond (ltb most_bytes (length s)) (bad 0) (bind (number_at s 0) (te
 -- ---- the look-up
 
 -- where the first text with the name t stands
-abbrev pub place_of : List ℕ → List Text → TextPlace
-place_of t es = first_by (λ (e : Text). e.word) (λ (e : Text). At e.from e.size) t es Nothing
+abbrev pub place_of : List ℕ → List Text → Option (ℕ × ℕ)
+place_of t es = first_by (λ (e : Text). e.word) (λ (e : Text). Some (e.from, e.size)) t es None
 
-abbrev pub looked : TextPlace → LookUp
-looked (At from size) = Stands from size
-looked Nothing = Missing
+abbrev pub looked : Option (ℕ × ℕ) → Result (Option (ℕ × ℕ)) ℕ
+looked (Some (from, size)) = Ok (Some (from, size))
+looked None = (Ok None)
 
 -- which it is: 21 at a place, none, or a place and a length
-abbrev pub look_in : List ℕ → Ans (List Text) → LookUp
+abbrev pub look_in : List ℕ → Ans (List Text) → Result (Option (ℕ × ℕ)) ℕ
 look_in t (good es n) = looked (place_of t es)
-look_in t (bad p) = Broken p
+look_in t (bad p) = Err p
 
-unfoldable pub look_up : List ℕ → List ℕ → LookUp
+unfoldable pub look_up : List ℕ → List ℕ → Result (Option (ℕ × ℕ)) ℕ
 look_up s t = look_in t (bundle_at s)
 
-abbrev pub part_of : List ℕ → LookUp → List ℕ
-part_of s (Broken p) = []
-part_of s Missing = []
-part_of s (Stands from size) = take size (drop from s)
+abbrev pub part_of : List ℕ → Result (Option (ℕ × ℕ)) ℕ → List ℕ
+part_of s (Err p) = []
+part_of s (Ok None) = []
+part_of s (Ok (Some (from, size))) = take size (drop from s)
 
 -- the bytes under the name t
 unfoldable pub text_under : List ℕ → List ℕ → List ℕ

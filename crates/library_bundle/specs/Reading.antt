@@ -1,15 +1,11 @@
 -- The text under a name is handed back as the caller's own bytes, uncopied. For it a bundle is read once into the index: the table holds the
 -- names in their order, and behind each name stands the length of its text.
 -- Assumes nothing.
-use Rattle.std.specs.Prelude.{ℕ, max, ◌+◌, ◌≤◌, ◌≡◌, List, [], ◌∷◌, ◌++◌, length, get_or}
+use Rattle.std.specs.Prelude.{ℕ, max, ◌+◌, ◌≤◌, ◌≡◌, List, [], ◌∷◌, ◌++◌, length, get_or, Ok, Err, Result}
 use Rattle.library_form.specs.Form.{Ans, good, bad, PlacedName, number_at}
 use Rattle.library_form.specs.Writer.{NameBytes}
 use Rattle.library_index.specs.Names.{row_of, row_words, name_in_row, names_in, Indexed}
 use Rattle.library_bundle.specs.Bundle.{Text, filed_at, words, bundle_at}
-use Rattle.library_bundle.specs.declared.Filed.{Filed}
-use Rattle.library_bundle.specs.declared.Filed.TheVariants.{Next, Wrong as WrongText}
-use Rattle.library_bundle.specs.declared.Opened.{Opened}
-use Rattle.library_bundle.specs.declared.Opened.TheVariants.{Texts, Wrong}
 
 -- how many words the table has at the least
 abbrev pub table_words : ℕ
@@ -20,9 +16,9 @@ abbrev pub counted : Ans (List Text) → Ans ℕ
 counted (good es n) = good (length es) n
 counted (bad p) = bad p
 
-abbrev pub opened_seen : List ℕ → Opened → Ans ℕ
-opened_seen s (Texts k) = good k (length s)
-opened_seen s (Wrong p) = bad p
+abbrev pub opened_seen : List ℕ → Result ℕ ℕ → Ans ℕ
+opened_seen s (Ok k) = good k (length s)
+opened_seen s (Err p) = bad p
 
 -- what holds of a text that was read: its name is one, its length stands behind the name, and it lies within the bytes
 pub record Sized (s : List ℕ) (e : Text) : Type 0 where
@@ -43,9 +39,9 @@ pub record Entered (s tab : List ℕ) (i at n : ℕ) (after : List ℕ) : Type 0
   pub indexed : Indexed s after (i + 1)
   pub names : names_in s after (i + 1) ≡ names_in s tab i ++ (entry.word ∷ [])
 
-abbrev pub FiledAs : List ℕ → List ℕ → (i at : ℕ) → Filed → List ℕ → Type 0
-FiledAs s tab i at (Next n) after = Entered s tab i at n after
-FiledAs s tab i at (WrongText p) after = filed_at s (names_in s tab i) at ≡ bad p
+abbrev pub FiledAs : List ℕ → List ℕ → (i at : ℕ) → Result ℕ ℕ → List ℕ → Type 0
+FiledAs s tab i at (Ok n) after = Entered s tab i at n after
+FiledAs s tab i at (Err p) after = filed_at s (names_in s tab i) at ≡ bad p
 
 -- a table that holds the names of the bundle in their order
 pub record Held (s tab : List ℕ) (n : ℕ) : Type 0 where
@@ -56,9 +52,9 @@ pub record Held (s tab : List ℕ) (n : ℕ) : Type 0 where
   pub sizes : Sizes s texts
 
 -- the number of texts or the wrong place; and in a bundle that is good, the table
-pub record OpenedAs (s : List ℕ) (r : Opened) (after : List ℕ) : Type 0 where
+pub record OpenedAs (s : List ℕ) (r : Result ℕ ℕ) (after : List ℕ) : Type 0 where
   pub answer : opened_seen s r ≡ counted (bundle_at s)
-  pub held : (n : ℕ) → r ≡ Texts n → Held s after n
+  pub held : (n : ℕ) → r ≡ Ok n → Held s after n
 
 -- ---- the longest text of a bundle, read or not; one that breaks its form has none
 

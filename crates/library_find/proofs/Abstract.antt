@@ -1,6 +1,7 @@
 -- The issue's law without code: on a well-formed image the search over the bytes is the search in the abstract library. Each part of the image is
 -- passed over the same bytes that it is read from.
 -- Assumes nothing.
+use Rattle.std.specs.Prelude.{Ok, None, Some, Result, Option}
 use mathlib.Core.Path.{◌≡◌, refl, sym, ap, ap₂, ◌∙◌}
 use mathlib.Core.List.{List, [], ◌∷◌, map}
 use mathlib.Core.Bool.{Bool, true, false, cond}
@@ -12,34 +13,32 @@ use Rattle.library_form.specs.Form.{good, PlacedName, number_at, name_at}
 use Rattle.library_form.proofs.Bounds.{name_end}
 use Rattle.library_index.specs.Names.{new_name}
 use Rattle.library_image.specs.Library.{Module, ImportOnly, ModuleSet, Library, modules_of, submodules_of, import_only_of}
-use Rattle.library_image.specs.Image.{most_sets, most_modules, most_names, least_revisions, most_revisions, counted, any_word, module_at, revision_at, import_only_at}
-use Rattle.library_image.specs.Image.{set_at, library_at, image_at}
+use Rattle.library_image.specs.Image.{most_sets, most_modules, most_names, least_revisions, most_revisions, counted, any_word, module_at, revision_at}
+use Rattle.library_image.specs.Image.{import_only_at, set_at, library_at, image_at}
 use Rattle.library_image.proofs.Steps.{on_good, bind_good, carry, count_good}
 use Rattle.library_image.proofs.ImageLaws.{accepted}
 use Rattle.library_lists.specs.Lists.{done, list_at, rest_at}
 use Rattle.library_index.proofs.Taking.{new_read}
 use Rattle.library_find.specs.Find.{first_module, first_submodule, first_import_only}
-use Rattle.library_search.specs.Search.{and_then, past, found_by, submodule_count, lists_behind, hit_at, entry_tried, entries_tried, set_tried, sets_tried, word_tried}
-use Rattle.library_search.specs.Search.{submodules_tried, set_submodules_tried, all_submodules_tried}
-use Rattle.library_search.specs.declared.Tried.{Tried}
-use Rattle.library_search.specs.declared.Tried.TheVariants.{Hit, Next}
-use Rattle.library_form.specs.declared.LookUp.{LookUp}
-use Rattle.library_form.specs.declared.LookUp.TheVariants.{Nothing, At}
+use Rattle.library_search.specs.Search.{and_then, past, found_by, submodule_count, lists_behind, hit_at, entry_tried, entries_tried, set_tried, sets_tried}
+use Rattle.library_search.specs.Search.{word_tried, submodules_tried, set_submodules_tried, all_submodules_tried}
+use Rattle.library_search.specs.Search.{Tried}
+use Rattle.std.proofs.Common.{Continue, Break}
 use Rattle.library_find.proofs.Lists.{or_else, first_hit, or_nothing, none_hit, hit_append, look_for, hit_by, HitIn, Fine, or_fine, as_tried, found_tried}
 use Rattle.library_find.proofs.Lists.{and_then_lem, Passed, Passing, listed, list_tried_lem, on_read}
 
 -- ---- what is looked for
 
-abbrev word_look : List ℕ → PlacedName → LookUp
+abbrev word_look : List ℕ → PlacedName → Result (Option (ℕ × ℕ)) ℕ
 word_look t = look_for (λ (w : PlacedName). w) (λ w. w.place) (λ w. 0) t
 
-abbrev module_look : List ℕ → Module → LookUp
+abbrev module_look : List ℕ → Module → Result (Option (ℕ × ℕ)) ℕ
 module_look t = look_for (λ (m : Module). m.name) (λ m. m.name.place) (λ m. 0) t
 
-abbrev import_look : List ℕ → ImportOnly → LookUp
+abbrev import_look : List ℕ → ImportOnly → Result (Option (ℕ × ℕ)) ℕ
 import_look t = look_for (λ (m : ImportOnly). m.name) (λ m. m.name.place) (λ m. length m.revisions) t
 
-abbrev submodule_look : List ℕ → Module → LookUp
+abbrev submodule_look : List ℕ → Module → Result (Option (ℕ × ℕ)) ℕ
 submodule_look t m = first_hit (word_look t) m.submodules
 
 -- ---- an entry that was read, by its parts
@@ -94,7 +93,7 @@ word_in s at r e h =
     let q = name_end s at e in
     record { later = omega (arith, q.later); inside = omega (arith, q.behind, q.inside, q.some); few = h }
 
-hit_fine : (s : List ℕ) (b : Bool) (p r : ℕ) → HitIn s p r → Fine s (cond b (At p r) Nothing)
+hit_fine : (s : List ℕ) (b : Bool) (p r : ℕ) → HitIn s p r → Fine s (cond b (Ok (Some (p, r))) (Ok None))
 hit_fine s true p r h = h
 hit_fine s false p r h = tt
 
@@ -106,31 +105,32 @@ word_passed s t seen at w n e =
       fine = hit_fine s (same w.text t) w.place 0 (word_in s at 0 e (omega arith));
     }
   where
-    go : (b : Bool) → cond b (Hit w.place 0) (Next n) ≡ as_tried (cond b (At w.place 0) Nothing) n
+    go : (b : Bool) → cond b (Break (Some (w.place, 0))) (Continue n) ≡ as_tried (cond b (Ok (Some (w.place, 0))) (Ok None)) n
     go true = refl
     go false = refl
 
 -- ---- entries
 
 -- one that is looked through or passed
-abbrev wanted_look : {A : Type 0} → (wanted : Bool) → (A → LookUp) → A → LookUp
-wanted_look wanted look a = cond wanted (look a) Nothing
+abbrev wanted_look : {A : Type 0} → (wanted : Bool) → (A → Result (Option (ℕ × ℕ)) ℕ) → A → Result (Option (ℕ × ℕ)) ℕ
+wanted_look wanted look a = cond wanted (look a) (Ok None)
 
 module _ (s t : List ℕ) (import_only wanted : Bool) where
   -- what stands behind the name of an entry is passed; a hit has r revisions
   entry_passed : (at r : ℕ) {w : PlacedName} {n₁ n : ℕ} → name_at s at ≡ good w n₁ → rest_at import_only s n₁ ≡ good tt n
-      → hit_at s import_only w.place n₁ ≡ Hit w.place r
-      → r ≤ most_revisions → Passed s (entry_tried s t import_only wanted at) (cond wanted (cond (same w.text t) (At w.place r) Nothing) Nothing) n
+      → hit_at s import_only w.place n₁ ≡ Break (Some (w.place, r))
+      → r ≤ most_revisions
+      → Passed s (entry_tried s t import_only wanted at) (cond wanted (cond (same w.text t) (Ok (Some (w.place, r))) (Ok None)) (Ok None)) n
   unfolding entry_tried
   entry_passed at r {w} {n₁} {n} e f g h = record { tried = on_read _ _ e ∙ go wanted (same w.text t); fine = fine wanted }
     where
       go : (u b : Bool) → cond u (cond b (hit_at s import_only w.place n₁) (past (rest_at import_only s n₁))) (past (rest_at import_only s n₁))
-          ≡ as_tried (cond u (cond b (At w.place r) Nothing) Nothing) n
+          ≡ as_tried (cond u (cond b (Ok (Some (w.place, r))) (Ok None)) (Ok None)) n
       go true true = g
       go true false = ap past f
       go false b = ap past f
 
-      fine : (u : Bool) → Fine s (cond u (cond (same w.text t) (At w.place r) Nothing) Nothing)
+      fine : (u : Bool) → Fine s (cond u (cond (same w.text t) (Ok (Some (w.place, r))) (Ok None)) (Ok None))
       fine true = hit_fine s (same w.text t) w.place r (word_in s at r e h)
       fine false = tt
 
@@ -150,9 +150,10 @@ pub record Revisions (s : List ℕ) (at : ℕ) (l : List (List PlacedName)) : Ty
   pub count : number_at s at ≡ good (length l) behind
   pub few : length l ≤ most_revisions
 
-revisions_read_lem : (s : List ℕ) (at : ℕ) {l : List (List PlacedName)} {n : ℕ} → counted least_revisions most_revisions revision_at s at ≡ good l n → Revisions s at l
+revisions_read_lem : (s : List ℕ) (at : ℕ) {l : List (List PlacedName)} {n : ℕ} → counted least_revisions most_revisions revision_at s at ≡ good l n
+    → Revisions s at l
 revisions_read_lem s at e =
-    let i = listed revision_at s (λ n. past (revision_at s [] n)) (λ r. Nothing)
+    let i = listed revision_at s (λ n. past (revision_at s [] n)) (λ r. (Ok None))
     (λ seen at a n h. record { tried = ap past h; fine = tt }) least_revisions most_revisions at e in
     let c = count_good s least_revisions most_revisions at i.count in
     record { behind = i.from; count = c.number; few = c.few }
@@ -161,7 +162,7 @@ import_rest : (s : List ℕ) (at : ℕ) {m : ImportOnly} {n : ℕ} → (o : Impo
 unfolding rest_at
 import_rest s at o = ap done o.revisions
 
-import_hit : (s : List ℕ) (place at : ℕ) {l : List (List PlacedName)} → Revisions s at l → hit_at s true place at ≡ Hit place (length l)
+import_hit : (s : List ℕ) (place at : ℕ) {l : List (List PlacedName)} → Revisions s at l → hit_at s true place at ≡ Break (Some (place, length l))
 unfolding hit_at
 import_hit s place at r = on_read _ _ r.count
 
@@ -184,7 +185,7 @@ module_submodules s t seen at m n e =
       tried =
           on_read _ _ c
           ∙ ap (λ r. and_then r (λ m. past (lists_behind s m))) i.passed.tried
-          ∙ and_then_lem x Nothing o.n₂ n (λ m. past (lists_behind s m)) (ap past b)
+          ∙ and_then_lem x (Ok None) o.n₂ n (λ m. past (lists_behind s m)) (ap past b)
           ∙ ap (λ y. as_tried y n) (or_nothing x);
       fine = i.passed.fine;
     }
@@ -192,16 +193,17 @@ module_submodules s t seen at m n e =
 -- ---- sets
 
 -- two lists, one behind the other
-two_lists : (s : List ℕ) {r : Tried} (k : ℕ → Tried) {x y : LookUp} {m n : ℕ} → Passed s r x m → Passed s (k m) y n → Passed s (and_then r k) (or_else x y) n
+two_lists : (s : List ℕ) {r : Tried} (k : ℕ → Tried) {x y : Result (Option (ℕ × ℕ)) ℕ} {m n : ℕ} → Passed s r x m → Passed s (k m) y n
+    → Passed s (and_then r k) (or_else x y) n
 two_lists s k {x} {y} {m} {n} p q =
     record { tried = ap (λ r. and_then r k) p.tried ∙ and_then_lem x y m n k q.tried; fine = or_fine s x y p.fine q.fine }
 
 -- what is looked for in a set
-abbrev set_look : (modules import_only : Bool) → List ℕ → ModuleSet → LookUp
+abbrev set_look : (modules import_only : Bool) → List ℕ → ModuleSet → Result (Option (ℕ × ℕ)) ℕ
 set_look modules import_only t m = or_else (first_hit (wanted_look modules (module_look t)) m.modules)
     (first_hit (wanted_look import_only (import_look t)) m.import_only)
 
-abbrev set_submodules : List ℕ → ModuleSet → LookUp
+abbrev set_submodules : List ℕ → ModuleSet → Result (Option (ℕ × ℕ)) ℕ
 set_submodules t m = or_else (first_hit (submodule_look t) m.modules) (first_hit (wanted_look false (import_look t)) m.import_only)
 
 module _ (s t : List ℕ) where
@@ -241,7 +243,8 @@ sets_passed : (s t : List ℕ) (modules import_only : Bool) {l : Library} {n : �
     → Passed s (sets_tried s t modules import_only) (first_hit (set_look modules import_only t) l) n
 unfolding sets_tried
 sets_passed s t modules import_only e =
-    list_tried_lem set_at s (set_tried s t modules import_only) (set_look modules import_only t) (set_passed s t modules import_only) most_sets 0 (library_read s e)
+    list_tried_lem set_at s (set_tried s t modules import_only) (set_look modules import_only t) (set_passed s t modules import_only) most_sets 0
+    (library_read s e)
 
 submodules_passed : (s t : List ℕ) {l : Library} {n : ℕ} → image_at s ≡ good l n → Passed s (all_submodules_tried s t) (first_hit (set_submodules t) l) n
 unfolding all_submodules_tried
@@ -280,11 +283,11 @@ all_submodules_hit t (m ∷ l) =
 
 -- ---- what the searches come to, and that it stands within the image
 
-pub record Comes (s : List ℕ) (r : Tried) (x : LookUp) : Type 0 where
+pub record Comes (s : List ℕ) (r : Tried) (x : Result (Option (ℕ × ℕ)) ℕ) : Type 0 where
   pub found : found_by r ≡ x
   pub fine : Fine s x
 
-comes : (s : List ℕ) {r : Tried} {x y : LookUp} {n : ℕ} → Passed s r x n → x ≡ y → Comes s r y
+comes : (s : List ℕ) {r : Tried} {x y : Result (Option (ℕ × ℕ)) ℕ} {n : ℕ} → Passed s r x n → x ≡ y → Comes s r y
 comes s {r} {x} {y} {n} p e = record { found = ap found_by p.tried ∙ found_tried s x n p.fine ∙ e; fine = rw (← e) p.fine }
 
 module _ (s t : List ℕ) {l : Library} {n : ℕ} (e : image_at s ≡ good l n) where

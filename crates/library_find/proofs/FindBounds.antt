@@ -1,5 +1,6 @@
 -- What a find tells stands within the image, and no image is read past 65,536 bytes: so each place is at most that, and revisions are at most 8.
 -- Assumes nothing.
+use Rattle.std.specs.Prelude.{Err, Ok, Some, Result, Option}
 use mathlib.Core.Path.{◌≡◌, refl, sym, ◌∙◌, subst}
 use mathlib.Core.List.{List}
 use Prim.Native.Nat.{ℕ, ◌≤◌}
@@ -14,15 +15,13 @@ use Rattle.library_image.specs.Image.{most_image, image_at}
 use Rattle.library_image.proofs.ImageLaws.{image_long, accepted}
 use Rattle.library_image.proofs.ImageBounds.{image_place}
 use Rattle.library_find.specs.Find.{find_in, find_module, find_submodule, find_import_module}
-use Rattle.library_form.specs.declared.LookUp.{LookUp}
-use Rattle.library_form.specs.declared.LookUp.TheVariants.{Broken, At}
 use Rattle.library_find.proofs.Lists.{HitIn, Fine, on_read}
 use Rattle.library_find.proofs.Abstract.{module_comes, import_comes, submodule_comes}
 
 -- what a find of an image answers
-pub record PlacesIn (s : List ℕ) (x : LookUp) : Type 0 where
-  pub broken : (p : ℕ) → x ≡ Broken p → (p ≤ length s) × (p ≤ most_image)
-  pub hit : (p r : ℕ) → x ≡ At p r → HitIn s p r × (p ≤ most_image)
+pub record PlacesIn (s : List ℕ) (x : Result (Option (ℕ × ℕ)) ℕ) : Type 0 where
+  pub broken : (p : ℕ) → x ≡ Err p → (p ≤ length s) × (p ≤ most_image)
+  pub hit : (p r : ℕ) → x ≡ Ok (Some (p, r)) → HitIn s p r × (p ≤ most_image)
 
 -- an image is wrong within its bytes or at their end; one that is too long at 0
 wrong_low : (s : List ℕ) {p : ℕ} → image_at s ≡ bad p → p ≤ most_image
@@ -31,7 +30,7 @@ wrong_low s {p} e =
     (λ t. let z : ◌≡◌ {A = Ans Library} (bad p) (bad 0) = sym e ∙ image_long s (ltb-true most_image (length s) t) in let y : p ≡ 0 = cc in omega arith)
     (λ u. omega (arith, ltb-false most_image (length s) u, image_place s e))
 
-places_in : (f : Library → LookUp) (s : List ℕ) → ((l : Library) (n : ℕ) → image_at s ≡ good l n → Fine s (f l)) → PlacesIn s (find_in f s)
+places_in : (f : Library → Result (Option (ℕ × ℕ)) ℕ) (s : List ℕ) → ((l : Library) (n : ℕ) → image_at s ≡ good l n → Fine s (f l)) → PlacesIn s (find_in f s)
 places_in f s g = go (image_at s) refl
   where
     go : (a : Ans Library) → image_at s ≡ a → PlacesIn s (find_in f s)
@@ -43,10 +42,10 @@ places_in f s g = go (image_at s) refl
           hit = λ p r e. let q : HitIn s p r = subst (Fine s) (sym x ∙ e) (g l n h) in (q, omega (arith, q.inside, short));
         }
     go (bad q) h =
-        let x : find_in f s ≡ Broken q = rw h in
+        let x : find_in f s ≡ Err q = rw h in
         record {
-          broken = λ p e. let z : Broken q ≡ Broken p = sym x ∙ e in let y : q ≡ p = cc in (omega (arith, image_place s h), omega (arith, wrong_low s h));
-          hit = λ p r e. let z : Broken q ≡ At p r = sym x ∙ e in let y : ◌≡◌ {A = ℕ} 0 1 = cc in absurd (omega arith);
+          broken = λ p e. let z : Err q ≡ Err p = sym x ∙ e in let y : q ≡ p = cc in (omega (arith, image_place s h), omega (arith, wrong_low s h));
+          hit = λ p r e. let z : Err q ≡ Ok (Some (p, r)) = sym x ∙ e in let y : ◌≡◌ {A = ℕ} 0 1 = cc in absurd (omega arith);
         }
 
 module _ (s t : List ℕ) where

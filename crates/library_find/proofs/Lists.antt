@@ -1,6 +1,7 @@
 -- A search through the bytes of a list that is read is the search for the first hit in what was read: each thing of the list is passed over the same
 -- bytes that it was read from.
 -- Assumes nothing.
+use Rattle.std.specs.Prelude.{Err, Ok, None, Some, Result, Option}
 use mathlib.Core.Path.{◌≡◌, refl, sym, ap, ◌∙◌}
 use mathlib.Core.List.{List, [], ◌∷◌, ◌++◌, append_assoc, append-nil}
 use mathlib.Core.Bool.{Bool, true, false, cond}
@@ -12,54 +13,51 @@ use Rattle.library_index.specs.Names.{first_by}
 use Rattle.library_image.specs.Image.{most_revisions, Reader, count_at, counted}
 use Rattle.library_image.proofs.Steps.{on_good}
 use Rattle.library_lists.specs.Lists.{on_ans}
-use Rattle.library_search.specs.Search.{and_then, tries, list_tried, found_by}
-use Rattle.library_search.specs.declared.Tried.{Tried}
-use Rattle.library_search.specs.declared.Tried.TheVariants.{Hit, Next, Bad}
-use Rattle.library_form.specs.declared.LookUp.{LookUp}
-use Rattle.library_form.specs.declared.LookUp.TheVariants.{Broken, Nothing, At}
+use Rattle.library_search.specs.Search.{Tried, and_then, tries, list_tried, found_by}
+use Rattle.std.proofs.Common.{Continue, Break}
 
 -- ---- what is found in a list
 
 -- the first that is found
-abbrev pub or_else : LookUp → LookUp → LookUp
-or_else (At p r) d = At p r
-or_else Nothing d = d
-or_else (Broken p) d = Broken p
+abbrev pub or_else : Result (Option (ℕ × ℕ)) ℕ → Result (Option (ℕ × ℕ)) ℕ → Result (Option (ℕ × ℕ)) ℕ
+or_else (Ok (Some (p, r))) d = Ok (Some (p, r))
+or_else (Ok None) d = d
+or_else (Err p) d = Err p
 
-abbrev pub first_hit : {A : Type 0} → (A → LookUp) → List A → LookUp
-first_hit look [] = Nothing
+abbrev pub first_hit : {A : Type 0} → (A → Result (Option (ℕ × ℕ)) ℕ) → List A → Result (Option (ℕ × ℕ)) ℕ
+first_hit look [] = (Ok None)
 first_hit look (a ∷ l) = or_else (look a) (first_hit look l)
 
-pub or_nothing : (x : LookUp) → or_else x Nothing ≡ x
-or_nothing (At p r) = refl
-or_nothing Nothing = refl
-or_nothing (Broken p) = refl
+pub or_nothing : (x : Result (Option (ℕ × ℕ)) ℕ) → or_else x (Ok None) ≡ x
+or_nothing (Ok (Some (p, r))) = refl
+or_nothing (Ok None) = refl
+or_nothing (Err p) = refl
 
-or_assoc : (x y z : LookUp) → or_else (or_else x y) z ≡ or_else x (or_else y z)
-or_assoc (At p r) y z = refl
-or_assoc Nothing y z = refl
-or_assoc (Broken p) y z = refl
+or_assoc : (x y z : Result (Option (ℕ × ℕ)) ℕ) → or_else (or_else x y) z ≡ or_else x (or_else y z)
+or_assoc (Ok (Some (p, r))) y z = refl
+or_assoc (Ok None) y z = refl
+or_assoc (Err p) y z = refl
 
-pub none_hit : {A : Type 0} (l : List A) → first_hit (λ (a : A). Nothing) l ≡ Nothing
+pub none_hit : {A : Type 0} (l : List A) → first_hit (λ (a : A). (Ok None)) l ≡ (Ok None)
 none_hit [] = refl
 none_hit (a ∷ l) = none_hit l
 
-pub hit_append : {A : Type 0} (look : A → LookUp) (l k : List A) → first_hit look (l ++ k) ≡ or_else (first_hit look l) (first_hit look k)
+pub hit_append : {A : Type 0} (look : A → Result (Option (ℕ × ℕ)) ℕ) (l k : List A) → first_hit look (l ++ k) ≡ or_else (first_hit look l) (first_hit look k)
 hit_append look [] k = refl
 hit_append look (a ∷ l) k = ap (or_else (look a)) (hit_append look l k) ∙ sym (or_assoc (look a) (first_hit look l) (first_hit look k))
 
 -- one that has the bytes t
 module _ {A : Type 0} (name : A → PlacedName) (place revisions : A → ℕ) (t : List ℕ) where
-  abbrev pub look_for : A → LookUp
-  look_for a = cond (same (name a).text t) (At (place a) (revisions a)) Nothing
+  abbrev pub look_for : A → Result (Option (ℕ × ℕ)) ℕ
+  look_for a = cond (same (name a).text t) (Ok (Some ((place a), (revisions a)))) (Ok None)
 
-  pub hit_by : (l : List A) → first_hit look_for l ≡ first_by name (λ (a : A). At (place a) (revisions a)) t l Nothing
+  pub hit_by : (l : List A) → first_hit look_for l ≡ first_by name (λ (a : A). Ok (Some ((place a), (revisions a)))) t l (Ok None)
   hit_by [] = refl
   hit_by (a ∷ l) = go (same (name a).text t) (hit_by l)
     where
-      go : (b : Bool) → first_hit look_for l ≡ first_by name (λ (a : A). At (place a) (revisions a)) t l Nothing
-          → or_else (cond b (At (place a) (revisions a)) Nothing) (first_hit look_for l)
-          ≡ cond b (At (place a) (revisions a)) (first_by name (λ (a : A). At (place a) (revisions a)) t l Nothing)
+      go : (b : Bool) → first_hit look_for l ≡ first_by name (λ (a : A). Ok (Some ((place a), (revisions a)))) t l (Ok None)
+          → or_else (cond b (Ok (Some ((place a), (revisions a)))) (Ok None)) (first_hit look_for l)
+          ≡ cond b (Ok (Some ((place a), (revisions a)))) (first_by name (λ (a : A). Ok (Some ((place a), (revisions a)))) t l (Ok None))
       go true ih = refl
       go false ih = ih
 
@@ -70,39 +68,39 @@ pub record HitIn (s : List ℕ) (p r : ℕ) : Type 0 where
   pub inside : p < length s
   pub few : r ≤ most_revisions
 
-abbrev pub Fine : List ℕ → LookUp → Type 0
-Fine s (At p r) = HitIn s p r
-Fine s Nothing = Unit
-Fine s (Broken p) = ⊥
+abbrev pub Fine : List ℕ → Result (Option (ℕ × ℕ)) ℕ → Type 0
+Fine s (Ok (Some (p, r))) = HitIn s p r
+Fine s (Ok None) = Unit
+Fine s (Err p) = ⊥
 
-pub or_fine : (s : List ℕ) (x y : LookUp) → Fine s x → Fine s y → Fine s (or_else x y)
-or_fine s (At p r) y h k = h
-or_fine s Nothing y h k = k
-or_fine s (Broken p) y h k = h
+pub or_fine : (s : List ℕ) (x y : Result (Option (ℕ × ℕ)) ℕ) → Fine s x → Fine s y → Fine s (or_else x y)
+or_fine s (Ok (Some (p, r))) y h k = h
+or_fine s (Ok None) y h k = k
+or_fine s (Err p) y h k = h
 
 -- ---- a thing that was read and passed
 
-abbrev pub as_tried : LookUp → ℕ → Tried
-as_tried (At p r) n = Hit p r
-as_tried Nothing n = Next n
-as_tried (Broken p) n = Bad
+abbrev pub as_tried : Result (Option (ℕ × ℕ)) ℕ → ℕ → Tried
+as_tried (Ok (Some (p, r))) n = Break (Some (p, r))
+as_tried (Ok None) n = Continue n
+as_tried (Err p) n = Break None
 
-pub found_tried : (s : List ℕ) (x : LookUp) (n : ℕ) → Fine s x → found_by (as_tried x n) ≡ x
-found_tried s (At p r) n h = refl
-found_tried s Nothing n h = refl
-found_tried s (Broken p) n h = absurd h
+pub found_tried : (s : List ℕ) (x : Result (Option (ℕ × ℕ)) ℕ) (n : ℕ) → Fine s x → found_by (as_tried x n) ≡ x
+found_tried s (Ok (Some (p, r))) n h = refl
+found_tried s (Ok None) n h = refl
+found_tried s (Err p) n h = absurd h
 
-pub and_then_lem : (x y : LookUp) (m n : ℕ) (k : ℕ → Tried) → k m ≡ as_tried y n → and_then (as_tried x m) k ≡ as_tried (or_else x y) n
-and_then_lem (At p r) y m n k e = refl
-and_then_lem Nothing y m n k e = e
-and_then_lem (Broken p) y m n k e = refl
+pub and_then_lem : (x y : Result (Option (ℕ × ℕ)) ℕ) (m n : ℕ) (k : ℕ → Tried) → k m ≡ as_tried y n → and_then (as_tried x m) k ≡ as_tried (or_else x y) n
+and_then_lem (Ok (Some (p, r))) y m n k e = refl
+and_then_lem (Ok None) y m n k e = e
+and_then_lem (Err p) y m n k e = refl
 
 -- what the search for x through some bytes comes to that were read up to n
-pub record Passed (s : List ℕ) (r : Tried) (x : LookUp) (n : ℕ) : Type 0 where
+pub record Passed (s : List ℕ) (r : Tried) (x : Result (Option (ℕ × ℕ)) ℕ) (n : ℕ) : Type 0 where
   pub tried : r ≡ as_tried x n
   pub fine : Fine s x
 
-abbrev pub Passing : {A : Type 0} → Reader A → List ℕ → (ℕ → Tried) → (A → LookUp) → Type 0
+abbrev pub Passing : {A : Type 0} → Reader A → List ℕ → (ℕ → Tried) → (A → Result (Option (ℕ × ℕ)) ℕ) → Type 0
 Passing {A} p s f look = (seen : List A) (at : ℕ) (a : A) (n : ℕ) → p s seen at ≡ good a n → Passed s (f at) (look a) n
 
 -- what follows a good reading
@@ -112,19 +110,19 @@ on_read f g e = ap (λ r. on_ans r f g) e
 -- ---- counted lists
 
 -- the things that were read behind those seen
-pub record More {A : Type 0} (s : List ℕ) (look : A → LookUp) (c : ℕ) (seen l : List A) (r : Tried) (n : ℕ) : Type 0 where
+pub record More {A : Type 0} (s : List ℕ) (look : A → Result (Option (ℕ × ℕ)) ℕ) (c : ℕ) (seen l : List A) (r : Tried) (n : ℕ) : Type 0 where
   pub more : List A
   pub behind : l ≡ seen ++ more
   pub long : length more ≡ c
   pub passed : Passed s r (first_hit look more) n
 
-module _ {A : Type 0} (p : Reader A) (s : List ℕ) (f : ℕ → Tried) (look : A → LookUp) (law : Passing p s f look) where
+module _ {A : Type 0} (p : Reader A) (s : List ℕ) (f : ℕ → Tried) (look : A → Result (Option (ℕ × ℕ)) ℕ) (law : Passing p s f look) where
   many_tried : (c : ℕ) (seen : List A) (at : ℕ) {l : List A} {n : ℕ} → many (p s) c seen at ≡ good l n → More s look c seen l (tries f c at) n
   unfolding many tries
   many_tried zero seen at {l} {n} e =
       let x : seen ≡ l = cc in
       let y : at ≡ n = cc in
-      record { more = []; behind = sym x ∙ sym (append-nil seen); long = refl; passed = record { tried = ap Next y; fine = tt } }
+      record { more = []; behind = sym x ∙ sym (append-nil seen); long = refl; passed = record { tried = ap Continue y; fine = tt } }
   many_tried (suc k) seen at {l} {n} e =
       on_good (p s seen at) _ e (λ a m h g.
       let i = many_tried k (seen ++ (a ∷ [])) m g in

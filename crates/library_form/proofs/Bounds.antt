@@ -1,5 +1,6 @@
 -- Where the numbers' readings end and where they are wrong: from the definitions alone.
 -- Assumes nothing.
+use Rattle.std.specs.Prelude.{Ok, Err, Result}
 use mathlib.Core.Path.{◌≡◌, refl, sym, ap, ◌∙◌}
 use mathlib.Core.List.{List}
 use mathlib.Core.Bool.{Bool, true, false, cond}
@@ -8,6 +9,7 @@ use native.Mathlib.Omega.{arith}
 use lib.ListN.{length, get_or, take, drop, length-drop}
 use lib.Seq.{length-take-le}
 use lib.Dec.{ltb, eqb}
+use lib.Pointwise.{pointwise, bytes_decides}
 use mir.Syntax.{w64}
 use mir.Val.{Fits}
 use borrow.Author.Tests.{ltb-true, ltb-false}
@@ -15,8 +17,6 @@ use Rattle.text.specs.Keyword.{same}
 use Rattle.text.proofs.Here.{never}
 use Rattle.text.proofs.KeywordLaws.{same_yes, same_no}
 use Rattle.library_form.specs.Form.{Ans, good, bad, bind, groups, number_at, printable_at, PlacedName, word_at, name_body, name_at, name_seen}
-use Rattle.library_form.specs.declared.Name.{Name}
-use Rattle.library_form.specs.declared.Name.TheVariants.{Bytes, Wrong}
 
 -- a wrong number is wrong where it starts
 groups_place : (k : ℕ) (s : List ℕ) (b at u v : ℕ) {p : ℕ} → groups k s b at u v ≡ bad p → p ≡ b
@@ -37,7 +37,8 @@ groups_place (suc k) s b at u v {p} e = go (ltb at (length s)) (ltb (get_or s at
 groups_end : (k : ℕ) (s : List ℕ) (b at u v : ℕ) {r n : ℕ} → groups k s b at u v ≡ good r n → (at < n) × (n ≤ length s)
 unfolding groups
 groups_end zero s b at u v e = let z : ◌≡◌ {A = ℕ} 0 1 = cc in omega arith
-groups_end (suc k) s b at u v {r} {n} e = go (ltb at (length s)) (ltb (get_or s at 0) 128) (eqb (get_or s at 0) 0) (eqb at b) refl (groups_end k s b (at + 1) _ _) e
+groups_end (suc k) s b at u v {r} {n} e =
+    go (ltb at (length s)) (ltb (get_or s at 0) 128) (eqb (get_or s at 0) 0) (eqb at b) refl (groups_end k s b (at + 1) _ _) e
   where
     go : (t₁ t₂ t₃ t₄ : Bool) → ltb at (length s) ≡ t₁ → (groups k s b (at + 1) (u * 128) (v + u * (get_or s at 0 - 128)) ≡ good r n
         → (at + 1 < n) × (n ≤ length s)) → cond t₁ (cond t₂ (cond t₃ (cond t₄ (good 0 (at + 1)) (bad b)) (good (v + u * get_or s at 0) (at + 1)))
@@ -131,7 +132,7 @@ pub record Spanned (s : List ℕ) (at first len : ℕ) : Type 0 where
   pub inside : first + len ≤ length s
   pub read : name_at s at ≡ good (word_at s first len) (first + len)
 
-pub spanned : (s : List ℕ) (r : Name) (at first len : ℕ) → r ≡ Bytes first len → name_seen s r ≡ name_at s at → Spanned s at first len
+pub spanned : (s : List ℕ) (r : Result (ℕ × ℕ) ℕ) (at first len : ℕ) → r ≡ Ok (first, len) → name_seen s r ≡ name_at s at → Spanned s at first len
 spanned s r at first len e f =
     let g : name_at s at ≡ good (word_at s first len) (first + len) = sym f ∙ ap (name_seen s) e in
     let w = name_end s at g in
@@ -159,11 +160,11 @@ name_place s at {p} e = go (number_at s at) refl e
     go (bad q) h e = let z : q ≡ p = cc in sym z ∙ number_place s at h
 
 -- a refused name, in the terms of the code
-pub missed : (s : List ℕ) (r : Name) (at : ℕ) {p : ℕ} → r ≡ Wrong p → name_seen s r ≡ name_at s at → name_at s at ≡ bad at
+pub missed : (s : List ℕ) (r : Result (ℕ × ℕ) ℕ) (at : ℕ) {p : ℕ} → r ≡ Err p → name_seen s r ≡ name_at s at → name_at s at ≡ bad at
 missed s r at {p} e f = let g : name_at s at ≡ bad p = sym f ∙ ap (name_seen s) e in g ∙ ap bad (name_place s at g)
 
 -- what the part `&s[first..first + len]` of a name that was read asks, and what it holds
-module _ (s : List ℕ) (r : Name) (at first len : ℕ) (e : r ≡ Bytes first len) (f : name_seen s r ≡ name_at s at) where
+module _ (s : List ℕ) (r : Result (ℕ × ℕ) ℕ) (at first len : ℕ) (e : r ≡ Ok (first, len)) (f : name_seen s r ≡ name_at s at) where
   pub end_fits : length s < 2 ^ 64 → Fits w64 (first + len)
   end_fits h = let w = spanned s r at first len e f in record { fits = omega arith }
 
@@ -173,9 +174,12 @@ module _ (s : List ℕ) (r : Name) (at first len : ℕ) (e : r ≡ Bytes first l
 pub part_word : (s : List ℕ) (first len : ℕ) → take (first + len - first) (drop first s) ≡ (word_at s first len).text
 part_word s first len = let e : first + len - first ≡ len = omega arith in rw e
 
+-- what `==` answers at bytes
+pub by_eq : {b : Bool} (xs ys : List ℕ) → b ≡ pointwise eqb xs ys → (b ≡ true → xs ≡ ys) × (xs ≡ ys → b ≡ true)
+by_eq xs ys e = rw e (bytes_decides xs ys)
+
 -- a name that was compared with t
-pub compared : (s t : List ℕ) (first len : ℕ) {b : Bool}
-    → (b ≡ true → take (first + len - first) (drop first s) ≡ t) × (take (first + len - first) (drop first s) ≡ t → b ≡ true)
+pub compared : (s t : List ℕ) (first len : ℕ) {b : Bool} → b ≡ pointwise eqb (take (first + len - first) (drop first s)) t
     → (x : Bool) → b ≡ x → same (word_at s first len).text t ≡ x
-compared s t first len k true y = same_yes _ _ (sym (part_word s first len) ∙ k.0 y)
-compared s t first len k false y = same_no _ _ (λ z. never y (k.1 (part_word s first len ∙ z)))
+compared s t first len k true y = same_yes _ _ (sym (part_word s first len) ∙ (by_eq _ _ k).0 y)
+compared s t first len k false y = same_no _ _ (λ z. never y ((by_eq _ _ k).1 (part_word s first len ∙ z)))

@@ -1,6 +1,7 @@
 -- What `number_at` is on each way through the code of `ImageCursor::number`: one law for each `return`, stated as the need states it.
 -- Assumes nothing.
 use mathlib.Core.Path.{◌≡◌, refl, sym, ap, ap₂, ◌∙◌}
+use mathlib.Core.Logic.{⊎_elim, ◌⊎◌}
 use mathlib.Core.List.{List}
 use Prim.Native.Nat.{ℕ, zero, suc, ◌+◌, ◌-◌, ◌*◌, ◌≤◌, ◌<◌}
 use native.Mathlib.Omega.{arith}
@@ -65,8 +66,8 @@ module _ (s : List ℕ) where
   pub cut3 : (at : ℕ) → at < length s → 128 ≤ get_or s at 0 → at + 1 < length s → 128 ≤ get_or s (at + 1) 0 → length s ≤ at + 1 + 1 → bad at ≡ number_at s at
   cut3 at h g e l k = sym (past at h g e l ∙ stop 0 _ _ _ _ k)
 
-  pub padded3 : (at : ℕ) → at < length s → 128 ≤ get_or s at 0 → at + 1 < length s → 128 ≤ get_or s (at + 1) 0 → at + 1 + 1 < length s → get_or s (at + 1 + 1) 0 ≡ 0
-      → bad at ≡ number_at s at
+  pub padded3 : (at : ℕ) → at < length s → 128 ≤ get_or s at 0 → at + 1 < length s → 128 ≤ get_or s (at + 1) 0 → at + 1 + 1 < length s
+      → get_or s (at + 1 + 1) 0 ≡ 0 → bad at ≡ number_at s at
   padded3 at h g e l k z = sym (past at h g e l ∙ long 0 _ _ _ _ k z (λ e. omega arith))
 
   pub three : (at : ℕ) → at < length s → 128 ≤ get_or s at 0 → at + 1 < length s → 128 ≤ get_or s (at + 1) 0 → at + 1 + 1 < length s
@@ -74,7 +75,44 @@ module _ (s : List ℕ) where
       → good (get_or s at 0 - 128 + 128 * (get_or s (at + 1) 0 - 128) + 16384 * get_or s (at + 1 + 1) 0) (at + 1 + 1 + 1) ≡ number_at s at
   three at h g e l k z m = sym (past at h g e l ∙ last 0 _ _ _ _ k m z)
 
-  pub four : (at : ℕ) → at < length s → 128 ≤ get_or s at 0 → at + 1 < length s → 128 ≤ get_or s (at + 1) 0 → at + 1 + 1 < length s → 128 ≤ get_or s (at + 1 + 1) 0
-      → bad at ≡ number_at s at
+  pub four : (at : ℕ) → at < length s → 128 ≤ get_or s at 0 → at + 1 < length s → 128 ≤ get_or s (at + 1) 0 → at + 1 + 1 < length s
+      → 128 ≤ get_or s (at + 1 + 1) 0 → bad at ≡ number_at s at
   unfolding groups
   four at h g e l k m = sym (past at h g e l ∙ more 0 _ _ _ _ k m)
+
+-- ---- the ways out of `ImageCursor::number`, by the bytes that it got
+
+module _ (s : List ℕ) (at : ℕ) {a : ℕ} (i : at < length s) (e : a ≡ get_or s at 0) where
+  pub got_one : a < 128 → good a (at + 1) ≡ number_at s at
+  got_one g = ap (λ a. good a (at + 1)) e ∙ one s at i (rw (← e) g)
+
+  module _ (g : 128 ≤ a) where
+    high : 128 ≤ get_or s at 0
+    high = rw (← e) g
+
+    pub got_cut : length s ≤ at + 1 → bad at ≡ number_at s at
+    got_cut l = cut s at i high l
+
+    module _ {b : ℕ} (j : at + 1 < length s) (f : b ≡ get_or s (at + 1) 0) where
+      pub got_padded : b ≡ 0 → bad at ≡ number_at s at
+      got_padded z = padded s at i high j (sym f ∙ z)
+
+      pub got_two : (b ≡ 0 → ⊥) → b < 128 → good (a - 128 + 128 * b) (at + 1 + 1) ≡ number_at s at
+      got_two z l = ap₂ (λ a b. good (a - 128 + 128 * b) (at + 1 + 1)) e f ∙ two s at i high j (λ y. z (f ∙ y)) (rw (← f) l)
+
+      module _ (k : 128 ≤ b) where
+        higher : 128 ≤ get_or s (at + 1) 0
+        higher = rw (← f) k
+
+        pub got_cut3 : length s ≤ at + 1 + 1 → bad at ≡ number_at s at
+        got_cut3 l = cut3 s at i high j higher l
+
+        module _ {c : ℕ} (m : at + 1 + 1 < length s) (h : c ≡ get_or s (at + 1 + 1) 0) where
+          pub got_wrong : ((c ≡ 0) ⊎ ((c ≡ 0 → ⊥) × (128 ≤ c))) → bad at ≡ number_at s at
+          got_wrong = ⊎_elim (λ z. padded3 s at i high j higher m (sym h ∙ z)) (λ z. four s at i high j higher m (rw (← h) z.1))
+
+          pub got_three : (c ≡ 0 → ⊥) → c < 128 → good (a - 128 + 128 * (b - 128) + 16384 * c) (at + 1 + 1 + 1) ≡ number_at s at
+          got_three z l =
+              ap₂ (λ a b. good (a - 128 + 128 * (b - 128) + 16384 * c) (at + 1 + 1 + 1)) e f
+              ∙ ap (λ c. good (get_or s at 0 - 128 + 128 * (get_or s (at + 1) 0 - 128) + 16384 * c) (at + 1 + 1 + 1)) h
+              ∙ three s at i high j higher m (λ y. z (h ∙ y)) (rw (← h) l)

@@ -7,7 +7,8 @@ use Prim.Native.Nat.{ℕ, zero, suc, ◌+◌, ◌-◌, ◌*◌, ◌/◌, ◌≤�
 use native.Mathlib.Omega.{arith}
 use native.Mathlib.Numerals.{add-one}
 use lib.ListN.{length, get_or, take, drop, length-append, length-drop, get_or-append}
-use lib.Seq.{drop-cons, drop-drop, get_or-append_seam, get_or-append-add, get_or-take, get_or-drop, take-add, take-append_seam, drop-append_seam, length-take-le}
+use lib.Seq.{drop-cons, drop-drop, get_or-append_seam, get_or-append-add, get_or-take, get_or-drop, take-add, take-append_seam}
+use lib.Seq.{drop-append_seam, length-take-le}
 use lib.Dec.{ltb, eqb}
 use borrow.Author.Tests.{lt-ltb, le-ltb, ltb-true, ltb-false, eqb-true, eqb-false}
 use Rattle.text.proofs.Here.{by_test, never}

@@ -2,11 +2,8 @@
 -- number 1 to 128 and as many bytes from 33 to 126. Wrong is the start of a number or name; a name starts at its length. What is missing at the
 -- end is wrong at the end.
 -- Assumes nothing.
-use Rattle.std.specs.Prelude.{ℕ, zero, suc, ◌+◌, ◌-◌, ◌*◌, List, [], ◌∷◌, ◌++◌, Bool, true, false, cond, length, get_or, take, drop, ltb, eqb}
-use Rattle.library_form.specs.declared.Number.{Number}
-use Rattle.library_form.specs.declared.Number.TheVariants.{Value, Wrong}
-use Rattle.library_form.specs.declared.Name.{Name}
-use Rattle.library_form.specs.declared.Name.TheVariants.{Bytes, Wrong as WrongName}
+use Rattle.std.specs.Prelude.{ℕ, zero, suc, ◌+◌, ◌-◌, ◌*◌, List, [], ◌∷◌, ◌++◌, Bool, true, false, cond, length, get_or, take, drop, ltb, eqb, Ok, Err, Result}
+use Rattle.library_form.specs.declared.ImageCursor.{ImageCursor}
 
 -- what a parser answers: what it read and the place behind it, or the place where the form is broken
 pub data Ans (A : Type 0) : Type 0 where
@@ -53,9 +50,9 @@ groups (suc room) s start at unit sum =
 unfoldable pub number_at : List ℕ → ℕ → Ans ℕ
 number_at s at = groups most_groups s at at 1 0
 
-abbrev pub number_seen : Number → Ans ℕ
-number_seen (Value v c) = good v c.at
-number_seen (Wrong p) = bad p
+abbrev pub number_seen : Result (ℕ × ImageCursor) ℕ → Ans ℕ
+number_seen (Ok (v, c)) = good v c.at
+number_seen (Err p) = bad p
 
 -- one reading after another; the first that is wrong ends it
 abbrev pub bind : {A B : Type 0} → Ans A → (A → ℕ → Ans B) → Ans B
@@ -66,6 +63,10 @@ bind (bad p) f = bad p
 unfoldable pub many : {A : Type 0} → (List A → ℕ → Ans A) → (count : ℕ) → List A → ℕ → Ans (List A)
 many p zero seen at = good seen at
 many p (suc k) seen at = bind (p seen at) (λ a n. many p k (seen ++ (a ∷ [])) n)
+
+-- a byte that may stand in a name: one from 33 to 126
+abbrev pub fine_byte : ℕ → Bool
+fine_byte b = cond (ltb b least_byte) false (cond (ltb most_byte b) false true)
 
 -- `count` bytes from `at` on are all from 33 to 126
 unfoldable pub printable_at : (count : ℕ) → List ℕ → ℕ → Bool
@@ -93,6 +94,6 @@ name_body s start len first =
 unfoldable pub name_at : List ℕ → ℕ → Ans PlacedName
 name_at s at = bind (number_at s at) (name_body s at)
 
-abbrev pub name_seen : List ℕ → Name → Ans PlacedName
-name_seen s (Bytes first len) = good (word_at s first len) (first + len)
-name_seen s (WrongName p) = bad p
+abbrev pub name_seen : List ℕ → Result (ℕ × ℕ) ℕ → Ans PlacedName
+name_seen s (Ok (first, len)) = good (word_at s first len) (first + len)
+name_seen s (Err p) = bad p

@@ -1,5 +1,6 @@
 -- The chain of a bucket, followed from its head, meets every name that could be the one sought.
 -- Assumes nothing.
+use Rattle.std.specs.Prelude.{Some, None, Option}
 use mathlib.Core.Path.{◌≡◌, refl, sym, ap, ap₂, ◌∙◌}
 use mathlib.Core.List.{List, [], ◌∷◌, ◌++◌}
 use mathlib.Core.Bool.{Bool, true, false, cond}
@@ -10,16 +11,15 @@ use native.Mathlib.Numerals.{sub-one, add-one}
 use lib.ListN.{length, get_or, take, drop, length-append}
 use lib.Seq.{drop-cons, drop-length}
 use lib.Dec.{eqb}
+use lib.Pointwise.{pointwise}
 use mir.Syntax.{w64}
 use mir.Val.{Fits}
 use borrow.Author.Tests.{eqb-true, eqb-false}
 use Rattle.library_form.specs.Form.{PlacedName}
-use Rattle.library_form.proofs.Bounds.{part_word}
+use Rattle.library_form.proofs.Bounds.{part_word, by_eq}
 use Rattle.text.specs.Keyword.{same}
 use Rattle.text.proofs.KeywordLaws.{same_yes, same_no}
 use Rattle.text.proofs.Here.{never}
-use Rattle.library_index.specs.declared.Found.{Found}
-use Rattle.library_index.specs.declared.Found.TheVariants.{At, Nothing}
 use Rattle.library_index.specs.Names.{first_from, first_of, name_in_row, names_in, hash_from, hash_of, top_in, Sought}
 
 -- ---- the bucket of a name
@@ -48,20 +48,20 @@ module _ (t : List ℕ) where
 -- ---- the plain search, one word more
 
 -- the first where it is a hit, or the second
-abbrev or_else : Found → Found → Found
-or_else (At i) k = At i
-or_else Nothing k = k
+abbrev or_else : Option ℕ → Option ℕ → Option ℕ
+or_else (Some i) k = Some i
+or_else None k = k
 
 first_snoc : (i : ℕ) (t : List ℕ) (ws : List PlacedName) (w : PlacedName)
-    → first_from i t (ws ++ (w ∷ [])) ≡ or_else (first_from i t ws) (cond (same w.text t) (At (i + length ws)) Nothing)
+    → first_from i t (ws ++ (w ∷ [])) ≡ or_else (first_from i t ws) (cond (same w.text t) (Some (i + length ws)) None)
 unfolding first_from
 first_snoc i t [] w = let e : i + 0 ≡ i = omega arith in rw e
 first_snoc i t (v ∷ ws) w = go (same v.text t) (first_snoc (suc i) t ws w)
   where
     go : (b : Bool)
-        → first_from (suc i) t (ws ++ (w ∷ [])) ≡ or_else (first_from (suc i) t ws) (cond (same w.text t) (At (suc i + length ws)) Nothing)
-        → cond b (At i) (first_from (suc i) t (ws ++ (w ∷ [])))
-        ≡ or_else (cond b (At i) (first_from (suc i) t ws)) (cond (same w.text t) (At (i + suc (length ws))) Nothing)
+        → first_from (suc i) t (ws ++ (w ∷ [])) ≡ or_else (first_from (suc i) t ws) (cond (same w.text t) (Some (suc i + length ws)) None)
+        → cond b (Some i) (first_from (suc i) t (ws ++ (w ∷ [])))
+        ≡ or_else (cond b (Some i) (first_from (suc i) t ws)) (cond (same w.text t) (Some (i + suc (length ws))) None)
     go true ih = refl
     go false ih = let e : suc i + length ws ≡ i + suc (length ws) = omega arith in ih ∙ rw e
 
@@ -95,18 +95,18 @@ module _ (s tab : List ℕ) where
 
   module _ (t : List ℕ) where
     -- the search among the first n names
-    abbrev Among : ℕ → Found
+    abbrev Among : ℕ → Option ℕ
     Among n = first_of t (names_in s tab n)
 
-    one_more : (n : ℕ) → Among (suc n) ≡ or_else (Among n) (cond (same (name_in_row s tab n).text t) (At n) Nothing)
+    one_more : (n : ℕ) → Among (suc n) ≡ or_else (Among n) (cond (same (name_in_row s tab n).text t) (Some n) None)
     unfolding names_in
     one_more n =
         let e : 0 + length (names_in s tab n) ≡ n = rw (length_names n) (omega arith) in
         first_snoc 0 t (names_in s tab n) (name_in_row s tab n) ∙ rw e
 
-    or_nothing : (r : Found) → or_else r Nothing ≡ r
-    or_nothing (At i) = refl
-    or_nothing Nothing = refl
+    or_nothing : (r : Option ℕ) → or_else r None ≡ r
+    or_nothing (Some i) = refl
+    or_nothing None = refl
 
     passed : (n : ℕ) → same (name_in_row s tab n).text t ≡ false → Among (suc n) ≡ Among n
     passed n e = one_more n ∙ rw e (or_nothing (Among n))
@@ -139,7 +139,7 @@ module _ (s tab : List ℕ) where
           record { same = rw e (skip n); low = rw e (top_low (hash_of t) n); own = rw e (top_own (hash_of t) n) }
 
       module _ (j : ℕ) (g : Chained n j) where
-        pub chain_done : j ≤ 0 → Nothing ≡ Among n
+        pub chain_done : j ≤ 0 → None ≡ Among n
         unfolding names_in first_from
         chain_done l = let e : j ≡ 0 = omega arith in sym (g.same ∙ rw e)
 
@@ -168,15 +168,15 @@ module _ (s tab : List ℕ) where
           part = part_word s place len ∙ ap₂ (λ (p z : ℕ). take z (drop p s)) p z
 
           -- b is what the comparison answers
-          module _ {b : Bool} (k : (b ≡ true → Part ≡ t) × (Part ≡ t → b ≡ true)) where
-            pub chain_hit : b ≡ true → At (j - 1) ≡ Among n
+          module _ {b : Bool} (k : b ≡ pointwise eqb Part t) where
+            pub chain_hit : b ≡ true → Some (j - 1) ≡ Among n
             chain_hit y =
-                let e : (name_in_row s tab (j - 1)).text ≡ t = sym part ∙ k.0 y in
-                let d : Among (j - 1) ≡ Nothing = rw (← e) (a.indexed.differ (j - 1) (omega (arith, g.low))) in
+                let e : (name_in_row s tab (j - 1)).text ≡ t = sym part ∙ (by_eq Part t k).0 y in
+                let d : Among (j - 1) ≡ None = rw (← e) (a.indexed.differ (j - 1) (omega (arith, g.low))) in
                 sym (g.same ∙ ap Among here ∙ one_more (j - 1) ∙ rw (d, same_yes (name_in_row s tab (j - 1)).text t e))
 
             other : b ≡ false → same (name_in_row s tab (j - 1)).text t ≡ false
-            other y = same_no (name_in_row s tab (j - 1)).text t (λ e. never y (k.1 (part ∙ e)))
+            other y = same_no (name_in_row s tab (j - 1)).text t (λ e. never y ((by_eq Part t k).1 (part ∙ e)))
 
             pub chain_on : {next : ℕ} → next ≡ get_or tab (2048 + (j - 1) * 3 + 2) 0 → b ≡ false → Chained n next
             chain_on q y = record {

@@ -1,11 +1,11 @@
 -- Worked examples: each definition computes what stands beside it.
 -- Assumes nothing.
+use Rattle.std.specs.Prelude.{Some, None}
 use mathlib.Core.Path.{◌≡◌, refl}
 use mathlib.Core.List.{List, [], ◌∷◌}
 use Prim.Native.Nat.{ℕ}
 use Rattle.text.specs.Keyword.{same}
 use Rattle.library_form.specs.Form.{PlacedName, word_at}
-use Rattle.library_index.specs.declared.Found.TheVariants.{At, Nothing}
 use Rattle.library_index.specs.Names.{first_from, first_of, first_by, among, add_all, hash_from, hash_of}
 
 -- abacab: the names ab, ac and ab again
@@ -16,16 +16,16 @@ abbrev words : List PlacedName
 words = word_at bytes 0 2 ∷ word_at bytes 2 2 ∷ word_at bytes 4 2 ∷ []
 
 -- the first hit, not the last
-first_of_equals : first_of (97 ∷ 98 ∷ []) words ≡ At 0
+first_of_equals : first_of (97 ∷ 98 ∷ []) words ≡ Some 0
 unfolding first_from same
 first_of_equals = refl
 
-second : first_of (97 ∷ 99 ∷ []) words ≡ At 1
+second : first_of (97 ∷ 99 ∷ []) words ≡ Some 1
 unfolding first_from same
 second = refl
 
 -- a beginning of a name is another name
-beginning : first_of (97 ∷ []) words ≡ Nothing
+beginning : first_of (97 ∷ []) words ≡ None
 unfolding first_from same
 beginning = refl
 

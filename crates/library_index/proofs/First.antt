@@ -1,5 +1,6 @@
 -- What the number that the index answers says of the plain searches, also of those through lists with repeated names.
 -- Assumes nothing.
+use Rattle.std.specs.Prelude.{Some, None}
 use mathlib.Core.Path.{◌≡◌, refl, sym, ap, ◌∙◌}
 use mathlib.Core.Logic.{⊎_elim}
 use mathlib.Core.List.{List, [], ◌∷◌, ◌++◌, append-nil, map}
@@ -13,7 +14,6 @@ use Rattle.library_form.specs.Form.{PlacedName, word_at}
 use Rattle.text.specs.Keyword.{same}
 use Rattle.text.proofs.KeywordLaws.{same_no}
 use Rattle.text.proofs.Here.{by_test, never}
-use Rattle.library_index.specs.declared.Found.TheVariants.{At, Nothing}
 use Rattle.library_index.specs.Names.{first_from, first_of, first_by, among, add_new, add_all, memb, name_in_row, names_in}
 use Rattle.library_index.proofs.Chain.{length_names}
 
@@ -26,23 +26,23 @@ word w = w
 
 -- ---- a name is among the words where the search finds it
 
-pub not_among : (k : ℕ) (t : List ℕ) (ws : List PlacedName) → first_from k t ws ≡ Nothing → memb t ws ≡ false
+pub not_among : (k : ℕ) (t : List ℕ) (ws : List PlacedName) → first_from k t ws ≡ None → memb t ws ≡ false
 unfolding first_from among
 not_among k t [] e = refl
 not_among k t (w ∷ ws) e = go (same w.text t) (not_among (suc k) t ws) e
   where
-    go : (b : Bool) → (first_from (suc k) t ws ≡ Nothing → memb t ws ≡ false)
-        → cond b (At k) (first_from (suc k) t ws) ≡ Nothing → (b || memb t ws) ≡ false
+    go : (b : Bool) → (first_from (suc k) t ws ≡ None → memb t ws ≡ false)
+        → cond b (Some k) (first_from (suc k) t ws) ≡ None → (b || memb t ws) ≡ false
     go true ih e = cc
     go false ih e = ih e
 
-pub is_among : (k : ℕ) (t : List ℕ) (ws : List PlacedName) {i : ℕ} → first_from k t ws ≡ At i → memb t ws ≡ true
+pub is_among : (k : ℕ) (t : List ℕ) (ws : List PlacedName) {i : ℕ} → first_from k t ws ≡ Some i → memb t ws ≡ true
 unfolding first_from among
 is_among k t [] e = cc
 is_among k t (w ∷ ws) {i} e = go (same w.text t) (is_among (suc k) t ws) e
   where
-    go : (b : Bool) → (first_from (suc k) t ws ≡ At i → memb t ws ≡ true)
-        → cond b (At k) (first_from (suc k) t ws) ≡ At i → (b || memb t ws) ≡ true
+    go : (b : Bool) → (first_from (suc k) t ws ≡ Some i → memb t ws ≡ true)
+        → cond b (Some k) (first_from (suc k) t ws) ≡ Some i → (b || memb t ws) ≡ true
     go true ih e = refl
     go false ih e = ih e
 
@@ -82,39 +82,39 @@ module _ {A : Type 0} (f : PlacedName → A) (d : A) where
     low : j < length ws
     it : first_by word f t ws d ≡ f (get_or ws j none)
 
-  which : (t : List ℕ) (ws : List PlacedName) (k i : ℕ) → first_from k t ws ≡ At i → Which t ws k i
+  which : (t : List ℕ) (ws : List PlacedName) (k i : ℕ) → first_from k t ws ≡ Some i → Which t ws k i
   unfolding first_from
   which t [] k i e = let z : ◌≡◌ {A = ℕ} 0 1 = cc in absurd (omega arith)
   which t (w ∷ ws) k i e = go (same w.text t) refl (which t ws (suc k) i) e
     where
-      go : (b : Bool) → same w.text t ≡ b → (first_from (suc k) t ws ≡ At i → Which t ws (suc k) i)
-          → cond b (At k) (first_from (suc k) t ws) ≡ At i → Which t (w ∷ ws) k i
+      go : (b : Bool) → same w.text t ≡ b → (first_from (suc k) t ws ≡ Some i → Which t ws (suc k) i)
+          → cond b (Some k) (first_from (suc k) t ws) ≡ Some i → Which t (w ∷ ws) k i
       go true q ih e = let x : k ≡ i = cc in record { j = 0; number = omega arith; low = omega arith; it = rw q }
       go false q ih e = let x = ih e in record { j = suc x.j; number = omega (arith, x.number); low = omega (arith, x.low); it = rw q x.it }
 
-  nowhere : (t : List ℕ) (ws : List PlacedName) (k : ℕ) → first_from k t ws ≡ Nothing → first_by word f t ws d ≡ d
+  nowhere : (t : List ℕ) (ws : List PlacedName) (k : ℕ) → first_from k t ws ≡ None → first_by word f t ws d ≡ d
   unfolding first_from
   nowhere t [] k e = refl
   nowhere t (w ∷ ws) k e = go (same w.text t) (nowhere t ws (suc k)) e
     where
-      go : (b : Bool) → (first_from (suc k) t ws ≡ Nothing → first_by word f t ws d ≡ d)
-          → cond b (At k) (first_from (suc k) t ws) ≡ Nothing → cond b (f w) (first_by word f t ws d) ≡ d
+      go : (b : Bool) → (first_from (suc k) t ws ≡ None → first_by word f t ws d ≡ d)
+          → cond b (Some k) (first_from (suc k) t ws) ≡ None → cond b (f w) (first_by word f t ws d) ≡ d
       go true ih e = cc
       go false ih e = ih e
 
   -- for callers: what the answers of `find` say of any search through the names of the table
   module _ (s tab t : List ℕ) (n : ℕ) where
-    pub no_hit : first_of t (names_in s tab n) ≡ Nothing → first_by word f t (names_in s tab n) d ≡ d
+    pub no_hit : first_of t (names_in s tab n) ≡ None → first_by word f t (names_in s tab n) d ≡ d
     no_hit e = nowhere t (names_in s tab n) 0 e
 
-    pub the_hit : {i : ℕ} → first_of t (names_in s tab n) ≡ At i → first_by word f t (names_in s tab n) d ≡ f (name_in_row s tab i)
+    pub the_hit : {i : ℕ} → first_of t (names_in s tab n) ≡ Some i → first_by word f t (names_in s tab n) d ≡ f (name_in_row s tab i)
     the_hit {i} e =
         let x = which t (names_in s tab n) 0 i e in
         let y : x.j ≡ i = omega (arith, x.number) in
         let l : i < n = omega (arith, x.number, x.low, length_names s tab n) in
         x.it ∙ ap (λ (k : ℕ). f (get_or (names_in s tab n) k none)) y ∙ ap f (nth s tab n i l)
 
-pub hit_low : (s tab t : List ℕ) (n : ℕ) {i : ℕ} → first_of t (names_in s tab n) ≡ At i → i < n
+pub hit_low : (s tab t : List ℕ) (n : ℕ) {i : ℕ} → first_of t (names_in s tab n) ≡ Some i → i < n
 hit_low s tab t n {i} e = let x = which (λ (w : PlacedName). w.size) 0 t (names_in s tab n) 0 i e in omega (arith, x.number, x.low, length_names s tab n)
 
 -- ---- names that are there already may be left out

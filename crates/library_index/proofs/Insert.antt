@@ -1,9 +1,11 @@
 -- A name that is stored behind the others keeps what the table keeps.
 -- Assumes nothing.
+use Rattle.std.specs.Prelude.{Some, None, Option}
+use Rattle.std.specs.Option.{is_some}
 use mathlib.Core.Path.{◌≡◌, refl, sym, ap, ap₂, ◌∙◌}
 use mathlib.Core.Logic.{⊎_elim}
 use mathlib.Core.List.{List, [], ◌∷◌, ◌++◌}
-use mathlib.Core.Bool.{cond}
+use mathlib.Core.Bool.{Bool, true, false, cond, not}
 use Prim.Native.Nat.{ℕ, zero, suc, ◌+◌, ◌-◌, ◌*◌, ◌≤◌, ◌<◌}
 use native.Mathlib.Omega.{arith}
 use native.Mathlib.Nat.{eq-or-lt_of_le}
@@ -13,8 +15,6 @@ use lib.Dec.{eqb}
 use borrow.Author.Tests.{eq-eqb, ne_eqb}
 use Rattle.library_form.specs.Form.{PlacedName, word_at}
 use Rattle.library_form.proofs.Bounds.{part_word}
-use Rattle.library_index.specs.declared.Found.{Found}
-use Rattle.library_index.specs.declared.Found.TheVariants.{At, Nothing}
 use Rattle.library_index.specs.Names.{first_of, name_in_row, names_in, hash_of, top_in, Indexed, Room, Added, Stored, Cleared}
 use Rattle.text_lent.proofs.Numbers.{decide}
 
@@ -95,15 +95,15 @@ module _ (s tab after : List ℕ) (n h place len : ℕ) (g : Indexed s tab n) (q
       omega (arith, g.inside i m))
       (eq-or-lt_of_le {n = i} {m = n} (omega arith))
 
-  differ : first_of (word_at s place len).text (names_in s tab n) ≡ Nothing
-      → (i : ℕ) → i < suc n → first_of (name_in_row s after i).text (names_in s after i) ≡ Nothing
+  differ : first_of (word_at s place len).text (names_in s tab n) ≡ None
+      → (i : ℕ) → i < suc n → first_of (name_in_row s after i).text (names_in s after i) ≡ None
   differ f i l = ⊎_elim
       (λ e. ap (λ (k : ℕ). first_of (name_in_row s after k).text (names_in s after k)) e
       ∙ ap₂ (λ (w : PlacedName) (ws : List PlacedName). first_of w.text ws) own (names_same s tab after n same n (omega arith)) ∙ f)
       (λ m. ap₂ (λ (w : PlacedName) (ws : List PlacedName). first_of w.text ws) (same i m) (names_same s tab after n same i (omega arith)) ∙ g.differ i m)
       (eq-or-lt_of_le {n = i} {m = n} (omega arith))
 
-  kept : place + len ≤ length s → first_of (word_at s place len).text (names_in s tab n) ≡ Nothing → Indexed s after (n + 1)
+  kept : place + len ≤ length s → first_of (word_at s place len).text (names_in s tab n) ≡ None → Indexed s after (n + 1)
   kept w f = rw add-one (record {
     long = omega (arith, q.kept);
     small = omega arith;
@@ -115,23 +115,32 @@ module _ (s tab after : List ℕ) (n h place len : ℕ) (g : Indexed s tab n) (q
 
 -- ---- the ways out of `add`
 
+-- the test of the code
+there_is_none : (r : Option ℕ) {t : Bool} → is_some r ≡ not t → t ≡ true → r ≡ None
+there_is_none None p q = refl
+there_is_none (Some i) p q = let z : true ≡ false = p ∙ ap not q in cc
+
+there_is : {r : Option ℕ} {t : Bool} → is_some r ≡ not t → t ≡ false → r ≡ None → ⊥
+there_is {r} {t} p q e = let z : false ≡ true = ap is_some (sym e) ∙ p ∙ ap not q in cc
+
 module _ (s tab : List ℕ) (n place len : ℕ) (m : Room s tab n place len) where
-  module _ {r : Found} (e : r ≡ first_of (take (place + len - place) (drop place s)) (names_in s tab n)) where
+  module _ {r : Option ℕ} (e : r ≡ first_of (take (place + len - place) (drop place s)) (names_in s tab n)) where
     found : r ≡ first_of (word_at s place len).text (names_in s tab n)
     found = e ∙ ap (λ (t : List ℕ). first_of t (names_in s tab n)) (part_word s place len)
 
-    pub already : {i : ℕ} → r ≡ At i → Added s tab n place len r tab
-    already {i} f = record {
+    pub already : {t : Bool} → is_some r ≡ not t → t ≡ false → Added s tab n place len r tab
+    already p q = record {
       answer = found;
       kept = refl;
       there = λ i e. refl;
-      indexed = λ k. let z : ◌≡◌ {A = ℕ} 0 1 = cc in absurd (omega arith);
-      names = λ k. cc;
+      indexed = λ k. absurd (there_is p q k);
+      names = λ k. absurd (there_is p q k);
     }
 
-    pub added : {h : ℕ} {after : List ℕ} → r ≡ Nothing → h ≡ hash_of (take (place + len - place) (drop place s)) → h < 2048
+    pub added : {t : Bool} {h : ℕ} {after : List ℕ} → is_some r ≡ not t → t ≡ true → h ≡ hash_of (take (place + len - place) (drop place s)) → h < 2048
         → Stored tab n h place len after → Added s tab n place len r after
-    added {h} {after} f b l q =
+    added {t} {h} {after} p k b l q =
+        let f = there_is_none r p k in
         let b' : h ≡ hash_of (word_at s place len).text = b ∙ ap hash_of (part_word s place len) in
         record {
           answer = found;

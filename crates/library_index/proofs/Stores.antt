@@ -1,40 +1,27 @@
 -- What stores into the table leave.
 -- Assumes nothing.
-use mathlib.Core.Path.{◌≡◌, refl, ◌∙◌}
-use mathlib.Core.Logic.{⊎_elim}
-use mathlib.Core.List.{List}
-use Prim.Native.Nat.{ℕ, ◌+◌, ◌*◌, ◌≤◌, ◌<◌}
+use mathlib.Core.Path.{◌≡◌, ap, ◌∙◌}
+use mathlib.Core.List.{List, ◌++◌}
+use Prim.Native.Nat.{ℕ, ◌+◌, ◌*◌, ◌≤◌}
 use native.Mathlib.Omega.{arith}
-use lib.ListN.{length, get_or, set, length-set}
-use lib.Seq.{get_or-set_same, get_or-set_other}
-use Rattle.text_lent.proofs.Numbers.{decide}
+use lib.ListN.{length, get_or, set, take, drop, replicate, length-set, length-append, length-drop, get_or-append}
+use lib.Seq.{get_or-set_same, get_or-set_other, length-take-le}
+use Rattle.std.proofs.lemmas.List.{length-replicate, get_or-replicate}
 use Rattle.library_index.specs.Names.{Puts, Stored, Cleared}
 
--- ---- the heads, one after another
+-- ---- the heads
 
--- those below h are 0
-pub record Clearing (before tab : List ℕ) (h : ℕ) : Type 0 where
-  pub kept : length tab ≡ length before
-  pub low : h ≤ 2048
-  pub long : 2048 ≤ length tab
-  pub zeros : (i : ℕ) → i < h → get_or tab i 0 ≡ 0
-
-pub clear_begun : (tab : List ℕ) → 2048 ≤ length tab → Clearing tab tab 0
-clear_begun tab k = record { kept = refl; low = omega arith; long = k; zeros = λ i l. absurd (omega arith) }
-
-pub clear_more : (before tab : List ℕ) (h : ℕ) → Clearing before tab h → h < 2048 → Clearing before (set tab h 0) (h + 1)
-clear_more before tab h g l = record {
-  kept = length-set tab h 0 ∙ g.kept;
-  low = omega arith;
-  long = rw length-set g.long;
-  zeros = λ i m. ⊎_elim
-      (λ e. rw e (get_or-set_same tab h 0 0 (omega (arith, g.long))))
-      (λ d. get_or-set_other tab h i 0 0 d ∙ g.zeros i (omega arith))
-      (decide i h);
-}
-
-pub clear_done : (before tab : List ℕ) (h : ℕ) → Clearing before tab h → 2048 ≤ h → Cleared before tab
-clear_done before tab h g l = record { kept = g.kept; long = g.long; heads = λ i m. g.zeros i (omega arith) }
+-- the first of them filled with 0, the rest as it was
+pub cleared : (tab filled : List ℕ) → 2048 ≤ length tab → filled ≡ replicate {A = ℕ} (length (take 2048 tab)) 0 → Cleared tab (filled ++ drop 2048 tab)
+cleared tab filled long e =
+    let l : length (take 2048 tab) ≡ 2048 = length-take-le 2048 tab long in
+    let f : length filled ≡ 2048 = ap length e ∙ length-replicate _ _ ∙ l in
+    record {
+      long = omega (arith, length-append filled (drop 2048 tab));
+      kept = omega (arith, length-append filled (drop 2048 tab), length-drop 2048 tab);
+      heads = λ h m. get_or-append filled (drop 2048 tab) 0 h (omega arith)
+          ∙ ap (λ (xs : List ℕ). get_or xs h 0) e ∙ get_or-replicate _ h 0 0 (omega arith);
+    }
 
 -- ---- one name: four stores
 

@@ -1,16 +1,13 @@
 -- One law for each way out of `take_name`: what was read is new where the index has no name with its bytes.
 -- Assumes nothing.
-use mathlib.Core.Path.{◌≡◌, refl, sym, ◌∙◌}
+use Rattle.std.specs.Prelude.{Ok, Err, Some, None, Result, Option}
+use mathlib.Core.Path.{◌≡◌, refl, sym, ap, ◌∙◌}
 use mathlib.Core.Bool.{Bool, true, false, cond}
-use mathlib.Core.List.{List}
+use mathlib.Core.List.{List, [], ◌∷◌, ◌++◌}
 use Prim.Native.Nat.{ℕ}
 use native.Mathlib.Omega.{arith}
 use Rattle.library_form.specs.Form.{Ans, good, bad, bind, PlacedName, word_at, name_at, name_seen}
-use Rattle.library_form.specs.declared.Name.{Name}
-use Rattle.library_form.specs.declared.Name.TheVariants.{Bytes, Wrong}
-use Rattle.library_form.proofs.Bounds.{spanned, missed, name_place}
-use Rattle.library_index.specs.declared.Found.{Found}
-use Rattle.library_index.specs.declared.Found.TheVariants.{At, Nothing}
+use Rattle.library_form.proofs.Bounds.{spanned, name_place}
 use Rattle.library_index.specs.Names.{memb, new_name, names_in, Room, Added, Space, Taken}
 use Rattle.library_index.proofs.First.{not_among, is_among}
 
@@ -44,38 +41,39 @@ new_place s ws at {p} e = go (name_at s at) refl e
     go (bad q) h k = let z : q ≡ p = cc in sym z ∙ name_place s at h
 
 -- a name that is wrong was not read
-not_bytes : (r : Name) {p first len : ℕ} {X : Type 0} → r ≡ Wrong p → r ≡ Bytes first len → X
+not_bytes : (r : Result (ℕ × ℕ) ℕ) {p first len : ℕ} {X : Type 0} → r ≡ Err p → r ≡ Ok (first, len) → X
 not_bytes r e f = let z : ◌≡◌ {A = ℕ} 0 1 = cc in absurd (omega arith)
 
-module _ (s tab : List ℕ) (n at : ℕ) (r : Name) where
-  pub no_name : {p : ℕ} → r ≡ Wrong p → name_seen s r ≡ name_at s at → Taken s tab n at r tab
-  unfolding new_name
-  no_name {p} e f = record {
-    answer = f ∙ rw (missed s r at e f);
-    kept = refl;
-    indexed = λ first len g. not_bytes r e g;
-    names = λ first len g. not_bytes r e g;
-  }
+-- a name that is not there is wrong where it would start
+pub no_name : (s tab : List ℕ) (n at : ℕ) {p : ℕ} → bad p ≡ name_at s at → Taken s tab n at (Err p) tab
+unfolding new_name
+no_name s tab n at {p} e = record {
+  answer = rw (← e) refl;
+  kept = refl;
+  indexed = λ first len g. not_bytes (Err p) refl g;
+  names = λ first len g. not_bytes (Err p) refl g;
+}
 
-  module _ {first len : ℕ} (e : r ≡ Bytes first len) (f : name_seen s r ≡ name_at s at) where
+module _ (s tab : List ℕ) (n at : ℕ) (r : Result (ℕ × ℕ) ℕ) where
+  module _ {first len : ℕ} (e : r ≡ Ok (first, len)) (f : name_seen s r ≡ name_at s at) where
     pub room : Space s tab n → Room s tab n first len
     room g = record { indexed = g.indexed; free = g.free; small = g.small; within = (spanned s r at first len e f).inside; short = g.short }
 
-    module _ {x : Found} {after : List ℕ} (a : Added s tab n first len x after) where
-      pub repeated : {i : ℕ} → x ≡ At i → Taken s tab n at (Wrong at) after
+    module _ {x : Option ℕ} {after : List ℕ} (a : Added s tab n first len x after) where
+      pub repeated : {i : ℕ} → x ≡ Some i → Taken s tab n at (Err at) after
       unfolding new_name
       repeated q = record {
         answer = rw ((spanned s r at first len e f).read, is_among 0 (word_at s first len).text (names_in s tab n) (sym a.answer ∙ q));
         kept = a.kept;
-        indexed = λ first len g. not_bytes (Wrong at) refl g;
-        names = λ first len g. not_bytes (Wrong at) refl g;
+        indexed = λ first len g. not_bytes (Err at) refl g;
+        names = λ first len g. not_bytes (Err at) refl g;
       }
 
-      pub fresh : x ≡ Nothing → Taken s tab n at (Bytes first len) after
+      pub fresh : x ≡ None → Taken s tab n at (Ok (first, len)) after
       unfolding new_name
       fresh q = record {
         answer = rw ((spanned s r at first len e f).read, not_among 0 (word_at s first len).text (names_in s tab n) (sym a.answer ∙ q));
         kept = a.kept;
         indexed = λ k l g. a.indexed q;
-        names = λ k l g. let i : first ≡ k = cc in let j : len ≡ l = cc in a.names q ∙ rw (i, j);
+        names = λ k l g. let p : (first, len) ≡ (k, l) = cc in a.names q ∙ ap (λ (p : ℕ × ℕ). names_in s tab n ++ (word_at s p.0 p.1 ∷ [])) p;
       }

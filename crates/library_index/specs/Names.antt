@@ -3,21 +3,18 @@
 -- a link are one more than the number of a name, or 0.
 -- Assumes nothing.
 use Rattle.std.specs.Prelude.{ℕ, zero, suc, ◌+◌, ◌*◌, ◌%◌, ◌≤◌, ◌<◌, ◌≡◌, Bool, false, cond, ◌||◌, List, [], ◌∷◌, ◌++◌, length, get_or, eqb}
+use Rattle.std.specs.Prelude.{Ok, Some, None, Result, Option}
 use Rattle.text.specs.Keyword.{same}
 use Rattle.library_form.specs.Form.{Ans, good, bad, bind, PlacedName, word_at, name_at, name_seen}
-use Rattle.library_form.specs.declared.Name.{Name}
-use Rattle.library_form.specs.declared.Name.TheVariants.{Bytes}
-use Rattle.library_index.specs.declared.Found.{Found}
-use Rattle.library_index.specs.declared.Found.TheVariants.{At, Nothing}
 
 -- ---- the plain search
 
 -- the number of the first of the words, counted from i, whose bytes are t
-unfoldable pub first_from : ℕ → List ℕ → List PlacedName → Found
-first_from i t [] = Nothing
-first_from i t (w ∷ ws) = cond (same w.text t) (At i) (first_from (suc i) t ws)
+unfoldable pub first_from : ℕ → List ℕ → List PlacedName → Option ℕ
+first_from i t [] = None
+first_from i t (w ∷ ws) = cond (same w.text t) (Some i) (first_from (suc i) t ws)
 
-abbrev pub first_of : List ℕ → List PlacedName → Found
+abbrev pub first_of : List ℕ → List PlacedName → Option ℕ
 first_of t ws = first_from 0 t ws
 
 -- any search for the first hit: f of the first whose name has the bytes t, or d
@@ -96,7 +93,7 @@ pub record Indexed (s tab : List ℕ) (n : ℕ) : Type 0 where
   pub heads : (h : ℕ) → h < buckets → get_or tab h 0 ≡ top_in s tab h n
   pub links : (i : ℕ) → i < n → get_or tab (row_of i + 2) 0 ≡ top_in s tab (hash_of (name_in_row s tab i).text) i
   pub inside : (i : ℕ) → i < n → get_or tab (row_of i) 0 + get_or tab (row_of i + 1) 0 ≤ length s
-  pub differ : (i : ℕ) → i < n → first_of (name_in_row s tab i).text (names_in s tab i) ≡ Nothing
+  pub differ : (i : ℕ) → i < n → first_of (name_in_row s tab i).text (names_in s tab i) ≡ None
 
 -- ---- what the code asks and does
 
@@ -121,12 +118,12 @@ pub record Room (s tab : List ℕ) (n place len : ℕ) : Type 0 where
   pub short : length s ≤ most
 
 -- what an addition does: a name that is there is answered, and the table left; any other becomes the last
-pub record Added (s tab : List ℕ) (n place len : ℕ) (r : Found) (after : List ℕ) : Type 0 where
+pub record Added (s tab : List ℕ) (n place len : ℕ) (r : Option ℕ) (after : List ℕ) : Type 0 where
   pub answer : r ≡ first_of (word_at s place len).text (names_in s tab n)
   pub kept : length after ≡ length tab
-  pub there : (i : ℕ) → r ≡ At i → after ≡ tab
-  pub indexed : r ≡ Nothing → Indexed s after (n + 1)
-  pub names : r ≡ Nothing → names_in s after (n + 1) ≡ names_in s tab n ++ (word_at s place len ∷ [])
+  pub there : (i : ℕ) → r ≡ Some i → after ≡ tab
+  pub indexed : r ≡ None → Indexed s after (n + 1)
+  pub names : r ≡ None → names_in s after (n + 1) ≡ names_in s tab n ++ (word_at s place len ∷ [])
 
 -- what the taking of a name asks, and does: a name that is read and new becomes the last
 pub record Space (s tab : List ℕ) (n : ℕ) : Type 0 where
@@ -135,11 +132,11 @@ pub record Space (s tab : List ℕ) (n : ℕ) : Type 0 where
   pub small : n < most
   pub short : length s ≤ most
 
-pub record Taken (s tab : List ℕ) (n at : ℕ) (r : Name) (after : List ℕ) : Type 0 where
+pub record Taken (s tab : List ℕ) (n at : ℕ) (r : Result (ℕ × ℕ) ℕ) (after : List ℕ) : Type 0 where
   pub answer : name_seen s r ≡ new_name s (names_in s tab n) at
   pub kept : length after ≡ length tab
-  pub indexed : (first len : ℕ) → r ≡ Bytes first len → Indexed s after (n + 1)
-  pub names : (first len : ℕ) → r ≡ Bytes first len → names_in s after (n + 1) ≡ names_in s tab n ++ (word_at s first len ∷ [])
+  pub indexed : (first len : ℕ) → r ≡ Ok (first, len) → Indexed s after (n + 1)
+  pub names : (first len : ℕ) → r ≡ Ok (first, len) → names_in s after (n + 1) ≡ names_in s tab n ++ (word_at s first len ∷ [])
 
 -- what the storing of one name needs, and what it leaves: four words, and all others as they were
 pub record Puts (tab : List ℕ) (n h place len : ℕ) : Type 0 where

@@ -6,7 +6,7 @@ ghost use Rattle.std.specs.Prelude.{◌≡◌, ◌+◌, ◌≤◌, ◌<◌, leng
 ghost use Rattle.library_index.specs.Names.{buckets, row_words, row_of, first_of, names_in, hash_of, Indexed, Sought, Room, Added, Space, Taken, Puts, Stored};
 ghost use Rattle.library_index.specs.Names.{Cleared};
 
-use library_form::{ImageCursor, Name};
+use library_form::{ImageCursor, WrongAt};
 
 // How many buckets there are.
 pub const BUCKETS: usize = 2048;
@@ -17,29 +17,13 @@ pub const ROW: usize = 3;
 // The bucket of a name is made byte by byte: what there is so far times this, and the byte.
 const FACTOR: usize = 131;
 
-// The number of the first name with the bytes that are looked for.
-#[derive(Clone, Copy)]
-pub enum Found {
-    At(usize),
-    Nothing,
-}
-
-// A byte as a number.
-fn of_byte(x: u8) -> usize
-    ensures { (result ≡ x) × (result < 256) }
-{
-    x as usize
-}
-
 // The bucket of a name.
 fn bucket(name: &[u8]) -> usize
     ensures { (result ≡ hash_of name.now) × (result < buckets) }
 {
     let mut h: usize = 0;
-    let mut i = 0;
-    while i < name.len() {
-        h = (h * FACTOR + of_byte(name[i])) % BUCKETS;
-        i += 1;
+    for &b in name {
+        h = (h * FACTOR + usize::from(b)) % BUCKETS;
     }
     h
 }
@@ -49,11 +33,7 @@ pub fn clear(tab: &mut [u32])
     requires { buckets ≤ length tab.old }
     ensures { Cleared tab.old tab.new }
 {
-    let mut h = 0;
-    while h < BUCKETS {
-        tab[h] = 0;
-        h += 1;
-    }
+    tab[..BUCKETS].fill(0);
 }
 
 // Where the name of number `i` starts.
@@ -61,7 +41,7 @@ pub fn place_of(tab: &[u32], i: usize) -> usize
     requires { row_of i + row_words ≤ length tab.now }
     ensures { result ≡ get_or tab.now (row_of i) 0 }
 {
-    text_lent::of_word(tab[BUCKETS + i * ROW])
+    tab[BUCKETS + i * ROW] as usize
 }
 
 // How long the name of number `i` is.
@@ -69,31 +49,30 @@ pub fn length_of(tab: &[u32], i: usize) -> usize
     requires { row_of i + row_words ≤ length tab.now }
     ensures { result ≡ get_or tab.now (row_of i + 1) 0 }
 {
-    text_lent::of_word(tab[BUCKETS + i * ROW + 1])
+    tab[BUCKETS + i * ROW + 1] as usize
 }
 
 // Goes through the names of the bucket `h`, which is that of `name`, to the one with its bytes.
-fn seek(s: &[u8], tab: &[u32], count: usize, h: usize, name: &[u8]) -> Found
+fn seek(s: &[u8], tab: &[u32], count: usize, h: usize, name: &[u8]) -> Option<usize>
     requires { Sought s.now tab.now count h name.now }
     ensures { result ≡ first_of name.now (names_in s.now tab.now count) }
 {
-    let mut j = text_lent::of_word(tab[h]);
+    let mut j = tab[h] as usize;
     while 0 < j {
         let i = j - 1;
         let row = BUCKETS + i * ROW;
-        let place = text_lent::of_word(tab[row]);
-        let len = text_lent::of_word(tab[row + 1]);
-        let end = place + len;
-        if check::same(&s[place..end], name) {
-            return Found::At(i);
+        let place = tab[row] as usize;
+        let len = tab[row + 1] as usize;
+        if &s[place..place + len] == name {
+            return Some(i);
         }
-        j = text_lent::of_word(tab[row + 2]);
+        j = tab[row + 2] as usize;
     }
-    Found::Nothing
+    None
 }
 
 // The first of the `count` names of the table that has the bytes of `name`.
-pub fn find(s: &[u8], tab: &[u32], count: usize, name: &[u8]) -> Found
+pub fn find(s: &[u8], tab: &[u32], count: usize, name: &[u8]) -> Option<usize>
     requires { Indexed s.now tab.now count }
     ensures { result ≡ first_of name.now (names_in s.now tab.now count) }
 {
@@ -115,32 +94,32 @@ fn put(tab: &mut [u32], count: usize, h: usize, place: usize, len: usize)
 }
 
 // Adds the name of `len` bytes at `place`, unless one of the `count` names of the table has its bytes: then that one is answered.
-pub fn add(s: &[u8], tab: &mut [u32], count: usize, place: usize, len: usize) -> Found
+pub fn add(s: &[u8], tab: &mut [u32], count: usize, place: usize, len: usize) -> Option<usize>
     requires { Room s.now tab.old count place len }
     ensures { Added s.now tab.old count place len result tab.new }
 {
-    let end = place + len;
-    let h = bucket(&s[place..end]);
-    let found = seek(s, tab, count, h, &s[place..end]);
-    let Found::Nothing = found else {
-        return found;
-    };
-    put(tab, count, h, place, len);
+    let name = &s[place..place + len];
+    let h = bucket(name);
+    let found = seek(s, tab, count, h, name);
+    if found.is_none() {
+        put(tab, count, h, place, len);
+    }
     found
 }
 
 // Reads the name at `at` and adds it to the `count` names of the table. A name that is there already is wrong.
-pub fn take_name(s: &[u8], tab: &mut [u32], count: usize, at: usize) -> Name
+pub fn take_name(
+    s: &[u8],
+    tab: &mut [u32],
+    count: usize,
+    at: usize,
+) -> Result<(usize, usize), WrongAt>
     requires { Space s.now tab.old count }
     ensures { Taken s.now tab.old count at result tab.new }
 {
-    let here = ImageCursor { at: at };
-    let name = here.name(s);
-    let Name::Bytes(first, len) = name else {
-        return name;
-    };
-    let Found::Nothing = add(s, tab, count, first, len) else {
-        return Name::Wrong(at);
-    };
-    name
+    let (first, len) = ImageCursor { at }.name(s)?;
+    match add(s, tab, count, first, len) {
+        None => Ok((first, len)),
+        Some(_) => Err(at),
+    }
 }

@@ -2,13 +2,10 @@
 -- Assumes nothing.
 use mathlib.Core.Path.{◌≡◌, refl, sym, ap, ap₂, ◌∙◌}
 use mathlib.Core.List.{List, [], ◌++◌, append-nil, append_assoc}
-use Prim.Native.Nat.{ℕ, suc, ◌-◌, ◌≤◌, ◌<◌}
+use Prim.Native.Nat.{ℕ, suc, ◌+◌, ◌-◌, ◌≤◌, ◌<◌}
 use native.Mathlib.Omega.{arith}
 use lib.ListN.{length}
-use Rattle.library_form.specs.Form.{Ans, good, bad, bind, number_seen}
-use Rattle.library_form.specs.declared.ImageCursor.{ImageCursor}
-use Rattle.library_form.specs.declared.Number.{Number}
-use Rattle.library_form.specs.declared.Number.TheVariants.{Value, Wrong}
+use Rattle.library_form.specs.Form.{Ans, good, bad, bind}
 use Rattle.library_form.proofs.Bounds.{number_end}
 use Rattle.library_image.specs.Image.{count_at}
 use Rattle.library_image.proofs.Steps.{on_good, bind_good, carry, count_good}
@@ -60,28 +57,28 @@ module _ (x : Ans Items) (f : ℕ → Ans Items) where
 
 -- ---- the loop
 
--- `left` parts of the whole are still to come
-pub record Ahead (q : ℕ → Ans Items) (s before : List ℕ) (n : ℕ) (whole : Ans Items) (tab : List ℕ) (r : Reach) (left : ℕ) : Type 0 where
+-- the parts from the i-th of `count` on are still to come
+pub record Ahead (q : ℕ → Ans Items) (s before : List ℕ) (n : ℕ) (whole : Ans Items) (tab : List ℕ) (r : Reach) (count i : ℕ) : Type 0 where
   pub more : Items
   pub end : ℕ
-  pub coming : each q left r.at ≡ good more end
+  pub coming : each q (count - i) r.at ≡ good more end
   pub all : items_in s tab r.items ++ more ≡ items_in s before n ++ value_or [] whole
   pub last : end_of whole ≡ end
   pub kept : length tab ≡ length before
   pub room : Room s tab r.items r.at
 
-module _ {q : ℕ → Ans Items} {s before : List ℕ} {n : ℕ} {whole : Ans Items} {tab : List ℕ} {r : Reach} {left : ℕ}
-    (a : Ahead q s before n whole tab r left) where
-  next : 0 < left → and_then (q r.at) (λ m. each q (left - 1) m) ≡ good a.more a.end
+module _ {q : ℕ → Ans Items} {s before : List ℕ} {n : ℕ} {whole : Ans Items} {tab : List ℕ} {r : Reach} {count i : ℕ}
+    (a : Ahead q s before n whole tab r count i) where
+  next : i < count → and_then (q r.at) (λ m. each q (count - (i + 1)) m) ≡ good a.more a.end
   unfolding each
-  next h = let e : left ≡ suc (left - 1) = omega arith in sym (ap (λ k. each q k r.at) e) ∙ a.coming
+  next h = let e : count - i ≡ suc (count - (i + 1)) = omega arith in sym (ap (λ k. each q k r.at) e) ∙ a.coming
 
-  pub ahead_reads : 0 < left → Reads (q r.at)
-  ahead_reads h = first_reads _ (λ m. each q (left - 1) m) (record { value = a.more; end = a.end; read = next h })
+  pub ahead_reads : i < count → Reads (q r.at)
+  ahead_reads h = first_reads _ (λ m. each q (count - (i + 1)) m) (record { value = a.more; end = a.end; read = next h })
 
-  pub ahead_on : {t : Reach} {after : List ℕ} → Gained s tab r.items (q r.at) t after → 0 < left → Ahead q s before n whole after t (left - 1)
+  pub ahead_on : {t : Reach} {after : List ℕ} → Gained s tab r.items (q r.at) t after → i < count → Ahead q s before n whole after t count (i + 1)
   ahead_on {t} {after} g h =
-      let f : ℕ → Ans Items = λ m. each q (left - 1) m in
+      let f : ℕ → Ans Items = λ m. each q (count - (i + 1)) m in
       let b = both (q r.at) f (next h) in
       record {
         more = b.ys;
@@ -94,10 +91,10 @@ module _ {q : ℕ → Ans Items} {s before : List ℕ} {n : ℕ} {whole : Ans It
         room = g.room;
       }
 
-  pub ahead_done : left ≤ 0 → Gained s before n whole r tab
+  pub ahead_done : count ≤ i → Gained s before n whole r tab
   unfolding each
   ahead_done h =
-      let e : left ≡ 0 = omega arith in
+      let e : count - i ≡ 0 = omega arith in
       let d : good [] r.at ≡ good a.more a.end = sym (ap (λ k. each q k r.at) e) ∙ a.coming in
       let x : [] ≡ a.more = cc in
       let y : r.at ≡ a.end = cc in
@@ -108,9 +105,9 @@ module _ {q : ℕ → Ans Items} {s before : List ℕ} {n : ℕ} {whole : Ans It
         room = a.room;
       }
 
-pub each_begun : (q : ℕ → Ans Items) (count : ℕ) {s tab : List ℕ} {r : Reach} → Room s tab r.items r.at → Reads (each q count r.at)
-    → Ahead q s tab r.items (each q count r.at) tab r count
-each_begun q count {s} {tab} {r} m h =
+pub each_begun : (q : ℕ → Ans Items) (count i : ℕ) {s tab : List ℕ} {r : Reach} → Room s tab r.items r.at → Reads (each q (count - i) r.at)
+    → Ahead q s tab r.items (each q (count - i) r.at) tab r count i
+each_begun q count i {s} {tab} {r} m h =
     record {
       more = h.value;
       end = h.end;
@@ -123,34 +120,31 @@ each_begun q count {s} {tab} {r} m h =
 
 -- ---- its count
 
-module _ (least most : ℕ) (s : List ℕ) (at : ℕ) (v : Number) where
-  pub counted_there : {p : ℕ} (f : ℕ → ℕ → Ans Items) → v ≡ Wrong p → number_seen v ≡ count_at least most s at → Reads (bind (count_at least most s at) f) → ⊥
-  counted_there f e k r =
-      let b = sym k ∙ ap number_seen e in
-      let d : bind (bad _) f ≡ good r.value r.end = sym (ap (λ a. bind a f) b) ∙ r.read in
+module _ (least most : ℕ) (s : List ℕ) (at : ℕ) where
+  pub counted_there : {p : ℕ} (f : ℕ → ℕ → Ans Items) → bad p ≡ count_at least most s at → Reads (bind (count_at least most s at) f) → ⊥
+  counted_there {p} f e r =
+      let d : bad p ≡ good r.value r.end = ap (λ a. bind a f) e ∙ r.read in
       let z : ◌≡◌ {A = ℕ} 0 1 = cc in
       absurd (omega arith)
 
-  module _ {count : ℕ} {c : ImageCursor} (e : v ≡ Value count c) (k : number_seen v ≡ count_at least most s at) where
-    count_read : count_at least most s at ≡ good count c.at
-    count_read = sym k ∙ ap number_seen e
-
-    pub counted_room : (tab : List ℕ) (n : ℕ) → Room s tab n at → Room s tab n c.at
+  module _ {count first : ℕ} (e : good count first ≡ count_at least most s at) where
+    pub counted_room : (tab : List ℕ) (n : ℕ) → Room s tab n at → Room s tab n first
     counted_room tab n m =
-        let g = number_end s at (count_good s least most at count_read).number in
+        let g = number_end s at (count_good s least most at (sym e)).number in
         record { short = m.short; space = m.space; inside = g.1; taken = omega (arith, m.taken, g.0); fits = m.fits }
 
-    pub counted_behind : (f : ℕ → ℕ → Ans Items) → bind (count_at least most s at) f ≡ f count c.at
-    counted_behind f = bind_good f count_read refl
+    pub counted_behind : (f : ℕ → ℕ → Ans Items) → bind (count_at least most s at) f ≡ f count first
+    counted_behind f = bind_good f (sym e) refl
 
     pub counted_begun : (q : ℕ → Ans Items) (tab : List ℕ) (n : ℕ) → Room s tab n at → Reads (each_counted least most q s at)
-        → Ahead q s tab n (each_counted least most q s at) tab (record { items = n; at = c.at }) count
+        → Ahead q s tab n (each_counted least most q s at) tab (record { items = n; at = first }) count 0
     unfolding each_counted
     counted_begun q tab n m r =
+        let d : count - 0 ≡ count = omega arith in
         record {
           more = r.value;
           end = r.end;
-          coming = sym (counted_behind (λ c n. each q c n)) ∙ r.read;
+          coming = rw d (sym (counted_behind (λ c n. each q c n)) ∙ r.read);
           all = ap (λ a. items_in s tab n ++ value_or [] a) (sym r.read);
           last = ap end_of r.read;
           kept = refl;

@@ -5,10 +5,7 @@ use mathlib.Core.List.{List, []}
 use Prim.Native.Nat.{ℕ, ◌≤◌}
 use native.Mathlib.Omega.{arith}
 use lib.ListN.{length}
-use Rattle.library_form.specs.Form.{good, number_seen}
-use Rattle.library_form.specs.declared.ImageCursor.{ImageCursor}
-use Rattle.library_form.specs.declared.Number.{Number}
-use Rattle.library_form.specs.declared.Number.TheVariants.{Value, Wrong}
+use Rattle.library_form.specs.Form.{good, bad}
 use Rattle.library_image.specs.Library.{Library}
 use Rattle.library_image.specs.Image.{most_sets, count_at, image_at}
 use Rattle.library_image.proofs.ImageLaws.{accepted}
@@ -33,18 +30,17 @@ module _ (s : List ℕ) (i : Reads (image_at s)) where
   empty_room : (tab : List ℕ) → table_words ≤ length tab → Room s tab 0 0
   empty_room tab h = record { short = (accepted s i.read).short; space = h; inside = omega arith; taken = omega arith; fits = λ k l. absurd (omega arith) }
 
-  pub no_sets : (v : Number) {p : ℕ} → v ≡ Wrong p → number_seen v ≡ count_at 0 most_sets s 0 → ⊥
+  pub no_sets : {p : ℕ} → bad p ≡ count_at 0 most_sets s 0 → ⊥
   unfolding sets_read each_counted
-  no_sets v e k = counted_there 0 most_sets s 0 v _ e k sets_reads
+  no_sets e = counted_there 0 most_sets s 0 _ e sets_reads
 
-  pub sets_begun : (tab : List ℕ) (v : Number) {count : ℕ} {c : ImageCursor} → v ≡ Value count c → number_seen v ≡ count_at 0 most_sets s 0
-      → table_words ≤ length tab
-      → Ahead (set_read s) s tab 0 (sets_read s 0) tab (record { items = 0; at = c.at }) count
+  pub sets_begun : (tab : List ℕ) {count first : ℕ} → good count first ≡ count_at 0 most_sets s 0 → table_words ≤ length tab
+      → Ahead (set_read s) s tab 0 (sets_read s 0) tab (record { items = 0; at = first }) count 0
   unfolding sets_read
-  sets_begun tab v e k h = counted_begun 0 most_sets s 0 v e k (set_read s) tab 0 (empty_room tab h) sets_reads
+  sets_begun tab e h = counted_begun 0 most_sets s 0 e (set_read s) tab 0 (empty_room tab h) sets_reads
 
-  module _ {before tab : List ℕ} {r : Reach} {left : ℕ} (a : Ahead (set_read s) s before 0 (sets_read s 0) tab r left) where
-    pub all_listed : left ≤ 0 → Itemized s r.items tab
+  module _ {before tab : List ℕ} {r : Reach} {count k : ℕ} (a : Ahead (set_read s) s before 0 (sets_read s 0) tab r count k) where
+    pub all_listed : count ≤ k → Itemized s r.items tab
     unfolding items_in
     all_listed h =
         let g = ahead_done a h in

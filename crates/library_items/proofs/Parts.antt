@@ -1,33 +1,30 @@
 -- Each part of the image by the parts of it: one law for each way out, of the theory of parts one behind another.
 -- Assumes nothing.
-use mathlib.Core.Path.{◌≡◌, sym, ap, ◌∙◌}
+use mathlib.Core.Path.{◌≡◌, sym, ◌∙◌}
 use mathlib.Core.List.{List}
 use mathlib.Core.Bool.{Bool, true, false}
 use Prim.Native.Nat.{ℕ, ◌-◌, ◌≤◌}
-use Rattle.library_form.specs.Form.{Ans, number_seen}
-use Rattle.library_form.specs.declared.ImageCursor.{ImageCursor}
-use Rattle.library_form.specs.declared.Number.{Number}
-use Rattle.library_form.specs.declared.Number.TheVariants.{Value, Wrong}
+use Rattle.library_form.specs.Form.{Ans, good, bad}
 use Rattle.library_image.specs.Image.{most_modules, most_names, least_revisions, most_revisions, count_at}
-use Rattle.library_image.proofs.Steps.{count_good}
 use Rattle.library_items.specs.Items.{module_kind, submodule_kind, augmenting_kind, deviation_kind, import_only_kind, first_sub_kind, later_sub_kind}
 use Rattle.library_items.specs.Table.{Items, and_then, each, each_counted, name_read, list_read, lists_read, revisions_read, entry_read, entries_read, set_read}
 use Rattle.library_items.specs.Table.{Reads, Room, Gained}
+use Rattle.library_items.specs.declared.Kind.{Kind}
 use Rattle.library_items.specs.declared.Reach.{Reach}
 use Rattle.library_items.proofs.Ahead.{first_reads, second_reads, gained_both, Ahead, ahead_done, each_begun, counted_there, counted_room}
 use Rattle.library_items.proofs.Ahead.{counted_behind, counted_begun}
 
 -- ---- a list
 
-module _ (s tab : List ℕ) (n kind at : ℕ) (v : Number) where
-  pub no_list : {p : ℕ} → v ≡ Wrong p → number_seen v ≡ count_at 0 most_names s at → Reads (list_read kind s at) → ⊥
+module _ (s tab : List ℕ) (n : ℕ) (kind : Kind) (at : ℕ) where
+  pub no_list : {p : ℕ} → bad p ≡ count_at 0 most_names s at → Reads (list_read kind s at) → ⊥
   unfolding list_read each_counted
-  no_list e k r = counted_there 0 most_names s at v _ e k r
+  no_list e r = counted_there 0 most_names s at _ e r
 
-  pub list_begun : {count : ℕ} {c : ImageCursor} → v ≡ Value count c → number_seen v ≡ count_at 0 most_names s at → Room s tab n at → Reads (list_read kind s at)
-      → Ahead (name_read kind s) s tab n (list_read kind s at) tab (record { items = n; at = c.at }) count
+  pub list_begun : {count first : ℕ} → good count first ≡ count_at 0 most_names s at → Room s tab n at → Reads (list_read kind s at)
+      → Ahead (name_read kind s) s tab n (list_read kind s at) tab (record { items = n; at = first }) count 0
   unfolding list_read
-  list_begun e k m r = counted_begun 0 most_names s at v e k (name_read kind s) tab n m r
+  list_begun e m r = counted_begun 0 most_names s at e (name_read kind s) tab n m r
 
 -- ---- three lists
 
@@ -58,36 +55,35 @@ module _ (s tab : List ℕ) (n at : ℕ) where
 
 -- ---- revisions
 
-module _ (s tab : List ℕ) (n at : ℕ) (v : Number) where
-  pub no_revisions : {p : ℕ} → v ≡ Wrong p → number_seen v ≡ count_at least_revisions most_revisions s at → Reads (revisions_read s at) → ⊥
+module _ (s tab : List ℕ) (n at : ℕ) where
+  pub no_revisions : {p : ℕ} → bad p ≡ count_at least_revisions most_revisions s at → Reads (revisions_read s at) → ⊥
   unfolding revisions_read
-  no_revisions e k r = counted_there least_revisions most_revisions s at v _ e k r
+  no_revisions e r = counted_there least_revisions most_revisions s at _ e r
 
-  module _ {count : ℕ} {c : ImageCursor} (e : v ≡ Value count c) (k : number_seen v ≡ count_at least_revisions most_revisions s at) where
+  module _ {count first : ℕ} (e : good count first ≡ count_at least_revisions most_revisions s at) where
     abbrev later : ℕ → Ans Items
     later m = each (list_read later_sub_kind s) (count - 1) m
 
-    opened : revisions_read s at ≡ and_then (list_read first_sub_kind s c.at) later
+    opened : revisions_read s at ≡ and_then (list_read first_sub_kind s first) later
     unfolding revisions_read
-    opened = counted_behind least_revisions most_revisions s at v e k (λ c n. and_then (list_read first_sub_kind s n) (λ m. each (list_read later_sub_kind s) (c - 1) m))
+    opened =
+        counted_behind least_revisions most_revisions s at e
+        (λ c n. and_then (list_read first_sub_kind s n) (λ m. each (list_read later_sub_kind s) (c - 1) m))
 
-    behind_count : Reads (revisions_read s at) → Reads (and_then (list_read first_sub_kind s c.at) later)
+    behind_count : Reads (revisions_read s at) → Reads (and_then (list_read first_sub_kind s first) later)
     behind_count r = record { value = r.value; end = r.end; read = sym opened ∙ r.read }
 
-    pub some_revision : 1 ≤ count
-    some_revision = (count_good s least_revisions most_revisions at (sym k ∙ ap number_seen e)).enough
+    pub revisions_room : Room s tab n at → Room s tab n first
+    revisions_room m = counted_room least_revisions most_revisions s at e tab n m
 
-    pub revisions_room : Room s tab n at → Room s tab n c.at
-    revisions_room m = counted_room least_revisions most_revisions s at v e k tab n m
-
-    pub first_read : Reads (revisions_read s at) → Reads (list_read first_sub_kind s c.at)
+    pub first_read : Reads (revisions_read s at) → Reads (list_read first_sub_kind s first)
     first_read r = first_reads _ later (behind_count r)
 
-    module _ {r : Reach} {after : List ℕ} (g : Gained s tab n (list_read first_sub_kind s c.at) r after) (h : Reads (revisions_read s at)) where
-      pub revisions_begun : Ahead (list_read later_sub_kind s) s after r.items (later r.at) after r (count - 1)
-      revisions_begun = each_begun (list_read later_sub_kind s) (count - 1) g.room (second_reads _ later g (behind_count h))
+    module _ {r : Reach} {after : List ℕ} (g : Gained s tab n (list_read first_sub_kind s first) r after) (h : Reads (revisions_read s at)) where
+      pub revisions_begun : Ahead (list_read later_sub_kind s) s after r.items (later r.at) after r count 1
+      revisions_begun = each_begun (list_read later_sub_kind s) count 1 g.room (second_reads _ later g (behind_count h))
 
-      pub revisions_taken : {r₂ : Reach} {last : List ℕ} {left : ℕ} → Ahead (list_read later_sub_kind s) s after r.items (later r.at) last r₂ left → left ≤ 0
+      pub revisions_taken : {r₂ : Reach} {last : List ℕ} {i : ℕ} → Ahead (list_read later_sub_kind s) s after r.items (later r.at) last r₂ count i → count ≤ i
           → Gained s tab n (revisions_read s at) r₂ last
       revisions_taken a z = rw opened (gained_both _ later g (ahead_done a z) (behind_count h))
 
@@ -131,16 +127,15 @@ module _ (s tab : List ℕ) (n at : ℕ) (import_only : Bool) where
       pub module_taken : {t₂ : List ℕ} {r₂ : Reach} → Gained s t₁ r₁.items (lists_read s r₁.at) r₂ t₂ → Gained s tab n (entry_read import_only s at) r₂ t₂
       module_taken h = rw by_module (gained_both _ (lists_read s) g h module_reads)
 
-module _ (s tab : List ℕ) (n at : ℕ) (import_only : Bool) (v : Number) where
-  pub no_entries : {p : ℕ} → v ≡ Wrong p → number_seen v ≡ count_at 0 most_modules s at → Reads (entries_read import_only s at) → ⊥
+module _ (s tab : List ℕ) (n at : ℕ) (import_only : Bool) where
+  pub no_entries : {p : ℕ} → bad p ≡ count_at 0 most_modules s at → Reads (entries_read import_only s at) → ⊥
   unfolding entries_read each_counted
-  no_entries e k r = counted_there 0 most_modules s at v _ e k r
+  no_entries e r = counted_there 0 most_modules s at _ e r
 
-  pub entries_begun : {count : ℕ} {c : ImageCursor} → v ≡ Value count c → number_seen v ≡ count_at 0 most_modules s at → Room s tab n at
-      → Reads (entries_read import_only s at)
-      → Ahead (entry_read import_only s) s tab n (entries_read import_only s at) tab (record { items = n; at = c.at }) count
+  pub entries_begun : {count first : ℕ} → good count first ≡ count_at 0 most_modules s at → Room s tab n at → Reads (entries_read import_only s at)
+      → Ahead (entry_read import_only s) s tab n (entries_read import_only s at) tab (record { items = n; at = first }) count 0
   unfolding entries_read
-  entries_begun e k m r = counted_begun 0 most_modules s at v e k (entry_read import_only s) tab n m r
+  entries_begun e m r = counted_begun 0 most_modules s at e (entry_read import_only s) tab n m r
 
 -- ---- a set
 

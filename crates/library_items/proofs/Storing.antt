@@ -1,6 +1,7 @@
 -- What two stores into the table leave: one item more, and those before it as they were.
 -- Assumes nothing.
-use mathlib.Core.Path.{◌≡◌, refl, ap₂, ◌∙◌}
+use Rattle.std.specs.Prelude.{Ok, Result}
+use mathlib.Core.Path.{◌≡◌, refl, ap, ap₂, ◌∙◌}
 use mathlib.Core.Logic.{⊎_elim}
 use mathlib.Core.List.{List, [], ◌∷◌, ◌++◌}
 use Prim.Native.Nat.{ℕ, zero, suc, ◌+◌, ◌*◌, ◌/◌, ◌%◌, ◌≤◌, ◌<◌}
@@ -11,28 +12,37 @@ use lib.ListN.{length, get_or, set, length-set}
 use lib.Seq.{get_or-set_same, get_or-set_other}
 use mir.Syntax.{w64}
 use mir.Val.{Fits}
-use Rattle.library_form.specs.Form.{name_at, name_seen}
-use Rattle.library_form.specs.declared.Name.{Name}
-use Rattle.library_form.specs.declared.Name.TheVariants.{Bytes, Wrong}
-use Rattle.library_form.proofs.Bounds.{spanned, missed}
-use Rattle.library_items.specs.Items.{most_kind}
+use Rattle.library_form.specs.Form.{bad, name_at, name_seen}
+use Rattle.library_form.proofs.Bounds.{spanned}
+use Rattle.library_items.specs.Items.{number_of, kind_of}
+use Rattle.library_items.specs.declared.Kind.{Kind}
+use Rattle.library_items.specs.declared.Kind.TheVariants.{Module, Submodule, Augmenting, Deviation, ImportOnly, FirstSub, LaterSub}
 use Rattle.library_items.specs.Table.{item_in, item_word, items_in, Items, name_read, Reads, ItemFits, Puts, Laid, Room, Gained}
 use Rattle.library_items.specs.declared.Item.{Item}
 
 -- an item by its two words
 abbrev item_by : (place word : ℕ) → Item
-item_by place word = record { kind = word % 8; place = place; size = word / 8 }
+item_by place word = record { kind = kind_of (word % 8); place = place; size = word / 8 }
 
 -- ---- `get_item` and `put_item`
 
-pub item_got : (tab : List ℕ) (i : ℕ) → record { kind = get_or tab (i * 2 + 1) 0 % 8; place = get_or tab (i * 2) 0; size = get_or tab (i * 2 + 1) 0 / 8 }
-    ≡ item_in tab i
+pub item_got : (tab : List ℕ) (i : ℕ) → {k : Kind} → k ≡ kind_of (get_or tab (i * 2 + 1) 0 % 8)
+    → record { kind = k; place = get_or tab (i * 2) 0; size = get_or tab (i * 2 + 1) 0 / 8 } ≡ item_in tab i
 unfolding item_in
-item_got tab i = refl
+item_got tab i e = rw e refl
+
+kind_back : (k : Kind) → (number_of k < 8) × (kind_of (number_of k) ≡ k)
+kind_back Module = (omega arith, refl)
+kind_back Submodule = (omega arith, refl)
+kind_back Augmenting = (omega arith, refl)
+kind_back Deviation = (omega arith, refl)
+kind_back ImportOnly = (omega arith, refl)
+kind_back FirstSub = (omega arith, refl)
+kind_back LaterSub = (omega arith, refl)
 
 module _ (tab : List ℕ) (n : ℕ) (x : Item) (p : Puts tab n x) where
   abbrev word : ℕ
-  word = x.size * 8 + x.kind
+  word = x.size * 8 + number_of x.kind
 
   abbrev t₁ : List ℕ
   t₁ = set tab (n * 2) x.place
@@ -54,9 +64,11 @@ module _ (tab : List ℕ) (n : ℕ) (x : Item) (p : Puts tab n x) where
 
   back : item_by x.place word ≡ x
   back =
-      let k = p.kind in
-      let e₁ : (x.size * 8 + x.kind) % 8 ≡ x.kind = omega arith in
-      let e₂ : (x.size * 8 + x.kind) / 8 ≡ x.size = omega arith in
+      let k = kind_back x.kind in
+      let l : number_of x.kind < 8 = k.0 in
+      let e₀ : (x.size * 8 + number_of x.kind) % 8 ≡ number_of x.kind = omega arith in
+      let e₁ : kind_of ((x.size * 8 + number_of x.kind) % 8) ≡ x.kind = ap kind_of e₀ ∙ k.1 in
+      let e₂ : (x.size * 8 + number_of x.kind) / 8 ≡ x.size = omega arith in
       ap₂ (λ k z. record { kind = k; place = x.place; size = z }) e₁ e₂
 
   pub laid : Laid tab n x t₂
@@ -77,32 +89,32 @@ module _ (s tab after : List ℕ) (n : ℕ) (same : (i : ℕ) → i < n → item
 
 -- ---- the ways out of `take_item`
 
-module _ (s tab : List ℕ) (n kind at : ℕ) (r : Name) where
-  pub no_name : {p : ℕ} → r ≡ Wrong p → name_seen s r ≡ name_at s at → Reads (name_read kind s at) → ⊥
+module _ (s tab : List ℕ) (n : ℕ) (kind : Kind) (at : ℕ) where
+  pub no_name : {p : ℕ} → bad p ≡ name_at s at → Reads (name_read kind s at) → ⊥
   unfolding name_read
-  no_name e f g = let b = missed s r at e f in let h = g.read in let z : ◌≡◌ {A = ℕ} 0 1 = cc in absurd (omega arith)
+  no_name {p} b g = let h = g.read in let z : ◌≡◌ {A = ℕ} 0 1 = cc in absurd (omega arith)
 
-  module _ (place size : ℕ) (e : r ≡ Bytes place size) (f : name_seen s r ≡ name_at s at) (m : Room s tab n at) where
+  module _ (r : Result (ℕ × ℕ) ℕ) (place size : ℕ) (e : r ≡ Ok (place, size)) (f : name_seen s r ≡ name_at s at) (m : Room s tab n at) where
     pub name_fits : Fits w64 (place + size)
     name_fits = let w = spanned s r at place size e f in let h = m.short in record { fits = omega (arith, w.inside) }
 
-    pub name_puts : kind < most_kind → Puts tab n (record { kind = kind; place = place; size = size })
-    name_puts k =
+    pub name_puts : Puts tab n (record { kind = kind; place = place; size = size })
+    name_puts =
         let w = spanned s r at place size e f in
         let a = m.short in
         let b = m.taken in
         let d = m.space in
         let i = w.inside in
         let j = w.later in
-        record { free = omega (arith, w.some); low = omega (arith, w.some); kind = omega arith; place = omega arith; size = w.few }
+        record { free = omega (arith, w.some); low = omega (arith, w.some); place = omega arith; size = w.few }
 
-    pub name_taken : {after : List ℕ} → Laid tab n (record { kind = kind; place = place; size = size }) after → kind < most_kind
+    pub name_taken : {after : List ℕ} → Laid tab n (record { kind = kind; place = place; size = size }) after
         → Gained s tab n (name_read kind s at) (record { items = n + 1; at = place + size }) after
     unfolding name_read items_in
-    name_taken {after} q k =
+    name_taken {after} q =
         let w = spanned s r at place size e f in
         let x : Item = record { kind = kind; place = place; size = size } in
-        let fit : ItemFits s x = record { kind = k; some = w.some; few = w.few; inside = w.inside } in
+        let fit : ItemFits s x = record { some = w.some; few = w.few; inside = w.inside } in
         record {
           items = rw w.read (rw add-one (ap₂ (λ (xs : Items) (x : Item). xs ++ (item_word s x ∷ [])) (items_same s tab after n q.others n (omega arith))
               q.own));

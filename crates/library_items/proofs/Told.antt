@@ -8,7 +8,8 @@ use native.Mathlib.Omega.{arith}
 use Rattle.library_form.specs.Form.{Ans, good, PlacedName, name_at, many}
 use Rattle.library_index.specs.Names.{new_name}
 use Rattle.library_image.specs.Library.{Module, ImportOnly, Library}
-use Rattle.library_image.specs.Image.{most_sets, most_modules, most_names, least_revisions, most_revisions, Reader, count_at, counted, any_word, new_word, module_at}
+use Rattle.library_image.specs.Image.{most_sets, most_modules, most_names, least_revisions, most_revisions, Reader, count_at, counted, any_word}
+use Rattle.library_image.specs.Image.{new_word, module_at}
 use Rattle.library_image.specs.Image.{revision_at, import_only_at, set_at, library_at}
 use Rattle.library_image.proofs.Steps.{on_good, bind_good, carry, count_good}
 use Rattle.library_index.proofs.Taking.{new_read}
@@ -16,6 +17,7 @@ use Rattle.library_items.specs.Items.{item, module_items, revision_items, import
 use Rattle.library_items.specs.Items.{deviation_kind, import_only_kind, first_sub_kind, later_sub_kind}
 use Rattle.library_items.specs.Table.{Items, and_then, each, each_counted, name_read, list_read, lists_read, revisions_read, entry_read, entries_read, set_read}
 use Rattle.library_items.specs.Table.{sets_read}
+use Rattle.library_items.specs.declared.Kind.{Kind}
 
 -- ---- one behind another, and counted lists
 
@@ -58,23 +60,24 @@ unfolding flat_map
 flat_single f [] = refl
 flat_single f (a ∷ l) = ap (λ k. f a ∷ k) (flat_single f l)
 
-name_told : (s : List ℕ) (k at : ℕ) {w : PlacedName} {n : ℕ} → name_at s at ≡ good w n → name_read k s at ≡ good (item k w ∷ []) n
+name_told : (s : List ℕ) (k : Kind) (at : ℕ) {w : PlacedName} {n : ℕ} → name_at s at ≡ good w n → name_read k s at ≡ good (item k w ∷ []) n
 unfolding name_read
 name_told s k at e = bind_good _ e refl
 
 -- a list of names that are read alone, or differ
 module _ (p : Reader PlacedName) (plain : (s : List ℕ) (seen : List PlacedName) (at : ℕ) (w : PlacedName) (n : ℕ) → p s seen at ≡ good w n
-    → name_at s at ≡ good w n) (s : List ℕ) (k : ℕ) where
+    → name_at s at ≡ good w n) (s : List ℕ) (k : Kind) where
   list_told : (at : ℕ) {l : List PlacedName} {n : ℕ} → counted 0 most_names p s at ≡ good l n → list_read k s at ≡ good (map (item k) l) n
   unfolding list_read
   list_told at {l} {n} e =
       counted_told p s (name_read k s) (λ w. item k w ∷ []) (λ seen at w n h. name_told s k at (plain s seen at w n h)) 0 most_names at e
       ∙ ap (λ x. good x n) (flat_single (item k) l)
 
-names_told : (s : List ℕ) (k at : ℕ) {l : List PlacedName} {n : ℕ} → counted 0 most_names any_word s at ≡ good l n → list_read k s at ≡ good (map (item k) l) n
+names_told : (s : List ℕ) (k : Kind) (at : ℕ) {l : List PlacedName} {n : ℕ} → counted 0 most_names any_word s at ≡ good l n
+    → list_read k s at ≡ good (map (item k) l) n
 names_told s k at e = list_told any_word (λ s seen at w n h. h) s k at e
 
-revision_told : (s : List ℕ) (k : ℕ) → Tells revision_at s (list_read k s) (map (item k))
+revision_told : (s : List ℕ) (k : Kind) → Tells revision_at s (list_read k s) (map (item k))
 revision_told s k seen at l n e = list_told new_word (λ s seen at w n h. (new_read s seen at h).0) s k at e
 
 -- ---- entries

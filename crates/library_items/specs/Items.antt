@@ -1,45 +1,63 @@
 -- A library as one list of names in the image's order, each with what it is. Nodes, marks and the walk of the entries go through this list.
 -- Assumes nothing.
-use Rattle.std.specs.Prelude.{ℕ}
+use Rattle.std.specs.Prelude.{ℕ, cond, eqb}
 use mathlib.Core.List.{List, [], ◌∷◌, ◌++◌, map, flat_map}
 use Rattle.library_form.specs.Form.{PlacedName}
 use Rattle.library_image.specs.Library.{ModuleOf, ImportOnlyOf, SetOf, LibraryOf, Library}
 use Rattle.library_image.specs.Image.{image_at}
 use Rattle.library_lists.specs.Lists.{on_ans}
+use Rattle.library_items.specs.declared.Kind.{Kind}
+use Rattle.library_items.specs.declared.Kind.TheVariants.{Module, Submodule, Augmenting, Deviation, ImportOnly, FirstSub, LaterSub}
 
 -- ---- what a name is
 
-abbrev pub module_kind : ℕ
-module_kind = 0
+abbrev pub module_kind : Kind
+module_kind = Module
 
-abbrev pub submodule_kind : ℕ
-submodule_kind = 1
+abbrev pub submodule_kind : Kind
+submodule_kind = Submodule
 
-abbrev pub augmenting_kind : ℕ
-augmenting_kind = 2
+abbrev pub augmenting_kind : Kind
+augmenting_kind = Augmenting
 
-abbrev pub deviation_kind : ℕ
-deviation_kind = 3
+abbrev pub deviation_kind : Kind
+deviation_kind = Deviation
 
-abbrev pub import_only_kind : ℕ
-import_only_kind = 4
+abbrev pub import_only_kind : Kind
+import_only_kind = ImportOnly
 
 -- a submodule of an import-only module's first revision, and of a later one
-abbrev pub first_sub_kind : ℕ
-first_sub_kind = 5
+abbrev pub first_sub_kind : Kind
+first_sub_kind = FirstSub
 
-abbrev pub later_sub_kind : ℕ
-later_sub_kind = 6
+abbrev pub later_sub_kind : Kind
+later_sub_kind = LaterSub
 
-abbrev pub most_kind : ℕ
-most_kind = 7
+-- its number in a table, and the kind that a number stands for
+abbrev pub number_of : Kind → ℕ
+number_of Module = 0
+number_of Submodule = 1
+number_of Augmenting = 2
+number_of Deviation = 3
+number_of ImportOnly = 4
+number_of FirstSub = 5
+number_of LaterSub = 6
+
+abbrev pub kind_of : ℕ → Kind
+kind_of k =
+    cond (eqb k 0) Module
+    (cond (eqb k 1) Submodule
+    (cond (eqb k 2) Augmenting
+    (cond (eqb k 3) Deviation
+    (cond (eqb k 4) ImportOnly
+    (cond (eqb k 5) FirstSub LaterSub)))))
 
 pub record ItemOf (A : Type 0) : Type 0 where
-  pub kind : ℕ
+  pub kind : Kind
   pub name : A
 
 module _ {A : Type 0} where
-  abbrev pub item : ℕ → A → ItemOf A
+  abbrev pub item : Kind → A → ItemOf A
   item k a = record { kind = k; name = a }
 
   -- ---- in order

@@ -5,9 +5,11 @@ use Rattle.std.specs.Prelude.{ℕ, zero, suc, ◌+◌, ◌-◌, ◌*◌, ◌/◌
 use Rattle.library_form.specs.Form.{Ans, good, bind, PlacedName, word_at, name_at}
 use Rattle.library_image.specs.Image.{most_image, most_sets, most_modules, most_names, least_revisions, most_revisions, count_at}
 use Rattle.library_lists.specs.Lists.{on_ans}
-use Rattle.library_items.specs.Items.{ItemOf, item, module_kind, submodule_kind, augmenting_kind, deviation_kind, import_only_kind, first_sub_kind, later_sub_kind}
-use Rattle.library_items.specs.Items.{most_kind, items_at}
+use Rattle.library_items.specs.Items.{ItemOf, item, module_kind, submodule_kind, augmenting_kind, deviation_kind, import_only_kind}
+use Rattle.library_items.specs.Items.{first_sub_kind, later_sub_kind}
+use Rattle.library_items.specs.Items.{kind_of, items_at}
 use Rattle.library_items.specs.declared.Item.{Item}
+use Rattle.library_items.specs.declared.Kind.{Kind}
 use Rattle.library_items.specs.declared.Reach.{Reach}
 
 abbrev pub kinds : ℕ
@@ -23,7 +25,7 @@ table_words = 65536
 -- ---- the table read
 
 unfoldable pub item_in : List ℕ → ℕ → Item
-item_in tab i = record { kind = get_or tab (i * 2 + 1) 0 % kinds; place = get_or tab (i * 2) 0; size = get_or tab (i * 2 + 1) 0 / kinds }
+item_in tab i = record { kind = kind_of (get_or tab (i * 2 + 1) 0 % kinds); place = get_or tab (i * 2) 0; size = get_or tab (i * 2 + 1) 0 / kinds }
 
 abbrev pub item_word : List ℕ → Item → ItemOf PlacedName
 item_word s x = item x.kind (word_at s x.place x.size)
@@ -54,10 +56,10 @@ each p (suc k) at = and_then (p at) (λ n. each p k n)
 unfoldable pub each_counted : (least most : ℕ) → (ℕ → Ans Items) → List ℕ → ℕ → Ans Items
 each_counted least most p s at = bind (count_at least most s at) (λ c n. each p c n)
 
-unfoldable pub name_read : (kind : ℕ) → List ℕ → ℕ → Ans Items
+unfoldable pub name_read : (kind : Kind) → List ℕ → ℕ → Ans Items
 name_read k s at = bind (name_at s at) (λ w n. good (item k w ∷ []) n)
 
-unfoldable pub list_read : (kind : ℕ) → List ℕ → ℕ → Ans Items
+unfoldable pub list_read : (kind : Kind) → List ℕ → ℕ → Ans Items
 list_read k s at = each_counted 0 most_names (name_read k s) s at
 
 unfoldable pub lists_read : List ℕ → ℕ → Ans Items
@@ -97,7 +99,6 @@ end_of r = on_ans r (λ a n. n) (λ p. p)
 
 -- an item stands for 1 to 128 bytes of the image
 pub record ItemFits (s : List ℕ) (x : Item) : Type 0 where
-  pub kind : x.kind < most_kind
   pub some : 1 ≤ x.size
   pub few : x.size ≤ 128
   pub inside : x.place + x.size ≤ length s
@@ -106,7 +107,6 @@ pub record ItemFits (s : List ℕ) (x : Item) : Type 0 where
 pub record Puts (tab : List ℕ) (n : ℕ) (x : Item) : Type 0 where
   pub free : n * 2 + 2 ≤ length tab
   pub low : n < most_items
-  pub kind : x.kind < kinds
   pub place : x.place ≤ most_image
   pub size : x.size ≤ 128
 

@@ -1,18 +1,13 @@
 -- Counted lists read by a loop: the answer from the start is the answer from here, behind the things that were read. One theory for all of them.
 -- Assumes nothing.
 use mathlib.Core.Path.{◌≡◌, refl, sym, ap, ◌∙◌}
+use mathlib.Core.Logic.{⊎_elim, ◌⊎◌}
 use mathlib.Core.List.{List, [], ◌∷◌, ◌++◌}
-use mathlib.Core.Bool.{Bool, true, false, cond}
 use Prim.Native.Nat.{ℕ, zero, suc, ◌+◌, ◌-◌, ◌≤◌, ◌<◌}
 use native.Mathlib.Omega.{arith}
 use native.Mathlib.Numerals.{add-one}
-use lib.Dec.{ltb}
 use borrow.Author.Tests.{lt-ltb, le-ltb}
-use Rattle.library_form.specs.Form.{Ans, good, bad, bind, number_at, number_seen, many}
-use Rattle.library_form.specs.declared.ImageCursor.{ImageCursor}
-use Rattle.library_form.specs.declared.Number.{Number}
-use Rattle.library_form.specs.declared.Number.TheVariants.{Value, Wrong}
-use Rattle.library_form.proofs.Bounds.{number_place}
+use Rattle.library_form.specs.Form.{Ans, good, bad, bind, number_at, many}
 use Rattle.library_image.specs.Image.{Reader, count_at, counted}
 use Rattle.library_lists.specs.Lists.{done}
 
@@ -89,52 +84,29 @@ module _ {A : Type 0} (p : List A → ℕ → Ans A) where
 
 module _ (least most : ℕ) (s : List ℕ) (at : ℕ) where
   -- the ways out of `read_count`
-  module _ (q : Number) where
-    pub no_number : {p : ℕ} → q ≡ Wrong p → number_seen q ≡ number_at s at → number_seen q ≡ count_at least most s at
-    unfolding count_at
-    no_number {p} e f = let g : number_at s at ≡ bad p = sym f ∙ ap number_seen e in f ∙ rw g
-
-    module _ {count : ℕ} {c : ImageCursor} (e : q ≡ Value count c) (f : number_seen q ≡ number_at s at) where
-      number : number_at s at ≡ good count c.at
-      number = sym f ∙ ap number_seen e
-
-      pub too_few : count < least → bad at ≡ count_at least most s at
-      unfolding count_at
-      too_few h = rw (number, lt-ltb _ _ h)
-
-      pub too_many : least ≤ count → most < count → bad at ≡ count_at least most s at
-      unfolding count_at
-      too_many l h = rw (number, le-ltb _ _ l, lt-ltb _ _ h)
-
-      pub as_many : least ≤ count → count ≤ most → good count c.at ≡ count_at least most s at
-      unfolding count_at
-      as_many l h = rw (number, le-ltb _ _ l, le-ltb _ _ h)
-
-  -- a wrong count is wrong where it starts
-  count_place : {p : ℕ} → count_at least most s at ≡ bad p → p ≡ at
+  pub no_number : {p : ℕ} → bad p ≡ number_at s at → bad p ≡ count_at least most s at
   unfolding count_at
-  count_place {p} e = go (number_at s at) refl e
-    where
-      test : (c n : ℕ) (t₁ t₂ : Bool) → cond t₁ (bad at) (cond t₂ (bad at) (good c n)) ≡ bad p → p ≡ at
-      test c n true t₂ e = cc
-      test c n false true e = cc
-      test c n false false e = cc
+  no_number e = rw (← e) refl
 
-      go : (a : Ans ℕ) → number_at s at ≡ a → bind a (λ c n. cond (ltb c least) (bad at) (cond (ltb most c) (bad at) (good c n))) ≡ bad p → p ≡ at
-      go (good c n) h e = test c n (ltb c least) (ltb most c) e
-      go (bad q) h e = let z : q ≡ p = cc in sym z ∙ number_place s at h
+  module _ {count n : ℕ} (e : good count n ≡ number_at s at) where
+    pub out : ((count < least) ⊎ ((least ≤ count) × (most < count))) → bad at ≡ count_at least most s at
+    unfolding count_at
+    out = ⊎_elim (λ h. rw (← e) (rw (lt-ltb _ _ h))) (λ h. rw (← e) (rw (le-ltb _ _ h.0, lt-ltb _ _ h.1)))
+
+    pub as_many : least ≤ count → count ≤ most → good count n ≡ count_at least most s at
+    unfolding count_at
+    as_many l h = rw (← e) (rw (le-ltb _ _ l, le-ltb _ _ h))
 
   -- a list by its count: one law for each way out of its loop
-  module _ {A : Type 0} (p : Reader A) (q : Number) where
-    pub no_count : {u : ℕ} → q ≡ Wrong u → number_seen q ≡ count_at least most s at → bad at ≡ done (counted least most p s at)
+  module _ {A : Type 0} (p : Reader A) where
+    pub no_count : {u : ℕ} → bad u ≡ count_at least most s at → bad u ≡ done (counted least most p s at)
     unfolding counted
-    no_count {u} e f = let g : count_at least most s at ≡ bad u = sym f ∙ ap number_seen e in rw (g, count_place g)
+    no_count e = rw (← e) refl
 
-    module _ {count : ℕ} {c : ImageCursor} (e : q ≡ Value count c) (f : number_seen q ≡ count_at least most s at) {i here : ℕ}
-        (g : Going (p s) count c.at i here) where
-      by_count : counted least most p s at ≡ many (p s) count [] c.at
+    module _ {count n : ℕ} (e : good count n ≡ count_at least most s at) {i here : ℕ} (g : Going (p s) count n i here) where
+      by_count : counted least most p s at ≡ many (p s) count [] n
       unfolding counted
-      by_count = let h : count_at least most s at ≡ good count c.at = sym f ∙ ap number_seen e in rw h
+      by_count = rw (← e) refl
 
       pub list_stopped : {u : ℕ} → p s g.seen here ≡ bad u → i < count → bad u ≡ done (counted least most p s at)
       list_stopped h l = sym (ap done (by_count ∙ stopped (p s) g h l))

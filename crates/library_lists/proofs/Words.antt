@@ -5,18 +5,16 @@ use mathlib.Core.List.{List, [], ◌∷◌, ◌++◌}
 use mathlib.Core.Bool.{Bool, true, false, cond, ◌||◌}
 use Prim.Native.Nat.{ℕ, zero, suc, ◌+◌, ◌-◌, ◌^◌, ◌≤◌, ◌<◌}
 use native.Mathlib.Omega.{arith}
+use native.Mathlib.Numerals.{sub-one}
+use lib.Dec.{eqb}
 use lib.ListN.{length, take, drop}
+use lib.Pointwise.{pointwise}
 use mir.Syntax.{w64}
 use mir.Val.{Fits}
 use Rattle.text.specs.Keyword.{same}
 use Rattle.text.proofs.Here.{or_none}
-use Rattle.library_form.specs.Form.{Ans, good, bad, bind, PlacedName, word_at, number_seen, name_at, name_seen, many}
-use Rattle.library_form.specs.declared.ImageCursor.{ImageCursor}
-use Rattle.library_form.specs.declared.Number.{Number}
-use Rattle.library_form.specs.declared.Number.TheVariants.{Value, Wrong as WrongNumber}
-use Rattle.library_form.specs.declared.Name.{Name}
-use Rattle.library_form.specs.declared.Name.TheVariants.{Bytes, Wrong}
-use Rattle.library_form.proofs.Bounds.{spanned, missed, name_end, name_place, part_word, compared}
+use Rattle.library_form.specs.Form.{Ans, good, bad, bind, PlacedName, word_at, name_at, many}
+use Rattle.library_form.proofs.Bounds.{name_end, part_word, compared}
 use Rattle.library_index.specs.Names.{among, memb, new_name}
 use Rattle.library_index.proofs.First.{among_append}
 use Rattle.library_image.specs.Image.{most_names, count_at}
@@ -28,47 +26,46 @@ use Rattle.library_lists.proofs.Counting.{Going, further, no_count, list_stopped
 
 module _ (s t : List ℕ) where
   -- what the loop keeps: the answer from the start is the answer from here
-  abbrev pub Same : (count from left at : ℕ) → Type 0
-  Same count from left at = among_at count s from t ≡ among_at left s at t
+  abbrev pub Same : (count from i at : ℕ) → Type 0
+  Same count from i at = among_at count s from t ≡ among_at (count - i) s at t
 
-  pub none_left : (count from left at : ℕ) → Same count from left at → left ≤ 0 → false ≡ among_at count s from t
+  pub none_yet : (count from : ℕ) → Same count from 0 from
+  none_yet count from = let d : count - 0 ≡ count = omega arith in rw d
+
+  pub none_left : (count from i at : ℕ) → Same count from i at → count ≤ i → false ≡ among_at count s from t
   unfolding among_at
-  none_left count from (suc _) at e h = elim h [ ]
-  none_left count from zero at e h = sym e
+  none_left count from i at e h = let d : count - i ≡ 0 = omega arith in sym (e ∙ rw d)
 
-  pub no_name : (count from left at : ℕ) (r : Name) {p : ℕ} → Same count from left at → r ≡ Wrong p → name_seen s r ≡ name_at s at → 0 < left
-      → false ≡ among_at count s from t
+  next : (k at : ℕ) → 0 < k → among_at k s at t ≡ on_ans (name_at s at) (λ w n. cond (same w.text t) true (among_at (k - 1) s n t)) (λ p. false)
   unfolding among_at
-  no_name count from zero at r {p = p} e q f h = elim h [ ]
-  no_name count from (suc n) at r e q f h = sym (e ∙ rw (missed s r at q f))
+  next zero at h = elim h [ ]
+  next (suc k) at h = rw sub-one refl
 
-  module _ (count from left at : ℕ) (r : Name) (first len : ℕ) {b : Bool} (e : Same count from left at) (q : r ≡ Bytes first len)
-      (f : name_seen s r ≡ name_at s at)
-      (k : (b ≡ true → take (first + len - first) (drop first s) ≡ t) × (take (first + len - first) (drop first s) ≡ t → b ≡ true)) where
-    one : 0 < left → among_at left s at t ≡ cond (same (word_at s first len).text t) true (among_at (left - 1) s (first + len) t)
-    unfolding among_at
-    one h = let d : left ≡ suc (left - 1) = omega arith in ap (λ (k : ℕ). among_at k s at t) d ∙ rw (spanned s r at first len q f).read
+  pub no_name : (count from i at : ℕ) {p : ℕ} → Same count from i at → bad p ≡ name_at s at → i < count → false ≡ among_at count s from t
+  no_name count from i at e q h = sym (e ∙ next (count - i) at (omega arith) ∙ rw (← q) refl)
 
-    pub is_it : b ≡ true → 0 < left → true ≡ among_at count s from t
+  module _ (count from i at : ℕ) (first len : ℕ) {b : Bool} (e : Same count from i at) (q : good (word_at s first len) (first + len) ≡ name_at s at)
+      (k : b ≡ pointwise eqb (take (first + len - first) (drop first s)) t) where
+    one : i < count → among_at (count - i) s at t ≡ cond (same (word_at s first len).text t) true (among_at (count - (i + 1)) s (first + len) t)
+    one h = let d : count - i - 1 ≡ count - (i + 1) = omega arith in next (count - i) at (omega arith) ∙ rw (← q, d) refl
+
+    pub is_it : b ≡ true → i < count → true ≡ among_at count s from t
     is_it y h = sym (e ∙ one h ∙ rw (compared s t first len k true y))
 
-    pub not_it : b ≡ false → 0 < left → Same count from (left - 1) (first + len)
+    pub not_it : b ≡ false → i < count → Same count from (i + 1) (first + len)
     not_it y h = e ∙ one h ∙ rw (compared s t first len k false y)
 
 -- ---- the ways out of `read_word`
 
-module _ (s : List ℕ) (differ : Bool) (from i at : ℕ) (r : Name) where
-  pub no_word : {p : ℕ} → r ≡ Wrong p → name_seen s r ≡ name_at s at → name_seen s r ≡ word_behind differ s from i at
+module _ (s : List ℕ) (differ : Bool) (from i at : ℕ) where
+  pub no_word : {p : ℕ} → bad p ≡ name_at s at → bad p ≡ word_behind differ s from i at
   unfolding word_behind
-  no_word {p} e f = f ∙ rw (missed s r at e f)
+  no_word e = rw (← e) refl
 
-  module _ {first len : ℕ} (e : r ≡ Bytes first len) (f : name_seen s r ≡ name_at s at) where
-    read : name_at s at ≡ good (word_at s first len) (first + len)
-    read = (spanned s r at first len e f).read
-
+  module _ {first len : ℕ} (e : good (word_at s first len) (first + len) ≡ name_at s at) where
     pub any_word : differ ≡ false → good (word_at s first len) (first + len) ≡ word_behind differ s from i at
     unfolding word_behind
-    any_word d = rw (read, d)
+    any_word d = rw (← e) (rw d)
 
     module _ {b : Bool} (k : b ≡ among_at i s from (take (first + len - first) (drop first s))) where
       tested : among_at i s from (word_at s first len).text ≡ b
@@ -76,11 +73,11 @@ module _ (s : List ℕ) (differ : Bool) (from i at : ℕ) (r : Name) where
 
       pub repeated : differ ≡ true → b ≡ true → bad at ≡ word_behind differ s from i at
       unfolding word_behind
-      repeated d y = rw (read, d, tested, y)
+      repeated d y = rw (← e) (rw (d, tested, y))
 
       pub new_word : differ ≡ true → b ≡ false → good (word_at s first len) (first + len) ≡ word_behind differ s from i at
       unfolding word_behind
-      new_word d y = rw (read, d, tested, y)
+      new_word d y = rw (← e) (rw (d, tested, y))
 
 -- ---- the words that were read
 
@@ -132,47 +129,26 @@ unfolding word_behind
 word_name true s from i at e = on_good (name_at s at) _ e (λ v m e₁ e₂. e₁ ∙ (passed (among_at i s from v.text) at (good v m) e₂).1)
 word_name false s from i at e = on_good (name_at s at) _ e (λ v m e₁ e₂. e₁ ∙ e₂)
 
-word_place : (differ : Bool) (s : List ℕ) (from i at : ℕ) {p : ℕ} → word_behind differ s from i at ≡ bad p → p ≡ at
-unfolding word_behind
-word_place differ s from i at {p} e = go (name_at s at) refl e
-  where
-    test : (d b : Bool) (v : PlacedName) (m : ℕ) → cond d (cond b (bad at) (good v m)) (good v m) ≡ bad p → p ≡ at
-    test true true v m e = cc
-    test true false v m e = cc
-    test false b v m e = cc
-
-    go : (r : Ans PlacedName) → name_at s at ≡ r → bind r (λ v m. cond differ (cond (among_at i s from v.text) (bad at) (good v m)) (good v m)) ≡ bad p
-        → p ≡ at
-    go (good v m) h e = test differ (among_at i s from v.text) v m e
-    go (bad q) h e = let z : q ≡ p = cc in sym z ∙ name_place s at h
-
 -- ---- the ways out of `read_names`
 
 module _ (differ : Bool) (s : List ℕ) where
-  pub no_names : (q : Number) (at : ℕ) {p : ℕ} → q ≡ WrongNumber p → number_seen q ≡ count_at 0 most_names s at → bad at ≡ done (list_at differ s at)
+  pub no_names : (at : ℕ) {p : ℕ} → bad p ≡ count_at 0 most_names s at → bad p ≡ done (list_at differ s at)
   unfolding list_at
-  no_names q at e f = no_count 0 most_names s at (word_of differ) q e f
+  no_names at e = no_count 0 most_names s at (word_of differ) e
 
-  module _ {count from i here : ℕ} (g : Going (word_of differ s) count from i here) (r : Name) (first len : ℕ) (e : r ≡ Bytes first len)
-      (f : name_seen s r ≡ word_behind differ s from i here) where
-    it : word_behind differ s from i here ≡ good (word_at s first len) (first + len)
-    it = sym f ∙ ap (name_seen s) e
-
+  module _ {count from i here : ℕ} (g : Going (word_of differ s) count from i here) (first len : ℕ)
+      (e : good (word_at s first len) (first + len) ≡ word_behind differ s from i here) where
     pub word_fits : length s < 2 ^ 64 → Fits w64 (first + len)
-    word_fits h = record { fits = omega (arith, (name_end s here (word_name differ s from i here it)).inside) }
+    word_fits h = record { fits = omega (arith, (name_end s here (word_name differ s from i here (sym e))).inside) }
 
     pub names_further : i < count → Going (word_of differ s) count from (i + 1) (first + len)
-    names_further h = further (word_of differ s) g (sym (next_word differ s g) ∙ it) h
+    names_further h = further (word_of differ s) g (sym (next_word differ s g) ∙ sym e) h
 
-  module _ (q : Number) (at : ℕ) {count : ℕ} {c : ImageCursor} (k : q ≡ Value count c) (l : number_seen q ≡ count_at 0 most_names s at)
-      {i here : ℕ} (g : Going (word_of differ s) count c.at i here) where
-    pub names_stopped : (r : Name) {p : ℕ} → r ≡ Wrong p → name_seen s r ≡ word_behind differ s c.at i here → i < count → bad here ≡ done (list_at differ s at)
+  module _ (at : ℕ) {count n : ℕ} (l : good count n ≡ count_at 0 most_names s at) {i here : ℕ} (g : Going (word_of differ s) count n i here) where
+    pub names_stopped : {p : ℕ} → bad p ≡ word_behind differ s n i here → i < count → bad p ≡ done (list_at differ s at)
     unfolding list_at
-    names_stopped r {p} e f h =
-        let b : word_behind differ s c.at i here ≡ bad p = sym f ∙ ap (name_seen s) e in
-        let z : bad p ≡ bad here = ap bad (word_place differ s c.at i here b) in
-        list_stopped 0 most_names s at (word_of differ) q k l g (sym (next_word differ s g) ∙ b ∙ z) h
+    names_stopped e h = list_stopped 0 most_names s at (word_of differ) l g (sym (next_word differ s g) ∙ sym e) h
 
     pub names_read : count ≤ i → good tt here ≡ done (list_at differ s at)
     unfolding list_at
-    names_read h = list_read 0 most_names s at (word_of differ) q k l g h
+    names_read h = list_read 0 most_names s at (word_of differ) l g h

@@ -1,11 +1,9 @@
 -- The lists of an image read by code, and what stands behind a name: where a part ends, or where it is wrong. What a part holds is said by Image.
 -- Assumes nothing.
-use Rattle.std.specs.Prelude.{ℕ, zero, suc, Bool, true, false, cond, List}
+use Rattle.std.specs.Prelude.{ℕ, zero, suc, Bool, true, false, cond, List, Ok, Err, Result}
 use Rattle.text.specs.Keyword.{same}
 use Rattle.library_form.specs.Form.{Ans, good, bad, bind, PlacedName, name_at}
 use Rattle.library_image.specs.Image.{most_names, least_revisions, most_revisions, Reader, counted, any_word, new_word, revision_at}
-use Rattle.library_lists.specs.declared.Read.{Read}
-use Rattle.library_lists.specs.declared.Read.TheVariants.{End, Wrong}
 
 -- ---- readings without what was read
 
@@ -13,9 +11,9 @@ abbrev pub done : {A : Type 0} → Ans A → Ans Unit
 done (good a n) = good tt n
 done (bad p) = bad p
 
-abbrev pub read_seen : Read → Ans Unit
-read_seen (End n) = good tt n
-read_seen (Wrong p) = bad p
+abbrev pub read_seen : Result ℕ ℕ → Ans Unit
+read_seen (Ok n) = good tt n
+read_seen (Err p) = bad p
 
 -- by what a reading answered: f of what was read and the place behind it, or g of the wrong place
 abbrev pub on_ans : {A B : Type 0} → Ans A → (A → ℕ → B) → (ℕ → B) → B

@@ -1,6 +1,7 @@
 -- Entries of a set, of which the code keeps the name alone: what it reads is what Image reads, with all but the name left out. And one law for each way
 -- out of `take_entry` and `read_entries`.
 -- Assumes nothing.
+use Rattle.std.specs.Prelude.{Ok, Err, Result}
 use mathlib.Core.Path.{◌≡◌, refl, sym, ap, ◌∙◌}
 use mathlib.Core.List.{List, [], ◌∷◌, ◌++◌, map, map-append}
 use mathlib.Core.Bool.{Bool, true, false}
@@ -9,14 +10,9 @@ use native.Mathlib.Omega.{arith}
 use lib.ListN.{length}
 use mir.Syntax.{w64}
 use mir.Val.{Fits}
-use Rattle.library_form.specs.Form.{Ans, good, bad, bind, PlacedName, word_at, number_seen, name_seen, many}
-use Rattle.library_form.specs.declared.ImageCursor.{ImageCursor}
-use Rattle.library_form.specs.declared.Number.{Number}
-use Rattle.library_form.specs.declared.Number.TheVariants.{Value, Wrong as WrongNumber}
-use Rattle.library_form.specs.declared.Name.{Name}
-use Rattle.library_form.specs.declared.Name.TheVariants.{Bytes, Wrong as WrongName}
+use Rattle.library_form.specs.Form.{Ans, good, bad, bind, PlacedName, word_at, many}
 use Rattle.library_form.proofs.Bounds.{name_end}
-use Rattle.library_index.proofs.Taking.{new_read, new_place}
+use Rattle.library_index.proofs.Taking.{new_read}
 use Rattle.library_index.specs.Names.{new_name, names_in, Indexed, Cleared, Space, Taken}
 use Rattle.library_index.proofs.Insert.{none_yet}
 use Rattle.library_image.specs.Library.{Module, ImportOnly}
@@ -25,8 +21,6 @@ use Rattle.library_image.specs.Image.{import_only_at}
 use Rattle.library_image.proofs.Steps.{count_good}
 use Rattle.library_read.specs.Reading.{entry_at, entries_at, Entered, EntryTaken, Roomy, ReadAs}
 use Rattle.library_lists.specs.Lists.{done, read_seen, list_at, rest_at}
-use Rattle.library_lists.specs.declared.Read.{Read}
-use Rattle.library_lists.specs.declared.Read.TheVariants.{End, Wrong}
 use Rattle.library_lists.proofs.Counting.{Going, going, further, no_count, list_stopped, list_read}
 
 -- ---- a reading, of which a part is kept
@@ -125,27 +119,25 @@ import_only_entries s at = counted_same (λ (m : ImportOnly). m.name) import_onl
 
 -- ---- the ways out of `take_entry`
 
-module _ (import_only : Bool) (s tab : List ℕ) (i at : ℕ) (r : Name) (after : List ℕ) (a : Taken s tab i at r after) where
-  pub name_refused : {p : ℕ} → r ≡ WrongName p → EntryTaken import_only s tab i at (Wrong at) after
+module _ (import_only : Bool) (s tab : List ℕ) (i at : ℕ) (after : List ℕ) where
+  pub name_refused : {p : ℕ} → Taken s tab i at (Err p) after → EntryTaken import_only s tab i at (Err p) after
   unfolding entry_at
-  name_refused {p} e =
-      let b : new_name s (names_in s tab i) at ≡ bad p = sym a.answer ∙ ap (name_seen s) e in
-      record { kept = a.kept; answer = rw (b, new_place s (names_in s tab i) at b) }
+  name_refused a = record { kept = a.kept; answer = rw (← a.answer) refl }
 
-  module _ {first len : ℕ} (e : r ≡ Bytes first len) where
+  module _ {first len : ℕ} (a : Taken s tab i at (Ok (first, len)) after) where
     it : new_name s (names_in s tab i) at ≡ good (word_at s first len) (first + len)
-    it = sym a.answer ∙ ap (name_seen s) e
+    it = sym a.answer
 
     pub name_fits : length s < 2 ^ 64 → Fits w64 (first + len)
     name_fits h = record { fits = omega (arith, (name_end s at (new_read s (names_in s tab i) at it).0).inside) }
 
-    pub entry_taken : (u : Read) → read_seen u ≡ rest_at import_only s (first + len) → EntryTaken import_only s tab i at u after
+    pub entry_taken : (u : Result ℕ ℕ) → read_seen u ≡ rest_at import_only s (first + len) → EntryTaken import_only s tab i at u after
     unfolding entry_at
-    entry_taken (End n) f = record {
+    entry_taken (Ok n) f = record {
       kept = a.kept;
-      answer = record { word = word_at s first len; read = rw (it, ← f); indexed = a.indexed first len e; names = a.names first len e };
+      answer = record { word = word_at s first len; read = rw (it, ← f); indexed = a.indexed first len refl; names = a.names first len refl };
     }
-    entry_taken (Wrong p) f = record { kept = a.kept; answer = rw (it, ← f) }
+    entry_taken (Err p) f = record { kept = a.kept; answer = rw (it, ← f) }
 
 -- ---- the loop of `read_entries`
 
@@ -159,18 +151,16 @@ pub record Entering (import_only : Bool) (s before tab : List ℕ) (count start 
   pub names : names_in s tab i ≡ loop.seen
 
 module _ (import_only : Bool) (s : List ℕ) where
-  pub no_entries : (q : Number) (tab : List ℕ) (at : ℕ) {p : ℕ} → q ≡ WrongNumber p → number_seen q ≡ count_at 0 most_modules s at
-      → ReadAs (Wrong at) (done (entries_at import_only s at)) tab tab
+  pub no_entries : (tab : List ℕ) (at : ℕ) {p : ℕ} → bad p ≡ count_at 0 most_modules s at → ReadAs (Err p) (done (entries_at import_only s at)) tab tab
   unfolding entries_at
-  no_entries q tab at e f = record { answer = no_count 0 most_modules s at (entry_at import_only) q e f; kept = refl }
+  no_entries tab at e = record { answer = no_count 0 most_modules s at (entry_at import_only) e; kept = refl }
 
-  pub entries_begun : (q : Number) (before tab : List ℕ) (at : ℕ) {count : ℕ} {c : ImageCursor} → q ≡ Value count c → number_seen q ≡ count_at 0 most_modules s at
-      → Cleared before tab → Roomy s before
-      → Entering import_only s tab tab count c.at 0 c.at
+  pub entries_begun : (before tab : List ℕ) (at : ℕ) {count n : ℕ} → good count n ≡ count_at 0 most_modules s at → Cleared before tab → Roomy s before
+      → Entering import_only s tab tab count n 0 n
   unfolding names_in going
-  entries_begun q before tab at {count} {c} e f k m = record {
-    loop = going (entry_at import_only s) count c.at;
-    few = (count_good s 0 most_modules at (sym f ∙ ap number_seen e)).few;
+  entries_begun before tab at {count} {n} e k m = record {
+    loop = going (entry_at import_only s) count n;
+    few = (count_good s 0 most_modules at (sym e)).few;
     room = record { space = omega (arith, k.kept, m.space); short = m.short };
     kept = refl;
     indexed = none_yet s before tab k;
@@ -200,26 +190,25 @@ module _ (import_only : Bool) (s : List ℕ) where
           names = k.names ∙ ap (λ (ws : List PlacedName). ws ++ (k.word ∷ [])) g.names;
         }
 
-    pub entries_further : (r : Read) {n : ℕ} {after : List ℕ} → r ≡ End n → EntryTaken import_only s tab i here r after → i < count
+    pub entries_further : {n : ℕ} {after : List ℕ} → EntryTaken import_only s tab i here (Ok n) after → i < count
         → Entering import_only s before after count from (i + 1) n
-    entries_further r {n} {after} e a h = more a.kept (rw e at a.answer) h
+    entries_further a h = more a.kept a.answer h
 
-  module _ (q : Number) (at : ℕ) {count : ℕ} {c : ImageCursor} (k : q ≡ Value count c) (l : number_seen q ≡ count_at 0 most_modules s at)
-      {before cleared : List ℕ} (m : Cleared before cleared) {tab : List ℕ} {i here : ℕ} (g : Entering import_only s cleared tab count c.at i here) where
-    pub entries_stopped : (r : Read) {p : ℕ} {after : List ℕ} → r ≡ Wrong p → EntryTaken import_only s tab i here r after → i < count
-        → ReadAs (Wrong p) (done (entries_at import_only s at)) before after
+  module _ (at : ℕ) {count n : ℕ} (l : good count n ≡ count_at 0 most_modules s at) {before cleared : List ℕ} (m : Cleared before cleared) {tab : List ℕ}
+      {i here : ℕ} (g : Entering import_only s cleared tab count n i here) where
+    pub entries_stopped : {p : ℕ} {after : List ℕ} → EntryTaken import_only s tab i here (Err p) after → i < count
+        → ReadAs (Err p) (done (entries_at import_only s at)) before after
     unfolding entries_at
-    entries_stopped r {p} {after} e a h =
-        let b : entry_at import_only s (names_in s tab i) here ≡ bad p = rw e at a.answer in
-        let d : entry_at import_only s g.loop.seen here ≡ bad p = rw (← g.names) b in
+    entries_stopped {p} {after} a h =
+        let d : entry_at import_only s g.loop.seen here ≡ bad p = rw (← g.names) a.answer in
         record {
-          answer = list_stopped 0 most_modules s at (entry_at import_only) q k l g.loop d h;
+          answer = list_stopped 0 most_modules s at (entry_at import_only) l g.loop d h;
           kept = a.kept ∙ g.kept ∙ m.kept;
         }
 
-    pub entries_read_lem : count ≤ i → ReadAs (End here) (done (entries_at import_only s at)) before tab
+    pub entries_read_lem : count ≤ i → ReadAs (Ok here) (done (entries_at import_only s at)) before tab
     unfolding entries_at
     entries_read_lem h = record {
-      answer = list_read 0 most_modules s at (entry_at import_only) q k l g.loop h;
+      answer = list_read 0 most_modules s at (entry_at import_only) l g.loop h;
       kept = g.kept ∙ m.kept;
     }

@@ -1,13 +1,11 @@
 -- The image read by code: where a part of it ends, or where it is wrong. What a part holds is said by Image; of it the code keeps only the names that
 -- must differ.
 -- Assumes nothing.
-use Rattle.std.specs.Prelude.{ℕ, ◌+◌, ◌≤◌, ◌≡◌, Bool, List, [], ◌∷◌, ◌++◌, length}
+use Rattle.std.specs.Prelude.{ℕ, ◌+◌, ◌≤◌, ◌≡◌, Bool, List, [], ◌∷◌, ◌++◌, length, Ok, Err, Result}
 use Rattle.library_form.specs.Form.{Ans, good, bad, bind, PlacedName}
 use Rattle.library_index.specs.Names.{new_name, names_in, Indexed}
 use Rattle.library_image.specs.Image.{image_broken, most_image, most_modules, Reader, counted}
 use Rattle.library_lists.specs.Lists.{read_seen, rest_at}
-use Rattle.library_lists.specs.declared.Read.{Read}
-use Rattle.library_lists.specs.declared.Read.TheVariants.{End, Wrong}
 
 -- how many words the table of names has at the least
 abbrev pub table_words : ℕ
@@ -31,11 +29,11 @@ pub record Entered (import_only : Bool) (s tab : List ℕ) (i at n : ℕ) (after
   pub indexed : Indexed s after (i + 1)
   pub names : names_in s after (i + 1) ≡ names_in s tab i ++ (word ∷ [])
 
-abbrev pub EntryOr : Bool → List ℕ → List ℕ → (i at : ℕ) → Read → List ℕ → Type 0
-EntryOr import_only s tab i at (End n) after = Entered import_only s tab i at n after
-EntryOr import_only s tab i at (Wrong p) after = entry_at import_only s (names_in s tab i) at ≡ bad p
+abbrev pub EntryOr : Bool → List ℕ → List ℕ → (i at : ℕ) → Result ℕ ℕ → List ℕ → Type 0
+EntryOr import_only s tab i at (Ok n) after = Entered import_only s tab i at n after
+EntryOr import_only s tab i at (Err p) after = entry_at import_only s (names_in s tab i) at ≡ bad p
 
-pub record EntryTaken (import_only : Bool) (s tab : List ℕ) (i at : ℕ) (r : Read) (after : List ℕ) : Type 0 where
+pub record EntryTaken (import_only : Bool) (s tab : List ℕ) (i at : ℕ) (r : Result ℕ ℕ) (after : List ℕ) : Type 0 where
   pub kept : length after ≡ length tab
   pub answer : EntryOr import_only s tab i at r after
 
@@ -45,11 +43,11 @@ pub record Roomy (s tab : List ℕ) : Type 0 where
   pub short : length s ≤ most_image
 
 -- what was read is r, whatever the table then holds
-pub record ReadAs (r : Read) (expected : Ans Unit) (tab after : List ℕ) : Type 0 where
+pub record ReadAs (r : Result ℕ ℕ) (expected : Ans Unit) (tab after : List ℕ) : Type 0 where
   pub answer : read_seen r ≡ expected
   pub kept : length after ≡ length tab
 
 -- of an image: its refusal's number, or 0
-unfoldable pub read_number : Read → ℕ
-read_number (End n) = 0
-read_number (Wrong p) = image_broken
+unfoldable pub read_number : Result ℕ ℕ → ℕ
+read_number (Ok n) = 0
+read_number (Err p) = image_broken

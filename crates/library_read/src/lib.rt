@@ -8,8 +8,7 @@ ghost use Rattle.library_image.specs.Image.{set_at, library_at, image_at};
 ghost use Rattle.library_read.specs.Reading.{entries_at, EntryTaken, Roomy, ReadAs, read_number};
 ghost use Rattle.library_lists.specs.Lists.{done, read_seen};
 
-use library_form::{Name, Number};
-use library_lists::Read;
+use library_form::WrongAt;
 
 // The refusal of this layer: an image that breaks its form.
 pub const IMAGE_BROKEN: u32 = 20;
@@ -21,107 +20,77 @@ pub const MOST_IMAGE: usize = 65536;
 const TABLE: usize = 3584;
 
 // The module or import-only module at `at`. Its name must be none of the `i` names of the table, and becomes the next of them.
-fn take_entry(s: &[u8], tab: &mut [u32], import_only: bool, i: usize, at: usize) -> Read
+fn take_entry(
+    s: &[u8],
+    tab: &mut [u32],
+    import_only: bool,
+    i: usize,
+    at: usize,
+) -> Result<usize, WrongAt>
     requires { Space s.now tab.old i }
     ensures { EntryTaken import_only s.now tab.old i at result tab.new }
 {
-    let Name::Bytes(first, len) = library_index::take_name(s, tab, i, at) else {
-        return Read::Wrong(at);
-    };
+    let (first, len) = library_index::take_name(s, tab, i, at)?;
     library_lists::read_rest(s, import_only, first + len)
 }
 
 // The modules of a set, or its import-only modules.
-fn read_entries(s: &[u8], tab: &mut [u32], import_only: bool, at: usize) -> Read
+fn read_entries(s: &[u8], tab: &mut [u32], import_only: bool, at: usize) -> Result<usize, WrongAt>
     requires { Roomy s.now tab.old }
     ensures { ReadAs result (done (entries_at import_only s.now at)) tab.old tab.new }
 {
-    let Number::Value(count, next) = library_lists::read_count(
-        s,
-        at,
-        0,
-        library_lists::MOST_MODULES,
-    ) else {
-        return Read::Wrong(at);
-    };
+    let (count, next) = library_lists::read_count(s, at, 0, library_lists::MOST_MODULES)?;
     library_index::clear(tab);
     let mut here = next.at;
-    let mut i = 0;
-    while i < count {
-        match take_entry(s, tab, import_only, i, here) {
-            Read::End(end) => {
-                here = end;
-            }
-            Read::Wrong(p) => {
-                return Read::Wrong(p);
-            }
-        }
-        i += 1;
+    for i in 0..count {
+        here = take_entry(s, tab, import_only, i, here)?;
     }
-    Read::End(here)
+    Ok(here)
 }
 
 // A set: its modules, then its import-only modules.
-fn read_set(s: &[u8], tab: &mut [u32], at: usize) -> Read
+fn read_set(s: &[u8], tab: &mut [u32], at: usize) -> Result<usize, WrongAt>
     requires { Roomy s.now tab.old }
     ensures { ReadAs result (done (set_at s.now [] at)) tab.old tab.new }
 {
-    let modules = read_entries(s, tab, false, at);
-    let Read::End(behind) = modules else {
-        return modules;
-    };
-    read_entries(s, tab, true, behind)
+    let modules = read_entries(s, tab, false, at)?;
+    read_entries(s, tab, true, modules)
 }
 
 // All sets.
-fn read_sets(s: &[u8], tab: &mut [u32]) -> Read
+fn read_sets(s: &[u8], tab: &mut [u32]) -> Result<usize, WrongAt>
     requires { Roomy s.now tab.old }
     ensures { ReadAs result (done (library_at s.now 0)) tab.old tab.new }
 {
-    let Number::Value(count, next) = library_lists::read_count(s, 0, 0, library_lists::MOST_SETS)
-    else {
-        return Read::Wrong(0);
-    };
+    let (count, next) = library_lists::read_count(s, 0, 0, library_lists::MOST_SETS)?;
     let mut here = next.at;
-    let mut i = 0;
-    while i < count {
-        match read_set(s, tab, here) {
-            Read::End(end) => {
-                here = end;
-            }
-            Read::Wrong(p) => {
-                return Read::Wrong(p);
-            }
-        }
-        i += 1;
+    for _ in 0..count {
+        here = read_set(s, tab, here)?;
     }
-    Read::End(here)
+    Ok(here)
 }
 
 // The whole image: its end, or where it is wrong (refusal 20).
-pub fn read_image(s: &[u8]) -> Read
+pub fn read_image(s: &[u8]) -> Result<usize, WrongAt>
     ensures { read_seen result ≡ done (image_at s.now) }
 {
     if MOST_IMAGE < s.len() {
-        return Read::Wrong(0);
+        return Err(0);
     }
     let mut tab: [u32; TABLE] = [0; TABLE];
-    let read = read_sets(s, &mut tab);
-    let Read::End(end) = read else {
-        return read;
-    };
+    let end = read_sets(s, &mut tab)?;
     if end < s.len() {
-        return Read::Wrong(end);
+        return Err(end);
     }
-    read
+    Ok(end)
 }
 
 // Of an image that was read: the number of its refusal, or 0.
-pub fn read_number(x: Read) -> u32
+pub fn read_number(x: Result<usize, WrongAt>) -> u32
     ensures { result ≡ read_number x }
 {
     match x {
-        Read::End(_) => 0,
-        Read::Wrong(_) => IMAGE_BROKEN,
+        Ok(_) => 0,
+        Err(_) => IMAGE_BROKEN,
     }
 }

@@ -1,25 +1,18 @@
 // Replays recorded finds of the Rust, and answers a few questions about images and bundles that are easy to get wrong.
 #![tactic(auto)]
 
-use library_form::LookUp;
-use replay::Tally;
+use library_form::WrongAt;
 use std::io;
 
-fn is_word(n: usize, word: u32) -> bool {
-    n == word as usize
-}
+// What a find answers.
+type Found = Result<Option<(usize, usize)>, WrongAt>;
 
 // Whether a find answers the recorded place and revisions. Where the Rust found nothing it tells no place.
-fn agrees(found: LookUp, place: u32, revisions: u32) -> bool {
+fn agrees(found: Found, place: u32, revisions: u32) -> bool {
     match found {
-        LookUp::Broken(p) => false,
-        LookUp::Nothing => place == replay::NOT_FOUND,
-        LookUp::At(p, r) => {
-            if is_word(p, place) {
-                return is_word(r, revisions);
-            }
-            false
-        }
+        Err(_) => false,
+        Ok(None) => place == replay::NOT_FOUND,
+        Ok(Some(hit)) => hit == (place as usize, revisions as usize),
     }
 }
 
@@ -29,66 +22,26 @@ fn record_agrees(data: &[u8], at: usize) -> bool {
     let image = replay::field(data, at);
     let name = replay::field(data, name_at);
     let told = replay::field(data, replay::after(data, name_at));
-    if !agrees(
+    agrees(
         library_find::find_module(image, name),
         replay::word(told, 0),
         0,
-    ) {
-        return false;
-    }
-    if !agrees(
+    ) && agrees(
         library_find::find_submodule(image, name),
         replay::word(told, 4),
         0,
-    ) {
-        return false;
-    }
-    agrees(
+    ) && agrees(
         library_find::find_import_module(image, name),
         replay::word(told, 8),
         replay::word(told, 12),
     )
 }
 
-// One record more, if there is one. It has three fields.
-fn step(data: &[u8], run: Tally) -> Tally {
-    let at = run.at;
-    if data.len() <= at {
-        return run;
-    }
-    run.past(record_agrees(data, at), replay::after_fields(data, at, 3))
-}
-
-// All records of a file. A record takes a byte at least.
-fn replay_all(data: &[u8]) -> Tally {
-    let mut run = replay::start();
-    for _ in 0..data.len() {
-        run = step(data, run);
-    }
-    run
-}
-
-fn found_nothing(found: LookUp) -> bool {
-    match found {
-        LookUp::Broken(p) => false,
-        LookUp::Nothing => true,
-        LookUp::At(p, r) => false,
-    }
-}
-
-fn broken_at(found: LookUp, place: usize) -> bool {
-    match found {
-        LookUp::Broken(p) => p == place,
-        LookUp::Nothing => false,
-        LookUp::At(p, r) => false,
-    }
-}
-
 fn import_only_submodule<R: Print>(rt: &R) -> io::Result<()> {
     replay::trap(
         rt,
         b"a submodule of an import-only module is not found",
-        found_nothing(library_find::find_submodule(b"\x01\x00\x01\x01i\x01\x01\x01s", b"s")),
+        library_find::find_submodule(b"\x01\x00\x01\x01i\x01\x01\x01s", b"s") == Ok(None),
     )
 }
 
@@ -96,7 +49,7 @@ fn count_without_sets<R: Print>(rt: &R) -> io::Result<()> {
     replay::trap(
         rt,
         b"a count of sets without its sets is wrong at the end",
-        broken_at(library_find::find_module(b"\x01", b"m"), 1),
+        library_find::find_module(b"\x01", b"m") == Err(1),
     )
 }
 
@@ -104,12 +57,12 @@ fn empty_name<R: Print>(rt: &R) -> io::Result<()> {
     replay::trap(
         rt,
         b"an empty name is not found",
-        found_nothing(library_find::find_module(b"\x01\x01\x01m\x00\x00\x00\x00", b"")),
+        library_find::find_module(b"\x01\x01\x01m\x00\x00\x00\x00", b"") == Ok(None),
     )
 }
 
 fn text_is(bundle: &[u8], name: &[u8], text: &[u8]) -> bool {
-    check::same(library_bundle::text_under(bundle, name), text)
+    library_bundle::text_under(bundle, name) == text
 }
 
 // A bundle of two texts: that of m has three bytes, that of s none.
@@ -123,16 +76,10 @@ fn text_under_a_name<R: Print>(rt: &R) -> io::Result<()> {
 
 // s has an empty text in this bundle, and x has none.
 fn told_apart(bundle: &[u8]) -> bool {
-    if !text_is(bundle, b"s", b"") {
-        return false;
-    }
-    if !text_is(bundle, b"x", b"") {
-        return false;
-    }
-    if found_nothing(library_bundle::find_text(bundle, b"s")) {
-        return false;
-    }
-    found_nothing(library_bundle::find_text(bundle, b"x"))
+    text_is(bundle, b"s", b"")
+        && text_is(bundle, b"x", b"")
+        && library_bundle::find_text(bundle, b"s") != Ok(None)
+        && library_bundle::find_text(bundle, b"x") == Ok(None)
 }
 
 fn empty_text<R: Print>(rt: &R) -> io::Result<()> {
@@ -145,10 +92,7 @@ fn empty_text<R: Print>(rt: &R) -> io::Result<()> {
 
 // The text of m has a byte less than its length says.
 fn wrong_there(bundle: &[u8]) -> bool {
-    if !text_is(bundle, b"m", b"") {
-        return false;
-    }
-    broken_at(library_bundle::find_text(bundle, b"m"), 3)
+    text_is(bundle, b"m", b"") && library_bundle::find_text(bundle, b"m") == Err(3)
 }
 
 fn text_cut_short<R: Print>(rt: &R) -> io::Result<()> {
@@ -160,9 +104,11 @@ fn text_cut_short<R: Print>(rt: &R) -> io::Result<()> {
 }
 
 fn main(rt: HostRuntime) -> io::Result<()> {
-    let mut space = [0u8; 131072];
-    let n = replay::read_file(&rt, b"finds.vec", &mut space)?;
-    replay_all(&space[..n]).say(&rt, b" finds")?;
+    // A record has three fields.
+    let run = replay::replay_file(&rt, b"finds.vec", |data, at| {
+        (record_agrees(data, at), replay::after_fields(data, at, 3))
+    })?;
+    run.say(&rt, b" finds")?;
     import_only_submodule(&rt)?;
     count_without_sets(&rt)?;
     empty_name(&rt)?;

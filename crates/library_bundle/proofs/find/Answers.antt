@@ -3,20 +3,20 @@
 use Rattle.library_bundle.proofs.Looking.{unnamed, low_word, name_fits, unsized, stands}
 use Rattle.library_bundle.proofs.find.Goals as goal
 
-pub returns-in_default : goal.returns-in_default
-returns-in_default c = search unnamed
+pub returns-in_err-i : goal.returns-in_err-i
+returns-in_err-i c = rw c.from_residual.ensures (search (unnamed, c.in_err-i.was))
 
 pub place_of-place-requires : goal.place_of-place-requires
-place_of-place-requires c = search low_word
+place_of-place-requires c = search (low_word, c.in_ok-i.was)
 
 pub length_of-len-requires : goal.length_of-len-requires
-length_of-len-requires c = search low_word
+length_of-len-requires c = search (low_word, c.in_ok-i.was)
 
-pub overflow_add-behind : goal.overflow_add-behind
-overflow_add-behind c = search name_fits
+pub overflow_add-place : goal.overflow_add-place
+overflow_add-place c = search (name_fits, c.in_ok-i.was)
 
-pub returns-in_default-number : goal.returns-in_default-number
-returns-in_default-number c = search unsized
+pub returns-in_err-size : goal.returns-in_err-size
+returns-in_err-size c = rw c.from_residual-in_err-size.ensures (search (unsized, c.in_ok-i.was, c.in_err-size.ensures.value))
 
 pub returns : goal.returns
-returns c = search stands
+returns c = search (stands, c.in_ok-i.was, c.in_ok-size.ensures.value)

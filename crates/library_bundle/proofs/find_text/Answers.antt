@@ -1,16 +1,14 @@
 -- `library_bundle::find_text`. Each way out is one law of Looking.
 -- Assumes nothing.
-use Rattle.library_bundle.proofs.Looking.{is_broken, held_table, is_there, is_missing}
+use Rattle.library_form.proofs.Handed.{handed}
+use Rattle.library_bundle.proofs.Looking.{is_broken, held_table, as_looked}
 use Rattle.library_bundle.proofs.find_text.Goals as goal
 
-pub returns-in-Wrong : goal.returns-in-Wrong
-returns-in-Wrong c = search is_broken
+pub returns-in_err-count : goal.returns-in_err-count
+returns-in_err-count c = rw (handed _ c.from_residual.ensures.1) (search (is_broken, c.in_err-count.ensures))
 
 pub find-requires : goal.find-requires
-find-requires c = search held_table
+find-requires c = search (held_table, c.in_ok-count.ensures)
 
-pub returns-in-At : goal.returns-in-At
-returns-in-At c = search is_there
-
-pub returns-in-Nothing : goal.returns-in-Nothing
-returns-in-Nothing c = search is_missing
+pub returns : goal.returns
+returns c = search as_looked

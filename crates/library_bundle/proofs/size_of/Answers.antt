@@ -3,8 +3,8 @@
 use Rattle.library_bundle.proofs.Measuring.{no_size, the_size}
 use Rattle.library_bundle.proofs.size_of.Goals as goal
 
-pub returns-in_default : goal.returns-in_default
-returns-in_default c = search no_size
+pub returns-in-Ok : goal.returns-in-Ok
+returns-in-Ok c = search (the_size, c.in-Ok.ensures)
 
-pub returns : goal.returns
-returns c = search the_size
+pub returns-in-Err : goal.returns-in-Err
+returns-in-Err c = search (no_size, c.in-Err.ensures)

@@ -3,8 +3,8 @@
 use Rattle.library_bundle.proofs.Looking.{nothing_held, held_table}
 use Rattle.library_bundle.proofs.text_under.Goals as goal
 
-pub returns-in_default : goal.returns-in_default
-returns-in_default c = search nothing_held
-
 pub text-requires : goal.text-requires
-text-requires c = search held_table
+text-requires c = search (held_table, c.in-Ok.ensures)
+
+pub returns-in-Err : goal.returns-in-Err
+returns-in-Err c = search (nothing_held, c.in-Err.ensures)

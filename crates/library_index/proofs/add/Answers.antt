@@ -3,8 +3,8 @@
 use Rattle.library_index.proofs.Insert.{already, added}
 use Rattle.library_index.proofs.add.Goals as goal
 
-pub returns-in_default : goal.returns-in_default
-returns-in_default c = search already
+pub returns-then-is_none : goal.returns-then-is_none
+returns-then-is_none c = search added
 
-pub returns : goal.returns
-returns c = search added
+pub returns-else-is_none : goal.returns-else-is_none
+returns-else-is_none c = search already

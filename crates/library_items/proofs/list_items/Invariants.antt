@@ -4,8 +4,5 @@ use Rattle.library_items.proofs.Ahead.{Ahead}
 use Rattle.library_items.specs.Table.{set_read, sets_read}
 use Rattle.library_items.proofs.list_items.Given as goal
 
-abbrev pub invariant-loop-left : goal.invariant-loop-left
-invariant-loop-left l = Ahead (set_read l.s) l.s l.initial.tab 0 (sets_read l.s 0) l.tab l.reach l.left
-
-abbrev pub decreases-loop-left : goal.decreases-loop-left
-decreases-loop-left l = l.left
+abbrev pub invariant-loop : goal.invariant-loop
+invariant-loop l = Ahead (set_read l.s) l.s l.initial.tab 0 (sets_read l.s 0) l.tab l.reach l.count l.counter

@@ -5,7 +5,7 @@ use borrow.Author.Rules.{rules}
 use Rattle.library_items.proofs.take_entry.Goals as goal
 
 pub take_item-name-requires : goal.take_item-name-requires
-take_item-name-requires c = (search rules, search rules, search import_name_read)
+take_item-name-requires c = (search rules, search import_name_read)
 
 pub take_revisions-requires : goal.take_revisions-requires
 take_revisions-requires c = (search rules, search revisions_read_lem)
@@ -13,11 +13,11 @@ take_revisions-requires c = (search rules, search revisions_read_lem)
 pub returns-then-import_only : goal.returns-then-import_only
 returns-then-import_only c = search import_taken
 
-pub take_item-name-requires-2 : goal.take_item-name-requires-2
-take_item-name-requires-2 c = (search rules, search rules, search module_name_read)
+pub take_item-name-requires-else-import_only : goal.take_item-name-requires-else-import_only
+take_item-name-requires-else-import_only c = (search rules, search module_name_read)
 
 pub take_lists-requires : goal.take_lists-requires
 take_lists-requires c = (search rules, search lists_read_lem)
 
-pub returns : goal.returns
-returns c = search module_taken
+pub returns-else-import_only : goal.returns-else-import_only
+returns-else-import_only c = search module_taken

@@ -4,7 +4,7 @@ use Rattle.library_items.proofs.Storing.{no_name, name_fits, name_puts, name_tak
 use Rattle.library_items.proofs.take_item.Goals as goal
 
 pub returns-in_default : goal.returns-in_default
-returns-in_default c = absurd (search no_name)
+returns-in_default c = absurd (search (no_name, c.in_default.ensures))
 
 pub put_item-requires : goal.put_item-requires
 put_item-requires c = search name_puts

@@ -4,16 +4,16 @@ use borrow.Author.Rules.{rules}
 use Rattle.library_items.proofs.take_list.Goals as goal
 
 pub returns-in_default : goal.returns-in_default
-returns-in_default c = absurd (search no_list)
+returns-in_default c = absurd (search (no_list, c.in_default.ensures))
 
-pub loop-names-init : goal.loop-names-init
-loop-names-init c = search list_begun
+pub loop-init : goal.loop-init
+loop-init c = search (list_begun, c.in-Ok.ensures)
 
 pub take_item-reach-requires : goal.take_item-reach-requires
-take_item-reach-requires c = (search rules, search rules, ahead_reads c.loop-names.invariant c.loop-names-test.true)
+take_item-reach-requires c = (search rules, ahead_reads c.loop.invariant c.loop-test.true)
 
-pub loop-names-preserved : goal.loop-names-preserved
-loop-names-preserved c = search ahead_on
+pub loop-preserved : goal.loop-preserved
+loop-preserved c = search ahead_on
 
 pub returns : goal.returns
 returns c = search ahead_done

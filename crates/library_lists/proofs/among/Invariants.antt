@@ -3,8 +3,5 @@
 use Rattle.library_lists.proofs.Words.{Same}
 use Rattle.library_lists.proofs.among.Given as goal
 
-abbrev pub invariant-loop-left : goal.invariant-loop-left
-invariant-loop-left l = Same l.s l.name l.count l.from l.left l.at
-
-abbrev pub decreases-loop-left : goal.decreases-loop-left
-decreases-loop-left l = l.left
+abbrev pub invariant-loop : goal.invariant-loop
+invariant-loop l = Same l.s l.name l.count l.from l.counter l.at

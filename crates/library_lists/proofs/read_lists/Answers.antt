@@ -1,13 +1,15 @@
 -- `library_lists::read_lists`. Each way out is one law of Rests.
 -- Assumes nothing.
+use Rattle.library_form.proofs.Handed.{handed}
 use Rattle.library_lists.proofs.Rests.{no_submodules, no_augmenting, last_list}
 use Rattle.library_lists.proofs.read_lists.Goals as goal
 
-pub returns-in_default : goal.returns-in_default
-returns-in_default c = search no_submodules
+pub returns-in_err-submodules : goal.returns-in_err-submodules
+returns-in_err-submodules c = rw (handed _ c.from_residual.ensures.1) (search (no_submodules, c.in_err-submodules.ensures))
 
-pub returns-in_default-augmenting : goal.returns-in_default-augmenting
-returns-in_default-augmenting c = search no_augmenting
+pub returns-in_err-augmenting : goal.returns-in_err-augmenting
+returns-in_err-augmenting c =
+    rw (handed _ c.from_residual-in_err-augmenting.ensures.1) (search (no_augmenting, c.in_ok-submodules.ensures, c.in_err-augmenting.ensures))
 
 pub returns : goal.returns
-returns c = search last_list
+returns c = search (last_list, c.in_ok-submodules.ensures, c.in_ok-augmenting.ensures)

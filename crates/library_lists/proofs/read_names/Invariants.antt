@@ -1,12 +1,8 @@
 -- `library_lists::read_names`. Each way out is one law of Words; its loop is one of Counting.
 -- Assumes nothing.
-use Prim.Native.Nat.{◌-◌}
 use Rattle.library_lists.proofs.Counting.{Going}
 use Rattle.library_lists.specs.Lists.{word_of}
 use Rattle.library_lists.proofs.read_names.Given as goal
 
 abbrev pub invariant-loop-i : goal.invariant-loop-i
 invariant-loop-i l = Going (word_of l.differ l.s) l.count l.from l.i l.here
-
-abbrev pub decreases-loop-i : goal.decreases-loop-i
-decreases-loop-i l = l.count - l.i

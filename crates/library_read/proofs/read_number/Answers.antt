@@ -4,10 +4,10 @@ use Rattle.library_read.specs.Reading.{read_number}
 use mathlib.Core.Path.{sym, ap}
 use Rattle.library_read.proofs.read_number.Goals as goal
 
-pub returns-in-End : goal.returns-in-End
+pub returns-in-Ok : goal.returns-in-Ok
 unfolding read_number
-returns-in-End c = sym (ap read_number c.in-End.is)
+returns-in-Ok c = sym (ap read_number c.in-Ok.is)
 
-pub returns-in-Wrong : goal.returns-in-Wrong
+pub returns-in-Err : goal.returns-in-Err
 unfolding read_number
-returns-in-Wrong c = sym (ap read_number c.in-Wrong.is)
+returns-in-Err c = sym (ap read_number c.in-Err.is)

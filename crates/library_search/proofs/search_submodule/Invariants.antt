@@ -3,20 +3,11 @@
 use Rattle.library_search.proofs.Submodules.{Sets, Modules, Submodules}
 use Rattle.library_search.proofs.search_submodule.Given as goal
 
-abbrev pub invariant-loop-rest : goal.invariant-loop-rest
-invariant-loop-rest l = Submodules l.s l.name l.left l.more l.rest l.at l.hit
+abbrev pub invariant-loop-k : goal.invariant-loop-k
+invariant-loop-k l = Submodules l.s l.name l.sets l.i l.modules l.j l.submodules l.k l.at l.hit
 
-abbrev pub decreases-loop-rest : goal.decreases-loop-rest
-decreases-loop-rest l = l.rest
-
-abbrev pub invariant-loop-more : goal.invariant-loop-more
-invariant-loop-more l = Modules l.s l.name l.left l.more l.at l.hit
-
-abbrev pub decreases-loop-more : goal.decreases-loop-more
-decreases-loop-more l = l.more
+abbrev pub invariant-loop-j : goal.invariant-loop-j
+invariant-loop-j l = Modules l.s l.name l.sets l.i l.modules l.j l.at l.hit
 
 abbrev pub invariant-search : goal.invariant-search
-invariant-search l = Sets l.s l.name l.left l.at l.hit
-
-abbrev pub decreases-search : goal.decreases-search
-decreases-search l = l.left
+invariant-search l = Sets l.s l.name l.sets l.i l.at l.hit

@@ -1,67 +1,58 @@
 -- `library_form::ImageCursor::number`. Each way out is one law of Numbers.
 -- Assumes nothing.
-use Prim.Native.Nat.{◌+◌}
-use Rattle.library_form.proofs.Bytes.{byte_fits}
-use Rattle.library_form.proofs.Numbers.{none, one, cut, padded, two, cut3, padded3, three, four}
-use native.Mathlib.Omega.{arith}
+use mathlib.Core.Path.{◌∙◌}
+use Rattle.library_form.proofs.Numbers.{none, got_one, got_cut, got_padded, got_two, got_cut3, got_wrong, got_three}
 use Rattle.library_form.proofs.ImageCursor.number.Goals as goal
 
-pub returns-then-s-at : goal.returns-then-s-at
-returns-then-s-at c = search none
-
-pub overflow_cast-a : goal.overflow_cast-a
-overflow_cast-a c = search (byte_fits, c.shared_slice_known-1.given)
+pub returns-in_default : goal.returns-in_default
+returns-in_default c = none _ _ c.in_default.ensures.lookup.3
 
 pub returns-then-a-lt-TOP_BIT : goal.returns-then-a-lt-TOP_BIT
-returns-then-a-lt-TOP_BIT c = search one
+returns-then-a-lt-TOP_BIT c =
+    let a = c.in-Some.ensures.lookup.3 in
+    got_one _ _ a.0 (c.from-a.ensures ∙ a.1 0) c.if-a-lt-TOP_BIT.true
 
-pub returns-then-s-second : goal.returns-then-s-second
-returns-then-s-second c = search cut
-
-pub overflow_cast-b : goal.overflow_cast-b
-overflow_cast-b c = search (byte_fits, c.shared_slice_known-2-1.given)
+pub returns-in_default-get : goal.returns-in_default-get
+returns-in_default-get c =
+    let a = c.in-Some.ensures.lookup.3 in
+    got_cut _ _ a.0 (c.from-a.ensures ∙ a.1 0) c.if-a-lt-TOP_BIT.false c.in_default-get.ensures.lookup.3
 
 pub returns-then-b-eq0 : goal.returns-then-b-eq0
-returns-then-b-eq0 c = search padded
-
-pub overflow_add-result-then-b-lt-TOP_BIT : goal.overflow_add-result-then-b-lt-TOP_BIT
-overflow_add-result-then-b-lt-TOP_BIT c =
-    let at = c.args.self.at in
-    let known = c.shared_slice_known-2-1.given in
-    omega (arith, known at, known (at + 1))
+returns-then-b-eq0 c =
+    let a = c.in-Some.ensures.lookup.3 in
+    let b = c.in-Some-get.ensures.lookup.3 in
+    got_padded _ _ a.0 (c.from-a.ensures ∙ a.1 0) c.if-a-lt-TOP_BIT.false
+    b.0 (c.from-b.ensures ∙ b.1 0) c.if-b-eq0.true
 
 pub returns-then-b-lt-TOP_BIT : goal.returns-then-b-lt-TOP_BIT
-returns-then-b-lt-TOP_BIT c = search two
+returns-then-b-lt-TOP_BIT c =
+    let a = c.in-Some.ensures.lookup.3 in
+    let b = c.in-Some-get.ensures.lookup.3 in
+    got_two _ _ a.0 (c.from-a.ensures ∙ a.1 0) c.if-a-lt-TOP_BIT.false
+    b.0 (c.from-b.ensures ∙ b.1 0) c.if-b-eq0.false c.if-b-lt-TOP_BIT.true
 
-pub returns-then-s-third : goal.returns-then-s-third
-returns-then-s-third c = search cut3
-
-pub overflow_cast-c : goal.overflow_cast-c
-overflow_cast-c c = search (byte_fits, c.shared_slice_known-3-1.given)
+pub returns-in_default-get-2 : goal.returns-in_default-get-2
+returns-in_default-get-2 c =
+    let a = c.in-Some.ensures.lookup.3 in
+    let b = c.in-Some-get.ensures.lookup.3 in
+    got_cut3 _ _ a.0 (c.from-a.ensures ∙ a.1 0) c.if-a-lt-TOP_BIT.false
+    b.0 (c.from-b.ensures ∙ b.1 0) c.if-b-lt-TOP_BIT.false c.in_default-get-2.ensures.lookup.3
 
 pub returns-then-c-eq0 : goal.returns-then-c-eq0
-returns-then-c-eq0 c = search padded3
-
-pub overflow_mul-result-then-c-lt-TOP_BIT : goal.overflow_mul-result-then-c-lt-TOP_BIT
-overflow_mul-result-then-c-lt-TOP_BIT c =
-    let at = c.args.self.at in
-    let known = c.shared_slice_known-3-1.given in
-    omega (arith, known (at + 1))
-
-pub overflow_add-result-then-c-lt-TOP_BIT : goal.overflow_add-result-then-c-lt-TOP_BIT
-overflow_add-result-then-c-lt-TOP_BIT c =
-    let at = c.args.self.at in
-    let known = c.shared_slice_known-3-1.given in
-    omega (arith, known at, known (at + 1))
-
-pub overflow_add-result-then-c-lt-TOP_BIT-2 : goal.overflow_add-result-then-c-lt-TOP_BIT-2
-overflow_add-result-then-c-lt-TOP_BIT-2 c =
-    let at = c.args.self.at in
-    let known = c.shared_slice_known-3-1.given in
-    omega (arith, known at, known (at + 1), known (at + 1 + 1))
-
-pub returns-then-c-lt-TOP_BIT : goal.returns-then-c-lt-TOP_BIT
-returns-then-c-lt-TOP_BIT c = search three
+returns-then-c-eq0 c =
+    let a = c.in-Some.ensures.lookup.3 in
+    let b = c.in-Some-get.ensures.lookup.3 in
+    let d = c.in-Some-get-2.ensures.lookup.3 in
+    got_wrong _ _ a.0 (c.from-a.ensures ∙ a.1 0) c.if-a-lt-TOP_BIT.false
+    b.0 (c.from-b.ensures ∙ b.1 0) c.if-b-lt-TOP_BIT.false
+    d.0 (c.from-c.ensures ∙ d.1 0) c.then-c-eq0.either
 
 pub returns : goal.returns
-returns c = search four
+returns c =
+    let a = c.in-Some.ensures.lookup.3 in
+    let b = c.in-Some-get.ensures.lookup.3 in
+    let d = c.in-Some-get-2.ensures.lookup.3 in
+    got_three _ _ a.0 (c.from-a.ensures ∙ a.1 0) c.if-a-lt-TOP_BIT.false
+    b.0 (c.from-b.ensures ∙ b.1 0) c.if-b-lt-TOP_BIT.false
+    d.0 (c.from-c.ensures ∙ d.1 0) c.if-c-eq0.false
+    c.if-c-ge-TOP_BIT.false
