@@ -6,3 +6,4 @@ pub mod Once
 pub mod Meaning
 pub mod Demand3
 pub mod Complete
+pub mod Why

@@ -1,5 +1,6 @@
 -- The graph of an image in numbers is the drawing of its items: there are as many nodes with places as names, and every row joins two of them.
 -- Assumes nothing.
+use Rattle.std.specs.Prelude.{Ok}
 use Prim.Native.Nat.{ℕ}
 use mathlib.Core.Path.{◌≡◌, refl, sym, ap, ap₂, ◌∙◌, subst}
 use mathlib.Core.Bool.{Bool, true, false, cond}
@@ -28,12 +29,11 @@ use Rattle.graph_texts.specs.Texts.{text_of}
 use Rattle.graph_visit.specs.Visit.{world_of}
 use Rattle.graph_entries.specs.Entries.{draw_items}
 use Rattle.graph_build.specs.Result.{Result, refusal, result_of, draw_result}
-use Rattle.graph_build.specs.declared.Graphed.TheVariants.{Built}
 use Rattle.graph_entries.proofs.Drawing.{items_drawn}
 
 -- what is answered and left for a drawing between these nodes
 abbrev pub drawing_result : List PlacedName → Drawing → Result
-drawing_result ws (drawn rs) = record { answer = Built (length ws) (length rs); nodes = ws; rows = rs }
+drawing_result ws (drawn rs) = record { answer = Ok ((length ws), (length rs)); nodes = ws; rows = rs }
 drawing_result ws (faulty number entry a) = refusal number entry a 0
 
 module _ (mode : Mode) (s : List ℕ) where
@@ -74,7 +74,7 @@ module _ (mode : Mode) (s b : List ℕ) (reads : Reads (image_at s)) (bytes : Al
   walk_result (graph ns es) h =
       let p : length ns ≡ length (words_at mode s) = ap length (sym (walk_nodes ns es h)) ∙ nodes_long mode s in
       let q : length es ≡ length (map (row_of ns) es) = sym (length-map es (row_of ns)) in
-      ap₂ (λ n e. record { answer = Built n e; nodes = words_at mode s; rows = map (row_of ns) es }) p q
+      ap₂ (λ n e. record { answer = Ok (n, e); nodes = words_at mode s; rows = map (row_of ns) es }) p q
   walk_result (fault n k a) h = refl
 
   pub graph_result : draw_result mode s b

@@ -1,5 +1,6 @@
 -- The result of an image and a bundle that were read, with enough lent, by what came of the nodes and of the drawing: one law for each way out.
 -- Assumes nothing.
+use Rattle.std.specs.Prelude.{Ok, Err, Result as Answer}
 use mathlib.Core.Path.{◌≡◌, sym, ap, ap₂, ◌∙◌}
 use mathlib.Core.Bool.{Bool, cond}
 use mathlib.Core.List.{List, []}
@@ -8,7 +9,7 @@ use native.Mathlib.Omega.{arith}
 use lib.ListN.{length}
 use lib.Dec.{ltb}
 use borrow.Author.Tests.{lt-ltb, le-ltb}
-use Rattle.text.specs.declared.Refusal.{Refusal}
+use Rattle.graph_link.specs.declared.Stopped.{Stopped}
 use Rattle.text_lent.specs.Padded.{zeros, padded}
 use Rattle.library_form.specs.Writer.{AllBytes}
 use Rattle.library_index.proofs.Chain.{length_names}
@@ -29,9 +30,6 @@ use Rattle.graph_nodes.proofs.Looking.{held_names}
 use Rattle.graph_entries.specs.Entries.{draw_items, drawn_seen}
 use Rattle.graph_tables.specs.Tables.{Puts, Named, node_words}
 use Rattle.graph_build.specs.Result.{Result, refusal, draw_result}
-use Rattle.graph_entries.specs.declared.Drawn.{Drawn}
-use Rattle.graph_entries.specs.declared.Drawn.TheVariants.{Built as DrawnBuilt, Refused as DrawnRefused}
-use Rattle.graph_build.specs.declared.Graphed.TheVariants.{Built}
 use Rattle.graph_build.proofs.Outcome.{drawing_result, graph_result}
 
 -- what is promised once all is read and enough is lent
@@ -63,17 +61,17 @@ module _ {mode : Mode} (s b : List ℕ) (x : Result) (g : Ready mode s b x) wher
         by_nodes (le-ltb most_nodes (length (words_at mode s)) (omega (arith, nodes_many, h.few)))
         ∙ ap (λ (ns : List Name). drawing_result (words_at mode s) (items ns)) (sym (held_names mode h))
 
-    module _ (r : Drawn) (edges : List ℕ) where
-      pub draw_refused : {number entry : ℕ} {a : Refusal} → r ≡ DrawnRefused number entry a → drawn_seen r edges ≡ items (names_held s tab n)
-          → x ≡ refusal number entry a 0
-      draw_refused e f = drawn_as ∙ ap (drawing_result (words_at mode s)) (sym f ∙ ap (λ (q : Drawn). drawn_seen q edges) e)
+    module _ (r : Answer ℕ (ℕ × Stopped)) (edges : List ℕ) where
+      pub draw_refused : {entry : ℕ} {y : Stopped} → r ≡ Err (entry, y) → drawn_seen r edges ≡ items (names_held s tab n)
+          → x ≡ refusal y.number entry y.scan 0
+      draw_refused e f = drawn_as ∙ ap (drawing_result (words_at mode s)) (sym f ∙ ap (λ (q : Answer ℕ (ℕ × Stopped)). drawn_seen q edges) e)
 
-      pub draw_built : {m : ℕ} → r ≡ DrawnBuilt m → drawn_seen r edges ≡ items (names_held s tab n)
-          → x ≡ record { answer = Built n m; nodes = words_at mode s; rows = rows_in m edges }
+      pub draw_built : {m : ℕ} → r ≡ Ok m → drawn_seen r edges ≡ items (names_held s tab n)
+          → x ≡ record { answer = Ok (n, m); nodes = words_at mode s; rows = rows_in m edges }
       draw_built {m} e f =
           drawn_as
-          ∙ (ap (drawing_result (words_at mode s)) (sym f ∙ ap (λ (q : Drawn). drawn_seen q edges) e)
-          ∙ ap₂ (λ (i j : ℕ). record { answer = Built i j; nodes = words_at mode s; rows = rows_in m edges }) nodes_many (rows_length m edges))
+          ∙ (ap (drawing_result (words_at mode s)) (sym f ∙ ap (λ (q : Answer ℕ (ℕ × Stopped)). drawn_seen q edges) e)
+          ∙ ap₂ (λ (i j : ℕ). record { answer = Ok (i, j); nodes = words_at mode s; rows = rows_in m edges }) nodes_many (rows_length m edges))
 
 -- ---- the node table of the nodes that an index holds
 

@@ -1,2 +1,4 @@
 pub mod Between
 pub mod Result
+pub mod Told
+pub mod ToldSeen

@@ -3,20 +3,48 @@
 #![tactic(auto)]
 
 ghost use Rattle.graph.specs.Nodes.{mode_of};
+ghost use Rattle.std.specs.Prelude.{◌≡◌};
 ghost use Rattle.graph_draw.specs.Draw.{BothRead, Lent};
-ghost use Rattle.graph_build.specs.Result.{draw_result};
+ghost use Rattle.graph_build.specs.Result.{draw_result, refused_at};
 ghost use Rattle.graph_build.specs.Between.{LentNodes, Holds};
+ghost use Rattle.graph.specs.Why.{why_number};
 
-use graph_entries::Drawn;
-use graph_nodes::Nodes;
-use graph_visit::Sizes;
+use graph::NoGraph;
+use std::marker::Model;
 use text::Refusal;
 
-// How many nodes and edges there are; or a refusal's number, entry, scan answer and place.
+// Why there is no graph: the reason, of which contracts see the number, its entry, what the scan of that entry's text answered, and the place where image or
+// bundle breaks its form.
 #[derive(Clone, Copy)]
-pub enum Graphed {
-    Built(usize, usize),
-    Refused(u32, usize, Refusal, usize),
+pub struct GraphRefusal {
+    pub reason: NoGraph,
+    pub entry: usize,
+    pub scan: Refusal,
+    pub place: usize,
+}
+
+impl Model for GraphRefusal {
+    ghost use Rattle.graph_build.specs.Told.{Told};
+
+    ghost Value = { Told };
+
+    ghost use Rattle.graph_build.specs.ToldSeen.{seen, unseen};
+
+    ghost view = { seen };
+
+    ghost inverse = { unseen };
+}
+
+// A graph that is refused for this reason at this place, by no entry and no scan.
+pub fn refused_at(reason: NoGraph, place: usize) -> GraphRefusal
+    ensures { result ≡ refused_at (why_number reason) place }
+{
+    GraphRefusal {
+        reason,
+        entry: 0,
+        scan: text::no_refusal(),
+        place,
+    }
 }
 
 // The graph of an image and a bundle that are well formed, with enough lent, over tables that are zero. `complete`: with all names as nodes.
@@ -32,7 +60,7 @@ pub fn draw(
     imports: &mut [u32],
     includes: &mut [u32],
     levels: &mut [u32],
-) -> Graphed
+) -> Result<(usize, usize), GraphRefusal>
     requires { BothRead image.now bundle.now btab.now texts
         × Lent bundle.now store.old imports.old includes.old levels.old edges.old
         × LentNodes nodes.old }
@@ -44,17 +72,17 @@ pub fn draw(
     let count = library_items::list_items(image, &mut table);
     let mut ntab: [u32; graph_nodes::NODE_TABLE] = [0; graph_nodes::NODE_TABLE];
     let made = graph_nodes::construct_nodes(image, complete, &table, count, &mut ntab);
-    let Nodes::Count(n) = made else {
-        return Graphed::Refused(graph_nodes::nodes_number(made), 0, text::no_refusal(), 0);
-    };
-    let sizes = Sizes { texts, nodes: n };
-    match graph_draw::draw_edges(
-        image, bundle, btab, &ntab, sizes, &table, count, edges, store, imports, includes, levels,
-    ) {
-        Drawn::Refused(number, entry, why) => Graphed::Refused(number, entry, why, 0),
-        Drawn::Built(m) => {
-            graph_tables::put_nodes(&ntab, n, nodes);
-            Graphed::Built(n, m)
-        }
-    }
+    let n = made.ok_or(refused_at(NoGraph::TooManyNodes, 0))?;
+    let m = graph_draw::draw_edges(
+        image, bundle, btab, texts, &ntab, n, &table, count, edges, store, imports, includes,
+        levels,
+    )
+    .map_err(|(entry, why)| GraphRefusal {
+        reason: why.reason,
+        entry,
+        scan: why.scan,
+        place: 0,
+    })?;
+    graph_tables::put_nodes(&ntab, n, nodes);
+    Ok((n, m))
 }

@@ -5,16 +5,18 @@
 ghost use Rattle.graph_nodes.specs.Adding.{names_held};
 ghost use Rattle.graph_draw.specs.Draw.{Prepared, Lent, Edged};
 
-use graph_entries::Drawn;
-use graph_visit::Sizes;
+use graph_link::Stopped;
+use graph_marks::MarkedNodes;
+use graph_visit::Ground;
 
 // The edges of all entries; a refusal leaves none.
-pub fn draw_edges(
-    image: &[u8],
-    bundle: &[u8],
-    btab: &[u32],
-    ntab: &[u32],
-    sizes: Sizes,
+pub fn draw_edges<'x>(
+    image: &'x [u8],
+    bundle: &'x [u8],
+    btab: &'x [u32],
+    texts: usize,
+    ntab: &'x [u32],
+    n: usize,
     table: &[u32],
     count: usize,
     edges: &mut [u32],
@@ -22,24 +24,31 @@ pub fn draw_edges(
     imports: &mut [u32],
     includes: &mut [u32],
     levels: &mut [u32],
-) -> Drawn
-    requires { Prepared image.now bundle.now btab.now ntab.now sizes table.now count
+) -> Result<usize, (usize, Stopped)>
+    requires { Prepared image.now bundle.now btab.now texts ntab.now n table.now count
         × Lent bundle.now store.old imports.old includes.old levels.old edges.old }
-    ensures { Edged image.now bundle.now (names_held image.now ntab.now sizes.nodes)
+    ensures { Edged image.now bundle.now (names_held image.now ntab.now n)
         store.old imports.old includes.old levels.old edges.old result
         store.new imports.new includes.new levels.new edges.new }
 {
     let mut marks: [u32; graph_marks::MARK_TABLE] = [0; graph_marks::MARK_TABLE];
-    graph_marks::mark_nodes(image, table, count, ntab, sizes.nodes, &mut marks);
+    graph_marks::mark_nodes(image, table, count, ntab, n, &mut marks);
     let mut chains: [u16; graph_edges::CHAIN_TABLE] = [0; graph_edges::CHAIN_TABLE];
-    text_lent::clear_words(levels);
-    let drawn = graph_entries::walk_items(
+    levels.fill(0);
+    let nodes = MarkedNodes {
         image,
+        ntab,
+        count: n,
+        marks: &marks,
+    };
+    let ground = Ground {
+        nodes,
         bundle,
         btab,
-        ntab,
-        &marks,
-        sizes,
+        texts,
+    };
+    let drawn = graph_entries::walk_items(
+        ground,
         table,
         count,
         store,
@@ -49,9 +58,8 @@ pub fn draw_edges(
         edges,
         &mut chains,
     );
-    let Drawn::Built(m) = drawn else {
-        text_lent::clear_words(edges);
-        return drawn;
-    };
-    Drawn::Built(m)
+    if drawn.is_err() {
+        edges.fill(0);
+    }
+    drawn
 }

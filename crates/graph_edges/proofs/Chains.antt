@@ -17,12 +17,6 @@ use Rattle.graph_edges.proofs.Rows.{mem_snoc}
 
 -- ---- one row beside another
 
-pub other_from : (w : List ℕ) (i a b : ℕ) → (get_or w (i * 2) 0 ≡ a → ⊥) → false ≡ eq_r (row_at w i) (row a b)
-other_from w i a b h = rw (ne_eqb _ _ h)
-
-pub same_from : (w : List ℕ) (i a b : ℕ) → get_or w (i * 2) 0 ≡ a → eqb (get_or w (i * 2 + 1) 0) b ≡ eq_r (row_at w i) (row a b)
-same_from w i a b h = rw (eq-eqb _ _ h)
-
 -- rows of which a number differs, differ
 differ : (at : Row → ℕ) (a b c d : ℕ) → (at (row a b) ≡ at (row c d) → ⊥) → eq_r (row a b) (row c d) ≡ false
 differ at a b c d n = go (eqb a c) refl (eqb b d) refl

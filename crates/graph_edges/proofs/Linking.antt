@@ -1,5 +1,6 @@
 -- An edge that is laid behind the others keeps every chain: its own now begins with it, and goes on as it was.
 -- Assumes nothing.
+use Rattle.std.specs.Prelude.{Some, None}
 use mathlib.Core.Path.{◌≡◌, refl, sym, ap, ap₂, ◌∙◌}
 use mathlib.Core.Logic.{⊎_elim}
 use mathlib.Core.List.{List, [], ◌∷◌, ◌++◌}
@@ -15,7 +16,6 @@ use Rattle.graph.specs.Graph.{add_by}
 use Rattle.graph.specs.Numbers.{Row, row, mem_r}
 use Rattle.graph.specs.Limits.{most_edges, most_nodes}
 use Rattle.graph_edges.specs.Edges.{row_at, rows_in, buckets, bucket_of, last_in, link_of, Filed, Laid, Linked}
-use Rattle.graph_edges.specs.declared.Link.TheVariants.{Count, Full}
 use Rattle.graph_edges.proofs.Rows.{rows_length}
 use Rattle.graph_edges.proofs.Chains.{last_here, last_else, last_same, looked}
 
@@ -90,16 +90,16 @@ module _ (edges chains : List ℕ) (count from to h : ℕ) (g : Filed edges chai
   answer : mem_r (row from to) (rows_in count edges) ≡ x
   answer = looked edges chains count g from to q b k
 
-  pub already : x ≡ true → Linked (rows_in count edges) (row from to) edges chains (Count count) edges chains
+  pub already : x ≡ true → Linked (rows_in count edges) (row from to) edges chains (Some count) edges chains
   unfolding add_by
   already z = record { seen = rw (answer, z); filed = g; kept_edges = refl; kept_chains = refl }
 
-  pub full : x ≡ false → most_edges ≤ count → Linked (rows_in count edges) (row from to) edges chains Full edges chains
+  pub full : x ≡ false → most_edges ≤ count → Linked (rows_in count edges) (row from to) edges chains None edges chains
   unfolding add_by
   full z l = record { seen = rw (answer, z, rows_length, le-leb _ _ l); filed = tt; kept_edges = refl; kept_chains = refl }
 
   pub linked : {edges₁ chains₁ : List ℕ} → Laid edges chains count h from to edges₁ chains₁ → x ≡ false → from < most_nodes → to < most_nodes
-      → count < most_edges → Linked (rows_in count edges) (row from to) edges chains (Count (count + 1)) edges₁ chains₁
+      → count < most_edges → Linked (rows_in count edges) (row from to) edges chains (Some (count + 1)) edges₁ chains₁
   unfolding add_by
   linked {edges₁} {chains₁} p z f t l = record {
     seen = rw (answer, z, rows_length, lt-leb _ _ l, grown edges chains edges₁ chains₁ count from to h g p q b f t l);

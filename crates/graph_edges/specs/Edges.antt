@@ -2,13 +2,11 @@
 -- a link for each edge. A head and a link are one more than the number of an edge, or 0. Both ends together say in which chain an edge is, so that an
 -- edge is looked for among few, however many lead to its node.
 -- Assumes nothing.
-use Rattle.std.specs.Prelude.{ℕ, zero, suc, ◌+◌, ◌-◌, ◌*◌, ◌%◌, ◌≤◌, ◌<◌, ◌≡◌, cond, List, [], ◌∷◌, ◌++◌, length, get_or, eqb}
+use Rattle.std.specs.Prelude.{ℕ, zero, suc, ◌+◌, ◌-◌, ◌*◌, ◌%◌, ◌≤◌, ◌<◌, ◌≡◌, cond, List, [], ◌∷◌, ◌++◌, length, get_or, eqb, Some, None, Option}
 use Rattle.graph.specs.Limits.{most_nodes, most_edges}
 use Rattle.text.specs.Refusal.{no_refusal}
 use Rattle.graph.specs.Graph.{too_many_edges, Out, built, refused}
 use Rattle.graph.specs.Numbers.{Row, row, add_row}
-use Rattle.graph_edges.specs.declared.Link.{Link}
-use Rattle.graph_edges.specs.declared.Link.TheVariants.{Count, Full}
 
 -- how many chains there are
 abbrev pub buckets : ℕ
@@ -72,16 +70,16 @@ pub record Chain (edges chains : List ℕ) (r : Row) (h e : ℕ) : Type 0 where
 
 -- ---- what the code asks and does
 
-abbrev pub link_seen : Link → List ℕ → Out Row
-link_seen (Count n) w = built (rows_in n w)
-link_seen Full w = refused too_many_edges no_refusal
+abbrev pub link_seen : Option ℕ → List ℕ → Out Row
+link_seen (Some n) w = built (rows_in n w)
+link_seen None w = refused too_many_edges no_refusal
 
-abbrev pub LinkFiled : Link → List ℕ → List ℕ → Type 0
-LinkFiled (Count n) edges chains = Filed edges chains n
-LinkFiled Full edges chains = Unit {0}
+abbrev pub LinkFiled : Option ℕ → List ℕ → List ℕ → Type 0
+LinkFiled (Some n) edges chains = Filed edges chains n
+LinkFiled None edges chains = Unit {0}
 
 -- an edge more, unless it is present; the 8,193rd is refused
-pub record Linked (rows : List Row) (r : Row) (edges chains : List ℕ) (x : Link) (edges₁ chains₁ : List ℕ) : Type 0 where
+pub record Linked (rows : List Row) (r : Row) (edges chains : List ℕ) (x : Option ℕ) (edges₁ chains₁ : List ℕ) : Type 0 where
   pub seen : link_seen x edges₁ ≡ add_row most_edges rows r
   pub filed : LinkFiled x edges₁ chains₁
   pub kept_edges : length edges₁ ≡ length edges

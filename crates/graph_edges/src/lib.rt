@@ -19,14 +19,7 @@ const BUCKETS: usize = 8192;
 
 const FACTOR: usize = 131;
 
-// How many edges there are now; or there is no room for one more.
-#[derive(Clone, Copy)]
-pub enum Link {
-    Count(usize),
-    Full,
-}
-
-// A head or a link as a number. Tables of both have 16 bits a place, so that a chain is fast to follow; an edge has a number below 8,192.
+// A head or a link as a number, for crate order_take. Tables of both have 16 bits a place, so that a chain is fast to follow; an edge has a number below 8,192.
 pub fn of_link(x: u16) -> usize
     ensures { result ≡ x }
 {
@@ -46,12 +39,7 @@ fn is_at(edges: &[u32], i: usize, from: u32, to: u32) -> bool
     requires { i * 2 + 1 < length edges.now }
     ensures { result ≡ eq_r (row_at edges.now i) (row from to) }
 {
-    let a = edges[i * 2];
-    let b = edges[i * 2 + 1];
-    if a == from {
-        return b == to;
-    }
-    false
+    edges[i * 2] == from && edges[i * 2 + 1] == to
 }
 
 // Whether the edge is among those of its chain, `h`.
@@ -59,13 +47,13 @@ fn present(edges: &[u32], chains: &[u16], h: usize, from: u32, to: u32) -> bool
     requires { Chain edges.now chains.now (row from to) h (get_or chains.now h 0) × (h < buckets) }
     ensures { result ≡ mem_r (row from to) (rows_in (get_or chains.now h 0) edges.now) }
 {
-    let mut e = of_link(chains[h]);
+    let mut e = usize::from(chains[h]);
     while 0 < e {
         let i = e - 1;
         if is_at(edges, i, from, to) {
             return true;
         }
-        e = of_link(chains[BUCKETS + i]);
+        e = usize::from(chains[BUCKETS + i]);
     }
     false
 }
@@ -88,20 +76,18 @@ pub fn add_edge(
     count: usize,
     from: NodeIndex,
     to: NodeIndex,
-) -> Link
+) -> Option<usize>
     requires { Filed edges.old chains.old count × (from.0 < most_nodes) × (to.0 < most_nodes) }
     ensures { Linked (rows_in count edges.old) (row from.0 to.0) edges.old chains.old result
         edges.new chains.new }
 {
     let h = chain_of(from, to);
-    let f = from.0;
-    let t = to.0;
-    if present(edges, chains, h, f, t) {
-        return Link::Count(count);
+    if present(edges, chains, h, from.0, to.0) {
+        return Some(count);
     }
     if graph::MOST_EDGES <= count {
-        return Link::Full;
+        return None;
     }
-    put_edge(edges, chains, count, h, f, t);
-    Link::Count(count + 1)
+    put_edge(edges, chains, count, h, from.0, to.0);
+    Some(count + 1)
 }

@@ -9,6 +9,7 @@ use Rattle.library_form.specs.Form.{PlacedName}
 use Rattle.library_image.specs.Library.{Name, Module, ImportOnly, ModuleSet, plain_name, plain_module, plain_import_only, plain_set}
 use Rattle.library_items.specs.Items.{module_kind, submodule_kind, augmenting_kind, deviation_kind, import_only_kind, first_sub_kind, later_sub_kind, ItemOf, item}
 use Rattle.library_items.specs.Items.{module_items, later_items, revision_items, import_items, set_items, items_of, library_of, items_at}
+use Rattle.library_items.specs.declared.Kind.{Kind}
 use Rattle.graph.specs.Graph.{ScanAnswer, no_entry_text, deepest, Entry, module_entry, import_entry, set_entries, entries, Out, built, refused, then_o, on_out}
 use Rattle.graph.specs.Numbers.{Row, number_of, Codes, module_code, each_o, given_code, walk_codes, walk_entry_codes, Drawing, faulty, EntryCode, draw_from, codes_at}
 use Rattle.graph.specs.Numbers.{entry_code, drawing_in}
@@ -53,14 +54,14 @@ module _ (s b : List ℕ) (ns : List Name) where
       (cond l (given_code most_edges v (known_at s ns w.text) rs) (built rs)))
       (λ rs₁. draw_items s b ns (cond e (k + 1) k) (cond e (number_of ns w.text) v) rs₁ xs) (λ n a. faulty n (cond e (k + 1) k) a)
 
-  asks : (j : ℕ) {e l : Bool} → is_entry j ≡ e → is_listed j ≡ l → (k v : ℕ) (rs : List Row) (w : PlacedName) (xs : List (ItemOf PlacedName))
+  asks : (j : Kind) {e l : Bool} → is_entry j ≡ e → is_listed j ≡ l → (k v : ℕ) (rs : List Row) (w : PlacedName) (xs : List (ItemOf PlacedName))
       → draw_items s b ns k v rs (item j w ∷ xs) ≡ asked e l k v rs w xs
   unfolding draw_items item_walk
   asks j p q k v rs w xs = ap₂ (λ e l. asked e l k v rs w xs) p q
 
   -- ---- items that ask for nothing
 
-  silent : (j k v : ℕ) (rs : List Row) → is_entry j ≡ false → is_listed j ≡ false → (ws : List PlacedName) (xs : List (ItemOf PlacedName))
+  silent : (j : Kind) (k v : ℕ) (rs : List Row) → is_entry j ≡ false → is_listed j ≡ false → (ws : List PlacedName) (xs : List (ItemOf PlacedName))
       → draw_items s b ns k v rs (map (item j) ws ++ xs) ≡ draw_items s b ns k v rs xs
   silent j k v rs p q [] xs = refl
   silent j k v rs p q (w ∷ ws) xs = asks j p q k v rs w (map (item j) ws ++ xs) ∙ silent j k v rs p q ws xs
@@ -85,7 +86,7 @@ module _ (s b : List ℕ) (ns : List Name) where
   abbrev linked : (v : ℕ) → List PlacedName → List Row → Out Row
   linked v ws rs = each_o (given_code most_edges v) (map code (map plain_name ws)) rs
 
-  listed : (j k v : ℕ) → is_entry j ≡ false → is_listed j ≡ true → (ws : List PlacedName) (xs : List (ItemOf PlacedName)) (rs : List Row)
+  listed : (j : Kind) (k v : ℕ) → is_entry j ≡ false → is_listed j ≡ true → (ws : List PlacedName) (xs : List (ItemOf PlacedName)) (rs : List Row)
       → draw_items s b ns k v rs (map (item j) ws ++ xs) ≡ on_out (linked v ws rs) (λ rs₁. draw_items s b ns k v rs₁ xs) (λ n a. faulty n k a)
   unfolding each_o
   listed j k v p q [] xs rs = refl
@@ -104,7 +105,7 @@ module _ (s b : List ℕ) (ns : List Name) where
       → (k v : ℕ) (rs : List Row) → draw_items s b ns k v rs (xs ++ ys) ≡ draw_from under most_edges (k + 1) rs (map entry (es ++ fs))
 
   -- what comes behind an entry's item is what it lists
-  entry_draws : (j : ℕ) (w : PlacedName) (us : List Name) (xs : List (ItemOf PlacedName)) → is_entry j ≡ true
+  entry_draws : (j : Kind) (w : PlacedName) (us : List Name) (xs : List (ItemOf PlacedName)) → is_entry j ≡ true
       → ((k : ℕ) (ys : List (ItemOf PlacedName)) (rs : List Row) → draw_items s b ns k (number_of ns w.text) rs (xs ++ ys)
       ≡ on_out (each_o (given_code most_edges (number_of ns w.text)) (map code us) rs) (λ rs₁. draw_items s b ns k (number_of ns w.text) rs₁ ys)
       (λ n a. faulty n k a))

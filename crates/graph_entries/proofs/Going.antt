@@ -1,19 +1,18 @@
 -- The items walked one after another: the drawing of all of them is that of those still to come, from the entry, node and edges so far. The first item
 -- is an entry, so that every other one stands behind an entry; and an entry's name is a node.
 -- Assumes nothing.
+use Rattle.std.specs.Prelude.{Ok, Err, Result}
 use Prim.Native.Nat.{ℕ, zero, suc, ◌+◌, ◌-◌, ◌*◌, ◌≤◌, ◌<◌}
 use mathlib.Core.Path.{◌≡◌, refl, sym, ap, ap₂, ◌∙◌, subst}
 use mathlib.Core.Bool.{Bool, true, false, cond}
 use mathlib.Core.List.{List, [], ◌∷◌, ◌++◌, flat_map}
 use native.Mathlib.Omega.{arith}
-use lib.Dec.{eqb}
 use lib.ListN.{length, take, drop}
-use borrow.Author.Tests.{ne_eqb}
-use Rattle.text.specs.declared.Refusal.{Refusal}
 use Rattle.library_form.specs.Form.{PlacedName, word_at}
 use Rattle.library_form.proofs.Bounds.{part_word}
 use Rattle.library_image.specs.Library.{Name, Module, ImportOnly, ModuleSet, Library}
 use Rattle.library_items.specs.declared.Item.{Item}
+use Rattle.library_items.specs.declared.Kind.{Kind}
 use Rattle.library_items.specs.Items.{ItemOf, module_items, import_items, set_items, items_of, library_of, items_at}
 use Rattle.library_items.specs.Table.{item_in, item_word, items_in, items_from, ItemFits, Itemized}
 use Rattle.library_items.proofs.Through.{items_from_lem, items_all}
@@ -30,27 +29,17 @@ use Rattle.graph_nodes.specs.Adding.{is_entry, plain_at, names_held, Stands}
 use Rattle.graph_marks.specs.Marks.{among_kind, known_at, Desk}
 use Rattle.graph_marks.proofs.OfKind.{kind_append, known_items}
 use Rattle.graph_link.specs.Link.{walk_seen, WalkFiled, Drew, all_levels}
+use Rattle.graph_link.specs.declared.Stopped.{Stopped}
 use Rattle.graph_memory.specs.Memory.{height_in, remembered}
 use Rattle.graph_walk.specs.Walk.{walked_seen, WalkReady, Through}
 use Rattle.graph_visit.specs.Visit.{codes_here, Room, Kept}
 use Rattle.graph_memory.proofs.Words.{stays_on}
 use Rattle.graph_visit.proofs.Visiting.{longer, kept_same}
-use Rattle.graph_link.specs.declared.Walked.{Walked}
-use Rattle.graph_link.specs.declared.Walked.TheVariants.{Built, Refused}
 use Rattle.graph_entries.specs.Entries.{is_listed, item_node, item_walk, next_node, next_entry, draw_items, Next, Placed, WalkBetween, Walks}
-use Rattle.graph_entries.specs.declared.Drawn.TheVariants.{Built as DrawnBuilt, Refused as DrawnRefused}
-
--- ---- the ways out of `is_listed`
-
-pub listed_augmenting : (k : ℕ) → k ≡ 2 → true ≡ is_listed k
-listed_augmenting k e = ap (λ (j : ℕ). is_listed j) (sym e)
-
-pub listed_deviation : (k : ℕ) → (k ≡ 2 → ⊥) → eqb k 3 ≡ is_listed k
-listed_deviation k f = rw (ne_eqb k 2 f)
 
 -- ---- the ways out of `next_entry`
 
-module _ (k entry : ℕ) {r : Bool} (e : r ≡ is_entry k) where
+module _ (k : Kind) (entry : ℕ) {r : Bool} (e : r ≡ is_entry k) where
   pub entry_more : r ≡ true → entry + 1 ≡ cond (is_entry k) (entry + 1) entry
   entry_more t = ap (λ (b : Bool). cond b (entry + 1) entry) (sym t ∙ e)
 
@@ -85,35 +74,36 @@ module _ (s b : List ℕ) (ns : List Name) (x : Item) (v : ℕ) (rs : List Row) 
   asked p q = ap₂ asks (sym p) (sym q)
 
 -- what the walk with a memory leaves is what the plain walk leaves, and what the next entry asks
-as_plain : (at : ℕ → Codes) (v : ℕ) (rs : List Row) (levels levels₁ edges₁ : List ℕ) → Between at most_edges (remembered levels) rs → (w : Walked)
+as_plain : (at : ℕ → Codes) (v : ℕ) (rs : List Row) (levels levels₁ edges₁ : List ℕ) → Between at most_edges (remembered levels) rs → (w : Result ℕ Stopped)
     → walked_seen v w levels₁ edges₁ ≡ walk_once at most_edges 8 23 v rs (remembered levels)
     → (walk_seen w edges₁ ≡ walk_codes at most_edges 8 23 v rs) × WalkBetween at w levels₁ edges₁
-as_plain at v rs levels levels₁ edges₁ h (Built n) q =
+as_plain at v rs levels levels₁ edges₁ h (Ok n) q =
     let r : Right at most_edges (remembered levels) rs v (walked (rows_in n edges₁) (remembered levels₁) (height_in levels₁ v))
     (walk_codes at most_edges 8 23 v rs) =
     subst (λ (o : Went). Right at most_edges (remembered levels) rs v o (walk_codes at most_edges 8 23 v rs)) (sym q)
     (entry_right at most_edges 23 v rs (remembered levels) h 8) in
     (sym r.same, between_through at most_edges h r)
-as_plain at v rs levels levels₁ edges₁ h (Refused number a) q =
-    let r : Right at most_edges (remembered levels) rs v (halted number a) (walk_codes at most_edges 8 23 v rs) =
+as_plain at v rs levels levels₁ edges₁ h (Err y) q =
+    let r : Right at most_edges (remembered levels) rs v (halted y.number y.scan) (walk_codes at most_edges 8 23 v rs) =
     subst (λ (o : Went). Right at most_edges (remembered levels) rs v o (walk_codes at most_edges 8 23 v rs)) (sym q)
     (entry_right at most_edges 23 v rs (remembered levels) h 8) in
     (sym r, tt)
 
-walk_filed : (left v : ℕ) (levels edges chains : List ℕ) (w : Walked) → WalkReady left v w levels edges chains → WalkFiled w edges chains
-walk_filed left v levels edges chains (Built n) r = r.filed
-walk_filed left v levels edges chains (Refused number a) r = tt
+walk_filed : (left v : ℕ) (levels edges chains : List ℕ) (w : Result ℕ Stopped) → WalkReady left v w levels edges chains → WalkFiled w edges chains
+walk_filed left v levels edges chains (Ok n) r = r.filed
+walk_filed left v levels edges chains (Err y) r = tt
 
 -- an edge more
-pub between_linked : (at : ℕ → Codes) (v c : ℕ) (rs : List Row) (levels edges₁ : List ℕ) → Between at most_edges (remembered levels) rs → (w : Walked)
+pub between_linked : (at : ℕ → Codes) (v c : ℕ) (rs : List Row) (levels edges₁ : List ℕ) → Between at most_edges (remembered levels) rs → (w : Result ℕ Stopped)
     → walk_seen w edges₁ ≡ given_code most_edges v c rs → WalkBetween at w levels edges₁
-between_linked at v c rs levels edges₁ h (Built n) q =
-    between_grows at most_edges (remembered levels) rs (rows_in n edges₁) (subst (λ (o : Out Row). OnBuilt o (Grows rs)) (sym q) (given_grows most_edges v c rs)) h
-between_linked at v c rs levels edges₁ h (Refused number a) q = tt
+between_linked at v c rs levels edges₁ h (Ok n) q =
+    between_grows at most_edges (remembered levels) rs (rows_in n edges₁) (subst (λ (o : Out Row). OnBuilt o (Grows rs)) (sym q)
+    (given_grows most_edges v c rs)) h
+between_linked at v c rs levels edges₁ h (Err y) q = tt
 
 module _ (s b : List ℕ) {ns : List Name} {n : ℕ} {x : Item} {v : ℕ} (g : Placed s ns n x v) {edges chains : List ℕ} (count : ℕ) {e : Bool}
     (p : e ≡ is_entry x.kind) where
-  module _ (t : e ≡ true) (levels : List ℕ) (h : Between (codes_here s b ns) most_edges (remembered levels) (rows_in count edges)) {w : Walked}
+  module _ (t : e ≡ true) (levels : List ℕ) (h : Between (codes_here s b ns) most_edges (remembered levels) (rows_in count edges)) {w : Result ℕ Stopped}
       {levels₁ edges₁ chains₁ : List ℕ}
       (d : Through (walk_once (codes_here s b ns) most_edges 8 23 v (rows_in count edges) (remembered levels)) 8 v edges chains w levels₁ edges₁ chains₁) where
     plain : (walk_seen w edges₁ ≡ walk_codes (codes_here s b ns) most_edges 8 23 v (rows_in count edges)) × WalkBetween (codes_here s b ns) w levels₁ edges₁
@@ -132,7 +122,7 @@ module _ (s b : List ℕ) {ns : List Name} {n : ℕ} {x : Item} {v : ℕ} (g : P
     between_walked = plain.1
 
   module _ (f : e ≡ false) {l : Bool} (q : l ≡ is_listed x.kind) where
-    pub item_linked : l ≡ true → {w : Walked} {edges₁ chains₁ : List ℕ}
+    pub item_linked : l ≡ true → {w : Result ℕ Stopped} {edges₁ chains₁ : List ℕ}
         → Drew (given_code most_edges v (known_at s ns (take (x.place + x.size - x.place) (drop x.place s))) (rows_in count edges)) edges chains w edges₁
         chains₁
         → Drew (item_walk s b ns (item_word s x) v (rows_in count edges)) edges chains w edges₁ chains₁
@@ -142,7 +132,7 @@ module _ (s b : List ℕ) {ns : List Name} {n : ℕ} {x : Item} {v : ℕ} (g : P
         ∙ sym (asked s b ns x v (rows_in count edges) (sym f ∙ p) (sym t ∙ q))) d
 
     pub item_silent : l ≡ false → Filed edges chains count → Drew (item_walk s b ns (item_word s x) v (rows_in count edges)) edges chains
-        (Built count) edges chains
+        (Ok count) edges chains
     item_silent t h = record {
       seen = sym (asked s b ns x v (rows_in count edges) (sym f ∙ p) (sym t ∙ q));
       filed = h;
@@ -245,7 +235,7 @@ going_none s b ns n table items store imports includes levels edges chains v z t
 module _ {s b : List ℕ} {ns : List Name} {n : ℕ} {table : List ℕ} {items : ℕ}
     {store₀ imports₀ includes₀ levels₀ edges₀ chains₀ store imports includes levels edges chains : List ℕ} {total entry v i : ℕ}
     (g : Going s b ns n table items store₀ imports₀ includes₀ levels₀ edges₀ chains₀ store imports includes levels edges chains total entry v i) where
-  pub all_drawn : items ≤ i → Walks s b ns store₀ imports₀ includes₀ levels₀ edges₀ chains₀ (DrawnBuilt total) store imports includes levels edges chains
+  pub all_drawn : items ≤ i → Walks s b ns store₀ imports₀ includes₀ levels₀ edges₀ chains₀ (Ok total) store imports includes levels edges chains
   unfolding items_from draw_items
   all_drawn h =
       let q : items - i ≡ 0 = omega arith in
@@ -293,7 +283,7 @@ module _ {s b : List ℕ} {ns : List Name} {n : ℕ} {table : List ℕ} {items :
           own = λ h. p ∙ ap (λ (c : Bool). cond c (item_node ns (item_word s x)) v) h;
         }
 
-        module _ {k : ℕ} (q : k ≡ cond (is_entry x.kind) (entry + 1) entry) {w : Walked} {edges₁ chains₁ : List ℕ}
+        module _ {k : ℕ} (q : k ≡ cond (is_entry x.kind) (entry + 1) entry) {w : Result ℕ Stopped} {edges₁ chains₁ : List ℕ}
             (d : Drew (item_walk s b ns (item_word s x) u (rows_in total edges)) edges chains w edges₁ chains₁) where
           abbrev behind : (y : ItemOf PlacedName) → Out Row → (k u : ℕ) → Drawing
           behind y out k u = on_out out (λ rs. draw_items s b ns k u rs (items_from s table (i + 1) (items - (i + 1)))) (λ number a. faulty number k a)
@@ -319,10 +309,10 @@ module _ {s b : List ℕ} {ns : List Name} {n : ℕ} {table : List ℕ} {items :
               above_kept = c.above_kept ∙ g.kept.above_kept;
             }
 
-            pub sent_out : {number : ℕ} {a : Refusal} → w ≡ Refused number a
-                → Walks s b ns store₀ imports₀ includes₀ levels₀ edges₀ chains₀ (DrawnRefused number k a) store₁ imports₁ includes₁ levels₁ edges₁ chains₁
-            sent_out y = record {
-              seen = sym (turn ∙ ap (λ (w : Walked). behind (item_word s x) (walk_seen w edges₁) k u) y);
+            pub sent_out : {y : Stopped} → w ≡ Err y
+                → Walks s b ns store₀ imports₀ includes₀ levels₀ edges₀ chains₀ (Err (k, y)) store₁ imports₁ includes₁ levels₁ edges₁ chains₁
+            sent_out z = record {
+              seen = sym (turn ∙ ap (λ (w : Result ℕ Stopped). behind (item_word s x) (walk_seen w edges₁) k u) z);
               filed = tt;
               kept_edges = d.kept_edges ∙ g.kept_edges;
               kept_chains = d.kept_chains ∙ g.kept_chains;
@@ -336,10 +326,10 @@ module _ {s b : List ℕ} {ns : List Name} {n : ℕ} {table : List ℕ} {items :
                 go true z = omega (arith, g.entries)
                 go false z = omega (arith, g.entries)
 
-            pub going_on : {m : ℕ} → w ≡ Built m → WalkBetween (codes_here s b ns) w levels₁ edges₁
+            pub going_on : {m : ℕ} → w ≡ Ok m → WalkBetween (codes_here s b ns) w levels₁ edges₁
                 → Going s b ns n table items store₀ imports₀ includes₀ levels₀ edges₀ chains₀ store₁ imports₁ includes₁ levels₁ edges₁ chains₁ m k u (i + 1)
             going_on {m} y q = record {
-              rest = turn ∙ ap (λ (w : Walked). behind (item_word s x) (walk_seen w edges₁) k u) y;
+              rest = turn ∙ ap (λ (w : Result ℕ Stopped). behind (item_word s x) (walk_seen w edges₁) k u) y;
               listed = g.listed;
               some = omega arith;
               entries = entries_on;

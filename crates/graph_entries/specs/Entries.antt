@@ -1,13 +1,15 @@
 -- The walk of the entries, going through the items of an image: a module or an import-only module is an entry, whose text is walked; then what a module
 -- lists is linked. Entries are numbered from 1.
 -- Assumes nothing.
-use Rattle.std.specs.Prelude.{ℕ, ◌+◌, ◌<◌, ◌≡◌, Bool, true, false, cond, ◌||◌, List, [], ◌∷◌, length, eqb}
+use Rattle.std.specs.Prelude.{ℕ, ◌+◌, ◌<◌, ◌≡◌, Bool, true, false, cond, List, [], ◌∷◌, length, Ok, Err, Result}
 use Rattle.library_form.specs.Form.{PlacedName, word_at}
 use Rattle.library_image.specs.Library.{Name}
 use Rattle.library_index.specs.Names.{names_in}
 use Rattle.library_items.specs.declared.Item.{Item}
+use Rattle.library_items.specs.declared.Kind.{Kind}
+use Rattle.library_items.specs.declared.Kind.TheVariants.{Augmenting, Deviation}
 use Rattle.library_items.specs.Table.{item_word, ItemFits}
-use Rattle.library_items.specs.Items.{augmenting_kind, deviation_kind, ItemOf, items_at}
+use Rattle.library_items.specs.Items.{ItemOf, items_at}
 use Rattle.graph.specs.Graph.{no_entry_text, deepest, Out, built, on_out}
 use Rattle.graph.specs.Nodes.{memb}
 use Rattle.graph.specs.Numbers.{Row, Codes, number_of, given_code, walk_codes, Drawing, drawn, faulty}
@@ -18,14 +20,13 @@ use Rattle.graph_nodes.specs.Adding.{is_entry, names_held, Holding}
 use Rattle.graph_marks.specs.Marks.{known_at}
 use Rattle.graph_memory.specs.Memory.{remembered}
 use Rattle.graph_link.specs.Link.{all_levels}
-use Rattle.graph_link.specs.declared.Walked.{Walked}
-use Rattle.graph_link.specs.declared.Walked.TheVariants.{Built as WalkBuilt, Refused as WalkRefused}
 use Rattle.graph_visit.specs.Visit.{codes_here, Kept}
-use Rattle.graph_entries.specs.declared.Drawn.{Drawn}
-use Rattle.graph_entries.specs.declared.Drawn.TheVariants.{Built, Refused}
+use Rattle.graph_link.specs.declared.Stopped.{Stopped}
 
-abbrev pub is_listed : ℕ → Bool
-is_listed k = eqb k augmenting_kind || eqb k deviation_kind
+abbrev pub is_listed : Kind → Bool
+is_listed Augmenting = true
+is_listed Deviation = true
+is_listed _ = false
 
 -- the node of an item's name; ns: the names of the nodes
 abbrev pub item_node : List Name → ItemOf PlacedName → ℕ
@@ -49,13 +50,13 @@ draw_items s b ns k v rs [] = drawn rs
 draw_items s b ns k v rs (x ∷ xs) =
     on_out (item_walk s b ns x v rs) (λ rs₁. draw_items s b ns (next_entry x k) (next_node ns x v) rs₁ xs) (λ n a. faulty n (next_entry x k) a)
 
-abbrev pub drawn_seen : Drawn → List ℕ → Drawing
-drawn_seen (Built n) edges = drawn (rows_in n edges)
-drawn_seen (Refused number entry a) edges = faulty number entry a
+abbrev pub drawn_seen : Result ℕ (ℕ × Stopped) → List ℕ → Drawing
+drawn_seen (Ok n) edges = drawn (rows_in n edges)
+drawn_seen (Err (entry, w)) edges = faulty w.number entry w.scan
 
-abbrev pub DrawnFiled : Drawn → List ℕ → List ℕ → Type 0
-DrawnFiled (Built n) edges chains = Filed edges chains n
-DrawnFiled (Refused number entry a) edges chains = Unit {0}
+abbrev pub DrawnFiled : Result ℕ (ℕ × Stopped) → List ℕ → List ℕ → Type 0
+DrawnFiled (Ok n) edges chains = Filed edges chains n
+DrawnFiled (Err (entry, w)) edges chains = Unit {0}
 
 -- ---- what the code asks and does
 
@@ -73,12 +74,12 @@ pub record Placed (s : List ℕ) (ns : List Name) (n : ℕ) (x : Item) (v : ℕ)
   pub own : is_entry x.kind ≡ true → v ≡ item_node ns (item_word s x)
 
 -- behind an item what is remembered of the texts is true, and none is being walked; so the walk of the next entry's text is the plain walk
-abbrev pub WalkBetween : (at : ℕ → Codes) → Walked → (levels edges : List ℕ) → Type 0
-WalkBetween at (WalkBuilt n) levels edges = Between at most_edges (remembered levels) (rows_in n edges)
-WalkBetween at (WalkRefused number a) levels edges = Unit {0}
+abbrev pub WalkBetween : (at : ℕ → Codes) → Result ℕ Stopped → (levels edges : List ℕ) → Type 0
+WalkBetween at (Ok n) levels edges = Between at most_edges (remembered levels) (rows_in n edges)
+WalkBetween at (Err w) levels edges = Unit {0}
 
 -- all items were walked, or up to the first refusal; the tables are as long as before
-pub record Walks (s b : List ℕ) (ns : List Name) (store imports includes levels edges chains : List ℕ) (r : Drawn)
+pub record Walks (s b : List ℕ) (ns : List Name) (store imports includes levels edges chains : List ℕ) (r : Result ℕ (ℕ × Stopped))
     (store₁ imports₁ includes₁ levels₁ edges₁ chains₁ : List ℕ) : Type 0 where
   pub seen : drawn_seen r edges₁ ≡ draw_items s b ns 0 0 [] (items_at s)
   pub filed : DrawnFiled r edges₁ chains₁

@@ -1,3 +1,4 @@
 pub mod Naming
 pub mod Saving
 pub mod Single
+pub mod Handing

@@ -1,12 +1,12 @@
 -- The imports of a text, linked one after another: what the rows from here on come to is what all of them come to.
 -- Assumes nothing.
+use Rattle.std.specs.Prelude.{Ok, Err, Result}
 use Prim.Native.Nat.{ℕ, ◌+◌, ◌-◌, ◌*◌, ◌≤◌, ◌<◌}
 use mathlib.Core.Path.{◌≡◌, refl, sym, ap, ◌∙◌}
 use mathlib.Core.List.{List, map}
 use native.Mathlib.Omega.{arith}
 use native.Mathlib.Nat.{sub-zero}
 use lib.ListN.{length}
-use Rattle.text.specs.declared.Refusal.{Refusal}
 use Rattle.library_image.specs.Library.{Name}
 use Rattle.scan_rows.specs.Span.{value_in}
 use Rattle.scan_rows.specs.Rows.{most_rows, import_size, import_at, rows_of, imports_in}
@@ -19,8 +19,7 @@ use Rattle.graph_edges.specs.Edges.{rows_in, Filed}
 use Rattle.graph_marks.specs.Marks.{known_at}
 use Rattle.graph_texts.specs.Texts.{import_names}
 use Rattle.graph_link.specs.Link.{ImportRows, import_codes, walk_seen, Drew}
-use Rattle.graph_link.specs.declared.Walked.{Walked}
-use Rattle.graph_link.specs.declared.Walked.TheVariants.{Built, Refused}
+use Rattle.graph_link.specs.declared.Stopped.{Stopped}
 
 -- the codes of the imports from the i-th on
 unfoldable pub imports_from : (s : List ℕ) (ns : List Name) (store imports : List ℕ) → (m i : ℕ) → List ℕ
@@ -52,7 +51,7 @@ naming_begins s ns store imports m v edges chains count h f = record {
 
 module _ (s : List ℕ) (ns : List Name) (store imports : List ℕ) (m v : ℕ) (rs : List Row) (edges₀ chains₀ edges chains : List ℕ) (total i : ℕ)
     (g : Naming s ns store imports m v rs edges₀ chains₀ edges chains total i) where
-  pub all_named : m ≤ i → Drew (each_o (import_code most_edges v) (import_codes s ns store imports m) rs) edges₀ chains₀ (Built total) edges chains
+  pub all_named : m ≤ i → Drew (each_o (import_code most_edges v) (import_codes s ns store imports m) rs) edges₀ chains₀ (Ok total) edges chains
   unfolding imports_from import_names each_o
   all_named h = record {
     seen = sym (g.rest ∙ rw (rows_done (import_at imports) import_size m i h));
@@ -63,29 +62,32 @@ module _ (s : List ℕ) (ns : List Name) (store imports : List ℕ) (m v : ℕ) 
 
   module _ (x : YangImport) (name : List ℕ) (e : x ≡ import_at imports (i * import_size)) (f : name ≡ value_in store x.module_name) (h : i < m) where
     turn : each_o (import_code most_edges v) (import_codes s ns store imports m) rs
-        ≡ then_o (import_code most_edges v (known_at s ns name) (rows_in total edges)) (each_o (import_code most_edges v) (imports_from s ns store imports m (i + 1)))
+        ≡ then_o (import_code most_edges v (known_at s ns name) (rows_in total edges)) (each_o (import_code most_edges v)
+        (imports_from s ns store imports m (i + 1)))
     unfolding imports_from import_names each_o
     turn =
         let q : name ≡ value_in store (import_at imports (i * import_size)).module_name = f ∙ ap (λ (x : YangImport). value_in store x.module_name) e in
         g.rest ∙ rw (rows_more (import_at imports) import_size m i h, q)
 
-    module _ (r : Walked) (edges₁ chains₁ : List ℕ) (d : Drew (import_code most_edges v (known_at s ns name) (rows_in total edges)) edges chains r edges₁ chains₁)
+    module _ (r : Result ℕ Stopped) (edges₁ chains₁ : List ℕ) (d : Drew (import_code most_edges v (known_at s ns name)
+        (rows_in total edges)) edges chains r edges₁ chains₁)
       where
-        pub named_wrong : (number : ℕ) (a : Refusal) → r ≡ Refused number a
-            → Drew (each_o (import_code most_edges v) (import_codes s ns store imports m) rs) edges₀ chains₀ r edges₁ chains₁
-        named_wrong number a z =
-            let q : import_code most_edges v (known_at s ns name) (rows_in total edges) ≡ refused number a = sym d.seen ∙ ap (λ r. walk_seen r edges₁) z in
+        pub named_wrong : {y : Stopped} → r ≡ Err y
+            → Drew (each_o (import_code most_edges v) (import_codes s ns store imports m) rs) edges₀ chains₀ (Err y) edges₁ chains₁
+        named_wrong {y} z =
+            let q : import_code most_edges v (known_at s ns name) (rows_in total edges) ≡ refused y.number y.scan = sym d.seen
+            ∙ ap (λ r. walk_seen r edges₁) z in
             record {
-              seen = ap (λ r. walk_seen r edges₁) z
-                  ∙ sym (turn ∙ ap (λ o. then_o o (each_o (import_code most_edges v) (imports_from s ns store imports m (i + 1)))) q);
-              filed = d.filed;
+              seen = sym (turn ∙ ap (λ o. then_o o (each_o (import_code most_edges v) (imports_from s ns store imports m (i + 1)))) q);
+              filed = tt;
               kept_edges = d.kept_edges ∙ g.long_edges;
               kept_chains = d.kept_chains ∙ g.long_chains;
             }
 
-        pub named_on : (k : ℕ) → r ≡ Built k → Naming s ns store imports m v rs edges₀ chains₀ edges₁ chains₁ k (i + 1)
-        named_on k z =
-            let q : import_code most_edges v (known_at s ns name) (rows_in total edges) ≡ built (rows_in k edges₁) = sym d.seen ∙ ap (λ r. walk_seen r edges₁) z in
+        pub named_on : {k : ℕ} → r ≡ Ok k → Naming s ns store imports m v rs edges₀ chains₀ edges₁ chains₁ k (i + 1)
+        named_on {k} z =
+            let q : import_code most_edges v (known_at s ns name) (rows_in total edges) ≡ built (rows_in k edges₁) = sym d.seen
+            ∙ ap (λ r. walk_seen r edges₁) z in
             record {
               room = omega arith;
               few = g.few;

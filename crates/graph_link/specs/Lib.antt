@@ -1,1 +1,3 @@
 pub mod Link
+pub mod Stop
+pub mod StopSeen

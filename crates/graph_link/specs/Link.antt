@@ -1,24 +1,20 @@
 -- What the walk does with one name: an edge between a text's node and a module that it imports or lists, the codes of a text's imports and includes, and an
 -- include by its code up to the walk of its text.
 -- Assumes nothing.
-use Rattle.std.specs.Prelude.{ℕ, zero, suc, ◌+◌, ◌*◌, ◌≤◌, ◌<◌, ◌≡◌, Bool, cond, List, [], ◌∷◌, map, length, get_or, drop}
+use Rattle.std.specs.Prelude.{ℕ, zero, suc, ◌+◌, ◌*◌, ◌≤◌, ◌<◌, ◌≡◌, Bool, cond, List, [], ◌∷◌, map, length, get_or, drop, Ok, Err, Result}
 use Rattle.scan_rows.specs.Rows.{import_size, include_size, most_rows, imports_in, includes_in}
 use Rattle.library_image.specs.Library.{Name}
 use Rattle.text.specs.Refusal.{no_refusal}
-use Rattle.graph.specs.Graph.{deepest, too_many_edges, Out, built, refused}
+use Rattle.graph.specs.Graph.{deepest, Out, built, refused}
 use Rattle.graph.specs.Limits.{most_edges}
 use Rattle.graph.specs.Numbers.{Row, Codes, import_code, given_code}
 use Rattle.graph.specs.Once.{Marks, Went, halted, Below, include_once, below_once}
 use Rattle.graph_edges.specs.Edges.{rows_in, Filed}
-use Rattle.graph_edges.specs.declared.Link.{Link}
-use Rattle.graph_edges.specs.declared.Link.TheVariants.{Count, Full}
 use Rattle.graph_marks.specs.Marks.{known_at, included_at}
 use Rattle.graph_memory.specs.Memory.{memory_words}
 use Rattle.graph_texts.specs.Texts.{import_names, include_names}
-use Rattle.graph_link.specs.declared.Walked.{Walked}
-use Rattle.graph_link.specs.declared.Walked.TheVariants.{Built, Refused}
-use Rattle.graph_link.specs.declared.Stepping.{Stepping}
-use Rattle.graph_link.specs.declared.Stepping.TheVariants.{Down, Stopped}
+use Rattle.graph.specs.declared.NodeIndex.{NodeIndex}
+use Rattle.graph_link.specs.declared.Stopped.{Stopped}
 
 -- the words of a level: one for each include of a text
 abbrev pub level_words : ℕ
@@ -67,21 +63,20 @@ pub record IncludeRows (includes : List ℕ) (k : ℕ) (levels : List ℕ) (base
 
 -- ---- what the code does
 
-abbrev pub walk_seen : Walked → List ℕ → Out Row
-walk_seen (Built n) edges = built (rows_in n edges)
-walk_seen (Refused number a) edges = refused number a
+abbrev pub walk_seen : Result ℕ Stopped → List ℕ → Out Row
+walk_seen (Ok n) edges = built (rows_in n edges)
+walk_seen (Err w) edges = refused w.number w.scan
 
-abbrev pub WalkFiled : Walked → List ℕ → List ℕ → Type 0
-WalkFiled (Built n) edges chains = Filed edges chains n
-WalkFiled (Refused number a) edges chains = Unit {0}
+abbrev pub WalkFiled : Result ℕ Stopped → List ℕ → List ℕ → Type 0
+WalkFiled (Ok n) edges chains = Filed edges chains n
+WalkFiled (Err w) edges chains = Unit {0}
 
--- what an edge more comes to
-abbrev pub link_walked : Link → Walked
-link_walked (Count n) = Built n
-link_walked Full = Refused too_many_edges no_refusal
+-- a walk that ends with this number, where no scan refuses
+abbrev pub stopped_at : ℕ → Stopped
+stopped_at number = record { number = number; scan = no_refusal }
 
 -- edges that were added, as `expected` says; the tables are as long as before
-pub record Drew (expected : Out Row) (edges chains : List ℕ) (r : Walked) (edges₁ chains₁ : List ℕ) : Type 0 where
+pub record Drew (expected : Out Row) (edges chains : List ℕ) (r : Result ℕ Stopped) (edges₁ chains₁ : List ℕ) : Type 0 where
   pub seen : walk_seen r edges₁ ≡ expected
   pub filed : WalkFiled r edges₁ chains₁
   pub kept_edges : length edges₁ ≡ length edges
@@ -96,20 +91,20 @@ pub record Saved (n : ℕ) (codes : List ℕ) (base count : ℕ) (levels after :
   pub kept : length after ≡ length levels
 
 -- one include, up to the walk of its text
-abbrev pub step_seen : Below → Stepping → List ℕ → Marks → Went
-step_seen f (Down u n) edges m = f u.0 (rows_in n edges) m
-step_seen f (Stopped number) edges m = halted number no_refusal
+abbrev pub step_seen : Below → Result (NodeIndex × ℕ) Stopped → List ℕ → Marks → Went
+step_seen f (Ok (u, n)) edges m = f u.0 (rows_in n edges) m
+step_seen f (Err w) edges m = halted w.number w.scan
 
 pub record Descends (word left u count : ℕ) (edges chains : List ℕ) : Type 0 where
   pub node : u + 2 ≡ word
   pub deep : 0 < left
   pub filed : Filed edges chains count
 
-abbrev pub StepReady : (word left : ℕ) → Stepping → List ℕ → List ℕ → Type 0
-StepReady word left (Down u n) edges chains = Descends word left u.0 n edges chains
-StepReady word left (Stopped number) edges chains = Unit {0}
+abbrev pub StepReady : (word left : ℕ) → Result (NodeIndex × ℕ) Stopped → List ℕ → List ℕ → Type 0
+StepReady word left (Ok (u, n)) edges chains = Descends word left u.0 n edges chains
+StepReady word left (Err w) edges chains = Unit {0}
 
-pub record Stepped (word left v : ℕ) (before : List Row) (edges chains : List ℕ) (r : Stepping) (edges₁ chains₁ : List ℕ) : Type 0 where
+pub record Stepped (word left v : ℕ) (before : List Row) (edges chains : List ℕ) (r : Result (NodeIndex × ℕ) Stopped) (edges₁ chains₁ : List ℕ) : Type 0 where
   pub seen : (at : ℕ → Codes) (m : Marks)
       → step_seen (below_once at most_edges left) r edges₁ m ≡ include_once most_edges (below_once at most_edges left) v word before m
   pub ready : StepReady word left r edges₁ chains₁

@@ -6,82 +6,67 @@ ghost use Rattle.graph.specs.Limits.{most_edges, most_nodes};
 ghost use Rattle.graph.specs.Numbers.{each_o, import_code};
 ghost use Rattle.graph_edges.specs.Edges.{rows_in, Filed};
 ghost use Rattle.graph_nodes.specs.Adding.{names_held};
-ghost use Rattle.graph_marks.specs.Marks.{Desk, known_at, included_code, IncludedNode};
-ghost use Rattle.graph_link.specs.Link.{link_walked, either_code, import_codes, include_codes, ImportRows, IncludeRows, Drew, Saved, Stepped};
+ghost use Rattle.graph_marks.specs.Marks.{known_at, included_code, IncludedNode};
+ghost use Rattle.graph_link.specs.Link.{stopped_at, either_code, import_codes, include_codes, ImportRows, IncludeRows, Drew, Saved, Stepped};
+ghost use Rattle.graph.specs.Why.{why_number};
 
-use graph::NodeIndex;
-use graph_edges::Link;
-use graph_marks::{Included, Resolved};
+use graph::{NoGraph, NodeIndex};
+use graph_marks::{Included, MarkedNodes};
+use std::marker::Model;
 use text::Refusal;
 
-// The refusals of this layer.
-pub const UNKNOWN_MODULE: u32 = 26;
-
-pub const UNKNOWN_SUBMODULE: u32 = 27;
-
-pub const NO_NODE: u32 = 28;
-
-pub const TOO_DEEP: u32 = 29;
-
-pub const TOO_MANY_EDGES: u32 = 31;
-
-// What a walk answers: how many edges there are now, or the refusal's number and the scan's answer.
+// Why a walk ends: the reason, of which contracts see the number, and what the scan of the text answered.
 #[derive(Clone, Copy)]
-pub enum Walked {
-    Built(usize),
-    Refused(u32, Refusal),
+pub struct Stopped {
+    pub reason: NoGraph,
+    pub scan: Refusal,
 }
 
-// One include: on to its text, with so many edges; or a refusal.
-#[derive(Clone, Copy)]
-pub enum Stepping {
-    Down(NodeIndex, usize),
-    Stopped(u32),
+impl Model for Stopped {
+    ghost use Rattle.graph_link.specs.Stop.{Stop};
+
+    ghost Value = { Stop };
+
+    ghost use Rattle.graph_link.specs.StopSeen.{seen, unseen};
+
+    ghost view = { seen };
+
+    ghost inverse = { unseen };
 }
 
-// What an edge more comes to.
-fn linked(link: Link) -> Walked
-    ensures { result ≡ link_walked link }
+// A walk that ends for this reason, where no scan refuses.
+pub fn stop_with(reason: NoGraph) -> Stopped
+    ensures { result ≡ stopped_at (why_number reason) }
 {
-    match link {
-        Link::Count(n) => Walked::Built(n),
-        Link::Full => Walked::Refused(TOO_MANY_EDGES, text::no_refusal()),
+    Stopped {
+        reason,
+        scan: text::no_refusal(),
     }
 }
 
 // The edge between v and the module or import-only module of a name: from it to v for an import, from v to it for one that v lists.
 pub fn link_known(
-    image: &[u8],
-    ntab: &[u32],
-    n: usize,
-    marks: &[u32],
+    nodes: MarkedNodes,
     name: &[u8],
     given: bool,
     edges: &mut [u32],
     chains: &mut [u16],
     v: NodeIndex,
     count: usize,
-) -> Walked
-    requires { Desk image.now ntab.now n marks.now × Filed edges.old chains.old count × (v.0 < n) }
-    ensures { Drew (either_code given v.0 (known_at image.now (names_held image.now ntab.now n) name.now)
+) -> Result<usize, Stopped>
+    requires { Filed edges.old chains.old count × (v.0 < nodes.count) }
+    ensures { Drew (either_code given v.0 (known_at nodes.entry.image.now (names_held nodes.entry.image.now nodes.entry.ntab.now nodes.entry.count) name.now)
         (rows_in count edges.old))
         edges.old chains.old result edges.new chains.new }
 {
-    let Resolved::Node(u) = graph_marks::find_known(image, ntab, n, marks, name) else {
-        return Walked::Refused(UNKNOWN_MODULE, text::no_refusal());
-    };
-    if given {
-        return linked(graph_edges::add_edge(edges, chains, count, v, u));
-    }
-    linked(graph_edges::add_edge(edges, chains, count, u, v))
+    let u = graph_marks::find_known(nodes, name).ok_or(stop_with(NoGraph::UnknownModule))?;
+    let (from, to) = if given { (v, u) } else { (u, v) };
+    graph_edges::add_edge(edges, chains, count, from, to).ok_or(stop_with(NoGraph::TooManyEdges))
 }
 
 // The edges of a text's imports.
 pub fn link_imports(
-    image: &[u8],
-    ntab: &[u32],
-    n: usize,
-    marks: &[u32],
+    nodes: MarkedNodes,
     store: &[u8],
     imports: &[u32],
     rows: usize,
@@ -89,26 +74,21 @@ pub fn link_imports(
     chains: &mut [u16],
     v: NodeIndex,
     count: usize,
-) -> Walked
-    requires { Desk image.now ntab.now n marks.now × ImportRows imports.now rows × Filed edges.old chains.old count × (v.0 < n) }
+) -> Result<usize, Stopped>
+    requires { ImportRows imports.now rows × Filed edges.old chains.old count × (v.0 < nodes.count) }
     ensures { Drew (each_o (import_code most_edges v.0)
-        (import_codes image.now (names_held image.now ntab.now n) store.now imports.now rows)
+        (import_codes nodes.entry.image.now (names_held nodes.entry.image.now nodes.entry.ntab.now nodes.entry.count)
+        store.now imports.now rows)
         (rows_in count edges.old))
         edges.old chains.old result edges.new chains.new }
 {
     let mut total = count;
-    let mut i = 0;
-    while i < rows {
+    for i in 0..rows {
         let import = scan_rows::get_import(imports, i);
         let name = scan_rows::value_in(store, import.module_name);
-        let link = link_known(image, ntab, n, marks, name, false, edges, chains, v, total);
-        let Walked::Built(m) = link else {
-            return link;
-        };
-        total = m;
-        i += 1;
+        total = link_known(nodes, name, false, edges, chains, v, total)?;
     }
-    Walked::Built(total)
+    Ok(total)
 }
 
 // An include as it is kept in `levels`: 0 not found (27), 1 no node (28), n + 2 node n.
@@ -125,27 +105,22 @@ fn code_of(included: Included) -> u32
 
 // Saves the word of each include from `base` on, before the texts below use the scan's tables.
 pub fn save_includes(
-    image: &[u8],
-    ntab: &[u32],
-    n: usize,
-    marks: &[u32],
+    nodes: MarkedNodes,
     store: &[u8],
     includes: &[u32],
     rows: usize,
     levels: &mut [u32],
     base: usize,
 )
-    requires { Desk image.now ntab.now n marks.now × IncludeRows includes.now rows levels.old base }
-    ensures { Saved n (include_codes image.now (names_held image.now ntab.now n) store.now
-        includes.now rows)
+    requires { IncludeRows includes.now rows levels.old base }
+    ensures { Saved nodes.entry.count (include_codes nodes.entry.image.now
+        (names_held nodes.entry.image.now nodes.entry.ntab.now nodes.entry.count) store.now includes.now rows)
         base rows levels.old levels.new }
 {
-    let mut i = 0;
-    while i < rows {
+    for i in 0..rows {
         let include = scan_rows::get_include(includes, i);
         let name = scan_rows::value_in(store, include.submodule_name);
-        levels[base + i] = code_of(graph_marks::find_included(image, ntab, n, marks, name));
-        i += 1;
+        levels[base + i] = code_of(graph_marks::find_included(nodes, name));
     }
 }
 
@@ -157,23 +132,23 @@ pub fn step(
     chains: &mut [u16],
     v: NodeIndex,
     count: usize,
-) -> Stepping
+) -> Result<(NodeIndex, usize), Stopped>
     requires { Filed edges.old chains.old count × (word < most_nodes + 2) × (v.0 < most_nodes) }
     ensures { Stepped word left v.0 (rows_in count edges.old) edges.old chains.old result edges.new
         chains.new }
 {
     if word == 0 {
-        return Stepping::Stopped(UNKNOWN_SUBMODULE);
+        return Err(stop_with(NoGraph::UnknownSubmodule));
     }
     if word == 1 {
-        return Stepping::Stopped(NO_NODE);
+        return Err(stop_with(NoGraph::NoNode));
     }
     let u = graph::node_of(word as usize - 2);
-    let Link::Count(m) = graph_edges::add_edge(edges, chains, count, u, v) else {
-        return Stepping::Stopped(TOO_MANY_EDGES);
-    };
+    let m = graph_edges::add_edge(edges, chains, count, u, v).ok_or(stop_with(
+        NoGraph::TooManyEdges,
+    ))?;
     if left == 0 {
-        return Stepping::Stopped(TOO_DEEP);
+        return Err(stop_with(NoGraph::TooDeep));
     }
-    Stepping::Down(u, m)
+    Ok((u, m))
 }

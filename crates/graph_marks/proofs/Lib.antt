@@ -1,3 +1,4 @@
 pub mod Looking
 pub mod OfKind
 pub mod Setting
+pub mod Nodes

@@ -1,6 +1,7 @@
 -- What the marks say of a name: whether it is known, and whether it is listed; a name that is no node is unknown. A listed one that is no node is found in
 -- the image.
 -- Assumes nothing.
+use Rattle.std.specs.Prelude.{Some, None, Err, Ok, Option, Result}
 use Prim.Native.Nat.{ℕ, suc, ◌+◌, ◌*◌, ◌<◌}
 use mathlib.Core.Path.{◌≡◌, refl, sym, ap, ◌∙◌}
 use mathlib.Core.Bool.{Bool, true, false, cond, ◌||◌}
@@ -11,11 +12,7 @@ use mir.Syntax.{w64}
 use mir.Val.{Fits}
 use Rattle.text.specs.Keyword.{same}
 use Rattle.library_form.specs.Form.{Ans, PlacedName}
-use Rattle.library_form.specs.declared.LookUp.{LookUp}
-use Rattle.library_form.specs.declared.LookUp.TheVariants.{Broken, Nothing as NotThere, At as There}
 use Rattle.library_index.specs.Names.{first_of, first_by, among, names_in}
-use Rattle.library_index.specs.declared.Found.{Found}
-use Rattle.library_index.specs.declared.Found.TheVariants.{At, Nothing}
 use Rattle.library_index.proofs.First.{hit_low}
 use Rattle.library_image.specs.Library.{Name, Library, plain_name, modules_of, submodules_of}
 use Rattle.library_image.specs.Image.{image_at}
@@ -53,13 +50,13 @@ module _ {s tab marks : List ℕ} {n : ℕ} (d : Desk s tab n marks) (t : Name) 
   abbrev listed : Bool
   listed = memb t (submodule_names (plain_at s))
 
-  known_mark : {k : ℕ} → first_of t (names_in s tab n) ≡ At k → get_or marks (k * 2) 0 ≡ bit (memb t (entry_names (plain_at s)))
+  known_mark : {k : ℕ} → first_of t (names_in s tab n) ≡ Some k → get_or marks (k * 2) 0 ≡ bit (memb t (entry_names (plain_at s)))
   known_mark {k} e =
       d.marked.known k (hit_low s tab t n e)
       ∙ ap (λ (u : Name). bit (among_kind is_entry u (items_at s))) (hit_text s tab t n e)
       ∙ ap (λ (b : Bool). bit b) (sym (known_items t (library_of s)))
 
-  listed_mark : {k : ℕ} → first_of t (names_in s tab n) ≡ At k → get_or marks (k * 2 + 1) 0 ≡ bit (memb t (submodule_names (plain_at s)))
+  listed_mark : {k : ℕ} → first_of t (names_in s tab n) ≡ Some k → get_or marks (k * 2 + 1) 0 ≡ bit (memb t (submodule_names (plain_at s)))
   listed_mark {k} e =
       d.marked.listed k (hit_low s tab t n e)
       ∙ ap (λ (u : Name). bit (among_kind is_submodule u (items_at s))) (hit_text s tab t n e)
@@ -69,8 +66,8 @@ module _ {s tab marks : List ℕ} {n : ℕ} (d : Desk s tab n marks) (t : Name) 
   names = names_held s tab n
 
   -- a name that is found: its number, and where its marks stand
-  module _ {r : Found} {k u at : ℕ} (q : r ≡ At k) (e : r ≡ first_of t (names_in s tab n)) (w : u ≡ k) (a : at ≡ u * 2) where
-    hit : first_of t (names_in s tab n) ≡ At k
+  module _ {r : Option ℕ} {k u at : ℕ} (q : r ≡ Some k) (e : r ≡ first_of t (names_in s tab n)) (w : u ≡ k) (a : at ≡ u * 2) where
+    hit : first_of t (names_in s tab n) ≡ Some k
     hit = sym e ∙ q
 
     at_is : at ≡ k * 2
@@ -127,7 +124,7 @@ module _ {s tab marks : List ℕ} {n : ℕ} (d : Desk s tab n marks) (t : Name) 
     pub next_in : at + 1 < length marks
     next_in = omega (arith, node_below, d.holding.few, d.marked.wide)
 
-  module _ {r : Found} {k : ℕ} (q : r ≡ At k) (e : r ≡ first_of t (names_in s tab n)) where
+  module _ {r : Option ℕ} {k : ℕ} (q : r ≡ Some k) (e : r ≡ first_of t (names_in s tab n)) where
     pub found_low : k < most_nodes
     found_low = omega (arith, hit_low s tab t n (sym e ∙ q), d.holding.few)
 
@@ -136,7 +133,7 @@ module _ {s tab marks : List ℕ} {n : ℕ} (d : Desk s tab n marks) (t : Name) 
 
   -- ---- a name that is not found
 
-  pub known_nowhere : {r : Found} → r ≡ Nothing → r ≡ first_of t (names_in s tab n) → 0 ≡ known_at s names t
+  pub known_nowhere : {r : Option ℕ} → r ≡ None → r ≡ first_of t (names_in s tab n) → 0 ≡ known_at s names t
   unfolding known_at
   known_nowhere q e = go known refl
     where
@@ -144,7 +141,7 @@ module _ {s tab marks : List ℕ} {n : ℕ} (d : Desk s tab n marks) (t : Name) 
       go true k = both_bools (d.entries t k) (node_missed s tab n t (sym e ∙ q))
       go false k = refl
 
-  pub included_nowhere : {r : Found} → r ≡ Nothing → r ≡ first_of t (names_in s tab n) → (x : Included) → included_code x ≡ listed_at s t
+  pub included_nowhere : {r : Option ℕ} → r ≡ None → r ≡ first_of t (names_in s tab n) → (x : Included) → included_code x ≡ listed_at s t
       → included_code x ≡ included_at s names t
   unfolding included_at listed_at
   included_nowhere q e x h =
@@ -152,31 +149,31 @@ module _ {s tab marks : List ℕ} {n : ℕ} (d : Desk s tab n marks) (t : Name) 
 
 -- ---- a submodule in the image
 
-found_among : (t : Name) (ws : List PlacedName) {p r : ℕ} → first_by word word_found t ws NotThere ≡ There p r → among plain_name t ws ≡ true
+found_among : (t : Name) (ws : List PlacedName) {h : ℕ × ℕ} → first_by word word_found t ws (Ok None) ≡ Ok (Some h) → among plain_name t ws ≡ true
 unfolding among
 found_among t [] e = let z : ◌≡◌ {A = ℕ} 0 1 = cc in absurd (omega arith)
-found_among t (w ∷ ws) {p} {r} e = go (same w.text t) (found_among t ws) e
+found_among t (w ∷ ws) {h} e = go (same w.text t) (found_among t ws) e
   where
-    go : (b : Bool) → (first_by word word_found t ws NotThere ≡ There p r → among plain_name t ws ≡ true)
-        → cond b (word_found w) (first_by word word_found t ws NotThere) ≡ There p r → (b || among plain_name t ws) ≡ true
+    go : (b : Bool) → (first_by word word_found t ws (Ok None) ≡ Ok (Some h) → among plain_name t ws ≡ true)
+        → cond b (word_found w) (first_by word word_found t ws (Ok None)) ≡ Ok (Some h) → (b || among plain_name t ws) ≡ true
     go true ih e = refl
     go false ih e = ih e
 
-missed_among : (t : Name) (ws : List PlacedName) → first_by word word_found t ws NotThere ≡ NotThere → among plain_name t ws ≡ false
+missed_among : (t : Name) (ws : List PlacedName) → first_by word word_found t ws (Ok None) ≡ (Ok None) → among plain_name t ws ≡ false
 unfolding among
 missed_among t [] e = refl
 missed_among t (w ∷ ws) e = go (same w.text t) (missed_among t ws) e
   where
-    go : (b : Bool) → (first_by word word_found t ws NotThere ≡ NotThere → among plain_name t ws ≡ false)
-        → cond b (word_found w) (first_by word word_found t ws NotThere) ≡ NotThere → (b || among plain_name t ws) ≡ false
+    go : (b : Bool) → (first_by word word_found t ws (Ok None) ≡ (Ok None) → among plain_name t ws ≡ false)
+        → cond b (word_found w) (first_by word word_found t ws (Ok None)) ≡ (Ok None) → (b || among plain_name t ws) ≡ false
     go true ih e = let z : ◌≡◌ {A = ℕ} 0 1 = cc in absurd (omega arith)
     go false ih e = ih e
 
-never_broken : (t : Name) (ws : List PlacedName) {p : ℕ} → first_by word word_found t ws NotThere ≡ Broken p → ⊥
+never_broken : (t : Name) (ws : List PlacedName) {p : ℕ} → first_by word word_found t ws (Ok None) ≡ Err p → ⊥
 never_broken t [] e = let z : ◌≡◌ {A = ℕ} 0 1 = cc in omega arith
 never_broken t (w ∷ ws) {p} e = go (same w.text t) (never_broken t ws) e
   where
-    go : (b : Bool) → (first_by word word_found t ws NotThere ≡ Broken p → ⊥) → cond b (word_found w) (first_by word word_found t ws NotThere) ≡ Broken p → ⊥
+    go : (b : Bool) → (first_by word word_found t ws (Ok None) ≡ Err p → ⊥) → cond b (word_found w) (first_by word word_found t ws (Ok None)) ≡ Err p → ⊥
     go true ih e = let z : ◌≡◌ {A = ℕ} 0 1 = cc in omega arith
     go false ih e = ih e
 
@@ -186,19 +183,19 @@ module _ (s t : Name) (h : Reads (image_at s)) where
   unfolding library_of
   library_read = ap (λ (r : Ans Library). on_ans r (λ l n. l) (λ p. [])) h.read
 
-  found_read : find_submodule s t ≡ first_by word word_found t (submodules_of (modules_of (library_of s))) NotThere
+  found_read : find_submodule s t ≡ first_by word word_found t (submodules_of (modules_of (library_of s))) (Ok None)
   unfolding find_submodule
   found_read = rw (h.read, library_read)
 
-  pub sub_found : {r : LookUp} {p n : ℕ} → r ≡ There p n → r ≡ find_submodule s t → 1 ≡ listed_at s t
+  pub sub_found : {r : Result (Option (ℕ × ℕ)) ℕ} {o : Option (ℕ × ℕ)} {p : ℕ × ℕ} → r ≡ Ok o → o ≡ Some p → r ≡ find_submodule s t → 1 ≡ listed_at s t
   unfolding listed_at
-  sub_found q e = rw (listed_words t (library_of s), found_among t (submodules_of (modules_of (library_of s))) (sym found_read ∙ sym e ∙ q))
+  sub_found q z e = rw (listed_words t (library_of s), found_among t (submodules_of (modules_of (library_of s))) (sym found_read ∙ sym e ∙ q ∙ ap Ok z))
 
-  pub sub_missed : {r : LookUp} → r ≡ NotThere → r ≡ find_submodule s t → 0 ≡ listed_at s t
+  pub sub_missed : {r : Result (Option (ℕ × ℕ)) ℕ} → r ≡ (Ok None) → r ≡ find_submodule s t → 0 ≡ listed_at s t
   unfolding listed_at
   sub_missed q e = rw (listed_words t (library_of s), missed_among t (submodules_of (modules_of (library_of s))) (sym found_read ∙ sym e ∙ q))
 
-  pub not_broken : {r : LookUp} {p : ℕ} → r ≡ Broken p → r ≡ find_submodule s t → 0 ≡ listed_at s t
+  pub not_broken : {r : Result (Option (ℕ × ℕ)) ℕ} {p : ℕ} → r ≡ Err p → r ≡ find_submodule s t → 0 ≡ listed_at s t
   not_broken q e = absurd (never_broken t (submodules_of (modules_of (library_of s))) (sym found_read ∙ sym e ∙ q))
 
 -- what it answers is no node

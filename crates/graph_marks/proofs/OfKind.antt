@@ -1,7 +1,6 @@
 -- Which names are those of an item of a kind: the known names are those of modules and import-only modules, the listed ones those of modules'
 -- submodules. Each list of the library stands in the items under its kind.
 -- Assumes nothing.
-use Prim.Native.Nat.{ℕ}
 use mathlib.Core.Path.{◌≡◌, refl, sym, ap, ap₂, ◌∙◌}
 use mathlib.Core.Bool.{Bool, true, false, cond, ◌||◌}
 use mathlib.Core.List.{List, [], ◌∷◌, ◌++◌, append_assoc, map, flat_map}
@@ -11,6 +10,7 @@ use Rattle.library_form.specs.Form.{PlacedName}
 use Rattle.library_image.specs.Library.{Name, Module, ImportOnly, Library, plain_name, plain, modules_of, import_only_of, submodules_of}
 use Rattle.library_items.specs.Items.{submodule_kind, augmenting_kind, deviation_kind, first_sub_kind, later_sub_kind, ItemOf, item, module_items, later_items}
 use Rattle.library_items.specs.Items.{revision_items, import_items, set_items, items_of}
+use Rattle.library_items.specs.declared.Kind.{Kind}
 use Rattle.library_index.specs.Names.{among}
 use Rattle.library_index.proofs.First.{among_append}
 use Rattle.graph.specs.Nodes.{memb}
@@ -22,7 +22,7 @@ use Rattle.graph_marks.specs.Marks.{is_submodule, among_kind}
 
 -- ---- one list behind another
 
-module _ (kind : ℕ → Bool) (u : Name) where
+module _ (kind : Kind → Bool) (u : Name) where
   pub kind_append : (xs ys : List (ItemOf PlacedName)) → among_kind kind u (xs ++ ys) ≡ (among_kind kind u xs || among_kind kind u ys)
   unfolding among_kind
   kind_append [] ys = refl
@@ -36,7 +36,7 @@ module _ (kind : ℕ → Bool) (u : Name) where
       go false c ih = ih
 
   -- names of another kind, and of the kind
-  others : (k : ℕ) → kind k ≡ false → (ws : List PlacedName) → among_kind kind u (map (item k) ws) ≡ false
+  others : (k : Kind) → kind k ≡ false → (ws : List PlacedName) → among_kind kind u (map (item k) ws) ≡ false
   unfolding among_kind
   others k e [] = refl
   others k e (w ∷ ws) = go (kind k) (same w.text u) e (others k e ws)
@@ -46,7 +46,7 @@ module _ (kind : ℕ → Bool) (u : Name) where
       go true c p ih = both_bools refl p
       go false c p ih = ih
 
-  these : (k : ℕ) → kind k ≡ true → (ws : List PlacedName) → among_kind kind u (map (item k) ws) ≡ among plain_name u ws
+  these : (k : Kind) → kind k ≡ true → (ws : List PlacedName) → among_kind kind u (map (item k) ws) ≡ among plain_name u ws
   unfolding among_kind among
   these k e [] = refl
   these k e (w ∷ ws) = go (kind k) (same w.text u) e (these k e ws)

@@ -1,6 +1,7 @@
 -- One law for each way out of `mark_item` and `mark_nodes`: an item marks the node that has its name and no other, since the names of nodes differ, and
 -- only the mark of its kind.
 -- Assumes nothing.
+use Rattle.std.specs.Prelude.{Some, None, Option}
 use Prim.Native.Nat.{ℕ, zero, suc, ◌+◌, ◌*◌, ◌-◌, ◌^◌, ◌≤◌, ◌<◌}
 use mathlib.Core.Path.{◌≡◌, refl, sym, ap, ◌∙◌, subst}
 use mathlib.Core.Logic.{◌⊎◌, inl, inr, ⊎_elim}
@@ -12,10 +13,8 @@ use native.Mathlib.Nat.{eq-or-lt_of_le, lt_of_not-le}
 use native.Mathlib.Decide.{dec_le}
 use mir.Syntax.{w64}
 use mir.Val.{Fits}
-use lib.Dec.{eqb}
 use lib.ListN.{length, get_or, take, drop, set, replicate, length-set}
 use lib.Seq.{get_or-set_same, get_or-set_other}
-use borrow.Author.Tests.{eqb-true, ne_eqb}
 use Rattle.text.specs.Keyword.{same}
 use Rattle.text.proofs.Here.{or_none}
 use Rattle.text.proofs.KeywordLaws.{same_eq}
@@ -23,13 +22,13 @@ use Rattle.library_form.specs.Form.{PlacedName, word_at}
 use Rattle.library_form.proofs.Bounds.{part_word}
 use Rattle.library_image.specs.Library.{Name, plain_name}
 use Rattle.library_index.specs.Names.{first_of, among, name_in_row, names_in, Indexed}
-use Rattle.library_index.specs.declared.Found.{Found}
-use Rattle.library_index.specs.declared.Found.TheVariants.{At, Nothing}
 use Rattle.library_index.proofs.First.{not_among, hit_low, among_append}
 use Rattle.text_lent.proofs.Numbers.{decide}
 use Rattle.library_items.specs.Items.{ItemOf, items_at}
 use Rattle.library_items.specs.Table.{item_in, item_word, items_in, Itemized}
 use Rattle.library_items.specs.declared.Item.{Item}
+use Rattle.library_items.specs.declared.Kind.{Kind}
+use Rattle.library_items.specs.declared.Kind.TheVariants.{Module, Submodule, Augmenting, Deviation, ImportOnly, FirstSub, LaterSub}
 use Rattle.graph.specs.Limits.{most_nodes}
 use Rattle.graph.proofs.Tests.{same_refl, both_bools, or_left, or_right}
 use Rattle.text_lent.proofs.Zeros.{zeros_zero}
@@ -60,7 +59,7 @@ apart s tab n i j x l k e =
 
 -- ---- an item more
 
-module _ (kind : ℕ → Bool) (u : Name) where
+module _ (kind : Kind → Bool) (u : Name) where
   -- the item has the kind and the name
   hits : ItemOf PlacedName → Bool
   hits x = cond (kind x.kind) (same x.name.text u) false
@@ -104,12 +103,14 @@ order j k d = elim (dec_le j k) [ yes l ↦ ⊎_elim (λ e. absurd (d e)) (λ o.
 
 -- ---- the ways out of `mark_item`
 
-no_entry_sub : (k : ℕ) → is_entry k ≡ true → is_submodule k ≡ false
-no_entry_sub k e = go (eqb k 1) refl
-  where
-    go : (b : Bool) → eqb k 1 ≡ b → eqb k 1 ≡ false
-    go true q = let z : k ≡ 1 = eqb-true k 1 q in both_bools (sym (ap (λ (j : ℕ). is_entry j) z) ∙ e) refl
-    go false q = q
+no_entry_sub : (k : Kind) → is_entry k ≡ true → is_submodule k ≡ false
+no_entry_sub Submodule e = both_bools e refl
+no_entry_sub Module e = refl
+no_entry_sub Augmenting e = refl
+no_entry_sub Deviation e = refl
+no_entry_sub ImportOnly e = refl
+no_entry_sub FirstSub e = refl
+no_entry_sub LaterSub e = refl
 
 module _ (s table tab marks : List ℕ) (i n : ℕ) (m : Marking s table i tab n marks) {x : Item} (e : x ≡ item_in table i) where
   abbrev it : ItemOf PlacedName
@@ -146,7 +147,7 @@ module _ (s table tab marks : List ℕ) (i n : ℕ) (m : Marking s table i tab n
   end_fits l = record { fits = omega (arith, end_in) }
 
   -- no name of the table is the item's
-  elsewhere : {r : Found} → r ≡ Nothing → r ≡ first_of (take (x.place + x.size - x.place) (drop x.place s)) (names_in s tab n)
+  elsewhere : {r : Option ℕ} → r ≡ None → r ≡ first_of (take (x.place + x.size - x.place) (drop x.place s)) (names_in s tab n)
       → (j : ℕ) → j < n → same it.name.text (name_in_row s tab j).text ≡ false
   elsewhere q f j l = go (same it.name.text (name_in_row s tab j).text) refl
     where
@@ -157,7 +158,7 @@ module _ (s table tab marks : List ℕ) (i n : ℕ) (m : Marking s table i tab n
           (not_among 0 it.name.text (names_in s tab n) (ap (λ (t : Name). first_of t (names_in s tab n)) (sym sought) ∙ sym f ∙ q))
       go false h = h
 
-  pub mark_nowhere : {r : Found} → r ≡ Nothing → r ≡ first_of (take (x.place + x.size - x.place) (drop x.place s)) (names_in s tab n) → After marks
+  pub mark_nowhere : {r : Option ℕ} → r ≡ None → r ≡ first_of (take (x.place + x.size - x.place) (drop x.place s)) (names_in s tab n) → After marks
   mark_nowhere q f =
       all_marked marks refl
       (λ j l. stays is_entry (name_in_row s tab j).text (items_in s table i) it (m.marked.known j l)
@@ -165,8 +166,8 @@ module _ (s table tab marks : List ℕ) (i n : ℕ) (m : Marking s table i tab n
       (λ j l. stays is_submodule (name_in_row s tab j).text (items_in s table i) it (m.marked.listed j l)
       (other_name is_submodule (name_in_row s tab j).text it (elsewhere q f j l)))
 
-  module _ {r : Found} {k : ℕ} (q : r ≡ At k) (f : r ≡ first_of (take (x.place + x.size - x.place) (drop x.place s)) (names_in s tab n)) where
-    hit : first_of it.name.text (names_in s tab n) ≡ At k
+  module _ {r : Option ℕ} {k : ℕ} (q : r ≡ Some k) (f : r ≡ first_of (take (x.place + x.size - x.place) (drop x.place s)) (names_in s tab n)) where
+    hit : first_of it.name.text (names_in s tab n) ≡ Some k
     hit = ap (λ (t : Name). first_of t (names_in s tab n)) (sym sought) ∙ sym f ∙ q
 
     pub mark_low : k < n
@@ -208,17 +209,18 @@ module _ (s table tab marks : List ℕ) (i n : ℕ) (m : Marking s table i tab n
       next_in = omega (arith, row_low, m.marked.wide)
 
     -- neither an entry nor a submodule
-    pub mark_other : {b : Bool} → b ≡ is_entry x.kind → b ≡ false → (x.kind ≡ 1 → ⊥) → After marks
-    mark_other p o z =
-        let y : is_entry it.kind ≡ false = ap (λ (a : ℕ). is_entry a) (sym kind_of) ∙ sym p ∙ o in
-        let w : is_submodule it.kind ≡ false = ap (λ (a : ℕ). is_submodule a) (sym kind_of) ∙ ne_eqb x.kind 1 z in
+    pub mark_other : {b c : Bool} → b ≡ is_entry x.kind → b ≡ false → c ≡ is_submodule x.kind → c ≡ false → After marks
+    mark_other p o q z =
+        let y : is_entry it.kind ≡ false = ap (λ (a : Kind). is_entry a) (sym kind_of) ∙ sym p ∙ o in
+        let w : is_submodule it.kind ≡ false = ap (λ (a : Kind). is_submodule a) (sym kind_of) ∙ sym q ∙ z in
         all_marked marks refl
         (λ j l. stays is_entry (name_in_row s tab j).text (items_in s table i) it (m.marked.known j l) (other_kind is_entry (name_in_row s tab j).text it y))
-        (λ j l. stays is_submodule (name_in_row s tab j).text (items_in s table i) it (m.marked.listed j l) (other_kind is_submodule (name_in_row s tab j).text it w))
+        (λ j l. stays is_submodule (name_in_row s tab j).text (items_in s table i) it (m.marked.listed j l) (other_kind is_submodule
+        (name_in_row s tab j).text it w))
 
     set_entry : {b : Bool} → b ≡ is_entry x.kind → b ≡ true → After (set marks (k * 2) 1)
     set_entry p o =
-        let y : is_entry it.kind ≡ true = ap (λ (a : ℕ). is_entry a) (sym kind_of) ∙ sym p ∙ o in
+        let y : is_entry it.kind ≡ true = ap (λ (a : Kind). is_entry a) (sym kind_of) ∙ sym p ∙ o in
         let w : is_submodule it.kind ≡ false = no_entry_sub it.kind y in
         all_marked (set marks (k * 2) 1) (length-set marks (k * 2) 1)
         (λ j l. ⊎_elim
@@ -233,10 +235,10 @@ module _ (s table tab marks : List ℕ) (i n : ℕ) (m : Marking s table i tab n
         (get_or-set_other marks (k * 2) (j * 2 + 1) 1 0 (λ z. omega (arith, z)) ∙ m.marked.listed j l)
         (other_kind is_submodule (name_in_row s tab j).text it w))
 
-    set_sub : {b : Bool} → b ≡ is_entry x.kind → b ≡ false → x.kind ≡ 1 → After (set marks (k * 2 + 1) 1)
-    set_sub p o z =
-        let y : is_entry it.kind ≡ false = ap (λ (a : ℕ). is_entry a) (sym kind_of) ∙ sym p ∙ o in
-        let w : is_submodule it.kind ≡ true = ap (λ (a : ℕ). is_submodule a) (sym kind_of ∙ z) in
+    set_sub : {b c : Bool} → b ≡ is_entry x.kind → b ≡ false → c ≡ is_submodule x.kind → c ≡ true → After (set marks (k * 2 + 1) 1)
+    set_sub p o q z =
+        let y : is_entry it.kind ≡ false = ap (λ (a : Kind). is_entry a) (sym kind_of) ∙ sym p ∙ o in
+        let w : is_submodule it.kind ≡ true = ap (λ (a : Kind). is_submodule a) (sym kind_of) ∙ sym q ∙ z in
         all_marked (set marks (k * 2 + 1) 1) (length-set marks (k * 2 + 1) 1)
         (λ j l. stays is_entry (name_in_row s tab j).text (items_in s table i) it
         (get_or-set_other marks (k * 2 + 1) (j * 2) 1 0 (λ z. omega (arith, z)) ∙ m.marked.known j l)
@@ -258,8 +260,8 @@ module _ (s table tab marks : List ℕ) (i n : ℕ) (m : Marking s table i tab n
       pub mark_entry : {b : Bool} → b ≡ is_entry x.kind → b ≡ true → After (set marks at 1)
       mark_entry p o = subst (λ (i : ℕ). After (set marks i 1)) at_is (set_entry p o)
 
-      pub mark_sub : {b : Bool} → b ≡ is_entry x.kind → b ≡ false → x.kind ≡ 1 → After (set marks (at + 1) 1)
-      mark_sub p o z = subst (λ (i : ℕ). After (set marks (i + 1) 1)) at_is (set_sub p o z)
+      pub mark_sub : {b c : Bool} → b ≡ is_entry x.kind → b ≡ false → c ≡ is_submodule x.kind → c ≡ true → After (set marks (at + 1) 1)
+      mark_sub p o q z = subst (λ (i : ℕ). After (set marks (i + 1) 1)) at_is (set_sub p o q z)
 
 -- ---- all items
 

@@ -1,32 +1,34 @@
 -- What a node may be: one that is imported or listed (a module or import-only name), one that is included (a submodule of some module). Two words a
 -- node, 1 or 0 for each.
 -- Assumes nothing.
-use Rattle.std.specs.Prelude.{ℕ, suc, ◌+◌, ◌*◌, ◌≤◌, ◌<◌, ◌≡◌, Bool, true, false, cond, List, [], ◌∷◌, length, get_or, eqb}
+use Rattle.std.specs.Prelude.{ℕ, suc, ◌+◌, ◌*◌, ◌≤◌, ◌<◌, ◌≡◌, Bool, true, false, cond, List, [], ◌∷◌, length, get_or, None, Some, Option}
 use Rattle.text.specs.Keyword.{same}
-use Rattle.library_form.specs.Form.{PlacedName}
+use Rattle.library_form.specs.Form.{Ans, good, bad, PlacedName}
 use Rattle.library_image.specs.Image.{image_at}
 use Rattle.library_image.specs.Library.{Name}
-use Rattle.library_items.specs.Items.{submodule_kind, ItemOf, items_at}
+use Rattle.library_items.specs.Items.{ItemOf, items_at}
 use Rattle.library_items.specs.Table.{item_in, items_in, ItemFits, Reads}
+use Rattle.library_items.specs.declared.Kind.{Kind}
+use Rattle.library_items.specs.declared.Kind.TheVariants.{Submodule}
 use Rattle.library_index.specs.Names.{name_in_row, names_in, Indexed}
 use Rattle.graph.specs.Graph.{entry_names, submodule_names, missing, World, world_over}
 use Rattle.graph.specs.Nodes.{memb}
 use Rattle.graph.specs.Numbers.{module_code, submodule_code}
 use Rattle.graph.specs.Limits.{most_nodes}
-use Rattle.graph_nodes.specs.Adding.{is_entry, plain_at, names_held, Holding}
-use Rattle.graph_marks.specs.declared.Resolved.{Resolved}
-use Rattle.graph_marks.specs.declared.Resolved.TheVariants.{Unknown, Node}
+use Rattle.graph_nodes.specs.Adding.{node_table, is_entry, plain_at, names_held, Holding}
 use Rattle.graph_marks.specs.declared.Included.{Included}
 use Rattle.graph_marks.specs.declared.Included.TheVariants.{NotFound, NotNode, Node as Below}
+use Rattle.graph.specs.declared.NodeIndex.{NodeIndex}
 
 abbrev pub mark_table : ℕ
 mark_table = most_nodes * 2
 
-abbrev pub is_submodule : ℕ → Bool
-is_submodule k = eqb k submodule_kind
+abbrev pub is_submodule : Kind → Bool
+is_submodule Submodule = true
+is_submodule _ = false
 
 -- a name is that of an item of such a kind
-unfoldable pub among_kind : (ℕ → Bool) → Name → List (ItemOf PlacedName) → Bool
+unfoldable pub among_kind : (Kind → Bool) → Name → List (ItemOf PlacedName) → Bool
 among_kind kind u [] = false
 among_kind kind u (x ∷ xs) = cond (kind x.kind) (cond (same x.name.text u) true (among_kind kind u xs)) (among_kind kind u xs)
 
@@ -55,6 +57,20 @@ pub record Desk (s tab : List ℕ) (n : ℕ) (marks : List ℕ) : Type 0 where
   pub entries : (u : Name) → memb u (entry_names (plain_at s)) ≡ true → memb u (names_held s tab n) ≡ true
   pub marked : Marked s tab n (items_at s) marks
 
+-- an answer that is no refusal
+abbrev pub is_good : {A : Type 0} → Ans A → Bool
+is_good (good a n) = true
+is_good (bad p) = false
+
+-- the same as tests and numbers: what holds of the nodes that are handed to a look-up
+pub record LooksUp (s tab : List ℕ) (n : ℕ) (marks : List ℕ) : Type 0 where
+  pub read : is_good (image_at s) ≡ true
+  pub indexed : Indexed s tab n
+  pub few : n ≤ most_nodes
+  pub space : node_table ≤ length tab
+  pub entries : (u : Name) → memb u (entry_names (plain_at s)) ≡ true → memb u (names_held s tab n) ≡ true
+  pub marked : Marked s tab n (items_at s) marks
+
 -- ---- the look-ups
 
 -- what a walk asks of an image and of its nodes' names: the same whatever the texts are
@@ -71,18 +87,18 @@ listed_at s u = bit (memb u (submodule_names (plain_at s)))
 unfoldable pub included_at : List ℕ → List Name → Name → ℕ
 included_at s ns u = submodule_code (world_at s ns) ns u
 
-abbrev pub resolved_code : Resolved → ℕ
-resolved_code Unknown = 0
-resolved_code (Node v) = suc v.0
+abbrev pub resolved_code : Option NodeIndex → ℕ
+resolved_code None = 0
+resolved_code (Some v) = suc v.0
 
 abbrev pub included_code : Included → ℕ
 included_code NotFound = 0
 included_code NotNode = 1
 included_code (Below v) = suc (suc v.0)
 
-abbrev pub ResolvedNode : Resolved → ℕ → Type 0
-ResolvedNode Unknown n = Unit {0}
-ResolvedNode (Node v) n = v.0 < n
+abbrev pub ResolvedNode : Option NodeIndex → ℕ → Type 0
+ResolvedNode None n = Unit {0}
+ResolvedNode (Some v) n = v.0 < n
 
 abbrev pub IncludedNode : Included → ℕ → Type 0
 IncludedNode NotFound n = Unit {0}

@@ -1,6 +1,6 @@
 -- The words of the memory as marks: what is put down is the mark of one node and no other, and what lies above stays.
 -- Assumes nothing.
-use Prim.Native.Nat.{ℕ, ◌+◌, ◌-◌, ◌*◌, ◌≤◌, ◌<◌}
+use Prim.Native.Nat.{ℕ, ◌+◌, ◌-◌, ◌*◌, ◌≤◌, ◌<◌, max}
 use mathlib.Core.Path.{◌≡◌, refl, sym, ap, ap₂, ◌∙◌, fun_ext}
 use mathlib.Core.Bool.{Bool, true, false, cond, true≢false}
 use mathlib.Core.List.{List}
@@ -93,7 +93,8 @@ module _ (levels : List ℕ) (left v at : ℕ) (z : at ≡ v * 2) (l : v < most_
 -- what is known: how many includes lie below it, and that there is so much depth left
 pub known_height : (levels : List ℕ) (left v : ℕ) → v < most_nodes → Known ≡ recalled left (remembered levels v)
     → (remembered levels v ≡ below (height_in levels v)) × (height_in levels v ≤ left)
-known_height levels left v l k = go (eqb (get_or levels (v * 2) 0) 0) (eqb (get_or levels (v * 2) 0) 1) (leb (height_in levels v) left) refl (node_mark levels v l)
+known_height levels left v l k = go (eqb (get_or levels (v * 2) 0) 0) (eqb (get_or levels (v * 2) 0) 1) (leb (height_in levels v) left) refl
+    (node_mark levels v l)
     (k ∙ ap (recalled left) (node_mark levels v l))
   where
     go : (a b c : Bool) → leb (height_in levels v) left ≡ c → remembered levels v ≡ cond a unread (cond b reading (below (height_in levels v)))
@@ -113,11 +114,8 @@ module _ (levels : List ℕ) (u at : ℕ) (z : at ≡ u * 2) (h : ℕ) (y : h �
   pub raise_fits : height_in levels u ≤ deepest → Fits w64 (h + 1)
   raise_fits k = record { fits = omega (arith, its_own) }
 
-  pub by_this : (most : ℕ) → most < h + 1 → h + 1 ≡ raised most (height_in levels u)
-  by_this most k = omega (arith, its_own)
-
-  pub by_another : (most : ℕ) → h + 1 ≤ most → most ≡ raised most (height_in levels u)
-  by_another most k = omega (arith, its_own)
+  pub by_either : (most : ℕ) {r : ℕ} → r ≡ max most (h + 1) → r ≡ raised most (height_in levels u)
+  by_either most k = omega (arith, its_own)
 
 -- ---- the way out of `remember`
 

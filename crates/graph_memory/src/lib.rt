@@ -13,7 +13,7 @@ use graph::NodeIndex;
 // How many words the memory has.
 pub const MEMORY: usize = 2048;
 
-// A text that is being walked, and one that was.
+// A text that is being walked, and one that was: words of the lent levels, since there is no heap, and so numbers and no enum.
 pub const READING: u32 = 1;
 
 pub const WALKED: u32 = 2;
@@ -35,16 +35,12 @@ pub fn recall(levels: &[u32], left: usize, v: NodeIndex) -> Recalled
     let at = graph::pair_row(v);
     let state = levels[at];
     if state == 0 {
-        return Recalled::Unread;
+        Recalled::Unread
+    } else if state == READING || left < text_lent::of_word(levels[at + 1]) {
+        Recalled::TooDeep
+    } else {
+        Recalled::Known
     }
-    if state == READING {
-        return Recalled::TooDeep;
-    }
-    let below = text_lent::of_word(levels[at + 1]);
-    if left < below {
-        return Recalled::TooDeep;
-    }
-    Recalled::Known
 }
 
 // Puts down what is known of the text of a node.
@@ -63,9 +59,5 @@ pub fn raise(levels: &[u32], u: NodeIndex, most: usize) -> usize
     ensures { result ≡ raised most (height_in levels.now u.0) }
 {
     let at = graph::pair_row(u);
-    let by = text_lent::of_word(levels[at + 1]) + 1;
-    if most < by {
-        return by;
-    }
-    most
+    most.max(text_lent::of_word(levels[at + 1]) + 1)
 }

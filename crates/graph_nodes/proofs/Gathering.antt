@@ -2,7 +2,7 @@
 -- them. In the mode `pass_over` only the first revision of an import-only module can add anything, in the mode `complete` each one adds its submodules. The list
 -- only grows.
 -- Assumes nothing.
-use Prim.Native.Nat.{ℕ, ◌≤◌}
+use Prim.Native.Nat.{◌≤◌}
 use mathlib.Core.Path.{◌≡◌, refl, sym, ap, ◌∙◌}
 use mathlib.Core.Bool.{Bool, true, false, cond, ◌&&◌}
 use mathlib.Core.List.Memᴰ
@@ -14,6 +14,7 @@ use Rattle.library_form.specs.Form.{PlacedName}
 use Rattle.library_image.specs.Library.{Name, Module, ImportOnly, ModuleSet, Library, plain_name, plain_import_only, plain_set, plain}
 use Rattle.library_items.specs.Items.{submodule_kind, augmenting_kind, deviation_kind, first_sub_kind, later_sub_kind, ItemOf, item, module_items, later_items}
 use Rattle.library_items.specs.Items.{import_items, set_items, items_of}
+use Rattle.library_items.specs.declared.Kind.{Kind}
 use Rattle.library_index.specs.Names.{among, add_new, add_all}
 use Rattle.library_index.proofs.First.{among_append}
 use Rattle.graph.specs.Nodes.{Mode, pass_over, complete, mode_of, Group, module_group, revision_groups, set_groups, add_group, add_groups, nodes_by, word_nodes}
@@ -71,7 +72,7 @@ name_added a w = go (among plain_name w.text a.nodes)
 
 module _ (c : Bool) where
   -- of a kind that is never added
-  none_added : (k : ℕ) → is_entry k ≡ false → is_sub c k ≡ false → (ws : List PlacedName) (a : Adding) → add_items c a (map (item k) ws) ≡ a
+  none_added : (k : Kind) → is_entry k ≡ false → is_sub c k ≡ false → (ws : List PlacedName) (a : Adding) → add_items c a (map (item k) ws) ≡ a
   unfolding add_items add_item
   none_added k e q [] a = refl
   none_added k e q (w ∷ ws) a = ap (λ (x : Adding). add_items c x (map (item k) ws)) (go (is_entry k) (is_sub c k) a.adding e q) ∙ none_added k e q ws a
@@ -83,7 +84,7 @@ module _ (c : Bool) where
       go false false false p q = refl
 
   -- submodules of an entry that was passed over
-  subs_passed : (k : ℕ) → is_entry k ≡ false → (ws : List PlacedName) (ns : List PlacedName) → add_items c (so ns false) (map (item k) ws) ≡ so ns false
+  subs_passed : (k : Kind) → is_entry k ≡ false → (ws : List PlacedName) (ns : List PlacedName) → add_items c (so ns false) (map (item k) ws) ≡ so ns false
   unfolding add_items add_item
   subs_passed k e [] ns = refl
   subs_passed k e (w ∷ ws) ns = ap (λ (x : Adding). add_items c x (map (item k) ws)) (go (is_entry k) e) ∙ subs_passed k e ws ns
@@ -93,7 +94,7 @@ module _ (c : Bool) where
       go false p = refl
 
   -- submodules of an entry that was added, or is gone through all the same
-  subs_added : (k : ℕ) → is_entry k ≡ false → is_sub c k ≡ true → (ws : List PlacedName) (ns : List PlacedName)
+  subs_added : (k : Kind) → is_entry k ≡ false → is_sub c k ≡ true → (ws : List PlacedName) (ns : List PlacedName)
       → add_items c (so ns true) (map (item k) ws) ≡ so (add_all plain_name ns ws) true
   unfolding add_items add_item add_all
   subs_added k e q [] ns = refl
@@ -113,14 +114,14 @@ abbrev group : PlacedName → List PlacedName → Group PlacedName
 group w ws = record { head = w; subs = ws }
 
 -- a name and submodules of a kind that is added are a group: all that they leave in the mode `complete`
-whole_added : (k : ℕ) → is_entry k ≡ false → is_sub true k ≡ true → (w : PlacedName) (ws : List PlacedName) (a : Adding)
+whole_added : (k : Kind) → is_entry k ≡ false → is_sub true k ≡ true → (w : PlacedName) (ws : List PlacedName) (a : Adding)
     → add_items true (add_name a true w) (map (item k) ws) ≡ so (add_group plain_name complete a.nodes (group w ws)) true
 unfolding add_all
 whole_added k e q w ws a =
     ap (λ (x : Adding). add_items true x (map (item k) ws)) (name_added a w) ∙ subs_added true k e q ws (add_new plain_name a.nodes w)
 
 -- and the nodes in each mode
-group_added : (c : Bool) (k : ℕ) → is_entry k ≡ false → is_sub c k ≡ true → (w : PlacedName) (ws : List PlacedName) (a : Adding)
+group_added : (c : Bool) (k : Kind) → is_entry k ≡ false → is_sub c k ≡ true → (w : PlacedName) (ws : List PlacedName) (a : Adding)
     → (add_items c (add_name a c w) (map (item k) ws)).nodes ≡ add_group plain_name (mode_of c) a.nodes (group w ws)
 unfolding add_name
 group_added true k e q w ws a = ap nodes_in (whole_added k e q w ws a)

@@ -1,20 +1,17 @@
 -- One law for each way out of `is_entry`, `is_sub`, `add_name`, `add_item` and `construct_nodes`: the index answers whether a name is a node, the loop
 -- holds what the items so far add, and one node too many on the way is one too many in the end.
 -- Assumes nothing.
+use Rattle.std.specs.Prelude.{Some, None, Option}
 use Prim.Native.Nat.{ℕ, ◌+◌, ◌-◌, ◌≤◌, ◌<◌}
 use mathlib.Core.Path.{◌≡◌, refl, sym, ap, ◌∙◌, subst}
 use mathlib.Core.Bool.{Bool, true, false, cond, ◌&&◌}
 use mathlib.Core.List.{List, [], ◌∷◌, ◌++◌}
 use native.Mathlib.Omega.{arith}
 use native.Mathlib.Numerals.{add-one}
-use lib.Dec.{eqb}
 use lib.ListN.{length, length-append}
-use borrow.Author.Tests.{ne_eqb}
 use Rattle.library_form.specs.Form.{PlacedName, word_at}
 use Rattle.library_image.specs.Library.{plain_name}
 use Rattle.library_index.specs.Names.{among, names_in, Cleared, Added}
-use Rattle.library_index.specs.declared.Found.{Found}
-use Rattle.library_index.specs.declared.Found.TheVariants.{At, Nothing}
 use Rattle.library_index.proofs.First.{not_among, is_among}
 use Rattle.library_index.proofs.Chain.{length_names}
 use Rattle.library_index.proofs.Insert.{none_yet}
@@ -25,32 +22,8 @@ use Rattle.library_items.proofs.Through.{items_from_lem}
 use Rattle.graph.specs.Limits.{most_nodes}
 use Rattle.graph.specs.Nodes.{mode_of}
 use Rattle.graph_nodes.specs.Adding.{is_entry, is_sub, Adding, so, add_name, add_item, add_items, words_at, Holding, Adds, AddsItem, GrownAs, Grew, Constructed}
-use Rattle.graph_nodes.specs.declared.Grown.{Grown}
-use Rattle.graph_nodes.specs.declared.Grown.TheVariants.{On, Full}
-use Rattle.graph_nodes.specs.declared.Nodes.TheVariants.{Count, TooMany}
 use Rattle.graph_nodes.proofs.Gathering.{items_append, items_grow, added}
 use Rattle.graph_nodes.proofs.Looking.{Bytes, revised_at}
-
--- ---- what an item is
-
-pub entry_module : (k : ℕ) → k ≡ 0 → true ≡ is_entry k
-entry_module k e = ap (λ (j : ℕ). is_entry j) (sym e)
-
-pub entry_import : (k : ℕ) → (k ≡ 0 → ⊥) → eqb k 4 ≡ is_entry k
-entry_import k f = rw (ne_eqb k 0 f)
-
-pub sub_listed : (complete : Bool) (k : ℕ) → k ≡ 1 → true ≡ is_sub complete k
-sub_listed complete k e = ap (λ (j : ℕ). is_sub complete j) (sym e)
-
-pub sub_later : (complete : Bool) (k : ℕ) → k ≡ 6 → complete ≡ is_sub complete k
-sub_later complete k e = go complete ∙ ap (λ (j : ℕ). is_sub complete j) (sym e)
-  where
-    go : (c : Bool) → c ≡ is_sub c 6
-    go true = refl
-    go false = refl
-
-pub sub_first : (complete : Bool) (k : ℕ) → (k ≡ 1 → ⊥) → (k ≡ 6 → ⊥) → eqb k 5 ≡ is_sub complete k
-sub_first complete k f g = rw (ne_eqb k 1 f, ne_eqb k 6 g)
 
 -- ---- a name
 
@@ -68,28 +41,29 @@ module _ (s tab after : List ℕ) (n place size : ℕ) (there : Bool) where
   unfolding add_name
   is_there e = ap (λ (b : Bool). cond b (so nodes there) (so (nodes ++ (name ∷ [])) true)) e
 
-  pub name_there : {r : Found} {i : ℕ} → r ≡ At i → Added s tab n place size r after → Adds s tab n place size → Grew s tab grown (On n there) after
+  pub name_there : {r : Option ℕ} {i : ℕ} → r ≡ Some i → Added s tab n place size r after → Adds s tab n place size → Grew s tab grown (Some (n, there)) after
   name_there {r} {i} q a h =
       let e : grown ≡ so nodes there = is_there (is_among 0 name.text nodes (sym a.answer ∙ q)) in
       record {
-        answer = subst (λ (x : Adding). GrownAs (On n there) s after x) (sym e)
+        answer = subst (λ (x : Adding). GrownAs (Some (n, there)) s after x) (sym e)
             (subst (λ (t : List ℕ). Holding s t n nodes) (sym (a.there i q)) h.holding, refl);
         kept = a.kept;
       }
 
-  is_new : {r : Found} → r ≡ Nothing → Added s tab n place size r after → grown ≡ so (nodes ++ (name ∷ [])) true
+  is_new : {r : Option ℕ} → r ≡ None → Added s tab n place size r after → grown ≡ so (nodes ++ (name ∷ [])) true
   is_new q a = is_there (not_among 0 name.text nodes (sym a.answer ∙ q))
 
-  pub name_full : {r : Found} → r ≡ Nothing → Added s tab n place size r after → 1024 ≤ n → Grew s tab grown Full after
+  pub name_full : {r : Option ℕ} → r ≡ None → Added s tab n place size r after → 1024 ≤ n → Grew s tab grown None after
   name_full q a l =
       let o : most_nodes < length (nodes ++ (name ∷ [])) = omega (arith, length-append nodes (name ∷ []), length_names s tab n) in
-      record { answer = subst (λ (x : Adding). GrownAs Full s after x) (sym (is_new q a)) o; kept = a.kept }
+      record { answer = subst (λ (x : Adding). GrownAs None s after x) (sym (is_new q a)) o; kept = a.kept }
 
-  pub name_new : {r : Found} → r ≡ Nothing → Added s tab n place size r after → Adds s tab n place size → n < 1024 → Grew s tab grown (On (n + 1) true) after
+  pub name_new : {r : Option ℕ} → r ≡ None → Added s tab n place size r after → Adds s tab n place size → n < 1024
+      → Grew s tab grown (Some ((n + 1), true)) after
   name_new q a h l =
       let k : Holding s after (n + 1) (nodes ++ (name ∷ [])) =
       record { indexed = a.indexed q; names = a.names q; few = omega arith; space = omega (arith, a.kept, h.holding.space) } in
-      record { answer = subst (λ (x : Adding). GrownAs (On (n + 1) true) s after x) (sym (is_new q a)) (k, refl); kept = a.kept }
+      record { answer = subst (λ (x : Adding). GrownAs (Some ((n + 1), true)) s after x) (sym (is_new q a)) (k, refl); kept = a.kept }
 
 -- ---- an item
 
@@ -110,25 +84,26 @@ module _ (complete : Bool) (s table tab : List ℕ) (i n : ℕ) (adding : Bool) 
   unfolding add_item add_name
   chosen p q k = rw (← q, p, ← k, e)
 
-  pub item_entry : {b : Bool} {r : Grown} {after : List ℕ} → b ≡ is_entry x.kind → b ≡ true
+  pub item_entry : {b : Bool} {r : Option (ℕ × Bool)} {after : List ℕ} → b ≡ is_entry x.kind → b ≡ true
       → Grew s tab (add_name (so before false) complete (word_at s x.place x.size)) r after → Grew s tab more r after
   item_entry {b} {r} {after} p q g = subst (λ (y : Adding). Grew s tab y r after) (chosen p q refl) g
 
-  pub item_sub : {b c : Bool} {r : Grown} {after : List ℕ} → b ≡ is_entry x.kind → b ≡ false → adding ≡ true → c ≡ is_sub complete x.kind → c ≡ true
+  pub item_sub : {b c : Bool} {r : Option (ℕ × Bool)} {after : List ℕ} → b ≡ is_entry x.kind → b ≡ false → adding ≡ true → c ≡ is_sub complete x.kind → c ≡ true
       → Grew s tab (add_name (so before false) true (word_at s x.place x.size)) r after → Grew s tab more r after
   item_sub {b} {c} {r} {after} p q a k l g =
       let o : (adding && is_sub complete x.kind) ≡ true = rw (a, ← k, l) in
       subst (λ (y : Adding). Grew s tab y r after) (chosen p q o) g
 
-  same_nodes : (b : Bool) → adding ≡ b → AddsItem s table i tab n → so before adding ≡ more → Grew s tab more (On n b) tab
-  same_nodes b q h k = record { answer = subst (λ (y : Adding). GrownAs (On n b) s tab y) k (h.holding, sym q); kept = refl }
+  item_kept : {b : Bool} → b ≡ is_entry x.kind → b ≡ false → (adding && is_sub complete x.kind) ≡ false → AddsItem s table i tab n
+      → Grew s tab more (Some (n, adding)) tab
+  item_kept p q k h = record { answer = subst (λ (y : Adding). GrownAs (Some (n, adding)) s tab y) (chosen p q k) (h.holding, refl); kept = refl }
 
   pub item_other : {b c : Bool} → b ≡ is_entry x.kind → b ≡ false → adding ≡ true → c ≡ is_sub complete x.kind → c ≡ false → AddsItem s table i tab n
-      → Grew s tab more (On n true) tab
-  item_other p q a k l h = let o : (adding && is_sub complete x.kind) ≡ false = rw (a, ← k, l) in same_nodes true a h (chosen p q o)
+      → Grew s tab more (Some (n, adding)) tab
+  item_other p q a k l h = item_kept p q (rw (a, ← k, l)) h
 
-  pub item_passed : {b : Bool} → b ≡ is_entry x.kind → b ≡ false → adding ≡ false → AddsItem s table i tab n → Grew s tab more (On n false) tab
-  item_passed p q a h = let o : (adding && is_sub complete x.kind) ≡ false = rw a in same_nodes false a h (chosen p q o)
+  pub item_passed : {b : Bool} → b ≡ is_entry x.kind → b ≡ false → adding ≡ false → AddsItem s table i tab n → Grew s tab more (Some (n, adding)) tab
+  item_passed p q a h = item_kept p q (rw a) h
 
 -- ---- all items
 
@@ -177,21 +152,22 @@ module _ (c : Bool) (s table before : List ℕ) (count : ℕ) where
         ∙ sym (items_append c (items_in s table i) (item_word s (item_in table i) ∷ []) (so [] false))
         ∙ ap (add_items c (so [] false)) (sym next_items)
 
-    module _ {r : Grown} {after : List ℕ} where
-      pub build_on : {m : ℕ} {d : Bool} → r ≡ On m d → Grew s tab (add_item c (so (names_in s tab n) b) (item_word s (item_in table i))) r after → i < count
+    module _ {r : Option (ℕ × Bool)} {after : List ℕ} where
+      pub build_on : {m : ℕ} {d : Bool} → r ≡ Some (m, d) → Grew s tab (add_item c (so (names_in s tab n) b) (item_word s (item_in table i))) r after
+          → i < count
           → Building c s table before count after m d (i + 1)
       build_on {m} {d} q w l =
-          let k : GrownAs (On m d) s after (so_far c s table (i + 1)) =
-          subst (λ (x : Adding). GrownAs (On m d) s after x) next_so_far
-          (subst (λ (u : Grown). GrownAs u s after (add_item c (so (names_in s tab n) b) (item_word s (item_in table i)))) q w.answer) in
+          let k : GrownAs (Some (m, d)) s after (so_far c s table (i + 1)) =
+          subst (λ (x : Adding). GrownAs (Some (m, d)) s after x) next_so_far
+          (subst (λ (u : Option (ℕ × Bool)). GrownAs u s after (add_item c (so (names_in s tab n) b) (item_word s (item_in table i)))) q w.answer) in
           record { holding = k.0; adding = k.1; kept = w.kept ∙ g.kept; room = omega arith }
 
-      pub build_full : r ≡ Full → Grew s tab (add_item c (so (names_in s tab n) b) (item_word s (item_in table i))) r after → {entry : List ℕ}
-          → Cleared entry before → Itemized s count table → Bytes s → i < count → Constructed (mode_of c) s entry TooMany after
+      pub build_full : r ≡ None → Grew s tab (add_item c (so (names_in s tab n) b) (item_word s (item_in table i))) r after → {entry : List ℕ}
+          → Cleared entry before → Itemized s count table → Bytes s → i < count → Constructed (mode_of c) s entry None after
       build_full q w k₀ m bytes l =
           let k : most_nodes < length (so_far c s table (i + 1)).nodes =
-          subst (λ (x : Adding). GrownAs Full s after x) next_so_far (subst
-          (λ (u : Grown). GrownAs u s after (add_item c (so (names_in s tab n) b) (item_word s (item_in table i)))) q w.answer) in
+          subst (λ (x : Adding). GrownAs None s after x) next_so_far (subst
+          (λ (u : Option (ℕ × Bool)). GrownAs u s after (add_item c (so (names_in s tab n) b) (item_word s (item_in table i)))) q w.answer) in
           let e : i + 1 + (count - (i + 1)) ≡ count = omega arith in
           let o : so_far c s table count ≡ add_items c (so_far c s table (i + 1)) (items_from s table (i + 1) (count - (i + 1))) =
           ap (so_far c s table) (sym e)
@@ -208,7 +184,7 @@ module _ (c : Bool) (s table before : List ℕ) (count : ℕ) where
           ) in
           record { answer = u; kept = w.kept ∙ g.kept ∙ k₀.kept }
 
-    pub build_done : {entry : List ℕ} → Cleared entry before → Itemized s count table → Bytes s → count ≤ i → Constructed (mode_of c) s entry (Count n) tab
+    pub build_done : {entry : List ℕ} → Cleared entry before → Itemized s count table → Bytes s → count ≤ i → Constructed (mode_of c) s entry (Some n) tab
     build_done k₀ m bytes l =
         let e : i ≡ count = omega (arith, g.room) in
         let p : (so_far c s table i).nodes ≡ words_at (mode_of c) s = ap (λ (j : ℕ). (so_far c s table j).nodes) e ∙ all_nodes c m bytes in

@@ -1,5 +1,7 @@
 -- What the index says of a name: the number that it answers is the node's number, and a name that it does not find is no node.
 -- Assumes nothing.
+use Rattle.std.specs.Prelude.{Some, None, Option}
+use Rattle.std.specs.Option.{unwrap_or}
 use Prim.Native.Nat.{ℕ, zero, suc, ◌+◌, ◌-◌, ◌^◌, ◌≤◌, ◌<◌}
 use mathlib.Core.Path.{◌≡◌, refl, sym, ap, ap₂, ◌∙◌}
 use mathlib.Core.Logic.{⊎_elim}
@@ -17,8 +19,6 @@ use Rattle.text.proofs.KeywordLaws.{same_eq}
 use Rattle.library_form.specs.Form.{Ans, good, bad, PlacedName, word_at}
 use Rattle.library_form.proofs.Bounds.{part_word}
 use Rattle.library_index.specs.Names.{first_from, first_of, first_by, among, row_of, name_in_row, names_in}
-use Rattle.library_index.specs.declared.Found.{Found}
-use Rattle.library_index.specs.declared.Found.TheVariants.{At, Nothing}
 use Rattle.library_index.proofs.First.{not_among, is_among, the_hit, hit_low}
 use Rattle.library_index.proofs.Chain.{length_names}
 use Rattle.library_image.specs.Library.{Name, Library, plain_name, plain, import_only_of}
@@ -38,12 +38,12 @@ use Rattle.graph_nodes.specs.Adding.{plain_at, words_at, names_held, Holding, St
 
 -- ---- the answer of a search through words
 
-number_first : (ws : List PlacedName) (t : Name) (j : ℕ) {i : ℕ} → first_from j t ws ≡ At i → i ≡ j + number_of (map plain_name ws) t
+number_first : (ws : List PlacedName) (t : Name) (j : ℕ) {i : ℕ} → first_from j t ws ≡ Some i → i ≡ j + number_of (map plain_name ws) t
 unfolding first_from number_of
 number_first [] t j e = let z : ◌≡◌ {A = ℕ} 0 1 = cc in absurd (omega arith)
 number_first (w ∷ ws) t j {i} e = go (same w.text t) (number_first ws t (suc j)) e
   where
-    go : (b : Bool) → (first_from (suc j) t ws ≡ At i → i ≡ suc j + number_of (map plain_name ws) t) → cond b (At j) (first_from (suc j) t ws) ≡ At i
+    go : (b : Bool) → (first_from (suc j) t ws ≡ Some i → i ≡ suc j + number_of (map plain_name ws) t) → cond b (Some j) (first_from (suc j) t ws) ≡ Some i
         → i ≡ j + cond b 0 (suc (number_of (map plain_name ws) t))
     go true ih e = let x : j ≡ i = cc in omega arith
     go false ih e = let x = ih e in omega arith
@@ -60,7 +60,7 @@ text_of t (w ∷ ws) = go (same w.text t) refl (text_of t ws)
     go false q ih = ih
 
 -- the name of the number that is answered has the bytes that are sought
-pub hit_text : (s tab t : List ℕ) (n : ℕ) {k : ℕ} → first_of t (names_in s tab n) ≡ At k → (name_in_row s tab k).text ≡ t
+pub hit_text : (s tab t : List ℕ) (n : ℕ) {k : ℕ} → first_of t (names_in s tab n) ≡ Some k → (name_in_row s tab k).text ≡ t
 hit_text s tab t n e = sym (the_hit plain_name t s tab t n e) ∙ text_of t (names_in s tab n)
 
 -- ---- nodes in an index
@@ -70,14 +70,14 @@ module _ (s tab : List ℕ) (n : ℕ) (t : Name) where
   unfolding names_held
   held_among = sym (among_names t (names_in s tab n))
 
-  pub node_number : {k : ℕ} → first_of t (names_in s tab n) ≡ At k → number_of (names_held s tab n) t ≡ k
+  pub node_number : {k : ℕ} → first_of t (names_in s tab n) ≡ Some k → number_of (names_held s tab n) t ≡ k
   unfolding names_held
   node_number e = omega (arith, number_first (names_in s tab n) t 0 e)
 
-  pub node_hit : {k : ℕ} → first_of t (names_in s tab n) ≡ At k → memb t (names_held s tab n) ≡ true
+  pub node_hit : {k : ℕ} → first_of t (names_in s tab n) ≡ Some k → memb t (names_held s tab n) ≡ true
   node_hit e = held_among ∙ is_among 0 t (names_in s tab n) e
 
-  pub node_missed : first_of t (names_in s tab n) ≡ Nothing → memb t (names_held s tab n) ≡ false
+  pub node_missed : first_of t (names_in s tab n) ≡ None → memb t (names_held s tab n) ≡ false
   node_missed e = held_among ∙ not_among 0 t (names_in s tab n) e
 
 -- ---- each import-only module of what is read has a revision
@@ -109,22 +109,30 @@ module _ (mode : Mode) {s tab : List ℕ} {n : ℕ} (h : Holding s tab n (words_
 
 -- ---- the ways out of `node_at`
 
-module _ (s tab : List ℕ) (n place size : ℕ) (h : Stands s tab n place size) {r : Found}
+module _ (s tab : List ℕ) (n place size : ℕ) (h : Stands s tab n place size) {r : Option ℕ}
     (e : r ≡ first_of (take (place + size - place) (drop place s)) (names_in s tab n)) where
   sought : first_of (word_at s place size).text (names_in s tab n) ≡ r
   sought = ap (λ (t : Name). first_of t (names_in s tab n)) (sym (part_word s place size)) ∙ sym e
 
-  pub must_hit : r ≡ Nothing → ⊥
+  must_hit : r ≡ None → ⊥
   must_hit q = both_bools h.node (node_missed s tab n (word_at s place size).text (sought ∙ q))
 
-  pub row_low : {k : ℕ} → r ≡ At k → k < most_nodes
-  row_low q = omega (arith, hit_low s tab (word_at s place size).text n (sought ∙ q), h.holding.few)
+  -- the row of the name
+  hit : {k : ℕ} → k ≡ unwrap_or r 0 → first_of (word_at s place size).text (names_in s tab n) ≡ Some k
+  hit {k} z = go r refl z
+    where
+      go : (o : Option ℕ) → r ≡ o → k ≡ unwrap_or o 0 → first_of (word_at s place size).text (names_in s tab n) ≡ Some k
+      go None q z = absurd (must_hit q)
+      go (Some i) q z = sought ∙ q ∙ ap Some (sym z)
 
-  pub node_low : {k u : ℕ} → r ≡ At k → u ≡ k → u < n
-  node_low q w = omega (arith, hit_low s tab (word_at s place size).text n (sought ∙ q))
+  pub row_low : {k : ℕ} → k ≡ unwrap_or r 0 → k < most_nodes
+  row_low z = omega (arith, hit_low s tab (word_at s place size).text n (hit z), h.holding.few)
 
-  pub node_is : {k u : ℕ} → r ≡ At k → u ≡ k → u ≡ number_of (names_held s tab n) (word_at s place size).text
-  node_is q w = w ∙ sym (node_number s tab n (word_at s place size).text (sought ∙ q))
+  pub node_low : {k u : ℕ} → k ≡ unwrap_or r 0 → u ≡ k → u < n
+  node_low z w = omega (arith, hit_low s tab (word_at s place size).text n (hit z))
+
+  pub node_is : {k u : ℕ} → k ≡ unwrap_or r 0 → u ≡ k → u ≡ number_of (names_held s tab n) (word_at s place size).text
+  node_is z w = w ∙ sym (node_number s tab n (word_at s place size).text (hit z))
 
 -- ---- the ways out of `name_of`
 

@@ -2,20 +2,18 @@
 -- are its submodules; of an import-only module those of its first revision, since for the next one its name is already a node. In the mode `complete` the
 -- submodules of every listing and of every revision are added.
 -- Assumes nothing.
-use Rattle.std.specs.Prelude.{ℕ, ◌+◌, ◌*◌, ◌≤◌, ◌<◌, ◌≡◌, Bool, true, cond, ◌||◌, ◌&&◌, List, [], ◌∷◌, ◌++◌, map, length, eqb}
+use Rattle.std.specs.Prelude.{ℕ, ◌+◌, ◌*◌, ◌≤◌, ◌<◌, ◌≡◌, Bool, true, false, cond, ◌&&◌, List, [], ◌∷◌, ◌++◌, map, length, Some, None, Option}
 use Rattle.library_form.specs.Form.{PlacedName, word_at}
 use Rattle.library_image.specs.Library.{Name, PlainLibrary, plain_name, plain}
 use Rattle.library_image.specs.Image.{most_image}
 use Rattle.library_index.specs.Names.{among, names_in, Indexed}
-use Rattle.library_items.specs.Items.{module_kind, submodule_kind, import_only_kind, first_sub_kind, later_sub_kind, ItemOf, library_of}
+use Rattle.library_items.specs.Items.{ItemOf, library_of}
 use Rattle.library_items.specs.Table.{item_in, ItemFits}
+use Rattle.library_items.specs.declared.Kind.{Kind}
+use Rattle.library_items.specs.declared.Kind.TheVariants.{Module, Submodule, ImportOnly, FirstSub, LaterSub}
 use Rattle.graph.specs.Graph.{too_many_nodes}
 use Rattle.graph.specs.Limits.{most_nodes}
 use Rattle.graph.specs.Nodes.{Mode, memb, word_nodes}
-use Rattle.graph_nodes.specs.declared.Grown.{Grown}
-use Rattle.graph_nodes.specs.declared.Grown.TheVariants.{On, Full}
-use Rattle.graph_nodes.specs.declared.Nodes.{Nodes}
-use Rattle.graph_nodes.specs.declared.Nodes.TheVariants.{Count, TooMany}
 
 -- how many words the index of nodes has at the least: there is room for one too many
 abbrev pub node_table : ℕ
@@ -23,11 +21,16 @@ node_table = 5123
 
 -- ---- one item after another
 
-abbrev pub is_entry : ℕ → Bool
-is_entry k = eqb k module_kind || eqb k import_only_kind
+abbrev pub is_entry : Kind → Bool
+is_entry Module = true
+is_entry ImportOnly = true
+is_entry _ = false
 
-abbrev pub is_sub : (complete : Bool) → ℕ → Bool
-is_sub complete k = eqb k submodule_kind || (eqb k later_sub_kind && complete) || eqb k first_sub_kind
+abbrev pub is_sub : (complete : Bool) → Kind → Bool
+is_sub complete Submodule = true
+is_sub complete LaterSub = complete
+is_sub complete FirstSub = true
+is_sub complete _ = false
 
 -- the nodes so far, and whether submodules that come now are added
 pub record Adding : Type 0 where
@@ -84,27 +87,27 @@ pub record AddsItem (s table : List ℕ) (i : ℕ) (tab : List ℕ) (n : ℕ) : 
   pub fits : ItemFits s (item_in table i)
   pub short : length s ≤ most_image
 
-abbrev pub GrownAs : Grown → List ℕ → List ℕ → Adding → Type 0
-GrownAs (On n adding) s tab a = Holding s tab n a.nodes × (adding ≡ a.adding)
-GrownAs Full s tab a = most_nodes < length a.nodes
+abbrev pub GrownAs : Option (ℕ × Bool) → List ℕ → List ℕ → Adding → Type 0
+GrownAs (Some (n, adding)) s tab a = Holding s tab n a.nodes × (adding ≡ a.adding)
+GrownAs None s tab a = most_nodes < length a.nodes
 
 -- what was made of the nodes so far
-pub record Grew (s tab : List ℕ) (a : Adding) (r : Grown) (after : List ℕ) : Type 0 where
+pub record Grew (s tab : List ℕ) (a : Adding) (r : Option (ℕ × Bool)) (after : List ℕ) : Type 0 where
   pub answer : GrownAs r s after a
   pub kept : length after ≡ length tab
 
-abbrev pub NodesAs : Mode → Nodes → List ℕ → List ℕ → Type 0
-NodesAs mode (Count n) s tab = Holding s tab n (words_at mode s)
-NodesAs mode TooMany s tab = most_nodes < length (words_at mode s)
+abbrev pub NodesAs : Mode → Option ℕ → List ℕ → List ℕ → Type 0
+NodesAs mode (Some n) s tab = Holding s tab n (words_at mode s)
+NodesAs mode None s tab = most_nodes < length (words_at mode s)
 
-pub record Constructed (mode : Mode) (s tab : List ℕ) (r : Nodes) (after : List ℕ) : Type 0 where
+pub record Constructed (mode : Mode) (s tab : List ℕ) (r : Option ℕ) (after : List ℕ) : Type 0 where
   pub answer : NodesAs mode r s after
   pub kept : length after ≡ length tab
 
 -- its refusal's number, or 0
-unfoldable pub nodes_number : Nodes → ℕ
-nodes_number (Count n) = 0
-nodes_number TooMany = too_many_nodes
+unfoldable pub nodes_number : Option ℕ → ℕ
+nodes_number (Some n) = 0
+nodes_number None = too_many_nodes
 
 -- ---- a node by its name, and a name by its node
 

@@ -8,78 +8,53 @@ ghost use Rattle.library_items.specs.Table.{item_in, item_word, Itemized};
 ghost use Rattle.graph.specs.Nodes.{mode_of};
 ghost use Rattle.graph.specs.Numbers.{number_of};
 ghost use Rattle.graph_nodes.specs.Adding.{node_table, is_entry, is_sub, so, add_name, add_item, names_held, Adds, AddsItem, Grew, Constructed, Stands};
-ghost use Rattle.graph_nodes.specs.Adding.{nodes_number, Numbered};
+ghost use Rattle.graph_nodes.specs.Adding.{Numbered};
 
 use graph::NodeIndex;
-use library_index::Found;
+use library_items::Kind;
 
 // How many words the index of nodes has, with room for one too many.
 pub const NODE_TABLE: usize = 5123;
 
-// The refusal of this layer.
-pub const TOO_MANY_NODES: u32 = 30;
-
-// How many nodes there are now, and whether submodules that come now are added; or there are too many.
-#[derive(Clone, Copy)]
-pub enum Grown {
-    On(usize, bool),
-    Full,
-}
-
-// How many nodes there are, or too many.
-#[derive(Clone, Copy)]
-pub enum Nodes {
-    Count(usize),
-    TooMany,
-}
-
-// The number of its refusal, or 0.
-pub fn nodes_number(x: Nodes) -> u32
-    ensures { result ≡ nodes_number x }
-{
-    match x {
-        Nodes::Count(_) => text::NO_REFUSAL,
-        Nodes::TooMany => TOO_MANY_NODES,
-    }
-}
-
 // A module or an import-only module.
-pub fn is_entry(kind: usize) -> bool
+pub fn is_entry(kind: Kind) -> bool
     ensures { result ≡ is_entry kind }
 {
-    if kind == library_items::MODULE {
-        return true;
-    }
-    kind == library_items::IMPORT_ONLY
+    matches!(kind, Kind::Module | Kind::ImportOnly)
 }
 
 // A submodule that becomes a node with its module; that of a later revision only if `complete`.
-fn is_sub(complete: bool, kind: usize) -> bool
+fn is_sub(complete: bool, kind: Kind) -> bool
     ensures { result ≡ is_sub complete kind }
 {
-    if kind == library_items::SUBMODULE {
-        return true;
+    match kind {
+        Kind::Submodule | Kind::FirstSub => true,
+        Kind::LaterSub => complete,
+        _ => false,
     }
-    if kind == library_items::LATER_SUB {
-        return complete;
-    }
-    kind == library_items::FIRST_SUB
 }
 
 // A name more, unless it is a node. `there`: whether submodules are added even then.
-fn add_name(s: &[u8], tab: &mut [u32], n: usize, there: bool, place: usize, size: usize) -> Grown
+fn add_name(
+    s: &[u8],
+    tab: &mut [u32],
+    n: usize,
+    there: bool,
+    place: usize,
+    size: usize,
+) -> Option<(usize, bool)>
     requires { Adds s.now tab.old n place size }
     ensures { Grew s.now tab.old
         (add_name (so (names_in s.now tab.old n) false) there (word_at s.now place size)) result
         tab.new }
 {
-    let Found::Nothing = library_index::add(s, tab, n, place, size) else {
-        return Grown::On(n, there);
+    let None = library_index::add(s, tab, n, place, size) else {
+        return Some((n, there));
     };
     if graph::MOST_NODES <= n {
-        return Grown::Full;
+        return None;
     }
-    Grown::On(n + 1, true)
+    Some((n + 1, true))
 }
 
 // What the i-th item adds to the nodes. `complete`: the submodules of an entry that is already a node are added too, and those of later revisions.
@@ -91,7 +66,7 @@ fn add_item(
     tab: &mut [u32],
     n: usize,
     adding: bool,
-) -> Grown
+) -> Option<(usize, bool)>
     requires { AddsItem s.now table.now i tab.old n }
     ensures { Grew s.now tab.old
         (add_item complete (so (names_in s.now tab.old n) adding) (item_word s.now (item_in table.now i)))
@@ -101,13 +76,10 @@ fn add_item(
     if is_entry(x.kind) {
         return add_name(s, tab, n, complete, x.place, x.size);
     }
-    if adding {
-        if is_sub(complete, x.kind) {
-            return add_name(s, tab, n, true, x.place, x.size);
-        }
-        return Grown::On(n, true);
+    if adding && is_sub(complete, x.kind) {
+        return add_name(s, tab, n, true, x.place, x.size);
     }
-    Grown::On(n, false)
+    Some((n, adding))
 }
 
 // The nodes of an image whose `count` items are in the table. `complete`: submodules of every listing of a module and of every revision are nodes.
@@ -117,27 +89,17 @@ pub fn construct_nodes(
     table: &[u32],
     count: usize,
     tab: &mut [u32],
-) -> Nodes
+) -> Option<usize>
     requires { (node_table ≤ length tab.old) × Itemized s.now count table.now × (length s.now ≤ 65536) }
     ensures { Constructed (mode_of complete) s.now tab.old result tab.new }
 {
     library_index::clear(tab);
     let mut n = 0;
     let mut adding = false;
-    let mut i = 0;
-    while i < count {
-        match add_item(s, complete, table, i, tab, n, adding) {
-            Grown::On(m, more) => {
-                n = m;
-                adding = more;
-            }
-            Grown::Full => {
-                return Nodes::TooMany;
-            }
-        }
-        i += 1;
+    for i in 0..count {
+        (n, adding) = add_item(s, complete, table, i, tab, n, adding)?;
     }
-    Nodes::Count(n)
+    Some(n)
 }
 
 // The node of the name at `place`, which is one.
@@ -145,11 +107,8 @@ pub fn node_at(s: &[u8], tab: &[u32], n: usize, place: usize, size: usize) -> No
     requires { Stands s.now tab.now n place size }
     ensures { (result.0 ≡ number_of (names_held s.now tab.now n) (word_at s.now place size).text) × (result.0 < n) }
 {
-    let end = place + size;
-    let Found::At(k) = library_index::find(s, tab, n, &s[place..end]) else {
-        return graph::node_of(0);
-    };
-    graph::node_of(k)
+    let row = library_index::find(s, tab, n, &s[place..place + size]);
+    graph::node_of(row.unwrap_or(0))
 }
 
 // The name of a node.
@@ -159,6 +118,5 @@ pub fn name_of<'a>(s: &'a [u8], tab: &[u32], n: usize, v: NodeIndex) -> &'a [u8]
 {
     let i = graph::node_row(v);
     let place = library_index::place_of(tab, i);
-    let end = place + library_index::length_of(tab, i);
-    &s[place..end]
+    &s[place..place + library_index::length_of(tab, i)]
 }

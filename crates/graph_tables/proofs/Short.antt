@@ -1,49 +1,12 @@
--- Whether something lent is too short: each test that comes before leaves the next one to decide.
+-- What is lent where nothing is too short.
 -- Assumes nothing.
-use mathlib.Core.Path.{◌≡◌, refl}
-use mathlib.Core.Bool.{true, false, ◌||◌}
-use Prim.Native.Nat.{ℕ, ◌*◌, ◌<◌, ◌≤◌}
+use mathlib.Core.Path.{◌≡◌}
+use mathlib.Core.Bool.{false, ◌||◌}
+use Prim.Native.Nat.{ℕ, ◌≤◌}
 use lib.Dec.{ltb}
-use borrow.Author.Tests.{lt-ltb, le-ltb, ltb-false}
+use borrow.Author.Tests.{ltb-false}
 use Rattle.text.proofs.Here.{neither}
 use Rattle.graph_tables.specs.Lengths.{Lengths, is_too_short}
-
-module _ (longest nodes edges store imports includes levels : ℕ) where
-  abbrev lent : Lengths
-  lent = record { nodes = nodes; edges = edges; store = store; imports = imports; includes = includes; levels = levels }
-
-  pub short_nodes : nodes < 2 * 1024 → true ≡ is_too_short longest lent
-  unfolding is_too_short
-  short_nodes h = rw (lt-ltb nodes 2048 h) refl
-
-  module _ (enough : 2 * 1024 ≤ nodes) where
-    pub short_edges : edges < 16384 → true ≡ is_too_short longest lent
-    unfolding is_too_short
-    short_edges h = rw (le-ltb nodes 2048 enough) (rw (lt-ltb edges 16384 h) refl)
-
-    module _ (enough₁ : 16384 ≤ edges) where
-      pub short_store : store < longest → true ≡ is_too_short longest lent
-      unfolding is_too_short
-      short_store h = rw (le-ltb nodes 2048 enough) (rw (le-ltb edges 16384 enough₁) (rw (lt-ltb store longest h) refl))
-
-      module _ (enough₂ : longest ≤ store) where
-        pub short_imports : imports < 256 * 7 → true ≡ is_too_short longest lent
-        unfolding is_too_short
-        short_imports h =
-            rw (le-ltb nodes 2048 enough) (rw (le-ltb edges 16384 enough₁) (rw (le-ltb store longest enough₂) (rw (lt-ltb imports 1792 h) refl)))
-
-        module _ (enough₃ : 256 * 7 ≤ imports) where
-          pub short_includes : includes < 256 * 5 → true ≡ is_too_short longest lent
-          unfolding is_too_short
-          short_includes h =
-              rw (le-ltb nodes 2048 enough) (rw (le-ltb edges 16384 enough₁) (rw (le-ltb store longest enough₂) (rw (le-ltb imports 1792 enough₃)
-              (rw (lt-ltb includes 1280 h) refl))))
-
-          pub short_levels : 256 * 5 ≤ includes → ltb levels 4352 ≡ is_too_short longest lent
-          unfolding is_too_short
-          short_levels h =
-              rw (le-ltb nodes 2048 enough) (rw (le-ltb edges 16384 enough₁) (rw (le-ltb store longest enough₂) (rw (le-ltb imports 1792 enough₃)
-              (rw (le-ltb includes 1280 h) refl))))
 
 -- nothing is too short
 pub record Enough (longest : ℕ) (k : Lengths) : Type 0 where

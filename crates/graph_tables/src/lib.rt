@@ -9,6 +9,7 @@ ghost use Rattle.graph_tables.specs.Tables.{Puts, Named};
 pub const LEVELS: usize = 4352;
 
 // Whether a table or scratch is too short. longest: the bytes of the longest text.
+#[tactic(auto, unfolding(crate::specs::Lengths::is_too_short))]
 pub fn too_short(
     longest: usize,
     nodes: usize,
@@ -21,22 +22,12 @@ pub fn too_short(
     ensures { result ≡ is_too_short longest
         (record { nodes = nodes; edges = edges; store = store; imports = imports; includes = includes; levels = levels }) }
 {
-    if nodes < 2 * graph::MOST_NODES {
-        return true;
-    }
-    if edges < graph_edges::EDGE_TABLE {
-        return true;
-    }
-    if store < longest {
-        return true;
-    }
-    if imports < scan_rows::MOST_ROWS * scan_rows::IMPORT_SIZE {
-        return true;
-    }
-    if includes < scan_rows::MOST_ROWS * scan_rows::INCLUDE_SIZE {
-        return true;
-    }
-    levels < LEVELS
+    nodes < 2 * graph::MOST_NODES
+        || edges < graph_edges::EDGE_TABLE
+        || store < longest
+        || imports < scan_rows::MOST_ROWS * scan_rows::IMPORT_SIZE
+        || includes < scan_rows::MOST_ROWS * scan_rows::INCLUDE_SIZE
+        || levels < LEVELS
 }
 
 // Lays place and length of each node's name into the node table, which is zero.
@@ -44,10 +35,8 @@ pub fn put_nodes(ntab: &[u32], n: usize, nodes: &mut [u32])
     requires { Puts ntab.now n nodes.old }
     ensures { Named ntab.now n nodes.old nodes.new }
 {
-    let mut i = 0;
-    while i < n {
+    for i in 0..n {
         nodes[i * 2] = library_index::place_of(ntab, i) as u32;
         nodes[i * 2 + 1] = library_index::length_of(ntab, i) as u32;
-        i += 1;
     }
 }

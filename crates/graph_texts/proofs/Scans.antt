@@ -1,6 +1,7 @@
 -- A text that is scanned: the rows read back are the rows that were read, and the names among the stored bytes are the same in the store, whatever it
 -- held before.
 -- Assumes nothing.
+use Rattle.std.specs.Prelude.{Ok, Err, Some, Result}
 use mathlib.Core.Path.{◌≡◌, refl, sym, ap, ap₂, subst, ◌∙◌}
 use mathlib.Core.Bool.{false}
 use mathlib.Core.List.{List, [], ◌∷◌}
@@ -17,14 +18,12 @@ use Rattle.scan_rows.proofs.Values.{value_stored}
 use Rattle.yangparser.specs.Dependencies.{Dependencies, dependencies, read_of}
 use Rattle.scan_rows.specs.Short.{is_too_short}
 use Rattle.yangparser.specs.Promises.{Holds, lent_scan, Scans}
-use Rattle.yangparser.specs.declared.Parsed.{Parsed}
-use Rattle.yangparser.specs.declared.Parsed.TheVariants.{Good, Refused as RefusedScan}
+use Rattle.yangparser.specs.declared.Rows.{Rows}
 use Rattle.yangparser.proofs.KeptLaws.{entry_good, parsed_good, parsed_refused, held_imports, held_includes}
 use Rattle.yangparser.proofs.Placed.{ImportIn, IncludeIn}
 use Rattle.yangparser.proofs.ScanLaws.{Sound, scan_sound}
 use Rattle.graph.specs.Graph.{deps}
 use Rattle.graph_texts.specs.Texts.{import_names, include_names, scan_seen, scan_text, SeenAs, ScanRoom}
-use Rattle.graph_texts.specs.declared.Seen.TheVariants.{Refused, Rows}
 
 -- ---- names among the stored bytes
 
@@ -66,18 +65,18 @@ module _ (s : List ℕ) {d t u : List ℕ} (m : ScanRoom (length s) d t u) where
   unfolding scan_text
   text_is = ap (λ b. scan_seen (dependencies false s b)) (sym enough)
 
-  module _ {r : Parsed} {e f g : List ℕ} (p : Scans false s false d t u r e f g)
+  module _ {r : Result Rows Refusal} {e f g : List ℕ} (p : Scans false s false d t u r e f g)
       (el : length e ≡ length d) (fl : length f ≡ length t) (gl : length g ≡ length u) where
-    pub scan_refused_lem : {q : Refusal} → r ≡ RefusedScan q → SeenAs (scan_text s) d t u (Refused q) e f g
+    pub scan_refused_lem : {q : Refusal} → r ≡ Err q → SeenAs (scan_text s) d t u (Err q) e f g
     scan_refused_lem {q} h =
         let k = parsed_refused (lent_scan false s false d t u) q (sym p.answer ∙ h) in
         record { seen = sym (text_is ∙ ap scan_seen k.1); few = tt; kept_store = el; kept_imports = fl; kept_includes = gl }
 
-    pub scan_read : {i j n : ℕ} → r ≡ Good i j n → SeenAs (scan_text s) d t u (Rows i j) e f g
+    pub scan_read : {q : Rows} → r ≡ Ok q → SeenAs (scan_text s) d t u (Ok (Some (q.imports, q.includes))) e f g
     unfolding read_of
-    scan_read {i} {j} {n} h =
+    scan_read {q} h =
         let y = lent_scan false s false d t u in
-        let k = parsed_good y i j n (sym p.answer ∙ h) in
+        let k = parsed_good y q.imports q.includes q.used (sym p.answer ∙ h) in
         let x = k.0 in
         let good = entry_good false s (is_too_short false (length s) (length d) (length t) (length u)) x k.1 in
         let w : Sound s x = subst (λ y. Sound s (read_of y)) good.0 (scan_sound false s) in

@@ -5,33 +5,21 @@ ghost use Rattle.std.specs.Prelude.{length};
 ghost use Rattle.library_bundle.specs.Reading.{Held, longest_text};
 ghost use Rattle.graph_texts.specs.Texts.{scan_text, text_of, SeenAs, ScanRoom};
 
-use library_bundle::TextPlace;
 use text::Refusal;
-use yangparser::Parsed;
-
-// There is no text, its scan is refused, or so many rows of imports and of includes were read.
-#[derive(Clone, Copy)]
-pub enum Seen {
-    Missing,
-    Refused(Refusal),
-    Rows(usize, usize),
-}
 
 // Scans a text, whole or not. It writes only what it uses, and clears nothing.
-fn scan_text(s: &[u8], store: &mut [u8], imports: &mut [u32], includes: &mut [u32]) -> Seen
+fn scan_text(
+    s: &[u8],
+    store: &mut [u8],
+    imports: &mut [u32],
+    includes: &mut [u32],
+) -> Result<Option<(usize, usize)>, Refusal>
     requires { ScanRoom (length s.now) store.old imports.old includes.old }
     ensures { SeenAs (scan_text s.now) store.old imports.old includes.old result store.new
         imports.new includes.new }
 {
-    let parsed = yangparser::scan_over(false, s, false, store, imports, includes);
-    match parsed {
-        Parsed::Good {
-            imports: m,
-            includes: n,
-            used: _,
-        } => Seen::Rows(m, n),
-        Parsed::Refused(r) => Seen::Refused(r),
-    }
+    let rows = yangparser::scan_over(false, s, false, store, imports, includes)?;
+    Ok(Some((rows.imports, rows.includes)))
 }
 
 // The text under `name`, scanned.
@@ -43,13 +31,13 @@ pub fn read_text(
     store: &mut [u8],
     imports: &mut [u32],
     includes: &mut [u32],
-) -> Seen
+) -> Result<Option<(usize, usize)>, Refusal>
     requires { Held bundle.now tab.now count × ScanRoom (longest_text bundle.now) store.old imports.old includes.old }
     ensures { SeenAs (text_of bundle.now name.now) store.old imports.old includes.old
         result store.new imports.new includes.new }
 {
-    let TextPlace::At(from, size) = library_bundle::find(bundle, tab, count, name) else {
-        return Seen::Missing;
+    let Some((from, size)) = library_bundle::find(bundle, tab, count, name) else {
+        return Ok(None);
     };
     scan_text(
         library_bundle::text_at(bundle, from, size),

@@ -1,5 +1,6 @@
 -- A text that is read by the name of its node: what there is under the name, the imports linked, the includes saved. One law for each way out.
 -- Assumes nothing.
+use Rattle.std.specs.Prelude.{Ok, Err, None, Some, Result, Option}
 use Prim.Native.Nat.{ℕ, ◌+◌, ◌≤◌, ◌<◌}
 use mathlib.Core.Path.{◌≡◌, refl, sym, ap, ◌∙◌}
 use mathlib.Core.Bool.{Bool, true, false, cond, true≢false}
@@ -23,16 +24,11 @@ use Rattle.graph_memory.specs.declared.Recalled.{Recalled}
 use Rattle.graph_memory.specs.declared.Recalled.TheVariants.{Unread, Known as Recall, TooDeep}
 use Rattle.graph_memory.proofs.Words.{later, same_memory, stays_same, stays_on, stays_equal, stays_marked, known_height, is_known}
 use Rattle.graph_texts.specs.Texts.{text_of, text_seen, SeenAs, ScanRoom}
-use Rattle.graph_texts.specs.declared.Seen.{Seen}
-use Rattle.graph_texts.specs.declared.Seen.TheVariants.{Missing, Refused as Unscanned, Rows}
-use Rattle.graph_link.specs.Link.{level_words, level_at, import_codes, include_codes, ImportRows, IncludeRows, walk_seen, Drew, Saved}
+use Rattle.graph_link.specs.Link.{stopped_at, level_words, level_at, import_codes, include_codes, ImportRows, IncludeRows, walk_seen, Drew, Saved}
+use Rattle.graph_link.specs.declared.Stopped.{Stopped}
 use Rattle.graph_visit.specs.Visit.{world_of, codes_here, Room, AsLong, Kept, Called, visited, met_here}
 use Rattle.graph.proofs.Tests.{both_bools}
 use Rattle.graph.proofs.Remembering.{is_reading}
-use Rattle.graph_link.specs.declared.Walked.{Walked}
-use Rattle.graph_link.specs.declared.Walked.TheVariants.{Built, Refused}
-use Rattle.graph_visit.specs.declared.Visited.{Visited}
-use Rattle.graph_visit.specs.declared.Visited.TheVariants.{Children, Known, Stopped}
 
 -- ---- the marks
 
@@ -59,14 +55,14 @@ module _ (s b : List ℕ) (ns : List Name) (v : ℕ) (name : List ℕ) (p : name
   unfolding codes_here codes_at world_of
   under = rw p
 
-  module _ (d f₀ g₀ : List ℕ) (r : Seen) (e f g : List ℕ) (l : SeenAs (text_of b name) d f₀ g₀ r e f g) where
-    no_text_lem : r ≡ Missing → codes_here s b ns v ≡ no_text
+  module _ (d f₀ g₀ : List ℕ) (r : Result (Option (ℕ × ℕ)) Refusal) (e f g : List ℕ) (l : SeenAs (text_of b name) d f₀ g₀ r e f g) where
+    no_text_lem : r ≡ (Ok None) → codes_here s b ns v ≡ no_text
     no_text_lem z = under ∙ ap (codes_of (world_of s b ns) ns) (sym l.seen ∙ ap (λ r. text_seen r e f g) z)
 
-    refused_text : (a : Refusal) → r ≡ Unscanned a → codes_here s b ns v ≡ refused_scan a
+    refused_text : (a : Refusal) → r ≡ Err a → codes_here s b ns v ≡ refused_scan a
     refused_text a z = under ∙ ap (codes_of (world_of s b ns) ns) (sym l.seen ∙ ap (λ r. text_seen r e f g) z)
 
-    read : (m k : ℕ) → r ≡ Rows m k → codes_here s b ns v ≡ codes (import_codes s ns e f m) (include_codes s ns e g k)
+    read : (m k : ℕ) → r ≡ Ok (Some (m, k)) → codes_here s b ns v ≡ codes (import_codes s ns e f m) (include_codes s ns e g k)
     unfolding import_codes include_codes known_at included_at world_of
     read m k z = under ∙ ap (codes_of (world_of s b ns) ns) (sym l.seen ∙ ap (λ r. text_seen r e f g) z)
 
@@ -74,28 +70,29 @@ module _ (s b : List ℕ) (ns : List Name) (v : ℕ) (name : List ℕ) (p : name
       abbrev expected : Below → Went
       expected f = visited (codes_here s b ns) absent v (rows_in count edges) levels f
 
-      pub text_missing : (a : Refusal) (levels₁ : List ℕ) → r ≡ Missing → a ≡ no_refusal
-          → Called expected n left v count edges chains (Stopped absent a) levels₁ edges chains
+      pub text_missing : {y : Stopped} (levels₁ : List ℕ) → r ≡ (Ok None) → y ≡ stopped_at absent
+          → Called expected n left v count edges chains (Err y) levels₁ edges chains
       unfolding visited
-      text_missing a levels₁ z t = record { seen = λ below. rw (no_text_lem z, t); ready = tt; kept_edges = refl; kept_chains = refl }
+      text_missing levels₁ z t = record { seen = λ below. rw (no_text_lem z, t); ready = tt; kept_edges = refl; kept_chains = refl }
 
-      pub text_refused : (a : Refusal) (levels₁ : List ℕ) → r ≡ Unscanned a → Called expected n left v count edges chains (Stopped 25 a) levels₁ edges chains
+      pub text_refused : (a : Refusal) (levels₁ : List ℕ) → r ≡ Err a
+          → Called expected n left v count edges chains (Err (record { number = 25; scan = a })) levels₁ edges chains
       unfolding visited
       text_refused a levels₁ z = record { seen = λ below. rw (refused_text a z); ready = tt; kept_edges = refl; kept_chains = refl }
 
-      module _ (m k : ℕ) (z : r ≡ Rows m k) (w : Walked) (edges₁ chains₁ : List ℕ)
+      module _ (m k : ℕ) (z : r ≡ Ok (Some (m, k))) (w : Result ℕ Stopped) (edges₁ chains₁ : List ℕ)
           (o : Drew (each_o (import_code most_edges v) (import_codes s ns e f m) (rows_in count edges)) edges chains w edges₁ chains₁) where
-        pub import_refused : (number : ℕ) (a : Refusal) (levels₁ : List ℕ) → w ≡ Refused number a
-            → Called expected n left v count edges chains (Stopped number a) levels₁ edges₁ chains₁
+        pub import_refused : {y : Stopped} (levels₁ : List ℕ) → w ≡ Err y
+            → Called expected n left v count edges chains (Err y) levels₁ edges₁ chains₁
         unfolding visited
-        import_refused number a levels₁ t =
-            let q : each_o (import_code most_edges v) (import_codes s ns e f m) (rows_in count edges) ≡ refused number a = sym o.seen
+        import_refused {y} levels₁ t =
+            let q : each_o (import_code most_edges v) (import_codes s ns e f m) (rows_in count edges) ≡ refused y.number y.scan = sym o.seen
             ∙ ap (λ w. walk_seen w edges₁) t in
             record { seen = λ below. rw (read m k z, q); ready = tt; kept_edges = o.kept_edges; kept_chains = o.kept_chains }
 
         pub called : (total : ℕ) (levels₀ levels₁ : List ℕ) → Remembers levels v reading levels₀
-            → Saved n (include_codes s ns e g k) (level_at left) k levels₀ levels₁ → w ≡ Built total
-            → Called expected n left v count edges chains (Children k total) levels₁ edges₁ chains₁
+            → Saved n (include_codes s ns e g k) (level_at left) k levels₀ levels₁ → w ≡ Ok total
+            → Called expected n left v count edges chains (Ok (Some (k, total))) levels₁ edges₁ chains₁
         unfolding visited
         called total levels₀ levels₁ y a t =
             let q : each_o (import_code most_edges v) (import_codes s ns e f m) (rows_in count edges) ≡ built (rows_in total edges₁) = sym o.seen
@@ -110,13 +107,13 @@ module _ (s b : List ℕ) (ns : List Name) (v : ℕ) (name : List ℕ) (p : name
 
 -- ---- the tables
 
-module _ (t : Text) (d f₀ g₀ : List ℕ) (r : Seen) (e f g : List ℕ) (l : SeenAs t d f₀ g₀ r e f g) where
-  pub import_rows : (m k size : ℕ) → r ≡ Rows m k → ScanRoom size d f₀ g₀ → ImportRows f m
+module _ (t : Text) (d f₀ g₀ : List ℕ) (r : Result (Option (ℕ × ℕ)) Refusal) (e f g : List ℕ) (l : SeenAs t d f₀ g₀ r e f g) where
+  pub import_rows : (m k size : ℕ) → r ≡ Ok (Some (m, k)) → ScanRoom size d f₀ g₀ → ImportRows f m
   import_rows m k size z o =
       let few : (m ≤ most_rows) × (k ≤ most_rows) = rw z at l.few in
       record { few = few.0; room = omega (arith, o.import_room, l.kept_imports) }
 
-  pub include_rows : (m k size : ℕ) (levels : List ℕ) (base : ℕ) → r ≡ Rows m k → ScanRoom size d f₀ g₀ → base + level_words ≤ length levels
+  pub include_rows : (m k size : ℕ) (levels : List ℕ) (base : ℕ) → r ≡ Ok (Some (m, k)) → ScanRoom size d f₀ g₀ → base + level_words ≤ length levels
       → IncludeRows g k levels base
   include_rows m k size levels base z o h =
       let few : (m ≤ most_rows) × (k ≤ most_rows) = rw z at l.few in
@@ -206,17 +203,17 @@ module _ (left v : ℕ) (levels : List ℕ) (q : Recalled) (e : q ≡ recalled l
     abbrev meeting : Below → Went
     meeting f = met_here at left absent v (rows_in count edges) levels f
 
-    pub met_deep : (a : Refusal) → q ≡ TooDeep → a ≡ no_refusal → Called meeting n left v count edges chains (Stopped 29 a) levels edges chains
+    pub met_deep : {y : Stopped} → q ≡ TooDeep → y ≡ stopped_at 29 → Called meeting n left v count edges chains (Err y) levels edges chains
     unfolding met_here
-    met_deep a z t = record {
-      seen = λ f. ap (λ (b : Refusal). halted 29 b) t
+    met_deep z t = record {
+      seen = λ f. ap (λ (x : Stopped). halted x.number x.scan) t
           ∙ sym (too_deep_lem z (rows_in count edges) (remembered levels) (visited at absent v (rows_in count edges) levels f));
       ready = tt;
       kept_edges = refl;
       kept_chains = refl;
     }
 
-    pub met_known : q ≡ Recall → v < most_nodes → Filed edges chains count → Called meeting n left v count edges chains Known levels edges chains
+    pub met_known : q ≡ Recall → v < most_nodes → Filed edges chains count → Called meeting n left v count edges chains (Ok None) levels edges chains
     unfolding met_here
     met_known z l o =
         let k = known_height levels left v l (sym z ∙ e) in
@@ -228,7 +225,7 @@ module _ (left v : ℕ) (levels : List ℕ) (q : Recalled) (e : q ≡ recalled l
           kept_chains = refl;
         }
 
-    pub met_unread : q ≡ Unread → {r : Visited} {levels₁ edges₁ chains₁ : List ℕ}
+    pub met_unread : q ≡ Unread → {r : Result (Option (ℕ × ℕ)) Stopped} {levels₁ edges₁ chains₁ : List ℕ}
         → Called (visited at absent v (rows_in count edges) levels) n left v count edges chains r levels₁ edges₁ chains₁
         → Called meeting n left v count edges chains r levels₁ edges₁ chains₁
     unfolding met_here

@@ -1,5 +1,6 @@
 -- The includes of a text, taken one after another: what the words from here on come to is what all of them come to. A walk below leaves this level's words.
 -- Assumes nothing.
+use Rattle.std.specs.Prelude.{Ok, Err, Some, None, Result, Option}
 use Prim.Native.Nat.{ℕ, zero, suc, ◌+◌, ◌-◌, ◌≤◌, ◌<◌}
 use mathlib.Core.Path.{◌≡◌, refl, sym, ap, ap₂, ◌∙◌}
 use mathlib.Core.Bool.{true≢false}
@@ -9,8 +10,6 @@ use native.Mathlib.Nat.{sub-zero}
 use native.Mathlib.Numerals.{sub-one}
 use lib.ListN.{length, get_or, drop}
 use lib.Seq.{get_or-drop}
-use Rattle.text.specs.declared.Refusal.{Refusal}
-use Rattle.text.specs.Refusal.{no_refusal}
 use Rattle.graph.specs.Numbers.{Row, Codes}
 use Rattle.graph.specs.Once.{unread, below, Marks, Went, walked, halted, then_w, Below, include_once, includes_once, ended, walk_once, below_once, raised}
 use Rattle.graph.specs.declared.NodeIndex.{NodeIndex}
@@ -21,18 +20,13 @@ use Rattle.graph_marks.specs.Marks.{Desk}
 use Rattle.graph_memory.specs.Memory.{memory_words, height_in, remembered, StaysRead, Remembers}
 use Rattle.graph_memory.proofs.Words.{later, below_height, stays_same, stays_on, stays_marked}
 use Rattle.graph_link.specs.Link.{level_words, level_at, words_from, Words, step_seen, Descends, Stepped}
+use Rattle.graph_link.specs.declared.Stopped.{Stopped}
 use Rattle.graph_visit.specs.Visit.{Room, AsLong, Kept, visit_seen, Recalls, Ready, Called, met_here, visited}
 use Rattle.graph_visit.proofs.Visiting.{longer, other_levels}
 use Rattle.graph_walk.specs.Walk.{walked_seen, Through}
-use Rattle.graph_link.specs.declared.Walked.{Walked}
-use Rattle.graph_link.specs.declared.Walked.TheVariants.{Built, Refused}
-use Rattle.graph_visit.specs.declared.Visited.{Visited}
-use Rattle.graph_visit.specs.declared.Visited.TheVariants.{Children, Known, Stopped}
-use Rattle.graph_link.specs.declared.Stepping.{Stepping}
-use Rattle.graph_link.specs.declared.Stepping.TheVariants.{Down, Stopped as Halted}
 
 -- a walk by what lies below it
-pub opened : (at : ℕ → Codes) (left absent v : ℕ) (rs : List Row) (levels edges chains : List ℕ) (r : Walked) (levels₁ edges₁ chains₁ : List ℕ)
+pub opened : (at : ℕ → Codes) (left absent v : ℕ) (rs : List Row) (levels edges chains : List ℕ) (r : Result ℕ Stopped) (levels₁ edges₁ chains₁ : List ℕ)
     → Through (met_here at left absent v rs levels (below_once at most_edges left)) left v edges chains r levels₁ edges₁ chains₁
     → Through (walk_once at most_edges left absent v rs (remembered levels)) left v edges chains r levels₁ edges₁ chains₁
 unfolding met_here visited
@@ -76,7 +70,8 @@ below_read q = true≢false (ap is_below q)
 
 -- ---- before the loop
 
-module _ (at : ℕ → Codes) (left : ℕ) {n v count : ℕ} {edges chains : List ℕ} {r : Visited} {levels₁ edges₁ chains₁ : List ℕ} {E : Below → Went}
+module _ (at : ℕ → Codes) (left : ℕ) {n v count : ℕ} {edges chains : List ℕ} {r : Result (Option (ℕ × ℕ)) Stopped}
+    {levels₁ edges₁ chains₁ : List ℕ} {E : Below → Went}
     (d : Called E n left v count edges chains r levels₁ edges₁ chains₁) where
   abbrev expected : Went
   expected = E (below_once at most_edges left)
@@ -84,15 +79,15 @@ module _ (at : ℕ → Codes) (left : ℕ) {n v count : ℕ} {edges chains : Lis
   all_seen : expected ≡ visit_seen (below_once at most_edges left) left v count r levels₁ edges₁
   all_seen = sym (d.seen (below_once at most_edges left))
 
-  pub not_visited : (number : ℕ) (a : Refusal) → r ≡ Stopped number a → Through expected left v edges chains (Refused number a) levels₁ edges₁ chains₁
-  not_visited number a z = record {
+  pub not_visited : {y : Stopped} → r ≡ Err y → Through expected left v edges chains (Err y) levels₁ edges₁ chains₁
+  not_visited z = record {
     seen = sym (all_seen ∙ ap (λ r. visit_seen (below_once at most_edges left) left v count r levels₁ edges₁) z);
     ready = tt;
     kept_edges = d.kept_edges;
     kept_chains = d.kept_chains;
   }
 
-  pub known : r ≡ Known → Through expected left v edges chains (Built count) levels₁ edges₁ chains₁
+  pub known : r ≡ (Ok None) → Through expected left v edges chains (Ok count) levels₁ edges₁ chains₁
   known z = record {
     seen = sym (all_seen ∙ ap (λ r. visit_seen (below_once at most_edges left) left v count r levels₁ edges₁) z);
     ready = rw z at d.ready;
@@ -100,11 +95,11 @@ module _ (at : ℕ → Codes) (left : ℕ) {n v count : ℕ} {edges chains : Lis
     kept_chains = d.kept_chains;
   }
 
-  all_ahead : (k linked : ℕ) → r ≡ Children k linked
+  all_ahead : (k linked : ℕ) → r ≡ Ok (Some (k, linked))
       → expected ≡ then_w (ahead at left v (words_from levels₁ (level_at left) k) (rows_in linked edges₁) (remembered levels₁) 0) (ended v)
   all_ahead k linked z = all_seen ∙ ap (λ r. visit_seen (below_once at most_edges left) left v count r levels₁ edges₁) z
 
-  pub begun : {k linked : ℕ} {bundle store imports includes levels store₁ imports₁ includes₁ : List ℕ} → r ≡ Children k linked
+  pub begun : {k linked : ℕ} {bundle store imports includes levels store₁ imports₁ includes₁ : List ℕ} → r ≡ Ok (Some (k, linked))
       → Room bundle store imports includes levels edges chains left count
       → Kept (level_at (left + 1)) store imports includes levels store₁ imports₁ includes₁ levels₁
       → Walking at n left v (level_at left) k levels₁ edges₁ chains₁ linked levels₁ edges₁ chains₁ linked 0 0
@@ -174,15 +169,16 @@ module _ {at : ℕ → Codes} {n left v base k : ℕ} {levels₀ edges₀ chains
       → Kept (level_at (left + 1)) store imports includes levelsE store₁ imports₁ includes₁ levels
   kept_out p l = kept_loop p l (stays_same levels) refl
 
-  module _ {count : ℕ} {edgesE chainsE : List ℕ} {r : Visited} {E : Below → Went} (d : Called E n left v count edgesE chainsE r levels₀ edges₀ chains₀)
-      (z : r ≡ Children k linked) where
+  module _ {count : ℕ} {edgesE chainsE : List ℕ} {r : Result (Option (ℕ × ℕ)) Stopped} {E : Below → Went}
+      (d : Called E n left v count edgesE chainsE r levels₀ edges₀ chains₀)
+      (z : r ≡ Ok (Some (k, linked))) where
     all_words : expected at left d ≡ then_w (ahead at left v (words_from levels₀ base k) (rows_in linked edges₀) (remembered levels₀) 0) (ended v)
     all_words = all_ahead at left d k linked z
         ∙ ap (λ (j : ℕ). then_w (ahead at left v (words_from levels₀ j k) (rows_in linked edges₀) (remembered levels₀) 0) (ended v)) (sym g.based)
 
     -- the end, where the includes below are put down
     module _ (l : v < most_nodes) {levels₁ : List ℕ} (y : Remembers levels v (below most) levels₁) where
-      pub ended_all : k ≤ i → Through (expected at left d) left v edgesE chainsE (Built total) levels₁ edges chains
+      pub ended_all : k ≤ i → Through (expected at left d) left v edgesE chainsE (Ok total) levels₁ edges chains
       unfolding includes_once words_from
       ended_all h =
           let q : k - i ≡ 0 = omega arith in
@@ -197,15 +193,16 @@ module _ {at : ℕ → Codes} {n left v base k : ℕ} {levels₀ edges₀ chains
             kept_chains = g.long_chains ∙ d.kept_chains;
           }
 
-    module _ {x : Stepping} {edges₁ chains₁ : List ℕ} (s : Stepped (get_or levels (base + i) 0) left v (rows_in total edges) edges chains x edges₁ chains₁)
+    module _ {x : Result (NodeIndex × ℕ) Stopped} {edges₁ chains₁ : List ℕ} (s : Stepped (get_or levels (base + i) 0) left v
+        (rows_in total edges) edges chains x edges₁ chains₁)
         (h : i < k) where
-      pub halted_here : {number : ℕ} {a : Refusal} → x ≡ Halted number → a ≡ no_refusal
-          → Through (expected at left d) left v edgesE chainsE (Refused number a) levels edges₁ chains₁
-      halted_here {number} {a} e y =
+      pub halted_here : {y : Stopped} → x ≡ Err y
+          → Through (expected at left d) left v edgesE chainsE (Err y) levels edges₁ chains₁
+      halted_here {y} e =
           let q : include_once most_edges (below_once at most_edges left) v (get_or levels (base + i) 0) (rows_in total edges) (remembered levels)
-          ≡ halted number no_refusal = sym (s.seen at (remembered levels)) ∙ ap (λ x. step_seen (below_once at most_edges left) x edges₁ (remembered levels)) e in
+          ≡ halted y.number y.scan = sym (s.seen at (remembered levels)) ∙ ap (λ x. step_seen (below_once at most_edges left) x edges₁ (remembered levels)) e in
           record {
-            seen = ap (λ a. halted number a) y ∙ sym (all_words ∙ ap (λ (w : Went). then_w w (ended v)) (turn h ∙ ap (λ (w : Went). then_w w onwards) q));
+            seen = sym (all_words ∙ ap (λ (w : Went). then_w w (ended v)) (turn h ∙ ap (λ (w : Went). then_w w onwards) q));
             ready = tt;
             kept_edges = s.kept_edges ∙ g.long_edges ∙ d.kept_edges;
             kept_chains = s.kept_chains ∙ g.long_chains ∙ d.kept_chains;
@@ -218,8 +215,9 @@ module _ {at : ℕ → Codes} {n left v base k : ℕ} {levels₀ edges₀ chains
   kept_end p l {levels₁} y =
       kept_loop p (other_levels l y.long) (stays_marked y below_read) (later memory_words base levels₁ levels (omega (arith, g.based)) y.above)
 
-  module _ {x : Stepping} {edges₁ chains₁ : List ℕ} (s : Stepped (get_or levels (base + i) 0) left v (rows_in total edges) edges chains x edges₁ chains₁)
-      (h : i < k) {u : NodeIndex} {m : ℕ} (e : x ≡ Down u m) where
+  module _ {x : Result (NodeIndex × ℕ) Stopped} {edges₁ chains₁ : List ℕ} (s : Stepped (get_or levels (base + i) 0) left v
+      (rows_in total edges) edges chains x edges₁ chains₁)
+      (h : i < k) {u : NodeIndex} {m : ℕ} (e : x ≡ Ok (u, m)) where
     descends : Descends (get_or levels (base + i) 0) left u.0 m edges₁ chains₁
     descends = rw e at s.ready
 
@@ -245,7 +243,7 @@ module _ {at : ℕ → Codes} {n left v base k : ℕ} {levels₀ edges₀ chains
       edges_so_far = descends.filed;
     }
 
-    module _ {w : Walked} {levels₂ edges₂ chains₂ : List ℕ}
+    module _ {w : Result ℕ Stopped} {levels₂ edges₂ chains₂ : List ℕ}
         (o : Through (walk_once at most_edges (left - 1) 24 u.0 (rows_in m edges₁) (remembered levels)) (left - 1) u.0 edges₁ chains₁
         w levels₂ edges₂ chains₂)
       where
@@ -255,17 +253,16 @@ module _ {at : ℕ → Codes} {n left v base k : ℕ} {levels₀ edges₀ chains
             sym (s.seen at (remembered levels)) ∙ ap (λ x. step_seen (below_once at most_edges left) x edges₁ (remembered levels)) e
             ∙ one_less at left u.0 (rows_in m edges₁) (remembered levels) some_left ∙ sym o.seen
 
-        pub sent_up : {count : ℕ} {edgesE chainsE : List ℕ} {r : Visited} {E : Below → Went} {number : ℕ} {a : Refusal}
+        pub sent_up : {count : ℕ} {edgesE chainsE : List ℕ} {r : Result (Option (ℕ × ℕ)) Stopped} {E : Below → Went} {y : Stopped}
             → (d : Called E n left v count edgesE chainsE r levels₀ edges₀ chains₀)
-            → r ≡ Children k linked → w ≡ Refused number a → Through (expected at left d) left v edgesE chainsE w levels₂ edges₂ chains₂
-        sent_up {number = number} {a = a} d z y =
+            → r ≡ Ok (Some (k, linked)) → w ≡ Err y → Through (expected at left d) left v edgesE chainsE (Err y) levels₂ edges₂ chains₂
+        sent_up {y = y} d z f =
             let q : include_once most_edges (below_once at most_edges left) v (get_or levels (base + i) 0) (rows_in total edges) (remembered levels)
-            ≡ halted number a =
-            child ∙ ap (λ w. walked_seen u.0 w levels₂ edges₂) y in
+            ≡ halted y.number y.scan =
+            child ∙ ap (λ w. walked_seen u.0 w levels₂ edges₂) f in
             record {
-              seen = ap (λ w. walked_seen v w levels₂ edges₂) y
-                  ∙ sym (all_words d z ∙ ap (λ (w : Went). then_w w (ended v)) (turn h ∙ ap (λ (w : Went). then_w w onwards) q));
-              ready = rw y tt;
+              seen = sym (all_words d z ∙ ap (λ (w : Went). then_w w (ended v)) (turn h ∙ ap (λ (w : Went). then_w w onwards) q));
+              ready = tt;
               kept_edges = o.kept_edges ∙ s.kept_edges ∙ g.long_edges ∙ d.kept_edges;
               kept_chains = o.kept_chains ∙ s.kept_chains ∙ g.long_chains ∙ d.kept_chains;
             }
@@ -275,10 +272,10 @@ module _ {at : ℕ → Codes} {n left v base k : ℕ} {levels₀ edges₀ chains
           same_words : drop base levels₂ ≡ drop base levels
           same_words = let q : base ≡ level_at (left - 1 + 1) = omega (arith, g.based, some_left) in rw q p.above_kept
 
-          pub child_height : {t : ℕ} → w ≡ Built t → height_in levels₂ u.0 + 1 ≤ left
+          pub child_height : {t : ℕ} → w ≡ Ok t → height_in levels₂ u.0 + 1 ≤ left
           child_height {t} y = let q : Recalls (left - 1) u.0 t levels₂ edges₂ chains₂ = rw y at o.ready in omega (arith, q.low, some_left)
 
-          pub went_on : {t most₁ : ℕ} → w ≡ Built t → most₁ ≡ raised most (height_in levels₂ u.0)
+          pub went_on : {t most₁ : ℕ} → w ≡ Ok t → most₁ ≡ raised most (height_in levels₂ u.0)
               → Walking at n left v base k levels₀ edges₀ chains₀ linked levels₂ edges₂ chains₂ t most₁ (i + 1)
           went_on {t} {most₁} y f =
               let q : include_once most_edges (below_once at most_edges left) v (get_or levels (base + i) 0) (rows_in total edges) (remembered levels)

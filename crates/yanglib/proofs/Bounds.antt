@@ -1,6 +1,7 @@
 -- How large an answer is at the most: nodes and edges are within their limits, an entry that is refused is one of the image, of which there are at most
 -- 16 times 1,024, a scan is refused within its text, which is a part of the bundle, and image and bundle are wrong within their limits.
 -- Assumes nothing.
+use Rattle.std.specs.Prelude.{Err, Ok, None, Some, Result as Answer, Option}
 use mathlib.Core.Path.{◌≡◌, refl, sym, ap, ◌∙◌, subst}
 use mathlib.Core.Bool.{Bool, true, false, cond}
 use mathlib.Core.List.{List, [], ◌∷◌, ◌++◌, map, flat_map}
@@ -11,8 +12,6 @@ use lib.Seq.{length-take-le}
 use Rattle.text.specs.declared.Refusal.{Refusal}
 use Rattle.library_form.specs.Form.{Ans, good, bad}
 use Rattle.library_form.specs.Writer.{AllBytes}
-use Rattle.library_form.specs.declared.LookUp.{LookUp}
-use Rattle.library_form.specs.declared.LookUp.TheVariants.{Broken, Nothing, At}
 use Rattle.yangparser.specs.Dependencies.{Scan, good as scanGood, bad as scanBad, dependencies}
 use Rattle.yangparser.proofs.KeptLaws.{entry_refusal}
 use Rattle.library_image.specs.Library.{Name, Library, PlainSet, PlainLibrary, plain}
@@ -44,7 +43,7 @@ use Rattle.graph_build.proofs.Outcome.{image_here}
 
 image_low : (s : List ℕ) (p : ℕ) → image_at s ≡ bad p → p ≤ 65536
 unfolding find_module
-image_low s p e = ((module_in s []).broken p (ap (λ r. on_ans r (λ l n. first_module [] l) (λ q. Broken q)) e)).1
+image_low s p e = ((module_in s []).broken p (ap (λ r. on_ans r (λ l n. first_module [] l) (λ q. Err q)) e)).1
 
 bundle_low : (b : List ℕ) (p : ℕ) → bundle_at b ≡ bad p → p ≤ 16777216
 unfolding look_up
@@ -64,10 +63,10 @@ text_low : (b : List ℕ) (v : Name) (a : Refusal) → text_of b v ≡ refusing 
 unfolding text_of
 text_low b v a e = go (look_up b v) refl e
   where
-    go : (x : LookUp) → look_up b v ≡ x → look_text b x ≡ refusing a → a.at ≤ 16777216
-    go (Broken p) h k = let z : ◌≡◌ {A = ℕ} 0 1 = cc in absurd (omega arith)
-    go Nothing h k = let z : ◌≡◌ {A = ℕ} 0 1 = cc in absurd (omega arith)
-    go (At from size) h k =
+    go : (x : Answer (Option (ℕ × ℕ)) ℕ) → look_up b v ≡ x → look_text b x ≡ refusing a → a.at ≤ 16777216
+    go (Err p) h k = let z : ◌≡◌ {A = ℕ} 0 1 = cc in absurd (omega arith)
+    go (Ok None) h k = let z : ◌≡◌ {A = ℕ} 0 1 = cc in absurd (omega arith)
+    go (Ok (Some (from, size))) h k =
         let r = stands_in b v from size h in
         let i : from + size ≤ length b = r.0 in
         let j : length b ≤ 16777216 = r.1 in
@@ -155,7 +154,8 @@ answer_fits mode s b bytes k = image (image_at s) refl
     lent h false = graph_fits mode s b bytes h (graph_of mode most_nodes most_edges (text_of b) (plain_at s)) refl
 
     bundle : Reads (image_at s) → (y : Ans (List Text)) → bundle_at b ≡ y
-        → AnswerFits (on_read y (refusal bundle_broken 0 no_refusal) (cond (is_too_short (longest_text b) k) (refusal lent_too_short 0 no_refusal 0) tail)).answer
+        → AnswerFits (on_read y (refusal bundle_broken 0 no_refusal) (cond (is_too_short (longest_text b) k)
+        (refusal lent_too_short 0 no_refusal 0) tail)).answer
     bundle h (good es n) e = lent h (is_too_short (longest_text b) k)
     bundle h (bad p) e = (omega arith, omega arith, bundle_low b p e)
 

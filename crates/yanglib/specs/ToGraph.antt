@@ -2,7 +2,7 @@
 -- name's first byte, length), edge table, 16,384 words (from, to), in order of adding; rest zero. A refusal leaves all tables and counts zero. Scratch:
 -- a value store as long as the longest text, one pair of scan tables, 4,352 words; zero after every call.
 -- Assumes nothing.
-use Rattle.std.specs.Prelude.{ℕ, ◌≤◌, ◌≡◌, cond, List, length}
+use Rattle.std.specs.Prelude.{ℕ, ◌≤◌, ◌≡◌, cond, List, length, Ok, Err, Result as Answer}
 use Rattle.text_lent.specs.Padded.{zeros, padded}
 use Rattle.library_form.specs.Form.{Ans, good, bad}
 use Rattle.library_image.specs.Image.{image_broken, image_at}
@@ -13,8 +13,7 @@ use Rattle.text.specs.Refusal.{no_refusal}
 use Rattle.graph_tables.specs.Lengths.{Lengths, lengths_of, is_too_short}
 use Rattle.graph_tables.specs.Tables.{node_words, row_words}
 use Rattle.graph_build.specs.Result.{Result, refusal, draw_result}
-use Rattle.graph_build.specs.declared.Graphed.{Graphed}
-use Rattle.graph_build.specs.declared.Graphed.TheVariants.{Built, Refused}
+use Rattle.graph_build.specs.declared.GraphRefusal.{GraphRefusal}
 
 -- a table or scratch too short
 abbrev pub lent_too_short : ℕ
@@ -35,14 +34,14 @@ graphed mode s b k =
     (cond (is_too_short (longest_text b) k) (refusal lent_too_short 0 no_refusal 0) (draw_result mode s b)))
 
 -- how large an answer is at the most
-unfoldable pub AnswerFits : Graphed → Type 0
-AnswerFits (Built n m) = (n ≤ 1024) × (m ≤ 8192)
-AnswerFits (Refused number entry a place) = (entry ≤ 65536) × (a.at ≤ 16777216) × (place ≤ 16777216)
+unfoldable pub AnswerFits : Answer (ℕ × ℕ) GraphRefusal → Type 0
+AnswerFits (Ok (n, m)) = (n ≤ 1024) × (m ≤ 8192)
+AnswerFits (Err r) = let record { number = number; entry = entry; scan = a; place = place } = r in (entry ≤ 65536) × (a.at ≤ 16777216) × (place ≤ 16777216)
 
 -- ---- the tables
 
 -- what a call answers and leaves: n, e, d, f, g, l are the tables and scratch at entry, n₁ .. l₁ at exit
-pub record Leaves (x : Result) (n e d f g l : List ℕ) (r : Graphed) (n₁ e₁ d₁ f₁ g₁ l₁ : List ℕ) : Type 0 where
+pub record Leaves (x : Result) (n e d f g l : List ℕ) (r : Answer (ℕ × ℕ) GraphRefusal) (n₁ e₁ d₁ f₁ g₁ l₁ : List ℕ) : Type 0 where
   pub answer : r ≡ x.answer
   pub nodes : n₁ ≡ padded (length n) (node_words x.nodes)
   pub edges : e₁ ≡ padded (length e) (row_words x.rows)
@@ -51,5 +50,5 @@ pub record Leaves (x : Result) (n e d f g l : List ℕ) (r : Graphed) (n₁ e₁
   pub includes : g₁ ≡ zeros (length g)
   pub levels : l₁ ≡ zeros (length l)
 
-abbrev pub Graphs : Mode → (image bundle n e d f g l : List ℕ) → Graphed → (n₁ e₁ d₁ f₁ g₁ l₁ : List ℕ) → Type 0
+abbrev pub Graphs : Mode → (image bundle n e d f g l : List ℕ) → Answer (ℕ × ℕ) GraphRefusal → (n₁ e₁ d₁ f₁ g₁ l₁ : List ℕ) → Type 0
 Graphs mode s b n e d f g l r n₁ e₁ d₁ f₁ g₁ l₁ = Leaves (graphed mode s b (lengths_of n e d f g l)) n e d f g l r n₁ e₁ d₁ f₁ g₁ l₁

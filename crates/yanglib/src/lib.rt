@@ -8,14 +8,10 @@ ghost use Rattle.yanglib.specs.ToGraph.{graphed, Graphs};
 ghost use Rattle.graph_tables.specs.Lengths.{lengths_of};
 ghost use Rattle.graph_build.specs.Between.{Holds};
 
-use graph_build::Graphed;
-use library_bundle::Opened;
-use library_lists::Read;
+use graph::NoGraph;
+use graph_build::GraphRefusal;
 
-// The refusal of this layer.
-pub const LENT_TOO_SHORT: u32 = 22;
-
-// 20, then 21, then 22, then the graph.
+// 20, then 21, then 22, then the graph. The parameters are the tables of the C call, as the theorems name them.
 fn read_and_draw(
     image: &[u8],
     bundle: &[u8],
@@ -26,44 +22,34 @@ fn read_and_draw(
     imports: &mut [u32],
     includes: &mut [u32],
     levels: &mut [u32],
-) -> Graphed
+) -> Result<(usize, usize), GraphRefusal>
     requires { (nodes.old ≡ zeros (length nodes.old)) × (edges.old ≡ zeros (length edges.old)) }
     ensures { Holds (graphed (mode_of complete) image.now bundle.now
         (lengths_of nodes.old edges.old store.old imports.old includes.old levels.old))
         nodes.old edges.old store.old imports.old includes.old levels.old result
         nodes.new edges.new store.new imports.new includes.new levels.new }
 {
-    let read = library_read::read_image(image);
-    if let Read::Wrong(p) = read {
-        return Graphed::Refused(library_read::read_number(read), 0, text::no_refusal(), p);
-    }
+    library_read::read_image(image).map_err(|p| graph_build::refused_at(NoGraph::ImageBroken, p))?;
     let mut btab: [u32; library_bundle::TABLE] = [0; library_bundle::TABLE];
-    match library_bundle::open(bundle, &mut btab) {
-        Opened::Wrong(p) => Graphed::Refused(
-            library_bundle::BUNDLE_BROKEN,
-            0,
-            text::no_refusal(),
-            p,
-        ),
-        Opened::Texts(texts) => {
-            let longest = library_bundle::longest(bundle, &btab, texts);
-            if graph_tables::too_short(
-                longest,
-                nodes.len(),
-                edges.len(),
-                store.len(),
-                imports.len(),
-                includes.len(),
-                levels.len(),
-            ) {
-                return Graphed::Refused(LENT_TOO_SHORT, 0, text::no_refusal(), 0);
-            }
-            graph_build::draw(
-                image, bundle, complete, &btab, texts, nodes, edges, store, imports, includes,
-                levels,
-            )
-        }
+    let texts = library_bundle::open(bundle, &mut btab).map_err(|p| graph_build::refused_at(
+        NoGraph::BundleBroken,
+        p,
+    ))?;
+    let longest = library_bundle::longest(bundle, &btab, texts);
+    if graph_tables::too_short(
+        longest,
+        nodes.len(),
+        edges.len(),
+        store.len(),
+        imports.len(),
+        includes.len(),
+        levels.len(),
+    ) {
+        return Err(graph_build::refused_at(NoGraph::LentTooShort, 0));
     }
+    graph_build::draw(
+        image, bundle, complete, &btab, texts, nodes, edges, store, imports, includes, levels,
+    )
 }
 
 // The graph of the library: nodes and edges, or a refusal that leaves all tables zero. Scratch is zero after every call. `complete`: with all names as nodes,
@@ -78,19 +64,19 @@ pub fn to_graph(
     imports: &mut [u32],
     includes: &mut [u32],
     levels: &mut [u32],
-) -> Graphed
+) -> Result<(usize, usize), GraphRefusal>
     ensures { Graphs (mode_of complete) image.now bundle.now
         nodes.old edges.old store.old imports.old includes.old levels.old result
         nodes.new edges.new store.new imports.new includes.new levels.new }
 {
-    text_lent::clear_words(nodes);
-    text_lent::clear_words(edges);
+    nodes.fill(0);
+    edges.fill(0);
     let graphed = read_and_draw(
         image, bundle, complete, nodes, edges, store, imports, includes, levels,
     );
-    text_lent::clear_bytes(store);
-    text_lent::clear_words(imports);
-    text_lent::clear_words(includes);
-    text_lent::clear_words(levels);
+    store.fill(0);
+    imports.fill(0);
+    includes.fill(0);
+    levels.fill(0);
     graphed
 }

@@ -6,5 +6,5 @@ use Rattle.graph_entries.proofs.next_entry.Goals as goal
 pub returns-then-is_entry : goal.returns-then-is_entry
 returns-then-is_entry c = search entry_more
 
-pub returns : goal.returns
-returns c = search entry_same
+pub returns-else-is_entry : goal.returns-else-is_entry
+returns-else-is_entry c = search entry_same

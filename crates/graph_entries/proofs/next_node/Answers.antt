@@ -10,5 +10,5 @@ node_at-requires c = search entry_stands
 pub returns-then-is_entry : goal.returns-then-is_entry
 returns-then-is_entry c = (search node_own, search rules)
 
-pub returns : goal.returns
-returns c = (search node_kept, search node_behind)
+pub returns-else-is_entry : goal.returns-else-is_entry
+returns-else-is_entry c = (search node_kept, search node_behind)

@@ -1,20 +1,17 @@
 -- `graph_link::link_known`. Each way out is one law of Single.
 -- Assumes nothing.
-use Rattle.graph_link.proofs.Single.{known_low, node_low, unknown, listed_drew, import_drew}
-use borrow.Author.Rules.{rules}
+use Rattle.std.proofs.lemmas.Result.{err_from_is_err_and}
+use Rattle.graph_link.proofs.Handing.{was_some}
+use Rattle.graph_link.proofs.Single.{unknown, listed_drew, import_drew}
+use Rattle.graph_link.proofs.link_known.Goals.{then-given, else-given}
 use Rattle.graph_link.proofs.link_known.Goals as goal
 
-pub returns-in_default : goal.returns-in_default
-returns-in_default c = search unknown
-
-pub add_edge-requires : goal.add_edge-requires
-add_edge-requires c = (search rules, search node_low, search known_low)
-
-pub returns-then-given : goal.returns-then-given
-returns-then-given c = search listed_drew
-
-pub add_edge-requires-2 : goal.add_edge-requires-2
-add_edge-requires-2 c = (search rules, search known_low, search node_low)
+pub returns-in_err-u : goal.returns-in_err-u
+returns-in_err-u c =
+    let p = err_from_is_err_and c.from_residual.result c.from_residual.ensures.1 in
+    rw (p.1, p.2) (search (unknown, c.in_err-u.was))
 
 pub returns : goal.returns
-returns c = search import_drew
+returns c =
+    let known = was_some _ _ c.ok_or.ensures.value c.in_ok-u.was in
+    elim c.if-given.branch [ then-given w ↦ search listed_drew fits 9000 | else-given w ↦ search import_drew fits 9000 ]

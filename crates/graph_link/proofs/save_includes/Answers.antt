@@ -1,4 +1,5 @@
 use Rattle.graph_link.proofs.Saving.{included_low, saving_begins, all_saved, level_in, saved_on}
+use Rattle.graph_marks.proofs.Nodes.{desk_of}
 use native.Mathlib.Omega.{arith}
 use Rattle.graph_link.proofs.save_includes.Goals as goal
 
@@ -6,23 +7,13 @@ pub loop-i-init : goal.loop-i-init
 loop-i-init c = search saving_begins
 
 pub code_of-requires : goal.code_of-requires
-code_of-requires c = search included_low
+code_of-requires c = search (included_low, desk_of)
 
 pub overflow_add-levels : goal.overflow_add-levels
-overflow_add-levels c =
-    record { fits = omega (arith, level_in _ _ _ _ _ _ _ _ _ _ c.loop-i.invariant c.loop-i-test.true, c.well_formed.1.1.1.1.1.1.1.0.0) }
+overflow_add-levels c = record { fits = omega (arith, level_in _ _ _ _ _ _ _ _ _ _ c.loop-i.invariant c.loop-i-test.true, c.loop-i.invariant.long) }
 
 pub offset_bounds-levels-base : goal.offset_bounds-levels-base
-offset_bounds-levels-base c =
-    record {
-      fits = omega (
-        arith,
-        level_in _ _ _ _ _ _ _ _ _ _ c.loop-i.invariant
-            c.loop-i-test.true,
-        c.loop-i.invariant.long,
-        c.well_formed.1.1.1.1.1.1.1.0.1,
-      );
-    }
+offset_bounds-levels-base c = record { fits = omega (arith, level_in _ _ _ _ _ _ _ _ _ _ c.loop-i.invariant c.loop-i-test.true, c.loop-i.invariant.long) }
 
 pub bounds-levels-base : goal.bounds-levels-base
 bounds-levels-base c = search level_in

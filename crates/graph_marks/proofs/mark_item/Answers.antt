@@ -6,8 +6,8 @@ use borrow.Author.Rules.{rules}
 use mathlib.Core.Path.{refl}
 use Rattle.graph_marks.proofs.mark_item.Goals as goal
 
-pub overflow_add-end : goal.overflow_add-end
-overflow_add-end c = search end_fits
+pub overflow_add-x : goal.overflow_add-x
+overflow_add-x c = search end_fits
 
 pub slice_bounds-find-end : goal.slice_bounds-find-end
 slice_bounds-find-end c = search end_in
@@ -30,17 +30,17 @@ bounds-marks-at c = search at_in
 pub returns-then-is_entry : goal.returns-then-is_entry
 returns-then-is_entry c = (search mark_entry, search rules)
 
-pub returns-then-x-ne-SUBMODULE : goal.returns-then-x-ne-SUBMODULE
-returns-then-x-ne-SUBMODULE c = (search mark_other, refl)
+pub returns-else-is_submodule : goal.returns-else-is_submodule
+returns-else-is_submodule c = (search mark_other, refl)
 
 pub overflow_add-marks : goal.overflow_add-marks
 overflow_add-marks c = search next_fits
 
-pub offset_bounds-marks-at-2 : goal.offset_bounds-marks-at-2
-offset_bounds-marks-at-2 c = search next_bytes
+pub offset_bounds-marks-at-then-is_submodule : goal.offset_bounds-marks-at-then-is_submodule
+offset_bounds-marks-at-then-is_submodule c = search next_bytes
 
-pub bounds-marks-at-2 : goal.bounds-marks-at-2
-bounds-marks-at-2 c = search next_in
+pub bounds-marks-at-then-is_submodule : goal.bounds-marks-at-then-is_submodule
+bounds-marks-at-then-is_submodule c = search next_in
 
-pub returns : goal.returns
-returns c = (search mark_sub, search rules)
+pub returns-then-is_submodule : goal.returns-then-is_submodule
+returns-then-is_submodule c = (search mark_sub, search rules)

@@ -1,13 +1,10 @@
--- `graph_memory::raise`. Each way out is one law of Words.
+-- `graph_memory::raise`. The way out is a law of Words.
 -- Assumes nothing.
-use Rattle.graph_memory.proofs.Words.{raise_fits, by_this, by_another}
+use Rattle.graph_memory.proofs.Words.{raise_fits, by_either}
 use Rattle.graph_memory.proofs.raise.Goals as goal
 
-pub overflow_add-by : goal.overflow_add-by
-overflow_add-by c = search raise_fits
-
-pub returns-then-most-by : goal.returns-then-most-by
-returns-then-most-by c = search by_this
+pub overflow_add-of_word : goal.overflow_add-of_word
+overflow_add-of_word c = search raise_fits
 
 pub returns : goal.returns
-returns c = search by_another
+returns c = search by_either

@@ -1,6 +1,7 @@
 -- `graph_nodes::add_item`. Each way out is one law of Growing.
 -- Assumes nothing.
 use Rattle.graph_nodes.proofs.Growing.{item_asks, item_entry, item_sub, item_other, item_passed}
+use Rattle.graph_nodes.proofs.add_item.Goals.{else-adding-via-then-adding+else-is_sub, else-adding-via-else-adding}
 use Rattle.graph_nodes.proofs.add_item.Goals as goal
 
 pub add_name-requires : goal.add_name-requires
@@ -15,8 +16,6 @@ add_name-requires-then-is_sub c = search item_asks
 pub returns-then-is_sub : goal.returns-then-is_sub
 returns-then-is_sub c = search item_sub
 
-pub returns-then-adding : goal.returns-then-adding
-returns-then-adding c = search item_other
-
 pub returns : goal.returns
-returns c = search item_passed
+returns c =
+    elim c.else-adding.branch [ else-adding-via-then-adding+else-is_sub w ↦ search item_other | else-adding-via-else-adding w ↦ search item_passed ]

@@ -7,13 +7,11 @@ loop-i-init c = search build_begun
 pub add_item-requires : goal.add_item-requires
 add_item-requires c = search build_asks
 
-pub returns-in-Full : goal.returns-in-Full
-returns-in-Full c =
-    search (build_full, c.shared_slice_known-1.given)
+pub returns-in_err-n : goal.returns-in_err-n
+returns-in_err-n c = rw c.from_residual.ensures (search (build_full, c.in_err-n.was, c.type_inv.s))
 
 pub loop-i-preserved : goal.loop-i-preserved
-loop-i-preserved c = search build_on
+loop-i-preserved c = search (build_on, c.in_ok-n.was)
 
 pub returns : goal.returns
-returns c =
-    search (build_done, c.shared_slice_known-1.given)
+returns c = search (build_done, c.type_inv.s)

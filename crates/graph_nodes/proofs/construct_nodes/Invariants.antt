@@ -1,11 +1,7 @@
 -- `graph_nodes::construct_nodes`. Each way out is one law of Growing.
 -- Assumes nothing.
-use Prim.Native.Nat.{◌-◌}
 use Rattle.graph_nodes.proofs.Growing.{Building}
 use Rattle.graph_nodes.proofs.construct_nodes.Given as goal
 
 abbrev pub invariant-loop-i : goal.invariant-loop-i
 invariant-loop-i l = Building l.complete l.s l.table l.initial.tab l.count l.tab l.n l.adding l.i
-
-abbrev pub decreases-loop-i : goal.decreases-loop-i
-decreases-loop-i l = l.count - l.i

@@ -3,8 +3,8 @@
 use Rattle.graph_nodes.proofs.Looking.{name_in, name_fits, name_text}
 use Rattle.graph_nodes.proofs.name_of.Goals as goal
 
-pub overflow_add-end : goal.overflow_add-end
-overflow_add-end c = search name_fits
+pub overflow_add-result : goal.overflow_add-result
+overflow_add-result c = search name_fits
 
 pub slice_bounds-result-end : goal.slice_bounds-result-end
 slice_bounds-result-end c = search name_in

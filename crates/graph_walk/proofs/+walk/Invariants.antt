@@ -1,6 +1,5 @@
 -- `graph_walk::walk`, which calls itself with less depth left. What each include keeps is said by Walking.
 -- Assumes nothing.
-use Prim.Native.Nat.{◌-◌}
 use Rattle.graph_nodes.specs.Adding.{names_held}
 use Rattle.graph_visit.specs.Visit.{codes_here, AsLong}
 use Rattle.graph_walk.proofs.Walking.{Walking}
@@ -12,9 +11,6 @@ decreases-walk l = l.spot.left
 
 abbrev pub invariant-loop-i : goal.invariant-loop-i
 invariant-loop-i l =
-    Walking (codes_here l.image l.bundle (names_held l.image l.ntab l.sizes.nodes)) l.sizes.nodes l.left
-    l.v.0 l.base l.k l.initial.levels l.initial.edges l.initial.chains l.linked l.levels l.edges l.chains l.total l.most l.i
+    Walking (codes_here l.ground.nodes.image.now l.ground.bundle.now (names_held l.ground.nodes.image.now l.ground.nodes.ntab.now l.ground.nodes.count))
+    l.ground.nodes.count l.left l.v.0 l.base l.k l.initial.levels l.initial.edges l.initial.chains l.linked l.levels l.edges l.chains l.total l.most l.i
     × AsLong l.initial.store l.initial.imports l.initial.includes l.initial.levels l.store l.imports l.includes l.levels
-
-abbrev pub decreases-loop-i : goal.decreases-loop-i
-decreases-loop-i l = l.k - l.i

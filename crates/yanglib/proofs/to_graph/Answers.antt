@@ -5,10 +5,10 @@ use Rattle.yanglib.proofs.to_graph.Goals as goal
 
 pub read_and_draw-graphed-requires : goal.read_and_draw-graphed-requires
 read_and_draw-graphed-requires c =
-    (now_zero c.args.nodes.now c.clear_words.ensures, now_zero c.args.edges.now c.clear_words-2.ensures)
+    (now_zero c.args.nodes.now (c.fill.ensures.after (λ y e. e)), now_zero c.args.edges.now (c.fill-2.ensures.after (λ y e. e)))
 
 pub returns : goal.returns
 returns c =
-    all_left _ _ _ _ _ _ _ _ _ _ _ c.clear_words.ensures c.clear_words-2.ensures
-    c.read_and_draw-graphed.ensures c.clear_bytes.ensures c.clear_words-3.ensures
-    c.clear_words-4.ensures c.clear_words-5.ensures
+    all_left _ _ _ _ _ _ _ _ _ _ _ (c.fill.ensures.after (λ y e. e)) (c.fill-2.ensures.after (λ y e. e))
+    c.read_and_draw-graphed.ensures (c.fill-3.ensures.after (λ y e. e)) (c.fill-4.ensures.after (λ y e. e))
+    (c.fill-5.ensures.after (λ y e. e)) (c.fill-6.ensures.after (λ y e. e))
