@@ -1,6 +1,7 @@
 -- Each way out of `order` and `order_check`. What was taken stands in the order table with zeros behind it, so the table's beginning is what the ring is
 -- looked for in.
 -- Assumes nothing.
+use Rattle.std.specs.Prelude.{Ok, Err, Result}
 use mathlib.Core.Path.{◌≡◌, sym, ap, ap₂, ◌∙◌}
 use mathlib.Core.Bool.{Bool, true, false, not}
 use mathlib.Core.List.{List}
@@ -22,8 +23,6 @@ use Rattle.order_take.proofs.Taken.{taken_short, taken_stuck}
 use Rattle.order_ring.specs.Ring.{ring_of}
 use Rattle.order_ring.proofs.Round.{ring_ringed}
 use Rattle.order_places.specs.Places.{place_of}
-use Rattle.order_places.specs.declared.Verdict.{Verdict}
-use Rattle.order_places.specs.declared.Verdict.TheVariants.{Right, WrongAt}
 use Rattle.order.specs.declared.Ordered.{Ordered}
 use Rattle.order.specs.declared.Checked.{Checked}
 use Rattle.order.specs.Order.{sorted_of, order_of, Sorts, Orders, checked, told_place, check_of}
@@ -134,14 +133,14 @@ module _ (nodes n : ℕ) (edges : List ℕ) (m : ℕ) (list : List ℕ) {b : Boo
   pub check_fit : not b ≡ false → Fit n edges m
   check_fit t = fitting nodes n edges m (sym f ∙ not-false b t)
 
-  pub check_told : not b ≡ false → {p : Verdict} {r : Checked} → p ≡ place_of n (rows_in m edges) list → r ≡ told_place p → r ≡ check_of nodes n edges m list
+  pub check_told : not b ≡ false → {p : Result (Unit {0}) ℕ} {r : Checked} → p ≡ place_of n (rows_in m edges) list → r ≡ told_place p → r ≡ check_of nodes n edges m list
   unfolding check_of
   check_told t pp rr = rr ∙ ap told_place pp ∙ sym (rw (← f, not-false b t))
 
-pub right_told : (p : Verdict) → p ≡ Right → checked 0 0 ≡ told_place p
+pub right_told : (p : Result (Unit {0}) ℕ) → p ≡ (Ok tt) → checked 0 0 ≡ told_place p
 unfolding told_place
 right_told p h = sym (ap told_place h)
 
-pub wrong_told : (p : Verdict) (i : ℕ) → p ≡ WrongAt i → checked 42 i ≡ told_place p
+pub wrong_told : (p : Result (Unit {0}) ℕ) (i : ℕ) → p ≡ Err i → checked 42 i ≡ told_place p
 unfolding told_place
 wrong_told p i h = sym (ap told_place h)

@@ -1,7 +1,7 @@
 -- The answers of `order` and of `order_check`, and every word that is left. 43: the tables do not fit; then 41: the order table is shorter than the node
 -- count; then 40: a chain of edges comes back to its start, and a ring is written out. 42: the list is wrong, with the first wrong place.
 -- Assumes nothing.
-use Rattle.std.specs.Prelude.{ℕ, ◌≡◌, cond, List, [], eqb, leb, length}
+use Rattle.std.specs.Prelude.{ℕ, ◌≡◌, cond, List, [], eqb, leb, length, Ok, Err, Result}
 use Rattle.text_lent.specs.Padded.{padded}
 use Rattle.graph.specs.Numbers.{Row}
 use Rattle.graph_edges.specs.Edges.{rows_in}
@@ -9,8 +9,6 @@ use Rattle.order_tables.specs.Tables.{fits, tables_unfit}
 use Rattle.order_take.specs.Taking.{taken}
 use Rattle.order_ring.specs.Ring.{ring_of}
 use Rattle.order_places.specs.Places.{place_of}
-use Rattle.order_places.specs.declared.Verdict.{Verdict}
-use Rattle.order_places.specs.declared.Verdict.TheVariants.{Right, WrongAt}
 use Rattle.order.specs.declared.Ordered.{Ordered}
 use Rattle.order.specs.declared.Checked.{Checked}
 
@@ -57,9 +55,9 @@ pub record Orders (nodes : List ℕ) (n : ℕ) (edges : List ℕ) (m : ℕ) (tab
 abbrev pub checked : ℕ → ℕ → Checked
 checked k p = record { number = k; place = p }
 
-unfoldable pub told_place : Verdict → Checked
-told_place Right = checked 0 0
-told_place (WrongAt i) = checked list_wrong i
+unfoldable pub told_place : Result (Unit {0}) ℕ → Checked
+told_place (Ok tt) = checked 0 0
+told_place (Err i) = checked list_wrong i
 
 unfoldable pub check_of : (nodes : ℕ) (n : ℕ) (edges : List ℕ) (m : ℕ) (list : List ℕ) → Checked
 check_of nodes n edges m list = cond (fits nodes n edges m) (told_place (place_of n (rows_in m edges) list)) (checked tables_unfit 0)

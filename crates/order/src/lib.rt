@@ -7,27 +7,74 @@ ghost use Rattle.graph_edges.specs.Edges.{rows_in};
 ghost use Rattle.order_tables.specs.Tables.{Fit};
 ghost use Rattle.order.specs.Order.{Sorts, Orders, told_place, check_of};
 
-use order_places::Verdict;
+use std::marker::Model;
 
-// Refusals of this layer, beside 43.
-pub const CYCLE_MET: u32 = 40;
+// How an order or a check went, by the numbers of request 2026-08.
+#[derive(Clone, Copy, Debug, PartialEq, Eq)]
+pub enum Outcome {
+    Good = 0,
+    // Some nodes wait for each other.
+    CycleMet = 40,
+    OrderTooShort = 41,
+    ListWrong = 42,
+    // The tables do not fit their counts, or an edge has a number that is no node.
+    TablesUnfit = 43,
+}
 
-pub const ORDER_TOO_SHORT: u32 = 41;
-
-pub const LIST_WRONG: u32 = 42;
-
-// The number, and how many nodes are written: all, those of a ring at 40, or none.
+// How it went, and how many nodes are written: all, those of a ring, or none. Contracts see the number of the outcome.
 #[derive(Clone, Copy)]
 pub struct Ordered {
-    pub number: u32,
+    pub outcome: Outcome,
     pub length: u32,
 }
 
-// The number, and at 42 the first wrong place.
+impl Model for Ordered {
+    ghost use Rattle.order.specs.Told.{ToldOrder};
+
+    ghost Value = { ToldOrder };
+
+    ghost use Rattle.order.specs.Seen.{order_seen, order_unseen};
+
+    ghost view = { order_seen };
+
+    ghost inverse = { order_unseen };
+}
+
+impl Ordered {
+    // The number of the outcome.
+    pub fn number(self) -> u32
+        ensures { result ≡ self.number }
+    {
+        self.outcome as u32 // 0, 40, 41 or 43
+    }
+}
+
+// How it went, and the first wrong place of a list. Contracts see the number of the outcome.
 #[derive(Clone, Copy)]
 pub struct Checked {
-    pub number: u32,
+    pub outcome: Outcome,
     pub place: u32,
+}
+
+impl Model for Checked {
+    ghost use Rattle.order.specs.Told.{ToldCheck};
+
+    ghost Value = { ToldCheck };
+
+    ghost use Rattle.order.specs.Seen.{check_seen, check_unseen};
+
+    ghost view = { check_seen };
+
+    ghost inverse = { check_unseen };
+}
+
+impl Checked {
+    // The number of the outcome.
+    pub fn number(self) -> u32
+        ensures { result ≡ self.number }
+    {
+        self.outcome as u32 // 0, 42 or 43
+    }
 }
 
 // Writes the order, or a ring. The tables fit, and the order table is long enough and zero.
@@ -38,13 +85,13 @@ fn sort(n: usize, edges: &[u32], m: usize, table: &mut [u32]) -> Ordered
     let count = order_take::take_all(edges, n, m, table);
     if count == n {
         return Ordered {
-            number: 0,
+            outcome: Outcome::Good,
             length: count as u32,
         };
     }
     let length = order_ring::write_ring(edges, n, m, table, count);
     Ordered {
-        number: CYCLE_MET,
+        outcome: Outcome::CycleMet,
         length: length as u32,
     }
 }
@@ -54,16 +101,16 @@ fn sort(n: usize, edges: &[u32], m: usize, table: &mut [u32]) -> Ordered
 pub fn order(nodes: &[u32], n: usize, edges: &[u32], m: usize, table: &mut [u32]) -> Ordered
     ensures { Orders nodes.now n edges.now m table.old result table.new }
 {
-    text_lent::clear_words(table);
+    table.fill(0);
     if !order_tables::fit(nodes, n, edges, m) {
         return Ordered {
-            number: order_tables::TABLES_UNFIT,
+            outcome: Outcome::TablesUnfit,
             length: 0,
         };
     }
     if table.len() < n {
         return Ordered {
-            number: ORDER_TOO_SHORT,
+            outcome: Outcome::OrderTooShort,
             length: 0,
         };
     }
@@ -71,17 +118,17 @@ pub fn order(nodes: &[u32], n: usize, edges: &[u32], m: usize, table: &mut [u32]
 }
 
 // What the check found, as an answer.
-fn told_place(place: Verdict) -> Checked
+fn told_place(place: Result<(), u32>) -> Checked
     ensures { result ≡ told_place place }
 {
     match place {
-        Verdict::Right => Checked {
-            number: 0,
+        Ok(()) => Checked {
+            outcome: Outcome::Good,
             place: 0,
         },
-        Verdict::WrongAt(i) => Checked {
-            number: LIST_WRONG,
-            place: i,
+        Err(place) => Checked {
+            outcome: Outcome::ListWrong,
+            place,
         },
     }
 }
@@ -92,7 +139,7 @@ pub fn order_check(nodes: &[u32], n: usize, edges: &[u32], m: usize, list: &[u32
 {
     if !order_tables::fit(nodes, n, edges, m) {
         return Checked {
-            number: order_tables::TABLES_UNFIT,
+            outcome: Outcome::TablesUnfit,
             place: 0,
         };
     }

@@ -31,13 +31,6 @@ edge_known edges places m g i l = record { long = omega (arith, g.long); from_in
 pub second_known : (edges places : List ℕ) (m : ℕ) → Known edges m places → (i : ℕ) → i < m → NodeAt edges (i * 2 + 1) places
 second_known edges places m g i l = record { there = omega (arith, g.long); known = g.to_in i l }
 
-module _ (places : List ℕ) (e : Row) (good : ℕ) {to : ℕ} (t : to ≡ place_in places e.to) where
-  pub past : good ≤ to → false ≡ bars places e good
-  past l = rw (← t, le-ltb to good l)
-
-  pub tested : to < good → {from : ℕ} → from ≡ place_in places e.from → leb to from ≡ bars places e good
-  tested l f = rw (← t, ← f, lt-ltb to good l)
-
 -- ---- what one edge leaves
 
 record Leaves (places : List ℕ) (e : Row) (good r : ℕ) : Type 0 where
@@ -104,8 +97,10 @@ module _ (places edges : List ℕ) (first m good i : ℕ) (g : Seeking places ed
   pub found : {t : Bool} → t ≡ bars places (row_at edges i) good → t ≡ true → NextBreak places edges first m good i
   found h t = record { low = g.low; most = g.most; pass = g.pass; barred = λ l. sym h ∙ t }
 
-  pub none_found : m ≤ i → NextBreak places edges first m good i
-  none_found l = record { low = g.low; most = g.most; pass = g.pass; barred = λ k. absurd (omega arith) }
+  pub none_found : m ≤ i → NextBreak places edges first m good m
+  none_found l =
+      let e : i ≡ m = omega (arith, g.most) in
+      rw (← e) (record { low = g.low; most = omega arith; pass = g.pass; barred = λ k. absurd (omega arith) })
 
 -- ---- one edge after another
 

@@ -1,11 +1,12 @@
 -- The places before the first that is wrong are free each after those before it, and that one is not: so a check from the start goes on from there, and
 -- ends there.
 -- Assumes nothing.
+use Rattle.std.specs.Prelude.{Ok, Err}
 use mathlib.Core.Path.{◌≡◌, refl, sym, ◌∙◌}
 use mathlib.Core.Logic.{◌⊎◌, inl, inr, ⊎_elim}
 use mathlib.Core.List.{List, [], ◌∷◌}
 use mathlib.Core.Bool.{Bool, true, false, cond, ◌&&◌, and-false}
-use Prim.Native.Nat.{ℕ, zero, suc, ◌≤◌, ◌<◌}
+use Prim.Native.Nat.{ℕ, zero, suc, ◌≤◌, ◌<◌, max}
 use native.Mathlib.Omega.{arith}
 use native.Mathlib.Nat.{eq-or-lt_of_le}
 use lib.ListN.{length, get_or, take, drop, replicate, length-replicate, drop_of_length-le}
@@ -18,7 +19,6 @@ use Rattle.text_lent.proofs.Numbers.{decide}
 use Rattle.order_tables.specs.Free.{mem, ready, free}
 use Rattle.order_tables.specs.Tables.{Fit}
 use Rattle.order_tables.proofs.Ready.{within_row}
-use Rattle.order_places.specs.declared.Verdict.TheVariants.{Right, WrongAt}
 use Rattle.order_places.specs.Noted.{nowhere, place_in, Blank, Noted, AllNoted, all_let, Known, Unbroken}
 use Rattle.order_places.specs.Places.{place_from, place_of}
 use Rattle.order_places.proofs.Noting.{few, early, late}
@@ -106,25 +106,28 @@ module _ (list : List ℕ) (n : ℕ) (places : List ℕ) (r : ℕ) (a : AllNoted
   as_long : length (take good list) ≡ good
   as_long = length-take-le good list (omega (arith, u.most, a.noted.within))
 
-  -- `count` is `good` as a number of places
-  module _ {count : ℕ} (c : count ≡ good) where
-    pub wrong : count < length list → WrongAt good ≡ place_of n (rows_in m edges) list
+  module _ (l : length list ≤ good) where
+    at_end : drop good list ≡ []
+    at_end = drop_of_length-le list {i = good} l
+
+    right : n ≤ good → (Ok tt) ≡ place_of n (rows_in m edges) list
     unfolding place_from
-    wrong l =
-        let l : good < length list = omega arith in
-        sym (reached ∙ rw (drop-cons list good 0 l, not_free list n places r a (rows_in m edges) good u l, as_long))
+    right k = sym (reached ∙ rw (at_end, as_long, le-ltb good n k))
 
-    module _ (l : length list ≤ count) where
-      at_end : drop good list ≡ []
-      at_end = drop_of_length-le list {i = good} (omega arith)
+    too_short : good < n → Err good ≡ place_of n (rows_in m edges) list
+    unfolding place_from
+    too_short k = sym (reached ∙ rw (at_end, as_long, lt-ltb good n k))
 
-      pub too_short : count < n → WrongAt good ≡ place_of n (rows_in m edges) list
-      unfolding place_from
-      too_short k = sym (reached ∙ rw (at_end, as_long, lt-ltb good n (omega arith)))
+  wrong : good < length list → Err good ≡ place_of n (rows_in m edges) list
+  unfolding place_from
+  wrong l = sym (reached ∙ rw (drop-cons list good 0 l, not_free list n places r a (rows_in m edges) good u l, as_long))
 
-      pub right : n ≤ count → Right ≡ place_of n (rows_in m edges) list
-      unfolding place_from
-      right k = sym (reached ∙ rw (at_end, as_long, le-ltb good n (omega arith)))
+  module _ {all : ℕ} (e : all ≡ max (length list) n) where
+    pub all_right : all ≤ good → (Ok tt) ≡ place_of n (rows_in m edges) list
+    all_right l = right (omega arith) (omega arith)
+
+    pub first_wrong : good < all → Err good ≡ place_of n (rows_in m edges) list
+    first_wrong l = ⊎_elim wrong (λ k. too_short k (omega arith)) (order good (length list))
 
 -- ---- what the calls ask
 

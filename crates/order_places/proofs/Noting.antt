@@ -91,8 +91,8 @@ module _ (list : List ℕ) (n : ℕ) (before places : List ℕ) (i : ℕ) (g : N
   pub place_fits : Fits w32 i
   place_fits = record { fits = omega (arith, few list n places i g.noted, g.noted.low) }
 
-  pub ended : length list ≤ i → AllNoted list n places i
-  ended l = record { noted = g.noted; few = few list n places i g.noted; stop = λ k. absurd (omega arith) }
+  pub ended : length list ≤ i → AllNoted list n places (length list)
+  ended l = let e : i ≡ length list = omega (arith, g.noted.within) in rw (← e) (record { noted = g.noted; few = few list n places i g.noted; stop = λ k. absurd (omega arith) })
 
   module _ {v : ℕ} (q : v ≡ get_or list i 0) where
     pub no_node : n ≤ v → AllNoted list n places i

@@ -11,33 +11,21 @@ use graph::NodeIndex;
 
 // The place of a node that is not in the list: behind all others, so that an edge is tested without asking whether its nodes are there. All its bytes are
 // alike, so that a table is filled with it fast.
-const NOWHERE: u32 = 4294967295;
-
-// The list holds each node once and breaks no edge; or this is its first wrong place.
-#[derive(Clone, Copy)]
-pub enum Verdict {
-    Right,
-    WrongAt(u32),
-}
+const NOWHERE: u32 = u32::MAX;
 
 // Notes the place of each node of the list, up to the first place whose number is no node or stood earlier. Answers that place, or the list's end.
 fn note_places(list: &[u32], n: usize, places: &mut [u32]) -> usize
     requires { Blank n places.old }
     ensures { AllNoted list.now n places.new result }
 {
-    let mut i = 0;
-    while i < list.len() {
-        let v = graph::node_row(NodeIndex(list[i]));
-        if n <= v {
-            return i;
-        }
-        if places[v] != NOWHERE {
+    for (i, x) in list.iter().enumerate() {
+        let v = graph::node_row(NodeIndex(*x));
+        if n <= v || places[v] != NOWHERE {
             return i;
         }
         places[v] = i as u32;
-        i += 1;
     }
-    i
+    list.len()
 }
 
 // The place in the list of the node whose number is the word `at` of the edge table.
@@ -55,10 +43,7 @@ fn breaks(edges: &[u32], i: usize, places: &[u32], good: u32) -> bool
     ensures { result ≡ bars places.now (row_at edges.now i) good }
 {
     let to = place_at(edges, i * 2 + 1, places);
-    if good <= to {
-        return false;
-    }
-    to <= place_at(edges, i * 2, places)
+    to < good && to <= place_at(edges, i * 2, places)
 }
 
 // The first edge from `first` on that makes one of them wrong, or m. `good` stays the same meanwhile, so that no edge's test waits for the one before.
@@ -66,14 +51,12 @@ fn next_break(edges: &[u32], first: usize, m: usize, places: &[u32], good: u32) 
     requires { Known edges.now m places.now × (first ≤ m) }
     ensures { NextBreak places.now edges.now first m good result }
 {
-    let mut i = first;
-    while i < m {
+    for i in first..m {
         if breaks(edges, i, places, good) {
             return i;
         }
-        i += 1;
     }
-    i
+    m
 }
 
 // How many of the first `good` places are right by all of the m edges: those before the first that an edge makes wrong.
@@ -91,19 +74,16 @@ fn unbroken(edges: &[u32], m: usize, places: &[u32], good: u32) -> u32
 }
 
 // The first wrong place of a list.
-pub fn check_list(edges: &[u32], n: usize, m: usize, list: &[u32]) -> Verdict
+pub fn check_list(edges: &[u32], n: usize, m: usize, list: &[u32]) -> Result<(), u32>
     requires { Fit n edges.now m }
     ensures { result ≡ place_of n (rows_in m edges.now) list.now }
 {
     let mut places: [u32; graph::MOST_NODES] = [NOWHERE; graph::MOST_NODES];
     let noted = note_places(list, n, &mut places);
     let place = unbroken(edges, m, &places, noted as u32);
-    let good = text_lent::of_word(place);
-    if good < list.len() {
-        return Verdict::WrongAt(place);
+    if (place as usize) < list.len().max(n) {
+        Err(place)
+    } else {
+        Ok(())
     }
-    if good < n {
-        return Verdict::WrongAt(place);
-    }
-    Verdict::Right
 }

@@ -69,19 +69,25 @@ module _ (list : List ℕ) (count : ℕ) (t₀ : List ℕ) (g : Marks list count
       let k : mem (get_or (take count list) i 0) (take count list) ≡ true = place_mem (take count list) i (rw (length-take-le count list g.all) l) in
       g.below (get_or list i 0) (rw (get_or-take count list i 0 l) at k)
 
-  module _ (t : List ℕ) (i x : ℕ) (h : Marking list count t₀ t i) (q : x ≡ get_or list i 0) (l : i < count) where
+  module _ (t : List ℕ) (i x : ℕ) (h : Marking list count t₀ t i) (p : x ≡ get_or (take count list) i 0) (s : i < length (take count list)) where
+    l : i < count
+    l = rw (length-take-le count list g.all) at s
+
+    q : x ≡ get_or list i 0
+    q = p ∙ get_or-take count list i 0 l
+
     pub mark_in : x < length t
     mark_in = rw q (omega (arith, low i l, h.sofar.long))
 
     pub mark_fits : Fits w64 (x * 4)
-    mark_fits = record { fits = omega (arith, low i l) }
+    mark_fits = record { fits = omega (arith, q, low i l) }
 
     pub mark_more : Marking list count t₀ (set t x 1) (i + 1)
     mark_more = record {
       kept = length-set t x 1 ∙ h.kept;
-      most = omega arith;
-      sofar = rw (q, add-one, take-suc list i 0 (omega (arith, g.all))) (flag_end (take i list) t (get_or list i 0) h.sofar (low i l));
+      most = omega (arith, l);
+      sofar = rw (q, add-one, take-suc list i 0 (omega (arith, g.all, l))) (flag_end (take i list) t (get_or list i 0) h.sofar (low i l));
     }
 
-  pub mark_done : (t : List ℕ) (i : ℕ) → Marking list count t₀ t i → count ≤ i → Flags (take count list) t
-  mark_done t i h l = let e : i ≡ count = omega (arith, h.most) in rw (← e) h.sofar
+  pub mark_done : (t : List ℕ) (i : ℕ) → Marking list count t₀ t i → length (take count list) ≤ i → Flags (take count list) t
+  mark_done t i h k = let l : count ≤ i = rw (length-take-le count list g.all) at k in let e : i ≡ count = omega (arith, h.most) in rw (← e) h.sofar

@@ -11,7 +11,7 @@ use native.Mathlib.Numerals.{add-one}
 use lib.ListN.{length, get_or, set, length-set}
 use lib.Seq.{get_or-set_same, get_or-set_other}
 use lib.Dec.{eqb, ltb}
-use borrow.Author.Tests.{eq-eqb, ne_eqb, lt-ltb, le-ltb, ltb-true, ltb-false}
+use borrow.Author.Tests.{eq-eqb, ne_eqb, ltb-true, ltb-false}
 use Rattle.text_lent.proofs.Numbers.{decide}
 use Rattle.graph.specs.Numbers.{Row, row, mem_r}
 use Rattle.graph.specs.Limits.{most_nodes}
@@ -21,30 +21,6 @@ use Rattle.graph_edges.proofs.Rows.{mem_snoc}
 use Rattle.order_tables.specs.Free.{lowest, zero_at}
 use Rattle.order_tables.proofs.Lowest.{lowest_has, lowest_none, lowest_is, lowest_not, lowest_same}
 use Rattle.order_ring.specs.Trail.{noted, lowest_to, Notes, Noted}
-
--- ---- one edge: the ways through `note_edge`
-
-module _ (edges : List ℕ) (i : ℕ) (gone before : List ℕ) (u v : ℕ) (a : u ≡ get_or edges (i * 2) 0) (b : v ≡ get_or edges (i * 2 + 1) 0) where
-  abbrev from : ℕ
-  from = get_or edges (i * 2) 0
-
-  abbrev to : ℕ
-  to = get_or edges (i * 2 + 1) 0
-
-  pub note_taken : (get_or gone u 0 ≡ 0 → ⊥) → before ≡ noted gone before (row_at edges i)
-  note_taken d = let k : eqb (get_or gone from 0) 0 ≡ false = ne_eqb _ _ (λ e. d (rw a e)) in rw k
-
-  pub note_higher : get_or gone u 0 ≡ 0 → get_or before v 0 ≤ from → before ≡ noted gone before (row_at edges i)
-  note_higher e l =
-      let k : eqb (get_or gone from 0) 0 ≡ true = eq-eqb (get_or gone from 0) 0 (rw (← a) e) in
-      let j : ltb from (get_or before to 0) ≡ false = le-ltb from (get_or before to 0) (rw (← b) l) in
-      rw (k, j)
-
-  pub note_lower : get_or gone u 0 ≡ 0 → from < get_or before v 0 → set before v from ≡ noted gone before (row_at edges i)
-  note_lower e l =
-      let k : eqb (get_or gone from 0) 0 ≡ true = eq-eqb (get_or gone from 0) 0 (rw (← a) e) in
-      let j : ltb from (get_or before to 0) ≡ true = lt-ltb from (get_or before to 0) (rw (← b) l) in
-      rw (k, j, b)
 
 -- ---- the lowest number with one property or another
 

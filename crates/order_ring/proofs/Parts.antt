@@ -4,17 +4,17 @@
 use mathlib.Core.Path.{◌≡◌, refl, sym, ap, ◌∙◌}
 use mathlib.Core.Logic.{⊎_elim}
 use mathlib.Core.Bool.{true, cond}
-use mathlib.Core.List.{List, [], ◌∷◌, ◌++◌, append-nil}
+use mathlib.Core.List.{List, [], ◌∷◌, ◌++◌, append-nil, append_assoc}
 use Prim.Native.Nat.{ℕ, zero, suc, ◌+◌, ◌-◌, ◌≤◌, ◌<◌}
 use native.Mathlib.Omega.{arith}
 use native.Mathlib.Nat.{eq-or-lt_of_le}
 use native.Mathlib.Numerals.{add-one}
-use lib.ListN.{length, get_or, set, take, drop, drop_of_length-le}
-use lib.Seq.{sets, slice, slice_empty, slice-cons, take-suc, length-take-le, drop-append-le, drop-cons, append_snoc}
+use lib.ListN.{length, get_or, take, drop, drop_of_length-le}
+use Rattle.std.proofs.lemmas.List.{drop-take}
+use lib.Seq.{sets, sets-eq, drop-drop, slice, slice_empty, slice-cons, take-suc, length-take-le, length-slice, drop-append-le, drop-cons, append_snoc}
 use lib.Dec.{ltb}
 use borrow.Author.Tests.{eq-eqb, ne_eqb, lt-ltb, le-ltb}
 use Rattle.text.proofs.Here.{never}
-use Rattle.text.proofs.Writing.{Writing, begun, put, written}
 use Rattle.order_tables.specs.Free.{mem}
 use Rattle.order_tables.proofs.Distinct.{mem_other}
 use Rattle.order_ring.specs.Ring.{until, since, least_of, lowest_first}
@@ -63,9 +63,10 @@ module _ (trail : List ℕ) (at v i : ℕ) (h : Seeking trail at v i) where
           later = sym (mem_other v (get_or trail i 0) (drop (i + 1) trail) k) ∙ rw (← here) h.later;
         }
 
-  pub seek_ends : length trail ≤ i → Behind trail at v i
+  -- it is met before the end
+  pub seek_ends : length trail ≤ i → {r : ℕ} → Behind trail at v r
   unfolding mem
-  seek_ends l = let e : drop i trail ≡ [] = drop_of_length-le trail {i = i} l in absurd (never {b = mem v []} refl (rw e at h.later))
+  seek_ends l {r} = let e : drop i trail ≡ [] = drop_of_length-le trail {i = i} l in absurd (never {b = mem v []} refl (rw e at h.later))
 
 -- ---- the lowest of a part
 
@@ -170,30 +171,14 @@ module _ (trail : List ℕ) (at end p : ℕ) (k : end ≤ length trail) where
               (rw (since_at (get_or trail p 0) refl b (p - at) at d other, until_at (get_or trail p 0) refl b (p - at) at d other)));
         }
 
--- ---- the loop of `copy`
+-- ---- what `copy` leaves
 
-pub record Copying (trail : List ℕ) (from to : ℕ) (table₀ : List ℕ) (at : ℕ) (table : List ℕ) (i j : ℕ) : Type 0 where
-  pub within : i ≤ to
-  pub level : j + (to - i) ≡ at + (to - from)
-  pub writing : Writing table₀ at (slice from to trail) table j (slice i to trail)
-
-module _ (trail : List ℕ) (from to : ℕ) (table₀ : List ℕ) (at : ℕ) where
-  pub copy_begun : from ≤ to → Copying trail from to table₀ at table₀ from at
-  copy_begun l = record { within = l; level = refl; writing = begun table₀ at (slice from to trail) }
-
-  module _ (table : List ℕ) (i j : ℕ) (h : Copying trail from to table₀ at table i j) where
-    pub copy_kept : length table ≡ length table₀
-    copy_kept = h.writing.long
-
-    pub copy_in : i < to → at + (to - from) ≤ length table₀ → j < length table
-    copy_in l k = omega (arith, copy_kept, h.level)
-
-    pub copy_more : i < to → to ≤ length trail → Copying trail from to table₀ at (set table j (get_or trail i 0)) (i + 1) (j + 1)
-    copy_more l k = record {
-      within = omega arith;
-      level = omega (arith, h.level);
-      writing = put (slice_more i to trail l k) h.writing;
-    }
-
-    pub copy_done : to ≤ i → table ≡ sets table₀ at (slice from to trail)
-    copy_done l = let e : i ≡ to = omega (arith, h.within) in written (rw e (slice_empty to trail)) h.writing
+pub copied : (trail : List ℕ) (from to : ℕ) (table : List ℕ) (at : ℕ) → from ≤ to → to ≤ length trail → at + (to - from) ≤ length table
+    → {k : ℕ} → k ≡ to - from → {part : List ℕ} → part ≡ take (to - from) (drop from trail)
+    → take at table ++ (part ++ drop k (drop at table)) ≡ sets table at (slice from to trail)
+copied trail from to table at a b c {k} q {part} p =
+    let all : from + (to - from) ≡ to = omega arith in
+    let e : part ≡ slice from to trail = p ∙ sym (drop-take from (to - from) trail) ∙ rw all in
+    let n : length (slice from to trail) ≡ to - from = length-slice from to trail b in
+    rw (e, q, drop-drop (to - from) at table)
+    (sym (sets-eq (slice from to trail) table at (omega arith) ∙ rw n (append_assoc (take at table) (slice from to trail) (drop (at + (to - from)) table))))

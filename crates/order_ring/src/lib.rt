@@ -29,11 +29,8 @@ fn mark(list: &[u32], count: usize, gone: &mut [u32])
     requires { Marks list.now count gone.old }
     ensures { Flags (take count list.now) gone.new }
 {
-    let mut i = 0;
-    while i < count {
-        let v = graph::node_row(NodeIndex(list[i]));
-        gone[v] = 1;
-        i += 1;
+    for x in &list[..count] {
+        gone[graph::node_row(NodeIndex(*x))] = 1;
     }
 }
 
@@ -45,10 +42,8 @@ fn note_edge(edges: &[u32], i: usize, gone: &[u32], before: &mut [u32])
     let from = edges[i * 2];
     let u = graph::node_row(NodeIndex(from));
     let v = graph::node_row(NodeIndex(edges[i * 2 + 1]));
-    if gone[u] == 0 {
-        if from < before[v] {
-            before[v] = from;
-        }
+    if gone[u] == 0 && from < before[v] {
+        before[v] = from;
     }
 }
 
@@ -57,10 +52,8 @@ fn note_edges(edges: &[u32], m: usize, gone: &[u32], before: &mut [u32])
     requires { Notes edges.now m gone.now before.old }
     ensures { Noted gone.now (rows_in m edges.now) before.new }
 {
-    let mut i = 0;
-    while i < m {
+    for i in 0..m {
         note_edge(edges, i, gone, before);
-        i += 1;
     }
 }
 
@@ -71,6 +64,7 @@ fn go_back(before: &[u32], v: usize, gone: &mut [u32], trail: &mut [u32]) -> Met
 {
     let mut node = v;
     let mut at = graph::MOST_NODES;
+    // No `for`: the way ends where a node was marked, and that the trail has room until then is a law of the way.
     while gone[node] == 0 {
         gone[node] = 1;
         at -= 1;
@@ -106,14 +100,13 @@ fn behind(trail: &[u32], at: usize, v: usize) -> usize
     requires { mem v (drop at trail.now) ≡ true }
     ensures { Behind trail.now at v result }
 {
-    let mut i = at;
-    while i < trail.len() {
-        if text_lent::of_word(trail[i]) == v {
+    // No `position`: the laws say by `until` what stands before v, and a chain answers places alone.
+    for i in at..trail.len() {
+        if trail[i] as usize == v {
             return i + 1;
         }
-        i += 1;
     }
-    i
+    trail.len()
 }
 
 // The place of the lowest number from `at` up to `end`.
@@ -122,12 +115,10 @@ fn lowest_place(trail: &[u32], at: usize, end: usize) -> usize
     ensures { LowestAt trail.now at end result }
 {
     let mut p = at;
-    let mut i = at + 1;
-    while i < end {
+    for i in at + 1..end {
         if trail[i] < trail[p] {
             p = i;
         }
-        i += 1;
     }
     p
 }
@@ -137,13 +128,7 @@ fn copy(trail: &[u32], from: usize, to: usize, table: &mut [u32], at: usize)
     requires { (from ≤ to) × (to ≤ length trail.now) × (at + (to - from) ≤ length table.old) }
     ensures { table.new ≡ sets table.old at (slice from to trail.now) }
 {
-    let mut i = from;
-    let mut j = at;
-    while i < to {
-        table[j] = trail[i];
-        i += 1;
-        j += 1;
-    }
+    table[at..at + (to - from)].copy_from_slice(&trail[from..to]);
 }
 
 // Writes the ring over the `count` nodes that were taken, behind which all is zero. Answers how many nodes it has.
@@ -155,11 +140,10 @@ pub fn write_ring(edges: &[u32], n: usize, m: usize, order: &mut [u32], count: u
         × (order.new ≡ padded (length order.old) (ring_of n (rows_in m edges.now) (take count order.old))) }
 {
     let mut trail: [u32; graph::MOST_NODES] = [0; graph::MOST_NODES];
-    let met = make_trail(edges, n, m, order, count, &mut trail);
-    let at = met.at;
-    let end = behind(&trail, at, met.node);
+    let Met { at, node } = make_trail(edges, n, m, order, count, &mut trail);
+    let end = behind(&trail, at, node);
     let low = lowest_place(&trail, at, end);
-    text_lent::clear_words(&mut order[..count]);
+    order[..count].fill(0);
     copy(&trail, low, end, order, 0);
     copy(&trail, at, low, order, end - low);
     end - at

@@ -2,7 +2,6 @@
 #![tactic(auto)]
 
 use order::{Checked, Ordered};
-use replay::Tally;
 use std::io;
 
 // How many words a table of a record has at the most.
@@ -10,42 +9,34 @@ const ROOM: usize = 256;
 
 // The words of a field from a place on, as many as the table holds.
 fn read_words(field: &[u8], first: usize, table: &mut [u32]) {
-    let mut i: usize = 0;
     let mut at = first;
-    while i < table.len() {
-        table[i] = replay::word(field, at);
-        at = std::num::wrapping_add_usize(at, 4);
-        i += 1;
+    for x in table {
+        *x = replay::word(field, at);
+        at = at.wrapping_add(4);
     }
 }
 
 // As many words of a table as a word says, or all.
 fn part(t: &[u32], n: u32) -> &[u32] {
-    replay::first_words(t, text_lent::of_word(n))
+    text_lent::first(t, n as usize)
 }
 
 // The answer is the one recorded: words of the order table, number, how many nodes, and what is in the table.
 fn answer_agrees(ordered: Ordered, table: &[u32], told: &[u8]) -> bool {
-    if ordered.number != replay::word(told, 4) {
-        return false;
-    }
-    if ordered.length != replay::word(told, 8) {
-        return false;
-    }
-    replay::words_agree(told, 12, table, 1)
+    is_ordered(ordered, replay::word(told, 4), replay::word(told, 8))
+        && replay::words_agree(told, 12, table, 1)
 }
 
 // The order of a graph into the first words of a table.
 fn order_into(graph: &[u8], nodes: &[u32], edges: &[u32], table: &mut [u32], told: &[u8]) -> bool {
-    let long = text_lent::of_word(replay::word(told, 0));
+    let long = replay::word(told, 0) as usize;
     if table.len() < long {
         return false;
     }
-    let n = text_lent::of_word(replay::word(graph, 0));
-    let m = text_lent::of_word(replay::word(graph, 4));
-    let start: usize = 0;
-    let ordered = order::order(nodes, n, edges, m, &mut table[start..long]);
-    answer_agrees(ordered, &table[start..long], told)
+    let n = replay::word(graph, 0) as usize;
+    let m = replay::word(graph, 4) as usize;
+    let ordered = order::order(nodes, n, edges, m, &mut table[..long]);
+    answer_agrees(ordered, &table[..long], told)
 }
 
 // A graph: nodes, edges, words of the node table, words of the edge table, and these.
@@ -72,9 +63,9 @@ fn check_agrees(graph: &[u8], told: &[u8]) -> bool {
     read_words(told, 12, &mut list);
     let checked = order::order_check(
         part(&nodes, replay::word(graph, 8)),
-        text_lent::of_word(replay::word(graph, 0)),
+        replay::word(graph, 0) as usize,
         part(&edges, replay::word(graph, 12)),
-        text_lent::of_word(replay::word(graph, 4)),
+        replay::word(graph, 4) as usize,
         part(&list, replay::word(told, 0)),
     );
     is_checked(checked, replay::word(told, 4), replay::word(told, 8))
@@ -84,53 +75,22 @@ fn check_agrees(graph: &[u8], told: &[u8]) -> bool {
 fn record_agrees(data: &[u8], at: usize) -> bool {
     let order_at = replay::after(data, at);
     let graph = replay::field(data, at);
-    if !order_agrees(graph, replay::field(data, order_at)) {
-        return false;
-    }
-    check_agrees(graph, replay::field(data, replay::after(data, order_at)))
-}
-
-// One record more, if there is one. It has three fields.
-fn step(data: &[u8], run: Tally) -> Tally {
-    let at = run.at;
-    if data.len() <= at {
-        return run;
-    }
-    run.past(record_agrees(data, at), replay::after_fields(data, at, 3))
-}
-
-// All records of a file. A record takes a byte at least.
-fn replay_all(data: &[u8]) -> Tally {
-    let mut run = replay::start();
-    for _ in 0..data.len() {
-        run = step(data, run);
-    }
-    run
+    order_agrees(graph, replay::field(data, order_at))
+        && check_agrees(graph, replay::field(data, replay::after(data, order_at)))
 }
 
 // The number and the length or place.
 fn is_ordered(ordered: Ordered, number: u32, length: u32) -> bool {
-    if ordered.number != number {
-        return false;
-    }
-    ordered.length == length
+    ordered.outcome as u32 == number && ordered.length == length
 }
 
 fn is_checked(checked: Checked, number: u32, place: u32) -> bool {
-    if checked.number != number {
-        return false;
-    }
-    checked.place == place
+    checked.outcome as u32 == number && checked.place == place
 }
 
 // The table is 1, 0, 2 and a zero.
-fn say_lowest<R: Print>(
-    rt: &R,
-    first: u32,
-    second: u32,
-    third: u32,
-    fourth: u32,
-) -> io::Result<()> {
+fn say_lowest<R: Print>(rt: &R, table: [u32; 4]) -> io::Result<()> {
+    let [first, second, third, fourth] = table;
     replay::trap(rt, b"1, 0, 2: first", first == 1)?;
     replay::trap(rt, b"1, 0, 2: second", second == 0)?;
     replay::trap(rt, b"1, 0, 2: third", third == 2)?;
@@ -144,11 +104,12 @@ fn lowest_free_first<R: Print>(rt: &R) -> io::Result<()> {
     let mut table = [7u32; 4];
     let ordered = order::order(&nodes, 3, &edges, 1, &mut table);
     replay::trap(rt, b"three nodes are ordered", is_ordered(ordered, 0, 3))?;
-    say_lowest(rt, table[0], table[1], table[2], table[3])
+    say_lowest(rt, table)
 }
 
 // The table is 1, 3, 2 and a zero.
-fn say_ring<R: Print>(rt: &R, first: u32, second: u32, third: u32, fourth: u32) -> io::Result<()> {
+fn say_ring<R: Print>(rt: &R, table: [u32; 4]) -> io::Result<()> {
+    let [first, second, third, fourth] = table;
     replay::trap(rt, b"1, 3, 2: first", first == 1)?;
     replay::trap(rt, b"1, 3, 2: second", second == 3)?;
     replay::trap(rt, b"1, 3, 2: third", third == 2)?;
@@ -162,7 +123,7 @@ fn ring_along_the_edges<R: Print>(rt: &R) -> io::Result<()> {
     let mut table = [7u32; 4];
     let ordered = order::order(&nodes, 4, &edges, 4, &mut table);
     replay::trap(rt, b"a ring of three", is_ordered(ordered, 40, 3))?;
-    say_ring(rt, table[0], table[1], table[2], table[3])
+    say_ring(rt, table)
 }
 
 // The check of a list, of a graph with one node and at most the edge from it to itself.
@@ -197,9 +158,11 @@ fn lists_checked<R: Print>(rt: &R) -> io::Result<()> {
 }
 
 fn main(rt: HostRuntime) -> io::Result<()> {
-    let mut space = [0u8; 131072];
-    let n = replay::read_file(&rt, b"orders.vec", &mut space)?;
-    replay_all(&space[..n]).say(&rt, b" orders")?;
+    // A record has three fields.
+    let run = replay::replay_file(&rt, b"orders.vec", |data, at| {
+        (record_agrees(data, at), replay::after_fields(data, at, 3))
+    })?;
+    run.say(&rt, b" orders")?;
     lowest_free_first(&rt)?;
     ring_along_the_edges(&rt)?;
     lists_checked(&rt)

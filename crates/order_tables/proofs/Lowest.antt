@@ -5,7 +5,7 @@ use mathlib.Core.Path.{◌≡◌, refl, sym, ap, ◌∙◌}
 use mathlib.Core.Bool.{Bool, true, false, cond}
 use mathlib.Core.Logic.{⊎_elim}
 use mathlib.Core.List.{List}
-use Prim.Native.Nat.{ℕ, zero, suc, ◌+◌, ◌-◌, ◌≤◌, ◌<◌}
+use Prim.Native.Nat.{ℕ, zero, suc, ◌+◌, ◌-◌, ◌≤◌, ◌<◌, max}
 use native.Mathlib.Omega.{arith}
 use native.Mathlib.Nat.{eq-or-lt_of_le}
 use native.Mathlib.Numerals.{add-one}
@@ -102,9 +102,13 @@ module _ (t : List ℕ) (first last : ℕ) where
         let e : last - v ≡ suc (last - (v + 1)) = omega arith in
         sym (ap (lowest_from (zero_at t) v) e ∙ rw (ne_eqb (get_or t v 0) 0 d, ← add-one v)) ∙ h
 
-    pub seek_done : last ≤ v → v ≡ answer
+    -- all were passed, or there are none
+    pub seek_done : last ≤ v → (first ≤ last → v ≤ last) → {r : ℕ} → r ≡ max first last → r ≡ answer
     unfolding lowest_from
-    seek_done l = let e : last - v ≡ 0 = omega arith in sym (ap (lowest_from (zero_at t) v) e) ∙ h
+    seek_done l m {r} k =
+        let e : last - v ≡ 0 = omega arith in
+        let f : v ≡ answer = sym (ap (lowest_from (zero_at t) v) e) ∙ h in
+        omega (arith, from_bounds (zero_at t) first (last - first))
 
   -- what is known of it
   module _ {r : ℕ} (q : r ≡ answer) where

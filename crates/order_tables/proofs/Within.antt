@@ -3,13 +3,13 @@
 use mathlib.Core.Path.{◌≡◌, refl, sym, ap, ◌∙◌}
 use mathlib.Core.Bool.{Bool, true, false, ◌&&◌, and-true, and-false, and_assoc}
 use mathlib.Core.List.{List, [], ◌∷◌, ◌++◌}
-use Prim.Native.Nat.{ℕ, zero, suc, ◌+◌, ◌-◌, ◌*◌, ◌≤◌, ◌<◌}
+use Prim.Native.Nat.{ℕ, zero, suc, ◌+◌, ◌-◌, ◌*◌, ◌≤◌, ◌<◌, max}
 use native.Mathlib.Omega.{arith}
 use native.Mathlib.Numerals.{add-one}
 use lib.ListN.{length, get_or, take, drop}
 use lib.Dec.{ltb, leb}
 use lib.Seq.{take-add, drop-cons}
-use borrow.Author.Tests.{ltb-true, ltb-false, lt-ltb, le-ltb, le-leb, lt-leb, leb-true, leb-false}
+use borrow.Author.Tests.{ltb-true, ltb-false, lt-ltb, le-ltb, leb-true, leb-false}
 use Rattle.text_utf8.specs.Largest.{larger, largest}
 use Rattle.text.proofs.Here.{by_test, both}
 use Rattle.graph.specs.Numbers.{Row}
@@ -38,6 +38,10 @@ unfolding all_within
 all_snoc n xs e = rw (all_append n xs (e ∷ []), and-true (within n e))
 
 -- ---- the largest number
+
+pub larger_max : (a b : ℕ) → max a b ≡ larger a b
+unfolding larger
+larger_max a b = by_test (leb b a) (λ t. rw t (omega (arith, leb-true b a t))) (λ t. rw t (omega (arith, leb-false b a t)))
 
 -- every number of a list is below n
 unfoldable all_below : ℕ → List ℕ → Bool
@@ -111,21 +115,6 @@ most_within n m w l d {r} {k} e f =
 -- ---- the tables
 
 module _ (nodes n : ℕ) (w : List ℕ) (m : ℕ) where
-  pub too_many_nodes : 1024 < n → false ≡ fits nodes n w m
-  too_many_nodes l = rw (lt-leb n 1024 l)
-
-  pub too_many_edges : n ≤ 1024 → 8192 < m → false ≡ fits nodes n w m
-  too_many_edges a l = rw (le-leb n 1024 a, lt-leb m 8192 l)
-
-  pub nodes_short : n ≤ 1024 → m ≤ 8192 → nodes < n * 2 → false ≡ fits nodes n w m
-  nodes_short a b l = rw (le-leb n 1024 a, le-leb m 8192 b, lt-leb (n * 2) nodes l)
-
-  pub edges_short : n ≤ 1024 → m ≤ 8192 → n * 2 ≤ nodes → length w < m * 2 → false ≡ fits nodes n w m
-  edges_short a b c l = rw (le-leb n 1024 a, le-leb m 8192 b, le-leb (n * 2) nodes c, lt-leb (m * 2) (length w) l)
-
-  pub looked : {r : Bool} → r ≡ all_within n (rows_in m w) → n ≤ 1024 → m ≤ 8192 → n * 2 ≤ nodes → m * 2 ≤ length w → r ≡ fits nodes n w m
-  looked k a b c d = k ∙ rw (le-leb n 1024 a, le-leb m 8192 b, le-leb (n * 2) nodes c, le-leb (m * 2) (length w) d)
-
   -- what fits has all that is asked
   pub fitting : fits nodes n w m ≡ true → Fit n w m
   fitting h =

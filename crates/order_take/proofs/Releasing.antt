@@ -30,7 +30,7 @@ module _ (waits lows : List ℕ) (v : ℕ) (p : Releases waits lows v) where
     less : get_or (set waits v x) v 0 + 1 ≡ get_or waits v 0
     less = omega (arith, at_v, p.some)
 
-    pub last_released : x ≡ 0 → {lows₁ lows₂ : List ℕ} → Lowered lows (v / 32) v lows₁ → Lowered lows₁ 32 (v / 32) lows₂
+    pub last_released : get_or (set waits v x) v 0 ≡ 0 → {lows₁ lows₂ : List ℕ} → Lowered lows (v / 32) v lows₁ → Lowered lows₁ 32 (v / 32) lows₂
         → Released waits lows v (set waits v x) lows₂
     last_released z {lows₁} {lows₂} s t = record {
       room = length-set waits v x;
@@ -51,14 +51,14 @@ module _ (waits lows : List ℕ) (v : ℕ) (p : Releases waits lows v) where
       };
     }
 
-    pub one_released : (x ≡ 0 → ⊥) → Released waits lows v (set waits v x) lows
+    pub one_released : (get_or (set waits v x) v 0 ≡ 0 → ⊥) → Released waits lows v (set waits v x) lows
     one_released z = record {
       room = length-set waits v x;
       lows_room = refl;
       less = less;
       others = λ w d. get_or-set_other waits v w x 0 d;
       kept = λ n h. fewer_zeros n (λ w b. ⊎_elim
-          (λ q. absurd (z (sym at_v ∙ sym (ap (λ (k : ℕ). get_or (set waits v x) k 0) q) ∙ b)))
+          (λ q. absurd (z (sym (ap (λ (k : ℕ). get_or (set waits v x) k 0) q) ∙ b)))
           (λ d. sym (get_or-set_other waits v w x 0 d) ∙ b)
           (decide w v)) h;
     }

@@ -96,9 +96,13 @@ module _ (edges : List ℕ) (n m : ℕ) (f : Fit n edges m) (order₀ heads link
         → (k ≡ length (taken n (rows_in m edges))) × (order ≡ sets order₀ 0 (taken n (rows_in m edges)))
     ended e = (g.count ∙ ap length e, g.written ∙ ap (sets order₀ 0) e)
 
-    pub take_full : n ≤ k → (k ≡ length (taken n (rows_in m edges))) × (order ≡ sets order₀ 0 (taken n (rows_in m edges)))
+    pub take_full : n ≤ k → k ≤ n → (n ≡ length (taken n (rows_in m edges))) × (order ≡ sets order₀ 0 (taken n (rows_in m edges)))
     unfolding take_from
-    take_full l = let z : n - k ≡ 0 = omega arith in ended (rw z at g.same)
+    take_full l h =
+        let z : n - k ≡ 0 = omega arith in
+        let e : n ≡ k = omega arith in
+        let t = ended (rw z at g.same) in
+        (e ∙ t.0, t.1)
 
     pub same_room : length order ≡ length order₀
     same_room = ap length g.written ∙ length-sets order₀ 0 done

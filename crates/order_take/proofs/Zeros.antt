@@ -1,24 +1,22 @@
 -- The lowest zero, group by group: below a group's bound no zero of it stands, so that the look through it can begin there, and where the look ends is
 -- a bound again.
 -- Assumes nothing.
-use mathlib.Core.Path.{◌≡◌, refl, sym, ap, ◌∙◌}
-use mathlib.Core.Bool.{true}
+use mathlib.Core.Path.{◌≡◌, sym, ap, ◌∙◌}
 use mathlib.Core.Logic.{⊎_elim}
 use mathlib.Core.List.{List}
-use Prim.Native.Nat.{ℕ, ◌+◌, ◌-◌, ◌*◌, ◌/◌, ◌≤◌, ◌<◌}
+use Prim.Native.Nat.{ℕ, ◌+◌, ◌-◌, ◌*◌, ◌/◌, ◌≤◌, ◌<◌, max, min}
 use native.Mathlib.Nat.{div-add-mod', mod-lt}
 use native.Mathlib.Omega.{arith}
+use Rattle.std.specs.Int.{div_ceil}
 use lib.Arith.{digits_div}
 use lib.ListN.{length, get_or, set, length-set}
 use lib.Seq.{get_or-set_same, get_or-set_other}
 use lib.Dec.{ltb}
-use borrow.Author.Tests.{eq-eqb, ne_eqb, lt-ltb, ltb-true, ltb-false}
+use borrow.Author.Tests.{eq-eqb, ne_eqb, ltb-true, ltb-false}
 use Rattle.text.proofs.Here.{by_test}
 use Rattle.text_lent.proofs.Numbers.{decide}
-use Rattle.text_utf8.specs.Largest.{larger}
 use Rattle.order_tables.specs.Free.{lowest_from, zero_at}
 use Rattle.order_tables.proofs.Lowest.{lowest_is, lowest_not, none_before, zero_there}
-use Rattle.order_tables.proofs.Within.{larger_below}
 use Rattle.order_take.specs.Chains.{Lows, GroupEnd, LooksIn, LookedIn, Looks, Looked, Lowered}
 
 -- ---- a group
@@ -55,14 +53,12 @@ module _ (waits lows : List ℕ) (g n : ℕ) (p : LooksIn waits lows g n) where
       start = λ w a z. rw (get_or-set_other lows g 32 x 0 not_start) (p.looks.kept.start w a z);
     }
 
-  module _ {last : ℕ} (e : GroupEnd (g * 32) n last) {most first : ℕ} (m : most ≡ larger (g * 32) (get_or lows g 0)) (q : first ≡ most)
+  module _ {last : ℕ} (e : GroupEnd (g * 32) n last) {first : ℕ} (m : first ≡ max (g * 32) (get_or lows g 0))
       {v : ℕ} (f : v ≡ lowest_from (zero_at waits) first (last - first)) where
     above : (w : ℕ) → g * 32 ≤ w → w < g * 32 + 32 → w < n → get_or waits w 0 ≡ 0 → first ≤ w
     above w a b c z =
         let low : get_or lows g 0 ≤ w = rw (← in_group w g a b) (p.looks.kept.low w c z) in
-        let h : ltb first (w + 1) ≡ true = rw (q, m) (larger_below (w + 1) (g * 32) (get_or lows g 0)
-        ∙ rw (lt-ltb (g * 32) (w + 1) (omega arith), lt-ltb (get_or lows g 0) (w + 1) (omega arith))) in
-        omega (arith, ltb-true first (w + 1) h)
+        omega arith
 
     none_below : (w : ℕ) → g * 32 ≤ w → w < g * 32 + 32 → w < n → w < v → get_or waits w 0 ≡ 0 → ⊥
     none_below w a b c d z = none_before waits first last f w (above w a b c z) d z
@@ -87,6 +83,13 @@ module _ (waits lows : List ℕ) (g n : ℕ) (p : LooksIn waits lows g n) where
 
 -- ---- group after group
 
+-- as many groups begin below n
+group_begins : (n g : ℕ) {e : ℕ} → e ≡ div_ceil n 32 → g < e → g * 32 < n
+group_begins n g q l = omega (arith, q)
+
+no_group : (n g : ℕ) {e : ℕ} → e ≡ div_ceil n 32 → e ≤ g → n ≤ g * 32
+no_group n g q l = omega (arith, q)
+
 pub record Searching (waits : List ℕ) (n g : ℕ) (lows : List ℕ) : Type 0 where
   pub most : g ≤ 32
   pub none : (w : ℕ) → w < g * 32 → w < n → get_or waits w 0 ≡ 0 → ⊥
@@ -100,13 +103,16 @@ search_begun waits lows n p {g} q = record {
 }
 
 module _ (waits lows₀ : List ℕ) (n : ℕ) (p : Looks waits lows₀ n) (g : ℕ) (lows : List ℕ) (s : Searching waits n g lows) where
-  pub search_done : n ≤ g * 32 → Looked waits n n lows
-  search_done l = record {
-    answer = sym (lowest_not (zero_at waits) n (λ j k. ne_eqb _ _ (s.none j (omega arith) k)));
+  pub search_done : {e : ℕ} → e ≡ div_ceil n 32 → e ≤ g → Looked waits n n lows
+  search_done q l = record {
+    answer = sym (lowest_not (zero_at waits) n (λ j k. ne_eqb _ _ (s.none j (omega (arith, no_group n g q l)) k)));
     kept = s.kept;
   }
 
-  module _ (l : g * 32 < n) where
+  module _ {e : ℕ} (q : e ≡ div_ceil n 32) (m : g < e) where
+    l : g * 32 < n
+    l = group_begins n g q m
+
     pub may_look : LooksIn waits lows g n
     may_look = record { looks = record { few = p.few; room = p.room; kept = s.kept }; here = l }
 
@@ -139,7 +145,7 @@ module _ (waits lows₀ : List ℕ) (n : ℕ) (p : Looks waits lows₀ n) (g : �
 
       pub search_on : n ≤ v → Searching waits n (g + 1) lows₁
       search_on k = record {
-        most = omega (arith, p.few);
+        most = omega (arith, p.few, l);
         none = λ w a b z. below w (omega arith) b (omega arith) z;
         kept = r.kept;
       }
@@ -147,15 +153,12 @@ module _ (waits lows₀ : List ℕ) (n : ℕ) (p : Looks waits lows₀ n) (g : �
 -- ---- a bound made less
 
 module _ (lows : List ℕ) (i most : ℕ) (l : i < length lows) where
-  pub lowered : most < get_or lows i 0 → Lowered lows i most (set lows i most)
-  lowered k = record {
-    room = length-set lows i most;
-    here = omega (arith, get_or-set_same lows i most 0 l);
+  pub lowered : {r : ℕ} → r ≡ min (get_or lows i 0) most → Lowered lows i most (set lows i r)
+  lowered {r} k = record {
+    room = length-set lows i r;
+    here = omega (arith, get_or-set_same lows i r 0 l);
     less = λ j. ⊎_elim
-        (λ q. rw q (omega (arith, get_or-set_same lows i most 0 l)))
-        (λ d. omega (arith, get_or-set_other lows i j most 0 d))
+        (λ q. rw q (omega (arith, get_or-set_same lows i r 0 l)))
+        (λ d. omega (arith, get_or-set_other lows i j r 0 d))
         (decide j i);
   }
-
-  pub low_already : get_or lows i 0 ≤ most → Lowered lows i most lows
-  low_already k = record { room = refl; here = k; less = λ j. omega arith }

@@ -39,10 +39,8 @@ fn chain_edges(edges: &[u32], m: usize, heads: &mut [u16], links: &mut [u16], wa
     requires { Rows edges.now m × Chained edges.now 0 heads.old links.old waits.old }
     ensures { Chained edges.now m heads.new links.new waits.new }
 {
-    let mut i = 0;
-    while i < m {
+    for i in 0..m {
         chain_edge(edges, i, heads, links, waits);
-        i += 1;
     }
 }
 
@@ -51,10 +49,7 @@ fn group_end(first: usize, n: usize) -> usize
     requires { first < n }
     ensures { GroupEnd first n result }
 {
-    if n - first < GROUP {
-        return n;
-    }
-    first + GROUP
+    first + GROUP.min(n - first)
 }
 
 // The lowest node of the group `g` that waits for none; n if there is none. The next look at this group begins where this one ended.
@@ -63,8 +58,8 @@ fn look_group(waits: &[u32], lows: &mut [u32], g: usize, n: usize) -> usize
     ensures { LookedIn waits.now lows.old g n result lows.new }
 {
     let last = group_end(g * GROUP, n);
-    let first = order_tables::larger((g * GROUP) as u32, lows[g]);
-    let v = order_tables::first_zero(waits, text_lent::of_word(first), last);
+    let first = (g * GROUP).max(lows[g] as usize);
+    let v = order_tables::first_zero(waits, first, last);
     if v < last {
         lows[g] = v as u32;
         return v;
@@ -78,14 +73,12 @@ fn lowest_free(waits: &[u32], lows: &mut [u32], n: usize) -> usize
     requires { Looks waits.now lows.old n }
     ensures { Looked waits.now n result lows.new }
 {
-    let mut g = text_lent::of_word(lows[GROUPS]);
-    while g * GROUP < n {
+    for g in lows[GROUPS] as usize..n.div_ceil(GROUP) {
         let v = look_group(waits, lows, g, n);
         if v < n {
             lows[GROUPS] = g as u32;
             return v;
         }
-        g += 1;
     }
     n
 }
@@ -95,9 +88,7 @@ fn lower(lows: &mut [u32], i: usize, most: u32)
     requires { i < length lows.old }
     ensures { Lowered lows.old i most lows.new }
 {
-    if most < lows[i] {
-        lows[i] = most;
-    }
+    lows[i] = lows[i].min(most);
 }
 
 // One edge less for v to wait for. If it was the last one, v is free, and the bounds are lowered.
@@ -105,9 +96,8 @@ fn release(waits: &mut [u32], lows: &mut [u32], v: usize)
     requires { Releases waits.old lows.old v }
     ensures { Released waits.old lows.old v waits.new lows.new }
 {
-    let w = waits[v] - 1;
-    waits[v] = w;
-    if w == 0 {
+    waits[v] -= 1;
+    if waits[v] == 0 {
         lower(lows, v / GROUP, v as u32);
         lower(lows, GROUPS, (v / GROUP) as u32);
     }
@@ -160,15 +150,13 @@ pub fn take_all(edges: &[u32], n: usize, m: usize, order: &mut [u32]) -> usize
     let mut waits: [u32; graph::MOST_NODES] = [0; graph::MOST_NODES];
     let mut lows: [u32; LOWS] = [0; LOWS];
     chain_edges(edges, m, &mut heads, &mut links, &mut waits);
-    let mut k = 0;
-    while k < n {
+    for k in 0..n {
         let v = lowest_free(&waits, &mut lows, n);
         if n <= v {
             return k;
         }
         order[k] = v as u32;
         take_node(edges, &heads, &links, &mut waits, &mut lows, v);
-        k += 1;
     }
-    k
+    n
 }

@@ -3,8 +3,8 @@
 use Rattle.order.proofs.Sorting.{right_told, wrong_told}
 use Rattle.order.proofs.told_place.Goals as goal
 
-pub returns-in-Right : goal.returns-in-Right
-returns-in-Right c = search right_told
+pub returns-in-Ok : goal.returns-in-Ok
+returns-in-Ok c = search right_told
 
-pub returns-in-WrongAt : goal.returns-in-WrongAt
-returns-in-WrongAt c = search wrong_told
+pub returns-in-Err : goal.returns-in-Err
+returns-in-Err c = search wrong_told

@@ -1,11 +1,7 @@
 -- `order_places::next_break`. Each way out is one law of Barring.
 -- Assumes nothing.
-use Prim.Native.Nat.{◌-◌}
 use Rattle.order_places.proofs.Barring.{Seeking}
 use Rattle.order_places.proofs.next_break.Given as goal
 
 abbrev pub invariant-loop-i : goal.invariant-loop-i
 invariant-loop-i l = Seeking l.places l.edges l.first l.m l.good l.i
-
-abbrev pub decreases-loop-i : goal.decreases-loop-i
-decreases-loop-i l = l.m - l.i

@@ -1,11 +1,7 @@
 -- `order_ring::lowest_place`. Each way through the loop is one law of Parts.
 -- Assumes nothing.
-use Prim.Native.Nat.{◌-◌}
 use Rattle.order_ring.proofs.Parts.{Lowering}
 use Rattle.order_ring.proofs.lowest_place.Given as goal
 
 abbrev pub invariant-loop-i : goal.invariant-loop-i
 invariant-loop-i l = Lowering l.trail l.at l.end l.p l.i
-
-abbrev pub decreases-loop-i : goal.decreases-loop-i
-decreases-loop-i l = l.end - l.i

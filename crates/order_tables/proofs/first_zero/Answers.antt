@@ -1,9 +1,7 @@
+-- `order_tables::first_zero`. Each way out is one law of Lowest.
+-- Assumes nothing.
 use Rattle.order_tables.proofs.Lowest.{seek_on, seek_hit, seek_done}
-use mathlib.Core.Path.{refl}
 use Rattle.order_tables.proofs.first_zero.Goals as goal
-
-pub loop-v-init : goal.loop-v-init
-loop-v-init c = refl
 
 pub returns-then-words-v-eq0 : goal.returns-then-words-v-eq0
 returns-then-words-v-eq0 c = search seek_hit
@@ -12,4 +10,4 @@ pub loop-v-preserved : goal.loop-v-preserved
 loop-v-preserved c = search seek_on
 
 pub returns : goal.returns
-returns c = search seek_done
+returns c = seek_done c.args.words.now c.args.first c.args.last c.loop-v.v c.loop-v.invariant c.loop-v-test.false c.loop-v.auto.v-end c.max.ensures

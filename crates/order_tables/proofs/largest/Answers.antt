@@ -1,15 +1,15 @@
+-- `order_tables::largest`. Each turn is one law of the largest.
+-- Assumes nothing.
 use Rattle.text_utf8.proofs.LargestLaws.{largest_more, largest_past}
-use mathlib.Core.Path.{refl, sym, ◌∙◌}
+use mathlib.Core.Path.{◌≡◌, sym, ◌∙◌}
+use Rattle.std.proofs.Common.{max, get_or, arith}
+use Rattle.order_tables.proofs.Within.{larger_max}
 use Rattle.order_tables.proofs.largest.Goals as goal
 
-pub loop-i-init : goal.loop-i-init
-loop-i-init c = refl
-
-pub loop-i-preserved : goal.loop-i-preserved
-loop-i-preserved c =
-    largest_more c.args.w.now c.loop-i.i c.loop-i.most c.loop-i-test.true c.larger-most.ensures
-    ∙ c.loop-i.invariant
+pub loop-x-preserved : goal.loop-x-preserved
+loop-x-preserved c =
+    let e : c.max-most.result ≡ max c.loop-x.most (get_or c.args.w.now c.loop-x.x-index 0) = grind arith in
+    largest_more c.args.w.now c.loop-x.x-index c.loop-x.most c.loop-x-test.true (e ∙ larger_max _ _) ∙ c.loop-x.invariant
 
 pub returns : goal.returns
-returns c =
-    sym (largest_past c.args.w.now c.loop-i.i c.loop-i.most c.loop-i-test.false) ∙ c.loop-i.invariant
+returns c = sym (largest_past c.args.w.now c.loop-x.x-index c.loop-x.most c.loop-x-test.false) ∙ c.loop-x.invariant

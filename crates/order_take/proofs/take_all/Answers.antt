@@ -38,4 +38,4 @@ shape_of-order c = search same_room
 pub returns : goal.returns
 returns c =
     let pre = c.requires in
-    take_full _ _ _ pre.0 _ _ _ _ _ _ _ c.loop-k.invariant c.loop-k-test.false
+    take_full _ _ _ pre.0 _ _ _ _ _ _ _ c.loop-k.invariant c.loop-k-test.false c.loop-k.auto.k-end

@@ -1,11 +1,7 @@
 -- `order_take::take_all`. Each way out is one law of Turns.
 -- Assumes nothing.
-use Prim.Native.Nat.{◌-◌}
 use Rattle.order_take.proofs.Turns.{Taking}
 use Rattle.order_take.proofs.take_all.Given as goal
 
 abbrev pub invariant-loop-k : goal.invariant-loop-k
 invariant-loop-k l = Taking l.edges l.n l.m l.initial.order l.heads l.links l.order l.waits l.lows l.k
-
-abbrev pub decreases-loop-k : goal.decreases-loop-k
-decreases-loop-k l = l.n - l.k
