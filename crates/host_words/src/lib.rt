@@ -8,7 +8,6 @@ ghost use Rattle.library_image.specs.Image.{image_broken};
 ghost use Rattle.library_bundle.specs.Bundle.{bundle_broken};
 ghost use Rattle.host_words.specs.Words.{told_words, ToldFits, record_words};
 
-use library_form::LookUp;
 use scan_rows::Span;
 use text::Refusal;
 
@@ -25,7 +24,7 @@ pub fn scan_refused_words(r: Refusal) -> [u32; 6]
     requires { r.at < 4294967296 }
     ensures { result ≡ r.number ∷ r.keyword ∷ r.at ∷ 0 ∷ 0 ∷ 0 ∷ [] }
 {
-    [r.number, r.keyword, r.at as u32, 0, 0, 0]
+    [r.number(), r.keyword, r.at as u32, 0, 0, 0]
 }
 
 // The six words of a scan, and how long its page is.
@@ -33,7 +32,8 @@ pub fn page_words(w: [u32; 6], size: usize) -> [u32; 7]
     requires { (length w ≡ 6) × (size < 4294967296) }
     ensures { result ≡ w ++ (size ∷ []) }
 {
-    [w[0], w[1], w[2], w[3], w[4], w[5], size as u32]
+    let [number, keyword, at, imports, includes, used] = w;
+    [number, keyword, at, imports, includes, used, size as u32]
 }
 
 // The 18 words of a metadata record: three for each of name, namespace, prefix, first revision, parent and newest revision.
@@ -41,15 +41,11 @@ pub fn record_words(values: [Span; 6]) -> [u32; 18]
     requires { (length values ≡ 6) × Each Fits values }
     ensures { result ≡ record_words values }
 {
-    let mut words: [u32; 18] = [0; 18];
-    let mut i: usize = 0;
-    while i < 6 {
-        let x = values[i];
-        let at = i * 3;
-        words[at] = scan_rows::mark(x);
-        words[at + 1] = x.start as u32;
-        words[at + 2] = x.size as u32;
-        i += 1;
+    let mut words = [0; 18];
+    for (i, x) in values.iter().enumerate() {
+        words[i * 3] = scan_rows::mark(*x);
+        words[i * 3 + 1] = x.start as u32;
+        words[i * 3 + 2] = x.size as u32;
     }
     words
 }
@@ -59,23 +55,24 @@ pub fn metadata_words(r: Refusal, used: usize) -> [u32; 4]
     requires { (r.at < 4294967296) × (used < 4294967296) }
     ensures { result ≡ r.number ∷ r.keyword ∷ r.at ∷ used ∷ [] }
 {
-    [r.number, r.keyword, r.at as u32, used as u32]
+    [r.number(), r.keyword, r.at as u32, used as u32]
 }
 
 // The five words of the answer to a name, with the number of the refusal of what is broken.
-fn told_words(number: u32, told: LookUp) -> [u32; 5]
+#[tactic(auto, unfolding(crate::specs::Words::told_words, crate::specs::Words::ToldFits))]
+fn told_words(number: u32, told: Result<Option<(usize, usize)>, usize>) -> [u32; 5]
     requires { ToldFits told }
     ensures { result ≡ told_words number told }
 {
     match told {
-        LookUp::Broken(p) => [number, p as u32, 0, 0, 0],
-        LookUp::Nothing => [0, 0, 0, 0, 0],
-        LookUp::At(a, b) => [0, 0, 1, a as u32, b as u32],
+        Err(p) => [number, p as u32, 0, 0, 0],
+        Ok(None) => [0, 0, 0, 0, 0],
+        Ok(Some((a, b))) => [0, 0, 1, a as u32, b as u32],
     }
 }
 
 // Of a find in an image.
-pub fn find_words(found: LookUp) -> [u32; 5]
+pub fn find_words(found: Result<Option<(usize, usize)>, usize>) -> [u32; 5]
     requires { ToldFits found }
     ensures { result ≡ told_words image_broken found }
 {
@@ -83,7 +80,7 @@ pub fn find_words(found: LookUp) -> [u32; 5]
 }
 
 // Of a look-up in a bundle.
-pub fn text_words(found: LookUp) -> [u32; 5]
+pub fn text_words(found: Result<Option<(usize, usize)>, usize>) -> [u32; 5]
     requires { ToldFits found }
     ensures { result ≡ told_words bundle_broken found }
 {
@@ -106,7 +103,7 @@ pub fn graph_refused_words(number: u32, entry: usize, scan: Refusal, place: usiz
     [
         number,
         entry as u32,
-        scan.number,
+        scan.number(),
         scan.keyword,
         scan.at as u32,
         place as u32,

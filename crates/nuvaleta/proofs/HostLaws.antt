@@ -1,6 +1,7 @@
 -- An answer in words: counts are at most 256 or the text's length, a place lies within the text, and a text that is too long is refused at 0, so each fits its
 -- word.
 -- Assumes nothing.
+use Rattle.std.specs.Prelude.{Result}
 use mathlib.Core.Path.{◌≡◌, refl, sym, ap, ap₂, subst, ◌∙◌}
 use mathlib.Core.Bool.{Bool}
 use mathlib.Core.List.{List, [], ◌∷◌, ◌++◌}
@@ -17,7 +18,7 @@ use Rattle.scan_page.specs.Page.{PageLeft}
 use Rattle.scan_page.proofs.PageLaws.{good_sound, page_fits}
 use Rattle.yangparser.specs.Dependencies.{Dependencies, none, Scan, good, bad, scanned, if_fit, dependencies, parsed_of}
 use Rattle.yangparser.specs.Promises.{Leaves}
-use Rattle.yangparser.specs.declared.Parsed.{Parsed}
+use Rattle.yangparser.specs.declared.Rows.{Rows}
 use Rattle.yangparser.proofs.KeptLaws.{entry_good, entry_refusal}
 use Rattle.nuvaleta.specs.Words.{answer_words, WordsFit}
 use Rattle.nuvaleta.specs.Host.{Answered, AnsweredPage}
@@ -44,7 +45,7 @@ fits whole s z (good d) h =
     (omega (arith, k.few_imports), omega (arith, k.few_includes), omega (arith, k.short, l.1))
 fits whole s z (bad r d) h = omega (arith, refused_small whole s z r d h)
 
-module _ (whole : Bool) (s : List ℕ) (z : Bool) (d t u : List ℕ) {r : Parsed} {e f g : List ℕ} (w : Leaves (dependencies whole s z) d t u r e f g) where
+module _ (whole : Bool) (s : List ℕ) (z : Bool) (d t u : List ℕ) {r : Result Rows Refusal} {e f g : List ℕ} (w : Leaves (dependencies whole s z) d t u r e f g) where
   pub words_fit : WordsFit r
   words_fit = subst WordsFit (sym w.answer) (fits whole s z (dependencies whole s z) refl)
 

@@ -1,5 +1,6 @@
 -- A metadata record in words: each value lies within the bytes stored, which are no more than the text's, so its numbers fit their words.
 -- Assumes nothing.
+use Rattle.std.specs.Prelude.{Ok, Err, Result}
 use mathlib.Core.Path.{◌≡◌, refl, sym, ap, subst, ◌∙◌}
 use mathlib.Core.Bool.{Bool}
 use mathlib.Core.List.{List, [], ◌∷◌}
@@ -11,8 +12,6 @@ use borrow.Author.Tests.{ltb-true, ltb-false}
 use Rattle.text.specs.declared.Refusal.{Refusal}
 use Rattle.text.proofs.Here.{by_test}
 use Rattle.text_lent.specs.Lent.{lent_at}
-use Rattle.text_lent.specs.declared.Lent.{Lent}
-use Rattle.text_lent.specs.declared.Lent.TheVariants.{Fit, Unfit}
 use Rattle.text_lent.proofs.LentLaws.{lent_long, lent_within, fit_said}
 use Rattle.scan_rows.specs.Rows.{Each}
 use Rattle.scan_rows.specs.Span.{missing, Fits, Within}
@@ -62,12 +61,12 @@ scan_small whole s l (good m) h =
     }
 scan_small whole s l (bad r bs) h = refused_small r (omega (arith, (scan_bad whole s r bs h).0))
 
-lent_small : (whole : Bool) (s : List ℕ) (short : Bool) (x : Lent) → lent_at s short ≡ x → Small (answer_of (if_fit x (scanned whole s)))
+lent_small : (whole : Bool) (s : List ℕ) (short : Bool) (x : Result (Unit {0}) Refusal) → lent_at s short ≡ x → Small (answer_of (if_fit x (scanned whole s)))
 unfolding if_fit answer_of
-lent_small whole s short Fit h = scan_small whole s (fit_said s short h).0 (scanned whole s) refl
-lent_small whole s short (Unfit r) h =
+lent_small whole s short (Ok tt) h = scan_small whole s (fit_said s short h).0 (scanned whole s) refl
+lent_small whole s short (Err r) h =
     by_test (ltb 1048576 (length s))
-    (λ t. let e : Unfit (record { number = 1; keyword = 0; at = 0 }) ≡ Unfit r = lent_long s short (ltb-true 1048576 (length s) t) ∙ h in
+    (λ t. let e : Err (record { number = 1; keyword = 0; at = 0 }) ≡ Err r = lent_long s short (ltb-true 1048576 (length s) t) ∙ h in
     let k : 0 ≡ r.at = cc in refused_small r (omega (arith, k)))
     (λ t. refused_small r (omega (arith, ltb-false 1048576 (length s) t, lent_within s short r h)))
 

@@ -1,34 +1,33 @@
 -- The answers of a scan and of a graph as words. Of a scan: number, keyword, position, import rows, include rows, stored bytes. Of a graph: number, entry,
 -- scan number, scan keyword, scan position, place, nodes, edges. Those of a name and of metadata are in crate host_words (Words).
 -- Assumes nothing.
-use Rattle.std.specs.Prelude.{ℕ, ◌<◌, List, [], ◌∷◌}
-use Rattle.yangparser.specs.declared.Parsed.{Parsed}
-use Rattle.yangparser.specs.declared.Parsed.TheVariants.{Good, Refused}
-use Rattle.graph_build.specs.declared.Graphed.{Graphed}
-use Rattle.graph_build.specs.declared.Graphed.TheVariants.{Built, Refused as RefusedGraph}
+use Rattle.std.specs.Prelude.{ℕ, ◌<◌, List, [], ◌∷◌, Ok, Err, Result}
+use Rattle.yangparser.specs.declared.Rows.{Rows}
+use Rattle.graph_build.specs.declared.GraphRefusal.{GraphRefusal}
+use Rattle.text.specs.declared.Refusal.{Refusal}
 
 -- ---- a scan
 
-unfoldable pub number_of : Parsed → ℕ
-number_of (Good m n u) = 0
-number_of (Refused r) = r.number
+unfoldable pub number_of : Result Rows Refusal → ℕ
+number_of (Ok r) = let record { imports = m; includes = n; used = u } = r in 0
+number_of (Err r) = r.number
 
-unfoldable pub answer_words : Parsed → List ℕ
-answer_words (Good m n u) = 0 ∷ 0 ∷ 0 ∷ m ∷ n ∷ u ∷ []
-answer_words (Refused r) = r.number ∷ r.keyword ∷ r.at ∷ 0 ∷ 0 ∷ 0 ∷ []
+unfoldable pub answer_words : Result Rows Refusal → List ℕ
+answer_words (Ok r) = let record { imports = m; includes = n; used = u } = r in 0 ∷ 0 ∷ 0 ∷ m ∷ n ∷ u ∷ []
+answer_words (Err r) = r.number ∷ r.keyword ∷ r.at ∷ 0 ∷ 0 ∷ 0 ∷ []
 
 -- counts and place are words
-unfoldable pub WordsFit : Parsed → Type 0
-WordsFit (Good m n u) = (m < 4294967296) × (n < 4294967296) × (u < 4294967296)
-WordsFit (Refused r) = r.at < 4294967296
+unfoldable pub WordsFit : Result Rows Refusal → Type 0
+WordsFit (Ok r) = let record { imports = m; includes = n; used = u } = r in (m < 4294967296) × (n < 4294967296) × (u < 4294967296)
+WordsFit (Err r) = r.at < 4294967296
 
 -- ---- a graph
 
-unfoldable pub graph_words : Graphed → List ℕ
-graph_words (Built n m) = 0 ∷ 0 ∷ 0 ∷ 0 ∷ 0 ∷ 0 ∷ n ∷ m ∷ []
-graph_words (RefusedGraph number entry a place) = number ∷ entry ∷ a.number ∷ a.keyword ∷ a.at ∷ place ∷ 0 ∷ 0 ∷ []
+unfoldable pub graph_words : Result (ℕ × ℕ) GraphRefusal → List ℕ
+graph_words (Ok (n, m)) = 0 ∷ 0 ∷ 0 ∷ 0 ∷ 0 ∷ 0 ∷ n ∷ m ∷ []
+graph_words (Err r) = let record { number = number; entry = entry; scan = a; place = place } = r in number ∷ entry ∷ a.number ∷ a.keyword ∷ a.at ∷ place ∷ 0 ∷ 0 ∷ []
 
 -- counts and places are words
-unfoldable pub GraphFits : Graphed → Type 0
-GraphFits (Built n m) = (n < 4294967296) × (m < 4294967296)
-GraphFits (RefusedGraph number entry a place) = (entry < 4294967296) × (a.at < 4294967296) × (place < 4294967296)
+unfoldable pub GraphFits : Result (ℕ × ℕ) GraphRefusal → Type 0
+GraphFits (Ok (n, m)) = (n < 4294967296) × (m < 4294967296)
+GraphFits (Err r) = let record { number = number; entry = entry; scan = a; place = place } = r in (entry < 4294967296) × (a.at < 4294967296) × (place < 4294967296)

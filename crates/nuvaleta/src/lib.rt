@@ -14,34 +14,37 @@ ghost use Rattle.nuvaleta.specs.Graphs.{GraphAnswered};
 ghost use Rattle.nuvaleta.specs.Orders.{OrderAnswered, CheckAnswered};
 ghost use Rattle.nuvaleta.specs.Record.{MetadataAnswered};
 
-use graph_build::Graphed;
-use yangparser::Parsed;
+use graph_build::GraphRefusal;
+use text::Refusal;
+use yangparser::Rows;
 
 // The six words of a scan's answer.
-fn scan_words(parsed: Parsed) -> [u32; 6]
+#[tactic(auto, unfolding(crate::specs::Words::answer_words, crate::specs::Words::WordsFit))]
+fn scan_words(parsed: Result<Rows, Refusal>) -> [u32; 6]
     requires { WordsFit parsed }
     ensures { result ≡ answer_words parsed }
 {
     match parsed {
-        Parsed::Good {
-            imports,
-            includes,
-            used,
-        } => host_words::scan_read_words(imports, includes, used),
-        Parsed::Refused(r) => host_words::scan_refused_words(r),
+        Ok(
+            Rows {
+                imports,
+                includes,
+                used,
+            },
+        ) => host_words::scan_read_words(imports, includes, used),
+        Err(r) => host_words::scan_refused_words(r),
     }
 }
 
 // The eight words of a graph's answer.
-fn graph_words(graphed: Graphed) -> [u32; 8]
+#[tactic(auto, unfolding(crate::specs::Words::graph_words, crate::specs::Words::GraphFits))]
+fn graph_words(graphed: Result<(usize, usize), GraphRefusal>) -> [u32; 8]
     requires { GraphFits graphed }
     ensures { result ≡ graph_words graphed }
 {
     match graphed {
-        Graphed::Built(n, m) => host_words::graph_built_words(n, m),
-        Graphed::Refused(number, entry, scan, place) => {
-            host_words::graph_refused_words(number, entry, scan, place)
-        }
+        Ok((n, m)) => host_words::graph_built_words(n, m),
+        Err(r) => host_words::graph_refused_words(r.reason as u32, r.entry, r.scan, r.place),
     }
 }
 
@@ -58,10 +61,10 @@ fn dependencies_answer(
         text.now store.old imports.old includes.old result
         store.new imports.new includes.new answer.new }
 {
-    let parsed = yangparser::extract_yang_dependencies(whole, text, store, imports, includes);
-    let words = scan_words(parsed);
-    *answer = words;
-    words[0]
+    *answer = scan_words(yangparser::extract_yang_dependencies(
+        whole, text, store, imports, includes,
+    ));
+    answer[0]
 }
 
 // The imports and includes of a text.
@@ -109,8 +112,7 @@ fn printed_answer(
         store.new imports.new includes.new page.new answer.new }
 {
     let printed = scan_page::print_yang_dependencies(whole, text, store, imports, includes, page);
-    let parsed = printed.parsed;
-    let words = scan_words(parsed);
+    let words = scan_words(printed.parsed);
     *answer = host_words::page_words(words, printed.length);
     words[0]
 }
@@ -159,12 +161,9 @@ fn metadata_answer(
         text.now store.old result store.new words.new answer.new }
 {
     let read = scan_metadata::extract_yang_metadata(whole, text, store);
-    let values = read.values;
-    let told = read.answer;
-    let used = read.used;
-    *words = host_words::record_words(values);
-    *answer = host_words::metadata_words(told, used);
-    told.number
+    *words = host_words::record_words(read.values);
+    *answer = host_words::metadata_words(read.answer, read.used);
+    read.answer.number()
 }
 
 // The metadata of a text.
@@ -197,36 +196,32 @@ pub fn nuvaleta_metadata_whole(
 pub fn nuvaleta_find_module(image: &[u8], name: &[u8], answer: &mut [u32; 5]) -> u32
     ensures { Told (told_words image_broken (find_module image.now name.now)) result answer.new }
 {
-    let words = host_words::find_words(library_find::find_module(image, name));
-    *answer = words;
-    words[0]
+    *answer = host_words::find_words(library_find::find_module(image, name));
+    answer[0]
 }
 
 // A submodule of an image's modules by its name.
 pub fn nuvaleta_find_submodule(image: &[u8], name: &[u8], answer: &mut [u32; 5]) -> u32
     ensures { Told (told_words image_broken (find_submodule image.now name.now)) result answer.new }
 {
-    let words = host_words::find_words(library_find::find_submodule(image, name));
-    *answer = words;
-    words[0]
+    *answer = host_words::find_words(library_find::find_submodule(image, name));
+    answer[0]
 }
 
 // An import-only module of an image by its name, and how many revisions it has.
 pub fn nuvaleta_find_import_module(image: &[u8], name: &[u8], answer: &mut [u32; 5]) -> u32
     ensures { Told (told_words image_broken (find_import_module image.now name.now)) result answer.new }
 {
-    let words = host_words::find_words(library_find::find_import_module(image, name));
-    *answer = words;
-    words[0]
+    *answer = host_words::find_words(library_find::find_import_module(image, name));
+    answer[0]
 }
 
 // Where the text under a name stands in a bundle.
 pub fn nuvaleta_text(bundle: &[u8], name: &[u8], answer: &mut [u32; 5]) -> u32
     ensures { Told (told_words bundle_broken (look_up bundle.now name.now)) result answer.new }
 {
-    let words = host_words::text_words(library_bundle::find_text(bundle, name));
-    *answer = words;
-    words[0]
+    *answer = host_words::text_words(library_bundle::find_text(bundle, name));
+    answer[0]
 }
 
 // The graph of an image and a bundle, and its answer in words. `complete`: with all names as nodes.
@@ -251,9 +246,8 @@ fn graph_answer(
     let graphed = yanglib::to_graph(
         image, bundle, complete, nodes, edges, store, imports, includes, levels,
     );
-    let words = graph_words(graphed);
-    *answer = words;
-    words[0]
+    *answer = graph_words(graphed);
+    answer[0]
 }
 
 // The graph of an image and a bundle: a module whose name is already a node is passed over with its submodules.
@@ -315,7 +309,7 @@ pub fn nuvaleta_order(
         table.new answer.new }
 {
     let ordered = order::order(nodes, n, edges, m, table);
-    let number = ordered.number;
+    let number = ordered.number();
     *answer = host_words::order_words(number, ordered.length);
     number
 }
@@ -332,7 +326,7 @@ pub fn nuvaleta_order_check(
     ensures { CheckAnswered nodes.now n edges.now m list.now result answer.new }
 {
     let checked = order::order_check(nodes, n, edges, m, list);
-    let number = checked.number;
+    let number = checked.number();
     *answer = host_words::order_words(number, checked.place);
     number
 }

@@ -1,49 +1,12 @@
--- What agrees with a record, on each way through the code.
+-- What the loops over words and over fields keep.
 -- Assumes nothing.
-use Rattle.std.proofs.Common.{◌≡◌, ℕ, zero, suc, ◌+◌, ◌-◌, ◌%◌, ◌^◌, ◌<◌, ◌≤◌, Bool, true, false, eqb, leb, List, length, get_or, sym, refl, ap, ◌∙◌, not-suc-le-zero, arith, eq-eqb, ne_eqb, eqb-true, le-leb, leb-false, leb-true}
+use Rattle.std.proofs.Common.{◌≡◌, ℕ, zero, suc, ◌+◌, ◌-◌, ◌<◌, ◌≤◌, Bool, true, false, eqb, leb, List, length, get_or, sym, refl, ap, ◌∙◌, not-suc-le-zero, arith, eq-eqb, ne_eqb, eqb-true, le-leb, leb-false, leb-true}
 use borrow.Author.Tests.{lt-leb, eqb-false}
 use Rattle.text.specs.Turns.{stop, on}
-use Rattle.text.specs.declared.Refusal.{Refusal}
 use Rattle.text.proofs.Here.{by_test}
 use Rattle.text.proofs.Turns.{turns_stop, turns_on}
 use Rattle.replay.specs.Fields.{on_by, behind, word_at}
-use Rattle.replay.specs.Records.{five_or_six, number_told_as, refusal_told_as, Pair, pair_turn, words_from, words_told_as, behind_all, passed}
-use Rattle.replay.specs.declared.Tally.{Tally}
-
--- ---- refusals
-
-module _ (recorded is : ℕ) where
-  pub told_five : recorded ≡ five_or_six → is ≡ 5 → true ≡ number_told_as recorded is
-  unfolding number_told_as
-  told_five e h = sym (simp (eq-eqb recorded five_or_six e, eq-eqb is 5 h))
-
-  pub told_six : recorded ≡ five_or_six → (is ≡ 5 → ⊥) → eqb is 6 ≡ number_told_as recorded is
-  unfolding number_told_as
-  told_six e h = sym (simp (eq-eqb recorded five_or_six e, ne_eqb is 5 h))
-
-  pub told_plain : (recorded ≡ five_or_six → ⊥) → eqb recorded is ≡ number_told_as recorded is
-  unfolding number_told_as
-  told_plain e = sym (simp (ne_eqb recorded five_or_six e))
-
--- a: whether the number is the recorded one; u, v, w: the recorded words
-module _ (answer : List ℕ) (at : ℕ) (r : Refusal) {u : ℕ} {a : Bool} (ue : u ≡ word_at answer at) (ae : a ≡ number_told_as u r.number) where
-  number_is : a ≡ number_told_as (word_at answer at) r.number
-  number_is = ae ∙ ap (λ x. number_told_as x r.number) ue
-
-  pub other_number : a ≡ false → false ≡ refusal_told_as answer at r
-  unfolding refusal_told_as
-  other_number h = sym (simp (sym number_is ∙ h))
-
-  module _ {v : ℕ} (ve : v ≡ word_at answer (at + 4)) where
-    pub other_keyword : a ≡ true → (v ≡ r.keyword → ⊥) → false ≡ refusal_told_as answer at r
-    unfolding refusal_told_as
-    other_keyword h k = sym (simp (sym number_is ∙ h, ap (λ x. eqb x r.keyword) (sym ve) ∙ ne_eqb v r.keyword k))
-
-    pub position_told : a ≡ true → v ≡ r.keyword → {w : ℕ} → w ≡ word_at answer (at + 8) → eqb w (r.at % 4294967296) ≡ refusal_told_as answer at r
-    unfolding refusal_told_as
-    position_told h k we =
-        ap (λ x. eqb x (r.at % 4294967296)) we
-        ∙ sym (simp (sym number_is ∙ h, ap (λ x. eqb x r.keyword) (sym ve) ∙ eq-eqb v r.keyword k))
+use Rattle.replay.specs.Records.{Pair, pair_turn, words_from, words_told_as, behind_all}
 
 -- ---- words of a table
 
@@ -119,21 +82,13 @@ unfolding behind_all
 one_less d zero at h = absurd (not-suc-le-zero h)
 one_less d (suc k) at h = let one : suc k - 1 ≡ k = omega arith in rw one refl
 
--- behind the fields that are left stands what stands behind all
-module _ (d : List ℕ) (count at left next : ℕ) (inv : behind_all left d next ≡ behind_all count d at) where
-  pub fields_more : 0 < left → {n : ℕ} → n ≡ behind d next → behind_all (left - 1) d n ≡ behind_all count d at
-  fields_more h e = rw e (one_less d left next h ∙ inv)
+-- behind the fields that are left after i of them stands what stands behind all
+module _ (d : List ℕ) (count at i next : ℕ) (inv : behind_all (count - i) d next ≡ behind_all count d at) where
+  pub fields_more : i < count → {n : ℕ} → n ≡ behind d next → behind_all (count - (i + 1)) d n ≡ behind_all count d at
+  fields_more h e =
+      let less : count - (i + 1) ≡ count - i - 1 = omega arith in
+      rw e (rw less (one_less d (count - i) next (omega arith) ∙ inv))
 
-  pub fields_done : left ≤ 0 → next ≡ behind_all count d at
+  pub fields_done : count ≤ i → next ≡ behind_all count d at
   unfolding behind_all
-  fields_done h = let none : left ≡ 0 = omega arith in (rw none refl) ∙ inv
-
--- ---- a run
-
-module _ (tally : Tally) (next : ℕ) {agrees : Bool} {records : ℕ} (more : records ≡ (tally.records + 1) % 2 ^ 64) where
-  pub past_agrees : agrees ≡ true → ◌≡◌ {A = Tally} (record { at = next; records = records; different = tally.different }) (passed tally agrees next)
-  past_agrees h = rw h (rw more refl)
-
-  pub past_differs : agrees ≡ false → {different : ℕ} → different ≡ (tally.different + 1) % 2 ^ 64
-      → ◌≡◌ {A = Tally} (record { at = next; records = records; different = different }) (passed tally agrees next)
-  past_differs h d = rw h (rw more (rw d refl))
+  fields_done h = let none : count - i ≡ 0 = omega arith in (rw none refl) ∙ inv

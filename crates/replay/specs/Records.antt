@@ -1,6 +1,7 @@
 -- Whether what a call answers is what is recorded, and a run over the records of a file.
 -- Assumes nothing.
-use Rattle.std.specs.Prelude.{ℕ, zero, suc, ◌+◌, ◌%◌, ◌^◌, Bool, true, false, cond, ◌&&◌, ◌||◌, List, length, ◌==◌, nat_le, slice_index}
+use Rattle.std.specs.Prelude.{ℕ, zero, suc, ◌≡◌, ◌+◌, ◌<◌, ◌%◌, ◌^◌, Bool, true, false, cond, ◌&&◌, ◌||◌, List, length, ◌==◌, nat_le, slice_index}
+use Rattle.std.specs.Borrow.{Bor}
 use Rattle.text.specs.Refusal.{other_byte, end_of_text}
 use Rattle.text.specs.Turns.{Turn, stop, on, turns}
 use Rattle.text.specs.declared.Refusal.{Refusal}
@@ -56,3 +57,16 @@ begun = record { at = 0; records = 0; different = 0 }
 abbrev pub passed : Tally → (agrees : Bool) → (next : ℕ) → Tally
 passed t agrees next =
     record { at = next; records = (t.records + 1) % 2 ^ 64; different = cond agrees t.different ((t.different + 1) % 2 ^ 64) }
+
+-- what a closure told of the record at a place: whether it agrees, and the place behind it
+abbrev pub Told : (post : Bor (List ℕ) → ℕ → Bool × ℕ → Type 0) → (d : List ℕ) → (at : ℕ) → (agrees : Bool) → (next : ℕ) → Type 0
+Told post d at agrees next = (s : Bor (List ℕ)) × (s.now ≡ d) × post s at (agrees, next)
+
+-- the runs over a file: each record starts before its end, where the closure said of the one before
+pub data Runs (post : Bor (List ℕ) → ℕ → Bool × ℕ → Type 0) (d : List ℕ) : Tally → Type 0 where
+  none_yet : Runs post d begun
+  one_more : {t : Tally} {agrees : Bool} {next : ℕ} → Runs post d t → t.at < length d → Told post d t.at agrees next → Runs post d (passed t agrees next)
+
+-- such a run, to the file's end, or over as many records as there are bytes
+abbrev pub RunsThrough : (post : Bor (List ℕ) → ℕ → Bool × ℕ → Type 0) → (d : List ℕ) → Tally → Type 0
+RunsThrough post d t = Runs post d t × (t.at < length d → t.records ≡ length d)

@@ -1,17 +1,20 @@
 // What the programs that replay recorded answers share: the fields of a file, a run over its records, and what is said of it.
 #![tactic(auto)]
 
-ghost use Rattle.std.specs.Prelude.{◌≡◌, ◌+◌, ◌%◌, ◌<◌, ◌≤◌, length, take, IfOk};
+ghost use Rattle.std.specs.Prelude.{◌≡◌, ◌+◌, ◌%◌, ◌<◌, ◌≤◌, length, IfOk};
 ghost use Rattle.std.specs.Io.{ReadsAtMost};
 ghost use Rattle.replay.specs.Fields.{byte_at, length_at, missing_at, on_by, behind, field_at, word_at};
-ghost use Rattle.replay.specs.Records.{number_told_as, refusal_told_as, words_told_as, behind_all, begun, passed};
+ghost use Rattle.replay.specs.Records.{number_told_as, refusal_told_as, words_told_as, behind_all, begun, passed, RunsThrough};
 
 use std::fs::File;
 use std::io;
 use std::rt::Files;
-use text::Refusal;
+use text::{Reason, Refusal};
 
-const MISSING: u32 = 65535;
+// No file of records is longer.
+const MOST_FILE: usize = 524288;
+
+const MISSING: u16 = u16::MAX;
 
 // Stands for the place of a name that the Rust does not find.
 pub const NOT_FOUND: u32 = 4294967295;
@@ -20,36 +23,34 @@ pub const NOT_FOUND: u32 = 4294967295;
 const FIVE_OR_SIX: u32 = 56;
 
 // The byte at a place, 0 behind the end.
-fn byte(d: &[u8], at: usize) -> u32
-    ensures { (result ≡ byte_at d.now at) × (result < 256) }
+fn byte(d: &[u8], at: usize) -> u8
+    ensures { result ≡ byte_at d.now at }
 {
-    if at < d.len() { d[at] as u32 } else { 0 }
+    d.get(at).copied().unwrap_or(0)
 }
 
 // The place `n` bytes on, or the end.
+#[tactic(auto, unfolding(crate::specs::Fields::on_by))]
 fn on_by(d: &[u8], at: usize, n: usize) -> usize
     ensures { result ≡ on_by d.now at n }
 {
-    if d.len() < at {
-        return d.len();
-    }
-    if d.len() - at < n {
-        return d.len();
-    }
-    at + n
+    at.saturating_add(n).min(d.len())
 }
 
 // The two bytes of a length.
-fn length_at(d: &[u8], at: usize) -> u32
-    ensures { (result ≡ length_at d.now at) × (result < 65536) }
+#[tactic(auto, unfolding(crate::specs::Fields::length_at))]
+fn length_at(d: &[u8], at: usize) -> u16
+    ensures { result ≡ length_at d.now at }
 {
-    if d.len() <= at {
-        return 0;
+    if at < d.len() {
+        u16::from_le_bytes([byte(d, at), byte(d, at + 1)])
+    } else {
+        0
     }
-    byte(d, at) + byte(d, at + 1) * 256
 }
 
 // Whether the value at a place is missing.
+#[tactic(auto, unfolding(crate::specs::Fields::missing_at))]
 pub fn missing(d: &[u8], at: usize) -> bool
     ensures { result ≡ missing_at d.now at }
 {
@@ -57,78 +58,56 @@ pub fn missing(d: &[u8], at: usize) -> bool
 }
 
 // The place behind the field at a place.
+#[tactic(auto, unfolding(crate::specs::Fields::behind, crate::specs::Fields::bytes_from))]
 pub fn after(d: &[u8], at: usize) -> usize
     ensures { result ≡ behind d.now at }
 {
     let from = on_by(d, at, 2);
     if missing(d, at) {
-        return from;
+        from
+    } else {
+        on_by(d, from, usize::from(length_at(d, at)))
     }
-    let n = length_at(d, at);
-    on_by(d, from, n as usize)
 }
 
 // The bytes of the field at a place, none of a value that is missing.
 pub fn field(d: &[u8], at: usize) -> &[u8]
     ensures { result.now ≡ field_at d.now at }
 {
-    let from = on_by(d, at, 2);
-    let to = after(d, at);
-    &d[from..to]
+    &d[on_by(d, at, 2)..after(d, at)]
 }
 
 // The word at a place of a field.
+#[tactic(auto, unfolding(crate::specs::Fields::word_at, crate::specs::Fields::four_bytes))]
 pub fn word(f: &[u8], at: usize) -> u32
     ensures { result ≡ word_at f.now at }
 {
-    if f.len() < 4 {
-        return 0;
+    match f.get(at..).and_then(|rest| rest.first_chunk::<4>()) {
+        Some(four) => u32::from_le_bytes(*four),
+        None => 0,
     }
-    if f.len() - 4 < at {
-        return 0;
-    }
-    let low = byte(f, at) + byte(f, at + 1) * 256;
-    let high = byte(f, at + 2) + byte(f, at + 3) * 256;
-    low + high * 65536
 }
 
 // Whether a number is the recorded one.
+#[tactic(auto, unfolding(crate::specs::Records::number_told_as))]
 fn number_told(recorded: u32, is: u32) -> bool
     ensures { result ≡ number_told_as recorded is }
 {
-    if recorded == FIVE_OR_SIX {
-        if is == text::OTHER_BYTE {
-            return true;
-        }
-        return is == text::END_OF_TEXT;
+    match recorded {
+        FIVE_OR_SIX => is == Reason::OtherByte as u32 || is == Reason::EndOfText as u32,
+        _ => recorded == is,
     }
-    recorded == is
 }
 
 // Whether a refusal is the recorded one: number, keyword and position, from a place on.
+#[tactic(auto, unfolding(crate::specs::Records::refusal_told_as))]
 pub fn refusal_agrees(answer: &[u8], at: usize, r: Refusal) -> bool
     requires { at ≤ 4 }
     ensures { result ≡ refusal_told_as answer.now at r }
 {
-    if !number_told(word(answer, at), r.number) {
-        return false;
-    }
-    if word(answer, at + 4) != r.keyword {
-        return false;
-    }
-    let position = (r.at % 4294967296) as u32;
-    word(answer, at + 8) == position
-}
-
-// The first n words of a table, or all where there are fewer.
-pub fn first_words(t: &[u32], n: usize) -> &[u32]
-    ensures { result.now ≡ take n t.now }
-{
-    if t.len() < n {
-        return t;
-    }
-    let start: usize = 0;
-    &t[start..n]
+    number_told(word(answer, at), r.number())
+        && word(answer, at + 4) == r.keyword
+        && word(answer, at + 8) == (r.at % 4294967296) as u32
 }
 
 // Whether words of a table are those that are recorded from a place on: each, or each second one and so on, by the step.
@@ -138,6 +117,7 @@ pub fn words_agree(f: &[u8], first: usize, table: &[u32], step: usize) -> bool
 {
     let mut at = first;
     let mut i: usize = 0;
+    // No `step_by`: it tells its items by products of places and the step, and the definition goes on by sums.
     while i < table.len() {
         if word(f, at) != table[i] {
             return false;
@@ -156,10 +136,8 @@ pub fn after_fields(d: &[u8], at: usize, count: u64) -> usize
     ensures { result ≡ behind_all count d.now at }
 {
     let mut next = at;
-    let mut left = count;
-    while 0 < left {
+    for _ in 0..count {
         next = after(d, next);
-        left -= 1;
     }
     next
 }
@@ -187,19 +165,14 @@ impl Tally {
     pub fn past(self, agrees: bool, next: usize) -> Tally
         ensures { result ≡ passed self agrees next }
     {
-        let records = std::num::wrapping_add_u64(self.records, 1);
-        if agrees {
-            return Tally {
-                at: next,
-                records,
-                different: self.different,
-            };
-        }
-        let different = std::num::wrapping_add_u64(self.different, 1);
         Tally {
             at: next,
-            records,
-            different,
+            records: self.records.wrapping_add(1),
+            different: if agrees {
+                self.different
+            } else {
+                self.different.wrapping_add(1)
+            },
         }
     }
 
@@ -211,7 +184,36 @@ impl Tally {
     }
 }
 
+// The run over all records of a file. `look` says of a record's place whether it agrees, and the place behind it. A record takes a byte at least.
+pub fn replay_all<F: Fn(&[u8], usize) -> (bool, usize)>(d: &[u8], look: F) -> Tally
+    requires { F.IsAlwaysCallable look }
+    ensures { RunsThrough (λ s at r. F.post look s at r) d.now result }
+{
+    let mut run = start();
+    for _ in 0..d.len() {
+        if d.len() <= run.at {
+            return run;
+        }
+        let (agrees, next) = look(d, run.at);
+        run = run.past(agrees, next);
+    }
+    run
+}
+
 // The same of a file, by its name.
+pub fn replay_file<R: Files, F: Fn(&[u8], usize) -> (bool, usize)>(
+    rt: &R,
+    name: &[u8],
+    look: F,
+) -> io::Result<Tally>
+    requires { F.IsAlwaysCallable look }
+{
+    let mut space = [0u8; MOST_FILE];
+    let n = read_file(rt, name, &mut space)?;
+    Ok(replay_all(&space[..n], look))
+}
+
+// Says the same of a file, by its name.
 pub fn say_file<R: Print>(rt: &R, name: &[u8], run: Tally) -> io::Result<()> {
     rt.write_all(name)?;
     rt.write_all(b": ")?;

@@ -1,8 +1,6 @@
 // Replays recorded graphs, those of the Rust and those of a plain reading with all names as nodes: nodes, edges in order, or which refusal.
 #![tactic(auto)]
 
-use graph_build::Graphed;
-use replay::Tally;
 use std::io;
 use std::rt::Files;
 use text::Refusal;
@@ -16,32 +14,20 @@ fn tables_agree(
     edges: &[u32],
     m: usize,
 ) -> bool {
-    if 1024 < n {
-        return false;
-    }
-    if 8192 < m {
+    if 1024 < n || 8192 < m {
         return false;
     }
     let places = replay::field(data, nodes_at);
     let rows = replay::field(data, replay::after(data, nodes_at));
-    if places.len() != n * 4 {
-        return false;
-    }
-    if rows.len() != m * 8 {
-        return false;
-    }
-    if !replay::words_agree(places, 0, replay::first_words(nodes, n * 2), 2) {
-        return false;
-    }
-    replay::words_agree(rows, 0, replay::first_words(edges, m * 2), 1)
+    places.len() == n * 4
+        && rows.len() == m * 8
+        && replay::words_agree(places, 0, text_lent::first(nodes, n * 2), 2)
+        && replay::words_agree(rows, 0, text_lent::first(edges, m * 2), 1)
 }
 
 // Whether a refusal is the recorded one: its number, and what the scan answered.
 fn refusal_agrees(answer: &[u8], number: u32, scan: Refusal) -> bool {
-    if replay::word(answer, 0) != number {
-        return false;
-    }
-    replay::refusal_agrees(answer, 4, scan)
+    replay::word(answer, 0) == number && replay::refusal_agrees(answer, 4, scan)
 }
 
 // The graph of an image and a bundle; behind the answer stand the places of the nodes' names and the edges.
@@ -71,13 +57,10 @@ fn graph_agrees(
         &mut levels,
     );
     match graphed {
-        Graphed::Built(n, m) => {
-            if replay::word(answer, 0) != 0 {
-                return false;
-            }
-            tables_agree(data, nodes_at, &nodes, n, &edges, m)
+        Ok((n, m)) => {
+            replay::word(answer, 0) == 0 && tables_agree(data, nodes_at, &nodes, n, &edges, m)
         }
-        Graphed::Refused(number, entry, scan, place) => refusal_agrees(answer, number, scan),
+        Err(r) => refusal_agrees(answer, r.reason as u32, r.scan),
     }
 }
 
@@ -95,27 +78,6 @@ fn record_agrees(complete: bool, data: &[u8], at: usize) -> bool {
     )
 }
 
-// One record more, if there is one. It has five fields.
-fn step(complete: bool, data: &[u8], run: Tally) -> Tally {
-    let at = run.at;
-    if data.len() <= at {
-        return run;
-    }
-    run.past(
-        record_agrees(complete, data, at),
-        replay::after_fields(data, at, 5),
-    )
-}
-
-// All records of a file. A record takes a byte at least.
-fn replay_all(complete: bool, data: &[u8]) -> Tally {
-    let mut run = replay::start();
-    for _ in 0..data.len() {
-        run = step(complete, data, run);
-    }
-    run
-}
-
 // A file of recorded graphs, of the one mode or the other.
 fn replay_file<R: Print + Files>(
     rt: &R,
@@ -123,9 +85,14 @@ fn replay_file<R: Print + Files>(
     complete: bool,
     what: &[u8],
 ) -> io::Result<()> {
-    let mut space = [0u8; 524288];
-    let n = replay::read_file(rt, name, &mut space)?;
-    replay_all(complete, &space[..n]).say(rt, what)
+    // A record has five fields.
+    let run = replay::replay_file(rt, name, |data, at| {
+        (
+            record_agrees(complete, data, at),
+            replay::after_fields(data, at, 5),
+        )
+    })?;
+    run.say(rt, what)
 }
 
 fn main(rt: HostRuntime) -> io::Result<()> {

@@ -2,128 +2,93 @@
 // which the Rust does not have, and of texts with accents, those of a plain reading (host/vectors/src/scans.rs).
 #![tactic(auto)]
 
-use replay::Tally;
-use scan_page::Page;
-use scan_rows::Span;
+use scan_rows::{Span, YangImport, YangInclude};
 use std::io;
 use std::rt::Files;
-use yangparser::Parsed;
+use text::Reason;
+use yangparser::Rows;
 
 // Whether a value is the recorded one at a place.
 fn value_agrees(store: &[u8], x: Span, data: &[u8], at: usize) -> bool {
     if replay::missing(data, at) {
-        return !x.present;
+        !x.present
+    } else {
+        x.present && check::same(scan_rows::value_in(store, x), replay::field(data, at))
     }
-    if x.present {
-        return check::same(scan_rows::value_in(store, x), replay::field(data, at));
-    }
-    false
 }
 
-// The place behind the values of a row, or that one of them differs.
-#[derive(Clone, Copy)]
-enum Walk {
-    Behind(usize),
-    Different,
-}
-
-fn import_agrees(store: &[u8], table: &[u32], row: usize, data: &[u8], at: usize) -> Walk {
-    if table.len() < scan_rows::MOST_ROWS * scan_rows::IMPORT_SIZE {
-        return Walk::Different;
-    }
-    if scan_rows::MOST_ROWS <= row {
-        return Walk::Different;
-    }
-    let import = scan_rows::get_import(table, row);
-    let prefix_at = replay::after(data, at);
-    let revision_at = replay::after(data, prefix_at);
-    if !value_agrees(store, import.module_name, data, at) {
-        return Walk::Different;
-    }
-    if !value_agrees(store, import.prefix, data, prefix_at) {
-        return Walk::Different;
-    }
-    if !value_agrees(store, import.revision_date, data, revision_at) {
-        return Walk::Different;
-    }
-    Walk::Behind(replay::after(data, revision_at))
-}
-
-fn include_agrees(store: &[u8], table: &[u32], row: usize, data: &[u8], at: usize) -> Walk {
-    if table.len() < scan_rows::MOST_ROWS * scan_rows::INCLUDE_SIZE {
-        return Walk::Different;
-    }
-    if scan_rows::MOST_ROWS <= row {
-        return Walk::Different;
-    }
-    let include = scan_rows::get_include(table, row);
-    let revision_at = replay::after(data, at);
-    if !value_agrees(store, include.submodule_name, data, at) {
-        return Walk::Different;
-    }
-    if !value_agrees(store, include.revision_date, data, revision_at) {
-        return Walk::Different;
-    }
-    Walk::Behind(replay::after(data, revision_at))
-}
-
-// All rows of a table.
-fn rows_agree(
-    store: &[u8],
-    table: &[u32],
-    count: usize,
-    imports: bool,
-    data: &[u8],
-    at: usize,
-) -> Walk {
+// The place behind values that stand one after the other, or none where one of them differs.
+fn behind_values(store: &[u8], values: &[Span], data: &[u8], at: usize) -> Option<usize> {
     let mut next = at;
-    let mut row: usize = 0;
-    while row < count {
-        match row_agrees(store, table, row, imports, data, next) {
-            Walk::Behind(end) => {
-                next = end;
-                row += 1;
-            }
-            Walk::Different => {
-                return Walk::Different;
-            }
+    for x in values {
+        if !value_agrees(store, *x, data, next) {
+            return None;
         }
+        next = replay::after(data, next);
     }
-    Walk::Behind(next)
+    Some(next)
 }
 
-fn row_agrees(
+// The same of a row of a table.
+fn behind_row(
     store: &[u8],
     table: &[u32],
     row: usize,
     imports: bool,
     data: &[u8],
     at: usize,
-) -> Walk {
-    if imports {
-        return import_agrees(store, table, row, data, at);
+) -> Option<usize> {
+    let size = if imports {
+        scan_rows::IMPORT_SIZE
+    } else {
+        scan_rows::INCLUDE_SIZE
+    };
+    if table.len() < scan_rows::MOST_ROWS * size || scan_rows::MOST_ROWS <= row {
+        return None;
     }
-    include_agrees(store, table, row, data, at)
+    if imports {
+        let YangImport {
+            module_name,
+            prefix,
+            revision_date,
+        } = scan_rows::get_import(table, row);
+        behind_values(store, &[module_name, prefix, revision_date], data, at)
+    } else {
+        let YangInclude {
+            submodule_name,
+            revision_date,
+        } = scan_rows::get_include(table, row);
+        behind_values(store, &[submodule_name, revision_date], data, at)
+    }
 }
 
-// What was read and printed, against the record from behind its answer on.
-fn read_agrees(
+// The same of all rows of a table.
+fn behind_rows(
     store: &[u8],
-    imports: &[u32],
-    m: usize,
-    includes: &[u32],
-    n: usize,
-    page: &[u8],
+    table: &[u32],
+    count: usize,
+    imports: bool,
     data: &[u8],
     at: usize,
-) -> bool {
-    let Walk::Behind(includes_at) = rows_agree(store, imports, m, true, data, at) else {
-        return false;
-    };
-    let Walk::Behind(page_at) = rows_agree(store, includes, n, false, data, includes_at) else {
-        return false;
-    };
-    check::same(page, replay::field(data, page_at))
+) -> Option<usize> {
+    let mut next = at;
+    for row in 0..count {
+        next = behind_row(store, table, row, imports, data, next)?;
+    }
+    Some(next)
+}
+
+// What was read, against the record from behind its answer on: the place behind the values.
+fn page_place(
+    store: &[u8],
+    imports: &[u32],
+    includes: &[u32],
+    rows: Rows,
+    data: &[u8],
+    at: usize,
+) -> Option<usize> {
+    let includes_at = behind_rows(store, imports, rows.imports, true, data, at)?;
+    behind_rows(store, includes, rows.includes, false, data, includes_at)
 }
 
 // The dependencies of a text and their printed form; where the answer's number is 0, the values and the page stand behind it. A text that is longer than the
@@ -141,51 +106,32 @@ fn dependencies_agree(whole: bool, s: &[u8], answer: &[u8], data: &[u8], values_
         &mut includes,
         &mut page,
     );
-    let parsed = printed.parsed;
-    match parsed {
-        Parsed::Good {
-            imports: m,
-            includes: n,
-            used: _,
-        } => {
-            if replay::word(answer, 0) != 0 {
-                return false;
-            }
+    match printed.parsed {
+        Ok(rows) => {
+            let page_at = page_place(&store, &imports, &includes, rows, data, values_at);
             let shown = text_lent::first(&page, printed.length);
-            read_agrees(&store, &imports, m, &includes, n, shown, data, values_at)
+            replay::word(answer, 0) == 0
+                && page_at.is_some_and(|place| check::same(shown, replay::field(data, place)))
         }
-        Parsed::Refused(r) => replay::refusal_agrees(answer, 0, r),
+        Err(r) => replay::refusal_agrees(answer, 0, r),
     }
 }
 
-// The first five values of a metadata record; the Rust has no newest revision.
-fn values_agree(store: &[u8], values: [Span; 6], data: &[u8], at: usize) -> bool {
-    let mut next = at;
-    let mut i: usize = 0;
-    while i < scan_metadata::NEWEST_VALUE {
-        let x = values[i];
-        if !value_agrees(store, x, data, next) {
-            return false;
-        }
-        next = replay::after(data, next);
-        i += 1;
-    }
-    true
-}
-
-// The metadata of a text; where the answer's number is 0, the values stand behind it.
+// The metadata of a text; where the answer's number is 0, the values stand behind it: the first five, since the Rust has no newest revision.
 fn metadata_agrees(whole: bool, s: &[u8], answer: &[u8], data: &[u8], values_at: usize) -> bool {
     let mut store = [0u8; 4096];
     let read = scan_metadata::extract_yang_metadata(whole, s, &mut store);
-    let r = read.answer;
-    if r.number != text::NO_REFUSAL {
-        return replay::refusal_agrees(answer, 0, r);
+    if read.answer.reason != Reason::Nothing {
+        return replay::refusal_agrees(answer, 0, read.answer);
     }
-    if replay::word(answer, 0) != 0 {
-        return false;
-    }
-    let values = read.values;
-    values_agree(&store, values, data, values_at)
+    replay::word(answer, 0) == 0
+        && behind_values(
+            &store,
+            &read.values[..scan_metadata::NEWEST_VALUE],
+            data,
+            values_at,
+        )
+        .is_some()
 }
 
 // What the records of a file tell of.
@@ -223,34 +169,17 @@ fn behind(kind: Kind, data: &[u8], at: usize) -> usize {
     let answer_at = replay::after(data, at);
     let answer = replay::field(data, answer_at);
     let values_at = replay::after(data, answer_at);
-    if replay::word(answer, 0) != 0 {
-        return values_at;
+    if replay::word(answer, 0) == 0 {
+        replay::after_fields(data, values_at, fields_behind(kind, answer))
+    } else {
+        values_at
     }
-    replay::after_fields(data, values_at, fields_behind(kind, answer))
-}
-
-// One record more, if there is one.
-fn step(whole: bool, kind: Kind, data: &[u8], run: Tally) -> Tally {
-    let at = run.at;
-    if data.len() <= at {
-        return run;
-    }
-    run.past(agrees(whole, kind, data, at), behind(kind, data, at))
-}
-
-// All records of a file. A record takes a byte at least.
-fn replay_all(whole: bool, kind: Kind, data: &[u8]) -> Tally {
-    let mut run = replay::start();
-    for _ in 0..data.len() {
-        run = step(whole, kind, data, run);
-    }
-    run
 }
 
 fn replay_file<R: Print + Files>(rt: &R, whole: bool, kind: Kind, name: &[u8]) -> io::Result<()> {
-    let mut space = [0u8; 524288];
-    let n = replay::read_file(rt, name, &mut space)?;
-    let run = replay_all(whole, kind, &space[..n]);
+    let run = replay::replay_file(rt, name, |data, at| {
+        (agrees(whole, kind, data, at), behind(kind, data, at))
+    })?;
     replay::say_file(rt, name, run)
 }
 

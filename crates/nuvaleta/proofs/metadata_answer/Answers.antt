@@ -20,4 +20,4 @@ pub returns : goal.returns
 returns c =
     let a = c.args in
     described a.whole a.text.now _ a.store.now c.extract_yang_metadata-read.ensures c.record_words.ensures
-    c.metadata_words.ensures refl
+    c.metadata_words.ensures c.number.ensures

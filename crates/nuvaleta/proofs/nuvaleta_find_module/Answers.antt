@@ -3,8 +3,8 @@
 use Rattle.nuvaleta.proofs.ToldLaws.{module_fits, told_as}
 use Rattle.nuvaleta.proofs.nuvaleta_find_module.Goals as goal
 
-pub find_words-words-requires : goal.find_words-words-requires
-find_words-words-requires c = search module_fits
+pub find_words-requires : goal.find_words-requires
+find_words-requires c = search module_fits
 
 pub returns : goal.returns
 returns c = search told_as

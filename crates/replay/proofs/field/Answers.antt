@@ -14,4 +14,4 @@ slice_bounds-result-end c = search field_end
 
 pub returns : goal.returns
 returns c =
-    field_is c.args.d.now c.args.at c.on_by-from.ensures c.after-to.ensures
+    field_is c.args.d.now c.args.at c.on_by.ensures c.after.ensures
