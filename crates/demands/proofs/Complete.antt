@@ -1,5 +1,6 @@
 -- The mode `complete` from bytes: what crate graph says of it (Complete), through the readings of image and bundle.
 -- Assumes nothing.
+use Rattle.std.specs.Prelude.{Err}
 use Prim.Native.Nat.{ℕ, ◌<◌}
 use mathlib.Core.Path.{◌≡◌, refl, sym, ap, ap₂, ◌∙◌, subst}
 use mathlib.Core.Bool.{false}
@@ -23,7 +24,6 @@ use Rattle.graph_nodes.specs.Adding.{plain_at, words_at}
 use Rattle.graph_texts.specs.Texts.{text_of}
 use Rattle.graph_tables.specs.Lengths.{Lengths, is_too_short}
 use Rattle.graph_build.specs.Result.{Result, result_of}
-use Rattle.graph_build.specs.declared.Graphed.TheVariants.{Refused}
 use Rattle.graph_build.proofs.Outcome.{revised_here}
 use Rattle.yanglib.specs.ToGraph.{graphed}
 use Rattle.demands.specs.Demand1.{GraphCause, image, bundle, lent, graph}
@@ -51,7 +51,7 @@ module _ (s b : List ℕ) (k : Lengths) (ws : List Name) (o : EachOnce ws (all_n
       let l = plain_at s in
       (r, i, h, omega (arith, cause_many (text_of b) l 1024 8192 c q, as_many ws (nodes_of complete l) (all_names l) o (nodes_each l)))
 
-  names_many : TooMany → (entry place : ℕ) × (a : Refusal) × ((graphed complete s b k).answer ≡ Refused 30 entry a place)
+  names_many : TooMany → (entry place : ℕ) × (a : Refusal) × ((graphed complete s b k).answer ≡ Err (record { number = 30; entry = entry; scan = a; place = place }))
   names_many t =
       let x = ((complete_demand3 most_nodes most_edges (text_of b)).too_many (plain_at s) ws o).1 t.3 in
       let e = graph_reached complete s b k t.0 t.1 t.2 ∙ ap (result_of (words_at complete s)) x.2 in

@@ -1,6 +1,7 @@
 -- Demand 3 from bytes to names: a built answer is the graph of the image's library, whose names are read from the bytes, and its rows are its edges in
 -- numbers, which lead back to the names. What comes before the graph (21, 22) hangs on the bundle and the lengths lent alone.
 -- Assumes nothing.
+use Rattle.std.specs.Prelude.{Ok, Result as Answer}
 use Prim.Native.Nat.{ℕ}
 use mathlib.Core.Path.{◌≡◌, refl, sym, ap, ap₂, ◌∙◌, subst, subst₂}
 use mathlib.Core.Logic.{◌↔◌}
@@ -8,6 +9,7 @@ use mathlib.Core.Bool.{Bool, true, false, cond}
 use mathlib.Core.List.{List, [], ◌∷◌, map, Memᴰ, Perm}
 use native.Mathlib.Omega.{arith}
 use lib.ListN.{length, length-map}
+use Rattle.text.proofs.Here.{ok_pair_parts}
 use Rattle.library_form.specs.Form.{Ans, good, bad}
 use Rattle.library_form.specs.Writer.{AllBytes}
 use Rattle.library_image.specs.Image.{image_broken, image_at}
@@ -32,8 +34,7 @@ use Rattle.graph_texts.specs.Texts.{text_of}
 use Rattle.graph_build.specs.Result.{Result, refusal, result_of}
 use Rattle.yanglib.specs.ToGraph.{lent_too_short, on_read, graphed, Graphs}
 use Rattle.graph_tables.specs.Lengths.{Lengths, is_too_short, lengths_of}
-use Rattle.graph_build.specs.declared.Graphed.{Graphed}
-use Rattle.graph_build.specs.declared.Graphed.TheVariants.{Built}
+use Rattle.graph_build.specs.declared.GraphRefusal.{GraphRefusal}
 use Rattle.graph_build.proofs.Outcome.{revised_here}
 use Rattle.demands.specs.Demand3.{name_of, names, table_names, table_edges, named, between, edges, RightGraph, WellFormed, Alike, both_refused, both_built}
 use Rattle.demands.specs.Demand3.{AlikeCalls, BytesDemand3}
@@ -75,12 +76,12 @@ module _ (mode : Mode) (s b : List ℕ) (k : Lengths) where
     pub es : List Edge
     pub graph_is : graph_here mode s b ≡ graph ns es
 
-  pub drawn : (n m : ℕ) → (graphed mode s b k).answer ≡ Built n m → Drawn
+  pub drawn : (n m : ℕ) → (graphed mode s b k).answer ≡ Ok (n, m) → Drawn
   unfolding graphed
   drawn n m h = go (image_at s) (bundle_at b) (is_too_short (longest_text b) k) (graph_here mode s b) refl refl refl refl h
     where
       go : (x : Ans Library) (y : Ans (List BundleText)) (short : Bool) (g : Graph) → image_at s ≡ x → bundle_at b ≡ y → is_too_short (longest_text b) k ≡ short
-          → graph_here mode s b ≡ g → (before x y short (result_of (words_at mode s) g)).answer ≡ Built n m → Drawn
+          → graph_here mode s b ≡ g → (before x y short (result_of (words_at mode s) g)).answer ≡ Ok (n, m) → Drawn
       go (bad p) y short g e f t q h = let z : ◌≡◌ {A = ℕ} 0 1 = cc in absurd (omega arith)
       go (good l i) (bad p) short g e f t q h = let z : ◌≡◌ {A = ℕ} 0 1 = cc in absurd (omega arith)
       go (good l i) (good o j) true g e f t q h = let z : ◌≡◌ {A = ℕ} 0 1 = cc in absurd (omega arith)
@@ -142,27 +143,27 @@ module _ (mode : Mode) (s b : List ℕ) (bytes : AllBytes s) (reads : Reads (ima
 
 -- ---- first part
 
-right_graph : (mode : Mode) (s b : List ℕ) (k : Lengths) (n m : ℕ) → AllBytes s → (graphed mode s b k).answer ≡ Built n m
+right_graph : (mode : Mode) (s b : List ℕ) (k : Lengths) (n m : ℕ) → AllBytes s → (graphed mode s b k).answer ≡ Ok (n, m)
     → RightGraph mode (text_of b) (plain_at s) n m (names s (graphed mode s b k)) (graphed mode s b k).rows
 right_graph mode s b k n m bytes h =
     let d = drawn mode s b k n m h in
     let q : graphed mode s b k ≡ result_of (words_at mode s) (graph d.ns d.es)
     = graph_reached mode s b k d.reads d.bundle d.long ∙ ap (result_of (words_at mode s)) d.graph_is in
-    let a : Built (length d.ns) (length d.es) ≡ Built n m = sym (ap (λ (x : Result). x.answer) q) ∙ h in
-    let i : length d.ns ≡ n = cc in
-    let j : length d.es ≡ m = cc in
+    let a = ok_pair_parts (length d.ns) n (length d.es) m (sym (ap (λ (x : Result). x.answer) q) ∙ h) in
+    let i = a.0 in
+    let j = a.1 in
     let e = names_are mode s b bytes d.reads d.graph_is in
     subst (λ (x : Result). RightGraph mode (text_of b) (plain_at s) n m (names s x) x.rows) (sym q)
     (subst (λ l. RightGraph mode (text_of b) (plain_at s) n m l (map (row_of d.ns) d.es)) (sym e)
     (subst₂ (λ x y. RightGraph mode (text_of b) (plain_at s) x y d.ns (map (row_of d.ns) d.es)) i j (right_here mode s b bytes d.reads d.graph_is)))
 
 -- and of what a call leaves
-module _ (mode : Mode) (s b n e d f g l : List ℕ) {r : Graphed} {n₁ e₁ d₁ f₁ g₁ l₁ : List ℕ} (bytes : AllBytes s)
+module _ (mode : Mode) (s b n e d f g l : List ℕ) {r : Answer (ℕ × ℕ) GraphRefusal} {n₁ e₁ d₁ f₁ g₁ l₁ : List ℕ} (bytes : AllBytes s)
     (h : Graphs mode s b n e d f g l r n₁ e₁ d₁ f₁ g₁ l₁) where
   abbrev left : Result
   left = graphed mode s b (lengths_of n e d f g l)
 
-  module _ (i j : ℕ) (a : left.answer ≡ Built i j) where
+  module _ (i j : ℕ) (a : left.answer ≡ Ok (i, j)) where
     right_left : RightGraph mode (text_of b) (plain_at s) i j (names s left) left.rows
     right_left = right_graph mode s b (lengths_of n e d f g l) i j bytes a
 
@@ -185,7 +186,7 @@ module _ (mode : Mode) (s s₁ b : List ℕ) (k : Lengths) (f : WellFormed s) (f
   graphs_alike : (g g₁ : Graph) → graph_here mode s b ≡ g → graph_here mode s₁ b ≡ g₁ → Agree g g₁
       → Alike s s₁ (result_of (words_at mode s) g) (result_of (words_at mode s₁) g₁)
   graphs_alike (graph ns es) (graph ns₁ es₁) e e₁ (graphs-built p q) =
-      both_built refl (ap₂ Built (sym (perm_length p)) (sym (perm_length q)))
+      both_built refl (ap₂ (λ x y. Ok (x, y)) (sym (perm_length p)) (sym (perm_length q)))
       (subst₂ Perm (sym (names_are mode s b f.bytes f.reads e)) (sym (names_are mode s₁ b f₁.bytes f₁.reads e₁)) p)
       (subst₂ Perm (sym (edges_are mode s b f.bytes f.reads e)) (sym (edges_are mode s₁ b f₁.bytes f₁.reads e₁)) q)
   graphs_alike (fault n j a) (fault n₁ j₁ a₁) e e₁ graphs-refused = both_refused refl refl
@@ -205,9 +206,9 @@ module _ (mode : Mode) (s s₁ b : List ℕ) (k : Lengths) (f : WellFormed s) (f
 
 -- and of what two calls leave
 module _ (mode : Mode) (s s₁ b n e d f g l n' e' d' f' g' l' : List ℕ) (ks : lengths_of n e d f g l ≡ lengths_of n' e' d' f' g' l')
-    (w : WellFormed s) (w₁ : WellFormed s₁) {r r' : Graphed} {n₁ e₁ d₁ f₁ g₁ l₁ n₁' e₁' d₁' f₁' g₁' l₁' : List ℕ} (h : Graphs mode s b n e d f g l r n₁ e₁ d₁ f₁ g₁ l₁)
+    (w : WellFormed s) (w₁ : WellFormed s₁) {r r' : Answer (ℕ × ℕ) GraphRefusal} {n₁ e₁ d₁ f₁ g₁ l₁ n₁' e₁' d₁' f₁' g₁' l₁' : List ℕ} (h : Graphs mode s b n e d f g l r n₁ e₁ d₁ f₁ g₁ l₁)
     (h₁ : Graphs mode s₁ b n' e' d' f' g' l' r' n₁' e₁' d₁' f₁' g₁' l₁') where
-  abbrev Calls : Graphed → Graphed → Type 0
+  abbrev Calls : Answer (ℕ × ℕ) GraphRefusal → Answer (ℕ × ℕ) GraphRefusal → Type 0
   Calls x y = AlikeCalls s s₁ x n₁ e₁ y n₁' e₁'
 
   tables_alike : Alike s s₁ (left mode s b n e d f g l w.bytes h) (left mode s₁ b n' e' d' f' g' l' w₁.bytes h₁) → Calls r r'

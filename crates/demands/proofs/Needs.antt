@@ -1,5 +1,6 @@
 -- The graphs are computed; a built one is not refused, and names that are a permutation of others are among them.
 -- Assumes nothing.
+use Rattle.std.specs.Prelude.{Ok, Err, Result}
 use Prim.Native.Nat.{ℕ, zero, suc, ◌<◌}
 use mathlib.Core.Path.{◌≡◌, refl, sym, ◌∙◌, subst, subst₂}
 use mathlib.Core.Bool.{Bool, true, false, cond}
@@ -20,8 +21,7 @@ use Rattle.graph.proofs.Tests.{both_bools, mem_memb}
 use Rattle.graph.specs.Once.{includes_once, walk_once, includes_read, walk_read, entries_read}
 use Rattle.yanglib.specs.ToGraph.{graphed}
 use Rattle.graph_tables.specs.Lengths.{is_too_short}
-use Rattle.graph_build.specs.declared.Graphed.{Graphed}
-use Rattle.graph_build.specs.declared.Graphed.TheVariants.{Built, Refused}
+use Rattle.graph_build.specs.declared.GraphRefusal.{GraphRefusal}
 use Rattle.text.specs.Class.{class_of}
 use Rattle.text.specs.Due.{due_number, due_here, due_at}
 use Rattle.text.specs.Keyword.{starts_ident, ends_keyword, same, part, keyword_at, match_at, or_match}
@@ -99,14 +99,14 @@ with_t : List Name
 with_t = (98 ∷ []) ∷ (116 ∷ []) ∷ []
 
 pub record Computed : Type 0 where
-  empty : (graphed pass_over empty_first includes lent).answer ≡ Refused 28 1 no_refusal 0
-  pub full : (graphed pass_over full_first includes lent).answer ≡ Built 2 1
-  s_first_lem : (graphed pass_over s_first alone lent).answer ≡ Built 2 0
+  empty : (graphed pass_over empty_first includes lent).answer ≡ Err (record { number = 28; entry = 1; scan = no_refusal; place = 0 })
+  pub full : (graphed pass_over full_first includes lent).answer ≡ Ok (2, 1)
+  s_first_lem : (graphed pass_over s_first alone lent).answer ≡ Ok (2, 0)
   s_names : names s_first (graphed pass_over s_first alone lent) ≡ with_s
   t_names : names t_first (graphed pass_over t_first alone lent) ≡ with_t
   -- and with all names as nodes
-  pub empty_complete : (graphed complete empty_first includes lent).answer ≡ Built 2 1
-  pub s_complete : (graphed complete s_first alone lent).answer ≡ Built 3 0
+  pub empty_complete : (graphed complete empty_first includes lent).answer ≡ Ok (2, 1)
+  pub s_complete : (graphed complete s_first alone lent).answer ≡ Ok (3, 0)
   pub read_once : texts_read pass_over full_first includes ≡ 0 ∷ 1 ∷ []
 
 pub computed : Computed
@@ -130,7 +130,7 @@ computed = record {
   read_once = refl;
 }
 
-both_ways : {r : Graphed} {n m number entry place : ℕ} {a : Refusal} → r ≡ Built n m → r ≡ Refused number entry a place → ⊥
+both_ways : {r : Result (ℕ × ℕ) GraphRefusal} {n m number entry place : ℕ} {a : Refusal} → r ≡ Ok (n, m) → r ≡ Err (record { number = number; entry = entry; scan = a; place = place }) → ⊥
 both_ways h k = let e = sym h ∙ k in let z : ◌≡◌ {A = ℕ} 0 1 = cc in omega arith
 
 once_unlike : ¬ Alike empty_first full_first (graphed pass_over empty_first includes lent) (graphed pass_over full_first includes lent)

@@ -1,6 +1,7 @@
 -- Which refusals the calls can give. The answer of a graph goes through four ways out, and behind them a refusal of the graph has its cause; the number,
 -- entry and scan answer of each cause are read off.
 -- Assumes nothing.
+use Rattle.std.specs.Prelude.{Some, None, Err, Ok, Option, Result as Answer}
 use Prim.Native.Nat.{ℕ, ◌+◌}
 use mathlib.Core.Path.{◌≡◌, refl, sym, ap, ◌∙◌, subst, subst₃}
 use mathlib.Core.Bool.{Bool, true, false, cond}
@@ -12,8 +13,6 @@ use Rattle.text.specs.Keyword.{same}
 use Rattle.text.proofs.Here.{never}
 use Rattle.text.specs.declared.Refusal.{Refusal}
 use Rattle.library_form.specs.Form.{Ans, good, bad, PlacedName}
-use Rattle.library_form.specs.declared.LookUp.{LookUp}
-use Rattle.library_form.specs.declared.LookUp.TheVariants.{Broken, Nothing, At}
 use Rattle.library_index.specs.Names.{first_by}
 use Rattle.library_image.specs.Image.{image_at}
 use Rattle.library_image.specs.Library.{Name, Module, ImportOnly, Library, modules_of, submodules_of, import_only_of}
@@ -21,8 +20,6 @@ use Rattle.library_lists.specs.Lists.{on_ans}
 use Rattle.library_find.specs.Find.{first_module, first_submodule, first_import_only, find_in, find_module, find_submodule, find_import_module}
 use Rattle.library_bundle.specs.Bundle.{Text, bundle_at, place_of, looked, look_in, look_up, part_of, text_under}
 use Rattle.library_bundle.specs.Reading.{longest_text}
-use Rattle.library_bundle.specs.declared.TextPlace.{TextPlace}
-use Rattle.library_bundle.specs.declared.TextPlace.TheVariants.{At as PlaceAt, Nothing as NoPlace}
 use Rattle.graph.specs.Nodes.{Mode, complete}
 use Rattle.text.specs.Refusal.{no_refusal}
 use Rattle.graph.specs.Graph.{ScanAnswer, refusing, Entry, Graph, graph as drawing, fault}
@@ -36,8 +33,7 @@ use Rattle.yangparser.specs.Dependencies.{Dependencies, Scan, good as scanGood, 
 use Rattle.graph_build.specs.Result.{Result, result_of}
 use Rattle.yanglib.specs.ToGraph.{graphed}
 use Rattle.graph_tables.specs.Lengths.{Lengths, lengths_of, is_too_short}
-use Rattle.graph_build.specs.declared.Graphed.{Graphed}
-use Rattle.graph_build.specs.declared.Graphed.TheVariants.{Built, Refused}
+use Rattle.graph_build.specs.declared.GraphRefusal.{GraphRefusal}
 use Rattle.nuvaleta.specs.Words.{graph_words}
 use Rattle.demands.specs.Demand1.{GraphCause, image, bundle, lent, graph, GraphNumbers, Buildable, Demand1}
 use Rattle.demands_scans.proofs.ScanNumbers.{is_one, one_of, is_one_lem, dependencies_first}
@@ -49,32 +45,35 @@ use Rattle.demands.proofs.Zeros.{zeros_left}
 -- ---- finds and texts
 
 -- a search for a place is never broken
+abbrev found : {A : Type 0} (name : A → PlacedName) (place count : A → ℕ) → List ℕ → List A → Answer (Option (ℕ × ℕ)) ℕ
+found {A} name place count t l = first_by {A = A} {B = Answer (Option (ℕ × ℕ)) ℕ} name (λ a. Ok (Some (place a, count a))) t l (Ok None)
+
 never_broken : {A : Type 0} (name : A → PlacedName) (place count : A → ℕ) (t : List ℕ) (l : List A) (p : ℕ)
-    → first_by name (λ a. At (place a) (count a)) t l Nothing ≡ Broken p → ⊥
+    → found name place count t l ≡ Err p → ⊥
 never_broken name place count t [] p e = let z : ◌≡◌ {A = ℕ} 0 1 = cc in omega arith
 never_broken name place count t (a ∷ l) p e = go (same (name a).text t) (never_broken name place count t l p) e
   where
-    go : (b : Bool) → (first_by name (λ x. At (place x) (count x)) t l Nothing ≡ Broken p → ⊥)
-        → cond b (At (place a) (count a)) (first_by name (λ x. At (place x) (count x)) t l Nothing) ≡ Broken p → ⊥
+    go : (b : Bool) → (found name place count t l ≡ Err p → ⊥)
+        → cond {A = Answer (Option (ℕ × ℕ)) ℕ} b (Ok (Some (place a, count a))) (found name place count t l) ≡ Err p → ⊥
     go true f e = let z : ◌≡◌ {A = ℕ} 0 1 = cc in omega arith
     go false f e = f e
 
-find_broken : (f : Library → LookUp) → ((l : Library) (p : ℕ) → f l ≡ Broken p → ⊥) → (s : List ℕ) (p : ℕ) → (find_in f s ≡ Broken p) ↔ (image_at s ≡ bad p)
-find_broken f never s p = (λ e. go (image_at s) e, λ e. ap (λ r. on_ans r (λ l n. f l) (λ q. Broken q)) e)
+find_broken : (f : Library → Answer (Option (ℕ × ℕ)) ℕ) → ((l : Library) (p : ℕ) → f l ≡ Err p → ⊥) → (s : List ℕ) (p : ℕ) → (find_in f s ≡ Err p) ↔ (image_at s ≡ bad p)
+find_broken f never s p = (λ e. go (image_at s) e, λ e. ap (λ r. on_ans r (λ l n. f l) (λ q. Err q)) e)
   where
-    go : (r : Ans Library) → on_ans r (λ l n. f l) (λ q. Broken q) ≡ Broken p → r ≡ bad p
+    go : (r : Ans Library) → on_ans r (λ l n. f l) (λ q. Err q) ≡ Err p → r ≡ bad p
     go (good l n) e = absurd (never l p e)
     go (bad q) e = let k : q ≡ p = cc in ap bad k
 
-text_broken : (s t : List ℕ) (p : ℕ) → (look_up s t ≡ Broken p) ↔ (bundle_at s ≡ bad p)
+text_broken : (s t : List ℕ) (p : ℕ) → (look_up s t ≡ Err p) ↔ (bundle_at s ≡ bad p)
 unfolding look_up
 text_broken s t p = (λ e. go (bundle_at s) e, λ e. ap (look_in t) e)
   where
-    place : (x : TextPlace) → looked x ≡ Broken p → ⊥
-    place (PlaceAt a b) e = let z : ◌≡◌ {A = ℕ} 0 1 = cc in omega arith
-    place NoPlace e = let z : ◌≡◌ {A = ℕ} 0 1 = cc in omega arith
+    place : (x : Option (ℕ × ℕ)) → looked x ≡ Err p → ⊥
+    place (Some (a, b)) e = let z : ◌≡◌ {A = ℕ} 0 1 = cc in omega arith
+    place None e = let z : ◌≡◌ {A = ℕ} 0 1 = cc in omega arith
 
-    go : (r : Ans (List Text)) → look_in t r ≡ Broken p → r ≡ bad p
+    go : (r : Ans (List Text)) → look_in t r ≡ Err p → r ≡ bad p
     go (good es n) e = absurd (place (place_of t es) e)
     go (bad q) e = let k : q ≡ p = cc in ap bad k
 
@@ -134,10 +133,10 @@ refused_scan b v a e = look (look_up b v) e
     scan (scanGood d) h = let z : ◌≡◌ {A = ℕ} 0 1 = cc in absurd (omega arith)
     scan (scanBad r d) h = (d, cc)
 
-    look : (x : LookUp) → look_text b x ≡ refusing a → (d : Dependencies) × (dependencies false (part_of b x) false ≡ scanBad a d)
-    look (Broken p) h = let z : ◌≡◌ {A = ℕ} 0 1 = cc in absurd (omega arith)
-    look Nothing h = let z : ◌≡◌ {A = ℕ} 0 1 = cc in absurd (omega arith)
-    look (At from size) h = scan (dependencies false (take size (drop from b)) false) h
+    look : (x : Answer (Option (ℕ × ℕ)) ℕ) → look_text b x ≡ refusing a → (d : Dependencies) × (dependencies false (part_of b x) false ≡ scanBad a d)
+    look (Err p) h = let z : ◌≡◌ {A = ℕ} 0 1 = cc in absurd (omega arith)
+    look (Ok None) h = let z : ◌≡◌ {A = ℕ} 0 1 = cc in absurd (omega arith)
+    look (Ok (Some (from, size))) h = scan (dependencies false (take size (drop from b)) false) h
 
 module _ (mode : Mode) (s b : List ℕ) where
   abbrev RefusedText : ScanAnswer → Type 0
@@ -167,22 +166,21 @@ module _ (mode : Mode) (s b : List ℕ) where
 -- ---- the ways out
 
 -- a cause of the very refusal
-moved : {mode : Mode} {s b : List ℕ} {k : Lengths} {n e p n₁ e₁ p₁ : ℕ} {a a₁ : Refusal} → GraphCause mode s b k n e a p → Refused n e a p ≡ Refused n₁ e₁ a₁ p₁
+moved : {mode : Mode} {s b : List ℕ} {k : Lengths} {n e p n₁ e₁ p₁ : ℕ} {a a₁ : Refusal} → GraphCause mode s b k n e a p
+    → ◌≡◌ {A = Answer (ℕ × ℕ) GraphRefusal} (Err (record { number = n; entry = e; scan = a; place = p }))
+    (Err (record { number = n₁; entry = e₁; scan = a₁; place = p₁ }))
     → GraphCause mode s b k n₁ e₁ a₁ p₁
 moved {mode} {s} {b} {k} {n} {e} {p} {n₁} {e₁} {p₁} {a} {a₁} c h =
-    let i : n ≡ n₁ = cc in
-    let j : e ≡ e₁ = cc in
-    let l : a ≡ a₁ = cc in
-    let m : p ≡ p₁ = cc in
-    subst (λ x. GraphCause mode s b k n₁ e₁ a₁ x) m (subst₃ (λ x y z. GraphCause mode s b k x y z p) i j l c)
+    let q : ◌≡◌ {A = GraphRefusal} (record { number = n; entry = e; scan = a; place = p }) (record { number = n₁; entry = e₁; scan = a₁; place = p₁ }) = cc in
+    subst (λ (x : GraphRefusal). GraphCause mode s b k x.number x.entry x.scan x.place) q c
 
 module _ (mode : Mode) (s b : List ℕ) (k : Lengths) where
-  pub caused : (number entry place : ℕ) (a : Refusal) → (graphed mode s b k).answer ≡ Refused number entry a place → GraphCause mode s b k number entry a place
+  pub caused : (number entry place : ℕ) (a : Refusal) → (graphed mode s b k).answer ≡ Err (record { number = number; entry = entry; scan = a; place = place }) → GraphCause mode s b k number entry a place
   unfolding graphed
   caused number entry place a h = go (image_at s) (bundle_at b) (is_too_short (longest_text b) k) (graph_here mode s b) refl refl refl refl h
     where
       go : (x : Ans Library) (y : Ans (List Text)) (short : Bool) (g : Graph) → image_at s ≡ x → bundle_at b ≡ y → is_too_short (longest_text b) k ≡ short
-          → graph_here mode s b ≡ g → (before x y short (result_of (words_at mode s) g)).answer ≡ Refused number entry a place
+          → graph_here mode s b ≡ g → (before x y short (result_of (words_at mode s) g)).answer ≡ Err (record { number = number; entry = entry; scan = a; place = place })
           → GraphCause mode s b k number entry a place
       go (bad p) y short g e f t q h = moved (image e) h
       go (good l i) (bad p) short g e f t q h = moved (bundle (record { value = l; end = i; read = e }) f) h
@@ -192,13 +190,13 @@ module _ (mode : Mode) (s b : List ℕ) (k : Lengths) where
           let d = (demand3 mode 1024 8192 (text_of b)).refused (plain_at s) n m c q in
           moved (graph (record { value = l; end = i; read = e }) (record { value = o; end = j; read = f }) t d) h
 
-  buildable : (n m : ℕ) → (graphed mode s b k).answer ≡ Built n m → Buildable mode s b k
+  buildable : (n m : ℕ) → (graphed mode s b k).answer ≡ Ok (n, m) → Buildable mode s b k
   buildable n m h =
       let d = drawn mode s b k n m h in
       let o = ((demand3 mode 1024 8192 (text_of b)).built (plain_at s)).0 (d.ns, d.es, d.graph_is) in
       record { image = d.reads; bundle = d.bundle; lent = d.long; sound = o }
 
-  built : Buildable mode s b k → (n : ℕ) × (m : ℕ) × ((graphed mode s b k).answer ≡ Built n m)
+  built : Buildable mode s b k → (n : ℕ) × (m : ℕ) × ((graphed mode s b k).answer ≡ Ok (n, m))
   built c =
       let g = ((demand3 mode 1024 8192 (text_of b)).built (plain_at s)).1 c.sound in
       let e = graph_reached mode s b k c.image c.bundle c.lent ∙ ap (result_of (words_at mode s)) g.2 in
@@ -207,10 +205,10 @@ module _ (mode : Mode) (s b : List ℕ) (k : Lengths) where
 -- ---- 28
 
 -- the words of a graph's answer begin with its number, or with 0
-begun : (x : Graphed) → get_or (graph_words x) 0 0 ≡ 28 → (entry place : ℕ) × (a : Refusal) × (x ≡ Refused 28 entry a place)
+begun : (x : Answer (ℕ × ℕ) GraphRefusal) → get_or (graph_words x) 0 0 ≡ 28 → (entry place : ℕ) × (a : Refusal) × (x ≡ Err (record { number = 28; entry = entry; scan = a; place = place }))
 unfolding graph_words
-begun (Built n m) h = absurd (omega (arith, h))
-begun (Refused number entry a place) h = (entry, place, a, ap (λ n. Refused n entry a place) h)
+begun (Ok (n, m)) h = absurd (omega (arith, h))
+begun (Err r) h = let record { number = number; entry = entry; scan = a; place = place } = r in (entry, place, a, ap (λ n. Err (record { number = n; entry = entry; scan = a; place = place })) h)
 
 pub never_28 : (s b : List ℕ) (k : Lengths) {number entry place : ℕ} {a : Refusal} → GraphCause complete s b k number entry a place → number ≡ 28 → ⊥
 never_28 s b k (image h) q = omega (arith, q)

@@ -1,6 +1,7 @@
 -- The calls' answers from the demand on the order: tables that fit have their edges between nodes, so all of it holds of them. A built graph's tables fit,
 -- since its counts are within the limits, its tables as long as was lent, and its rows between its nodes.
 -- Assumes nothing.
+use Rattle.std.specs.Prelude.{Ok, Err, Result}
 use Prim.Native.Nat.{ℕ, ◌-◌, ◌*◌, ◌≤◌, ◌<◌}
 use mathlib.Core.Path.{◌≡◌, refl, sym, ap, subst}
 use mathlib.Core.Bool.{true, false}
@@ -22,7 +23,6 @@ use Rattle.graph.specs.Nodes.{Mode}
 use Rattle.yanglib.specs.ToGraph.{graphed, AnswerFits, Graphs}
 use Rattle.graph_tables.specs.Tables.{node_words, row_words}
 use Rattle.graph_tables.specs.Lengths.{lengths_of, is_too_short}
-use Rattle.graph_build.specs.declared.Graphed.TheVariants.{Built}
 use Rattle.yanglib.proofs.Bounds.{answer_fits}
 use Rattle.graph_tables.proofs.Short.{Enough, long_enough}
 use Rattle.order_tables.specs.Tables.{all_within, fits}
@@ -31,8 +31,6 @@ use Rattle.order_take.specs.Taking.{taken}
 use Rattle.order_take.proofs.Taken.{taken_short}
 use Rattle.order_ring.specs.Ring.{ring_of}
 use Rattle.order_places.specs.Places.{place_of}
-use Rattle.order_places.specs.declared.Verdict.{Verdict}
-use Rattle.order_places.specs.declared.Verdict.TheVariants.{Right, WrongAt}
 use Rattle.order.specs.Order.{sorted, sorted_of, order_of, checked, told_place, check_of}
 use Rattle.demands_order.specs.Order.{Returns, RightOrder}
 use Rattle.demands.specs.OrderCalls.{OrderCause, unfit, too_short, chain_back, in_order, CheckCause, wrong, right, OrderAnswers, OrderCalls}
@@ -128,7 +126,7 @@ module _ (nodes n : ℕ) (edges : List ℕ) (m : ℕ) where
         let l = ⊎_elim (λ e. e) (λ h. absurd (d ((right_order f).refused_chain h))) (all_or_less f) in
         record { fit = f; all = l; is = ap (λ x. x.nodes) (all_taken f table h l) }
 
-    right_told : fits nodes n edges m ≡ true → (list : List ℕ) → place_of n es list ≡ Right → check_of nodes n edges m list ≡ checked 0 0
+    right_told : fits nodes n edges m ≡ true → (list : List ℕ) → place_of n es list ≡ Ok tt → check_of nodes n edges m list ≡ checked 0 0
     unfolding check_of told_place
     right_told f list p = rw (f, p)
 
@@ -149,7 +147,7 @@ module _ (nodes n : ℕ) (edges : List ℕ) (m : ℕ) where
     unfolding check_of
     check_unfit f = rw f
 
-    check_told : fits nodes n edges m ≡ true → {p : Verdict} → place_of n es list ≡ p → check_of nodes n edges m list ≡ told_place p
+    check_told : fits nodes n edges m ≡ true → {p : Result (Unit {0}) ℕ} → place_of n es list ≡ p → check_of nodes n edges m list ≡ told_place p
     unfolding check_of
     check_told f q = rw (f, q)
 
@@ -159,11 +157,11 @@ module _ (nodes n : ℕ) (edges : List ℕ) (m : ℕ) where
         (λ f. at_place f (place_of n es list) refl)
         (λ f. subst (λ c. CheckCause nodes n edges m list c.number c.place) (sym (check_unfit f)) (unfit f))
       where
-        at_place : fits nodes n edges m ≡ true → (p : Verdict) → place_of n es list ≡ p
+        at_place : fits nodes n edges m ≡ true → (p : Result (Unit {0}) ℕ) → place_of n es list ≡ p
             → CheckCause nodes n edges m list (check_of nodes n edges m list).number (check_of nodes n edges m list).place
-        at_place f Right q =
+        at_place f (Ok tt) q =
             subst (λ c. CheckCause nodes n edges m list c.number c.place) (sym (check_told f q)) (right f ((right_order f).accepts list q))
-        at_place f (WrongAt i) q =
+        at_place f (Err i) q =
             subst (λ c. CheckCause nodes n edges m list c.number c.place) (sym (check_told f q)) (wrong f ((right_order f).first_wrong list i q))
 
     checked_so : (k p : ℕ) → CheckCause nodes n edges m list k p → check_of nodes n edges m list ≡ checked k p
@@ -190,7 +188,7 @@ all_small n (r ∷ rs) h =
     rw (lt-ltb r.from n k.0, lt-ltb r.to n k.1, all_small n rs (λ q j. h q (Memᴰ.tail j)))
 
 module _ (mode : Mode) (s b n e d f g l : List ℕ) (i j : ℕ) {n₁ e₁ d₁ f₁ g₁ l₁ : List ℕ} (bytes : AllBytes s)
-    (h : Graphs mode s b n e d f g l (Built i j) n₁ e₁ d₁ f₁ g₁ l₁) where
+    (h : Graphs mode s b n e d f g l (Ok (i, j)) n₁ e₁ d₁ f₁ g₁ l₁) where
   few : (i ≤ 1024) × (j ≤ 8192)
   unfolding AnswerFits
   few = subst AnswerFits (sym h.answer) (answer_fits mode s b bytes (lengths_of n e d f g l))

@@ -1,5 +1,6 @@
 -- Two outcomes of one promise are equal: each part of either equals one definition of the text and of the lengths lent.
 -- Assumes nothing.
+use Rattle.std.specs.Prelude.{Ok, Err, Some, None, Result as Answer}
 use Prim.Native.Nat.{ℕ}
 use mathlib.Core.Path.{◌≡◌, refl, sym, ap, ap₂, ◌∙◌}
 use mathlib.Core.Bool.{Bool}
@@ -11,7 +12,7 @@ use Rattle.text_lent.specs.Padded.{zeros, padded}
 use Rattle.yangparser.specs.Dependencies.{Scan, import_words_of, include_words_of, page_short, dependencies, parsed_of, kept_of}
 use Rattle.scan_rows.specs.Short.{is_too_short}
 use Rattle.yangparser.specs.Promises.{Leaves}
-use Rattle.yangparser.specs.declared.Parsed.{Parsed}
+use Rattle.yangparser.specs.declared.Rows.{Rows}
 use Rattle.scan_page.specs.Page.{page_of}
 use Rattle.scan_metadata.specs.Metadata as Metadata
 use Rattle.host_words.specs.Words.{record_words}
@@ -26,19 +27,15 @@ use Rattle.yanglib.specs.ToGraph.{graphed, Leaves as GraphLeft}
 use Rattle.graph_tables.specs.Tables.{node_words, row_words}
 use Rattle.library_index.specs.Names.{names_in}
 use Rattle.graph_tables.specs.Lengths.{Lengths, lengths_of}
-use Rattle.graph_build.specs.declared.Graphed.{Graphed}
+use Rattle.graph_build.specs.declared.GraphRefusal.{GraphRefusal}
 use Rattle.library_form.specs.Form.{PlacedName, word_at, number_seen, name_seen}
-use Rattle.library_form.specs.declared.Number.TheVariants.{Value, Wrong as WrongNumber}
-use Rattle.library_form.specs.declared.Name.TheVariants.{Bytes, Wrong as WrongName}
 use Rattle.library_lists.specs.Lists.{read_seen}
-use Rattle.library_lists.specs.declared.Read.TheVariants.{End, Wrong}
 use Rattle.library_bundle.specs.Bundle.{looked}
-use Rattle.library_bundle.specs.declared.TextPlace.TheVariants.{At, Nothing}
 use Rattle.graph.specs.declared.NodeIndex.{NodeIndex}
 use Rattle.graph_marks.specs.Marks.{resolved_code, included_code}
-use Rattle.graph_marks.specs.declared.Resolved.TheVariants.{Unknown, Node}
 use Rattle.graph_marks.specs.declared.Included.TheVariants.{NotFound, NotNode, Node as Below}
 use Rattle.demands.specs.OneOutcome.{LosesNothing, OneOutcome}
+use Rattle.text.specs.declared.Refusal.{Refusal}
 
 -- ---- dependencies
 
@@ -61,7 +58,7 @@ pub equals : {X Y : Type 0} (of : X → Y) {x x' : X} → x ≡ x' → {a a' : Y
 equals of xe h h' = h ∙ ap of xe ∙ sym h'
 
 pub leaves_one : {x x' : Scan} → x ≡ x' → {d t u d' t' u' : List ℕ} → length d ≡ length d' → length t ≡ length t' → length u ≡ length u'
-    → {r r' : Parsed} {e f g e' f' g' : List ℕ} → Leaves x d t u r e f g → Leaves x' d' t' u' r' e' f' g' → (r ≡ r') × (e ≡ e') × (f ≡ f') × (g ≡ g')
+    → {r r' : Answer Rows Refusal} {e f g e' f' g' : List ℕ} → Leaves x d t u r e f g → Leaves x' d' t' u' r' e' f' g' → (r ≡ r') × (e ≡ e') × (f ≡ f') × (g ≡ g')
 leaves_one xe ds ts us a b = (
   equals parsed_of xe a.answer b.answer,
   filled (λ x. (kept_of x).bytes) xe ds a.stored b.stored,
@@ -83,39 +80,39 @@ records whole s d d' ds = ap (λ n. Metadata.metadata whole s (ltb n (length s))
 -- ---- views
 
 seen_number : LosesNothing number_seen
-seen_number (Value v c) (Value w d) e = let i : v ≡ w = cc in let j : c.at ≡ d.at = cc in λ k. Value (i k) (record { at = j k })
-seen_number (Value v c) (WrongNumber q) e = let z : ◌≡◌ {A = ℕ} 0 1 = cc in absurd (omega arith)
-seen_number (WrongNumber p) (Value w d) e = let z : ◌≡◌ {A = ℕ} 0 1 = cc in absurd (omega arith)
-seen_number (WrongNumber p) (WrongNumber q) e = let k : p ≡ q = cc in ap WrongNumber k
+seen_number (Ok (v, c)) (Ok (w, d)) e = let i : v ≡ w = cc in let j : c.at ≡ d.at = cc in λ k. Ok (i k, record { at = j k })
+seen_number (Ok (v, c)) (Err q) e = let z : ◌≡◌ {A = ℕ} 0 1 = cc in absurd (omega arith)
+seen_number (Err p) (Ok (w, d)) e = let z : ◌≡◌ {A = ℕ} 0 1 = cc in absurd (omega arith)
+seen_number (Err p) (Err q) e = let k : p ≡ q = cc in ap Err k
 
 seen_name : (s : List ℕ) → LosesNothing (name_seen s)
-seen_name s (Bytes a m) (Bytes b n) e =
+seen_name s (Ok (a, m)) (Ok (b, n)) e =
     let h : word_at s a m ≡ word_at s b n = cc in
-    ap₂ Bytes (ap (λ (w : PlacedName). w.place) h) (ap (λ (w : PlacedName). w.size) h)
-seen_name s (Bytes a m) (WrongName q) e = let z : ◌≡◌ {A = ℕ} 0 1 = cc in absurd (omega arith)
-seen_name s (WrongName p) (Bytes b n) e = let z : ◌≡◌ {A = ℕ} 0 1 = cc in absurd (omega arith)
-seen_name s (WrongName p) (WrongName q) e = let k : p ≡ q = cc in ap WrongName k
+    ap₂ (λ x y. Ok (x, y)) (ap (λ (w : PlacedName). w.place) h) (ap (λ (w : PlacedName). w.size) h)
+seen_name s (Ok (a, m)) (Err q) e = let z : ◌≡◌ {A = ℕ} 0 1 = cc in absurd (omega arith)
+seen_name s (Err p) (Ok (b, n)) e = let z : ◌≡◌ {A = ℕ} 0 1 = cc in absurd (omega arith)
+seen_name s (Err p) (Err q) e = let k : p ≡ q = cc in ap Err k
 
 seen_read : LosesNothing read_seen
-seen_read (End n) (End m) e = let k : n ≡ m = cc in ap End k
-seen_read (End n) (Wrong q) e = let z : ◌≡◌ {A = ℕ} 0 1 = cc in absurd (omega arith)
-seen_read (Wrong p) (End m) e = let z : ◌≡◌ {A = ℕ} 0 1 = cc in absurd (omega arith)
-seen_read (Wrong p) (Wrong q) e = let k : p ≡ q = cc in ap Wrong k
+seen_read (Ok n) (Ok m) e = let k : n ≡ m = cc in ap Ok k
+seen_read (Ok n) (Err q) e = let z : ◌≡◌ {A = ℕ} 0 1 = cc in absurd (omega arith)
+seen_read (Err p) (Ok m) e = let z : ◌≡◌ {A = ℕ} 0 1 = cc in absurd (omega arith)
+seen_read (Err p) (Err q) e = let k : p ≡ q = cc in ap Err k
 
 seen_place : LosesNothing looked
-seen_place (At a m) (At b n) e = let i : a ≡ b = cc in let j : m ≡ n = cc in ap₂ At i j
-seen_place (At a m) Nothing e = let z : ◌≡◌ {A = ℕ} 0 1 = cc in absurd (omega arith)
-seen_place Nothing (At b n) e = let z : ◌≡◌ {A = ℕ} 0 1 = cc in absurd (omega arith)
-seen_place Nothing Nothing e = refl
+seen_place (Some (a, m)) (Some (b, n)) e = let q : ◌≡◌ {A = ℕ × ℕ} (a, m) (b, n) = cc in ap Some q
+seen_place (Some (a, m)) None e = let z : ◌≡◌ {A = ℕ} 0 1 = cc in absurd (omega arith)
+seen_place None (Some (b, n)) e = let z : ◌≡◌ {A = ℕ} 0 1 = cc in absurd (omega arith)
+seen_place None None e = refl
 
 seen_node : LosesNothing (λ (v : NodeIndex). v.0)
 seen_node v w e = λ i. record { 0 = e i }
 
 seen_known : LosesNothing resolved_code
-seen_known Unknown Unknown e = refl
-seen_known Unknown (Node w) e = absurd (omega (arith, e))
-seen_known (Node v) Unknown e = absurd (omega (arith, e))
-seen_known (Node v) (Node w) e = ap Node (seen_node v w (omega (arith, e)))
+seen_known None None e = refl
+seen_known None (Some w) e = absurd (omega (arith, e))
+seen_known (Some v) None e = absurd (omega (arith, e))
+seen_known (Some v) (Some w) e = ap Some (seen_node v w (omega (arith, e)))
 
 seen_included : LosesNothing included_code
 seen_included NotFound NotFound e = refl
@@ -140,7 +137,7 @@ cleared : {m n : ℕ} → m ≡ n → {y y' : List ℕ} → y ≡ zeros m → y'
 cleared e h h' = h ∙ ap zeros e ∙ sym h'
 
 module _ {x x' : Result} (xe : x ≡ x') {n e d f g l n' e' d' f' g' l' : List ℕ} (ks : lengths_of n e d f g l ≡ lengths_of n' e' d' f' g' l') where
-  graph_one : {r r' : Graphed} {n₁ e₁ d₁ f₁ g₁ l₁ n₁' e₁' d₁' f₁' g₁' l₁' : List ℕ}
+  graph_one : {r r' : Answer (ℕ × ℕ) GraphRefusal} {n₁ e₁ d₁ f₁ g₁ l₁ n₁' e₁' d₁' f₁' g₁' l₁' : List ℕ}
       → GraphLeft x n e d f g l r n₁ e₁ d₁ f₁ g₁ l₁ → GraphLeft x' n' e' d' f' g' l' r' n₁' e₁' d₁' f₁' g₁' l₁'
       → (r ≡ r') × (n₁ ≡ n₁') × (e₁ ≡ e₁') × (d₁ ≡ d₁') × (f₁ ≡ f₁') × (g₁ ≡ g₁') × (l₁ ≡ l₁')
   graph_one a b = (

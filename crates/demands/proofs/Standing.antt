@@ -14,6 +14,7 @@ use Rattle.library_image.specs.Image.{image_at, count_at}
 use Rattle.library_image.specs.Library.{plain_name}
 use Rattle.library_image.proofs.ImageLaws.{accepted}
 use Rattle.library_image.proofs.Steps.{on_good, carry}
+use Rattle.library_items.specs.declared.Kind.{Kind}
 use Rattle.library_items.specs.Items.{ItemOf, items_of, library_of}
 use Rattle.library_items.specs.Table.{Items, and_then, each, each_counted, name_read, list_read, lists_read, revisions_read, entry_read, entries_read, set_read}
 use Rattle.library_items.specs.Table.{sets_read, Reads}
@@ -59,14 +60,14 @@ module _ (s : List ℕ) where
   unfolding each_counted
   counted_sure least most f h at xs n e = on_good (count_at least most s at) _ e (λ c m e₁ e₂. each_sure f h c m xs n e₂)
 
-  name_sure : (k at : ℕ) → Sure (name_read k s at)
+  name_sure : (k : Kind) (at : ℕ) → Sure (name_read k s at)
   unfolding name_read
   name_sure k at xs n e =
       on_good (name_at s at) _ e (λ w m e₁ e₂.
       let q : name_of s w ≡ w.text = subst (λ (v : PlacedName). name_of s v ≡ v.text) (opened s at e₁).word refl in
       carry (λ v j. Standing v) e₂ (λ x o. subst (λ (y : ItemOf PlacedName). name_of s y.name ≡ y.name.text) (sym (Memᴰ.eq_of_singleton o)) q))
 
-  list_sure : (k at : ℕ) → Sure (list_read k s at)
+  list_sure : (k : Kind) (at : ℕ) → Sure (list_read k s at)
   unfolding list_read
   list_sure k at = counted_sure 0 _ (name_read k s) (name_sure k) at
 

@@ -1,5 +1,6 @@
 -- A refusal leaves zeros: what an entry keeps of a refusal is nothing, and what is good or built has the number 0.
 -- Assumes nothing.
+use Rattle.std.specs.Prelude.{Ok, Err, Result as Answer}
 use Prim.Native.Nat.{ℕ}
 use mathlib.Core.Path.{◌≡◌, refl, sym, ap, ap₂, ◌∙◌}
 use mathlib.Core.Bool.{Bool, true, false}
@@ -12,8 +13,7 @@ use Rattle.text_lent.proofs.Clears.{padded_none}
 use Rattle.scan_rows.specs.Rows.{table, import_table, include_table}
 use Rattle.yangparser.specs.Dependencies.{Scan, good, bad, none, import_words_of, include_words_of, parsed_of, kept_of}
 use Rattle.yangparser.specs.Promises.{Leaves}
-use Rattle.yangparser.specs.declared.Parsed.{Parsed}
-use Rattle.yangparser.specs.declared.Parsed.TheVariants.{Good, Refused}
+use Rattle.yangparser.specs.declared.Rows.{Rows}
 use Rattle.scan_page.specs.Page.{page_of}
 use Rattle.scan_metadata.specs.Metadata as Metadata
 use Rattle.scan_metadata.specs.declared.YangModuleMetadata.{YangModuleMetadata}
@@ -29,8 +29,7 @@ use Rattle.graph_tables.specs.Tables.{node_words, row_words}
 use Rattle.graph_tables.specs.Lengths.{Lengths, lengths_of, is_too_short}
 use Rattle.graph_build.specs.Result.{Result, result_of}
 use Rattle.yanglib.specs.ToGraph.{graphed, Leaves as GraphLeft}
-use Rattle.graph_build.specs.declared.Graphed.{Graphed}
-use Rattle.graph_build.specs.declared.Graphed.TheVariants.{Built, Refused as RefusedGraph}
+use Rattle.graph_build.specs.declared.GraphRefusal.{GraphRefusal}
 use Rattle.host_words.specs.Words.{record_words}
 use Rattle.nuvaleta.specs.Words.{number_of, answer_words, graph_words}
 use Rattle.demands.specs.Demand1.{Zeroed, ZeroedGraph, Zeros}
@@ -47,18 +46,18 @@ record Nothing (x : Scan) : Type 0 where
   kept : kept_of x ≡ none
   page : page_of x ≡ []
 
-nothing_kept : (x : Scan) (r : Refusal) → parsed_of x ≡ Refused r → Nothing x
+nothing_kept : (x : Scan) (r : Refusal) → parsed_of x ≡ Err r → Nothing x
 unfolding parsed_of kept_of page_of
 nothing_kept (good d) r h = let z : ◌≡◌ {A = ℕ} 0 1 = cc in absurd (omega arith)
 nothing_kept (bad a d) r h = record { kept = refl; page = refl }
 
 -- a number that is not 0 is a refusal's
-refused_scan : (p : Parsed) → (number_of p ≡ 0 → ⊥) → (r : Refusal) × (p ≡ Refused r)
+refused_scan : (p : Answer Rows Refusal) → (number_of p ≡ 0 → ⊥) → (r : Refusal) × (p ≡ Err r)
 unfolding number_of
-refused_scan (Good m n u) h = absurd (h refl)
-refused_scan (Refused r) h = (r, refl)
+refused_scan (Ok r) h = let record { imports = m; includes = n; used = u } = r in absurd (h refl)
+refused_scan (Err r) h = (r, refl)
 
-module _ {x : Scan} {d t u : List ℕ} {p : Parsed} {e f g : List ℕ} (h : Leaves x d t u p e f g) (n : Nothing x) where
+module _ {x : Scan} {d t u : List ℕ} {p : Answer Rows Refusal} {e f g : List ℕ} (h : Leaves x d t u p e f g) (n : Nothing x) where
   scan_zero : Zeroed d e × Zeroed t f × Zeroed u g
   unfolding import_words_of include_words_of import_table include_table table
   scan_zero = (
@@ -71,11 +70,11 @@ page_zero : {x : Scan} → Nothing x → (p : List ℕ) {q : List ℕ} → q ≡
 page_zero n p h = emptied (λ z. z) n.page refl p h
 
 -- behind number, keyword and position
-behind : (r : Refusal) → drop 3 (answer_words (Refused r)) ≡ zeros 3
+behind : (r : Refusal) → drop 3 (answer_words (Err r)) ≡ zeros 3
 unfolding answer_words
 behind r = refl
 
-behind_page : (r : Refusal) → drop 3 (answer_words (Refused r) ++ (0 ∷ [])) ≡ zeros 4
+behind_page : (r : Refusal) → drop 3 (answer_words (Err r) ++ (0 ∷ [])) ≡ zeros 4
 unfolding answer_words
 behind_page r = refl
 
@@ -102,12 +101,12 @@ record Undrawn (x : Result) : Type 0 where
   rows : x.rows ≡ []
 
 undrawn : (mode : Mode) (s b : List ℕ) (k : Lengths) (number entry : ℕ) (a : Refusal) (place : ℕ)
-    → (graphed mode s b k).answer ≡ RefusedGraph number entry a place → Undrawn (graphed mode s b k)
+    → (graphed mode s b k).answer ≡ Err (record { number = number; entry = entry; scan = a; place = place }) → Undrawn (graphed mode s b k)
 unfolding graphed
 undrawn mode s b k number entry a place h = go (image_at s) (bundle_at b) (is_too_short (longest_text b) k) (graph_here mode s b) h
   where
     go : (x : Ans Library) (y : Ans (List Text)) (short : Bool) (g : Graph)
-        → (before x y short (result_of (words_at mode s) g)).answer ≡ RefusedGraph number entry a place
+        → (before x y short (result_of (words_at mode s) g)).answer ≡ Err (record { number = number; entry = entry; scan = a; place = place })
         → Undrawn (before x y short (result_of (words_at mode s) g))
     go (wrong p) y short g h = record { nodes = refl; rows = refl }
     go (read l i) (wrong p) short g h = record { nodes = refl; rows = refl }
@@ -115,7 +114,7 @@ undrawn mode s b k number entry a place h = go (image_at s) (bundle_at b) (is_to
     go (read l i) (read o j) false (fault n m c) h = record { nodes = refl; rows = refl }
     go (read l i) (read o j) false (graph ns es) h = let z : ◌≡◌ {A = ℕ} 0 1 = cc in absurd (omega arith)
 
-module _ {x : Result} {n e d f g l : List ℕ} {r : Graphed} {n₁ e₁ d₁ f₁ g₁ l₁ : List ℕ} (h : GraphLeft x n e d f g l r n₁ e₁ d₁ f₁ g₁ l₁)
+module _ {x : Result} {n e d f g l : List ℕ} {r : Answer (ℕ × ℕ) GraphRefusal} {n₁ e₁ d₁ f₁ g₁ l₁ : List ℕ} (h : GraphLeft x n e d f g l r n₁ e₁ d₁ f₁ g₁ l₁)
     (u : Undrawn x) where
   graph_left : ZeroedGraph n e d f g l n₁ e₁ d₁ f₁ g₁ l₁
   unfolding node_words row_words
@@ -129,18 +128,18 @@ module _ {x : Result} {n e d f g l : List ℕ} {r : Graphed} {n₁ e₁ d₁ f�
   }
 
 -- a number that is not 0 is a refusal's, and behind its words the answer is 0
-record Told (x : Graphed) : Type 0 where
+record Told (x : Answer (ℕ × ℕ) GraphRefusal) : Type 0 where
   number : ℕ
   entry : ℕ
   scan : Refusal
   place : ℕ
-  refused : x ≡ RefusedGraph number entry scan place
+  refused : x ≡ Err (record { number = number; entry = entry; scan = scan; place = place })
   behind : drop 6 (graph_words x) ≡ zeros 2
 
-told : (x : Graphed) → (get_or (graph_words x) 0 0 ≡ 0 → ⊥) → Told x
+told : (x : Answer (ℕ × ℕ) GraphRefusal) → (get_or (graph_words x) 0 0 ≡ 0 → ⊥) → Told x
 unfolding graph_words
-told (Built n m) h = absurd (h refl)
-told (RefusedGraph n e a p) h = record { number = n; entry = e; scan = a; place = p; refused = refl; behind = refl }
+told (Ok (n, m)) h = absurd (h refl)
+told (Err r) h = let record { number = n; entry = e; scan = a; place = p } = r in record { number = n; entry = e; scan = a; place = p; refused = refl; behind = refl }
 
 -- ---- all of them
 

@@ -3,11 +3,10 @@
 -- when they are due. Of 23 to 31 each has its cause in crate graph (Meaning).
 -- And every refusal leaves zeros, over what the functions and a host's calls promise.
 -- Assumes nothing.
-use Rattle.std.specs.Prelude.{ℕ, ◌≡◌, Bool, true, false, ◌↔◌, ◌⊎◌, length, get_or, drop}
+use Rattle.std.specs.Prelude.{ℕ, ◌≡◌, Bool, true, false, ◌↔◌, ◌⊎◌, length, get_or, drop, Err, Ok}
 use mathlib.Core.List.{List, [], ◌∷◌, Memᴰ}
 use Rattle.text.specs.declared.Refusal.{Refusal}
 use Rattle.library_form.specs.Form.{bad}
-use Rattle.library_form.specs.declared.LookUp.TheVariants.{Broken}
 use Rattle.library_image.specs.Image.{image_at}
 use Rattle.library_image.specs.Library.{Name}
 use Rattle.library_find.specs.Find.{find_module, find_submodule, find_import_module}
@@ -16,7 +15,6 @@ use Rattle.library_bundle.specs.Reading.{longest_text}
 use Rattle.text_lent.specs.Padded as Padded
 use Rattle.yangparser.specs.Dependencies as Dependencies
 use Rattle.yangparser.specs.Promises.{Extracts}
-use Rattle.yangparser.specs.declared.Parsed.TheVariants.{Refused as RefusedScan}
 use Rattle.scan_page.specs.Page.{Prints}
 use Rattle.scan_page.specs.declared.Page.{Page}
 use Rattle.scan_metadata.specs.Metadata as Metadata
@@ -33,7 +31,6 @@ use Rattle.graph_nodes.specs.Adding.{plain_at}
 use Rattle.graph_texts.specs.Texts.{text_of}
 use Rattle.yanglib.specs.ToGraph.{graphed, Graphs}
 use Rattle.graph_tables.specs.Lengths.{Lengths, is_too_short}
-use Rattle.graph_build.specs.declared.Graphed.TheVariants.{Built, Refused}
 use Rattle.demands_scans.specs.Refusals.{FirstRefusal, RefusedAs, DependenciesRefusal, MetadataRefusal, ModeRefusal}
 
 -- ---- graphs
@@ -79,14 +76,14 @@ pub record ZeroedGraph (n e d f g l n₁ e₁ d₁ f₁ g₁ l₁ : List ℕ) : 
 pub record Zeros : Type 0 where
   -- d, t, u, p: store, import table, include table and page at entry, of any length; e, f, g, q: at exit
   pub dependencies : (whole : Bool) (s : List ℕ) (short : Bool) (d t u : List ℕ) {r : Refusal} {e f g : List ℕ}
-      → Extracts whole s short d t u (RefusedScan r) e f g
+      → Extracts whole s short d t u (Err r) e f g
       → Zeroed d e × Zeroed t f × Zeroed u g
-  pub printed : (whole : Bool) (s d t u p : List ℕ) {x : Page} {r : Refusal} {e f g q : List ℕ} → Prints whole s d t u p x e f g q → x.parsed ≡ RefusedScan r
+  pub printed : (whole : Bool) (s d t u p : List ℕ) {x : Page} {r : Refusal} {e f g q : List ℕ} → Prints whole s d t u p x e f g q → x.parsed ≡ Err r
       → (x.length ≡ 0) × Zeroed d e × Zeroed t f × Zeroed u g × Zeroed p q
   pub metadata : (whole : Bool) (s d : List ℕ) {x : YangModuleMetadata} {e : List ℕ} → MetadataPromises.Extracts whole s d x e → (x.answer.number ≡ 0 → ⊥)
       → (x.values ≡ Metadata.no_values) × (x.used ≡ 0) × Zeroed d e
   pub graph : (mode : Mode) (s b n e d f g l : List ℕ) {number entry place : ℕ} {a : Refusal} {n₁ e₁ d₁ f₁ g₁ l₁ : List ℕ}
-      → Graphs mode s b n e d f g l (Refused number entry a place) n₁ e₁ d₁ f₁ g₁ l₁ → ZeroedGraph n e d f g l n₁ e₁ d₁ f₁ g₁ l₁
+      → Graphs mode s b n e d f g l (Err (record { number = number; entry = entry; scan = a; place = place })) n₁ e₁ d₁ f₁ g₁ l₁ → ZeroedGraph n e d f g l n₁ e₁ d₁ f₁ g₁ l₁
   -- the same of a host's calls: i is the number returned, a the answer, w the record. Behind the words that tell the refusal the answer is 0 too
   pub host_dependencies : (whole : Bool) (s d t u : List ℕ) {i : ℕ} {e f g a : List ℕ} → DependenciesAnswered whole s d t u i e f g a → (i ≡ 0 → ⊥)
       → Zeroed d e × Zeroed t f × Zeroed u g × (drop 3 a ≡ Padded.zeros 3)
@@ -109,17 +106,17 @@ pub record Demand1 : Type 0 where
   pub first_refused : (whole : Bool) (s : List ℕ) (short : Bool) (r : Refusal) → FirstRefusal s short r
       → (Dependencies.dependencies whole s short ≡ Dependencies.bad r Dependencies.none) × (Metadata.metadata whole s short ≡ Metadata.bad r [])
   -- the finds: 20 exactly if the image is wrong there; the text under a name: 21 exactly if the bundle is
-  pub module_found : (s t : List ℕ) (p : ℕ) → (find_module s t ≡ Broken p) ↔ (image_at s ≡ bad p)
-  pub submodule_found : (s t : List ℕ) (p : ℕ) → (find_submodule s t ≡ Broken p) ↔ (image_at s ≡ bad p)
-  pub import_found : (s t : List ℕ) (p : ℕ) → (find_import_module s t ≡ Broken p) ↔ (image_at s ≡ bad p)
-  pub text_found : (s t : List ℕ) (p : ℕ) → (look_up s t ≡ Broken p) ↔ (bundle_at s ≡ bad p)
+  pub module_found : (s t : List ℕ) (p : ℕ) → (find_module s t ≡ Err p) ↔ (image_at s ≡ bad p)
+  pub submodule_found : (s t : List ℕ) (p : ℕ) → (find_submodule s t ≡ Err p) ↔ (image_at s ≡ bad p)
+  pub import_found : (s t : List ℕ) (p : ℕ) → (find_import_module s t ≡ Err p) ↔ (image_at s ≡ bad p)
+  pub text_found : (s t : List ℕ) (p : ℕ) → (look_up s t ≡ Err p) ↔ (bundle_at s ≡ bad p)
   -- to_graph, in each mode
   pub graph_refused : (mode : Mode) (s b : List ℕ) (k : Lengths) (number entry place : ℕ) (a : Refusal)
-      → (graphed mode s b k).answer ≡ Refused number entry a place → GraphCause mode s b k number entry a place × GraphNumbers number entry a place
+      → (graphed mode s b k).answer ≡ Err (record { number = number; entry = entry; scan = a; place = place }) → GraphCause mode s b k number entry a place × GraphNumbers number entry a place
   -- 25 carries the answer of the scan of a text in the bundle, in the old mode: so it is never 11
-  pub scan_carried : (mode : Mode) (s b : List ℕ) (k : Lengths) (entry place : ℕ) (a : Refusal) → (graphed mode s b k).answer ≡ Refused 25 entry a place
+  pub scan_carried : (mode : Mode) (s b : List ℕ) (k : Lengths) (entry place : ℕ) (a : Refusal) → (graphed mode s b k).answer ≡ Err (record { number = 25; entry = entry; scan = a; place = place })
       → (v : Name) × (d : Dependencies.Dependencies) × (Dependencies.dependencies false (text_under b v) false ≡ Dependencies.bad a d)
-  pub graph_built : (mode : Mode) (s b : List ℕ) (k : Lengths) → ((n : ℕ) × (m : ℕ) × ((graphed mode s b k).answer ≡ Built n m)) ↔ Buildable mode s b k
+  pub graph_built : (mode : Mode) (s b : List ℕ) (k : Lengths) → ((n : ℕ) × (m : ℕ) × ((graphed mode s b k).answer ≡ Ok (n, m))) ↔ Buildable mode s b k
   -- nuvaleta_graph_complete never answers 28: i is the number returned, a the answer
   pub has_node : (s b n e d f g l : List ℕ) {i : ℕ} {n₁ e₁ d₁ f₁ g₁ l₁ a : List ℕ}
       → GraphAnswered complete s b n e d f g l i n₁ e₁ d₁ f₁ g₁ l₁ a → (i ≡ 28 → ⊥) × (get_or a 0 0 ≡ 28 → ⊥)

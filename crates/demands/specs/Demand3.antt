@@ -3,7 +3,7 @@
 -- their order (`Permuted`, `SameEntries`) and each name stands once (`Once`), is in crate graph: Meaning and Demand3. What the mode `complete` gives beyond it
 -- is in Complete.
 -- Assumes nothing.
-use Rattle.std.specs.Prelude.{ℕ, zero, suc, ◌+◌, ◌*◌, ◌<◌, ◌≡◌, ◌↔◌, length, get_or, take, drop}
+use Rattle.std.specs.Prelude.{ℕ, zero, suc, ◌+◌, ◌*◌, ◌<◌, ◌≡◌, ◌↔◌, length, get_or, take, drop, Ok, Err, Result as Answer}
 use mathlib.Core.List.{List, [], ◌∷◌, ◌++◌, map, Memᴰ, Nodup, Perm}
 use Rattle.text.specs.declared.Refusal.{Refusal}
 use Rattle.library_form.specs.Form.{PlacedName}
@@ -22,8 +22,7 @@ use Rattle.graph_texts.specs.Texts.{text_of}
 use Rattle.graph_build.specs.Result.{Result}
 use Rattle.yanglib.specs.ToGraph.{graphed, Graphs}
 use Rattle.graph_tables.specs.Lengths.{Lengths, lengths_of}
-use Rattle.graph_build.specs.declared.Graphed.{Graphed}
-use Rattle.graph_build.specs.declared.Graphed.TheVariants.{Built, Refused}
+use Rattle.graph_build.specs.declared.GraphRefusal.{GraphRefusal}
 
 -- ---- names and edges, as a caller reads them
 
@@ -81,25 +80,25 @@ pub record WellFormed (s : List ℕ) : Type 0 where
 -- both are refused, or both are built with the same counts, the same names and the same edges between names, but for their order
 pub data Alike (s s₁ : List ℕ) (x x₁ : Result) : Type 0 where
   both_refused : {number entry place number₁ entry₁ place₁ : ℕ} {a a₁ : Refusal}
-      → x.answer ≡ Refused number entry a place → x₁.answer ≡ Refused number₁ entry₁ a₁ place₁ → Alike s s₁ x x₁
-  both_built : {n m : ℕ} → x.answer ≡ Built n m → x₁.answer ≡ Built n m → Perm (names s x) (names s₁ x₁)
+      → x.answer ≡ Err (record { number = number; entry = entry; scan = a; place = place }) → x₁.answer ≡ Err (record { number = number₁; entry = entry₁; scan = a₁; place = place₁ }) → Alike s s₁ x x₁
+  both_built : {n m : ℕ} → x.answer ≡ Ok (n, m) → x₁.answer ≡ Ok (n, m) → Perm (names s x) (names s₁ x₁)
       → Perm (edges s x) (edges s₁ x₁) → Alike s s₁ x x₁
 
 -- the same of what two calls answer and leave in their node tables and edge tables
-pub data AlikeCalls (s s₁ : List ℕ) : (r : Graphed) (nodes edges : List ℕ) (r₁ : Graphed) (nodes₁ edges₁ : List ℕ) → Type 0 where
+pub data AlikeCalls (s s₁ : List ℕ) : (r : Answer (ℕ × ℕ) GraphRefusal) (nodes edges : List ℕ) (r₁ : Answer (ℕ × ℕ) GraphRefusal) (nodes₁ edges₁ : List ℕ) → Type 0 where
   both_refused : {number entry place number₁ entry₁ place₁ : ℕ} {a a₁ : Refusal} {w x w₁ x₁ : List ℕ}
-      → AlikeCalls s s₁ (Refused number entry a place) w x (Refused number₁ entry₁ a₁ place₁) w₁ x₁
+      → AlikeCalls s s₁ (Err (record { number = number; entry = entry; scan = a; place = place })) w x (Err (record { number = number₁; entry = entry₁; scan = a₁; place = place₁ })) w₁ x₁
   both_built : {n m : ℕ} {w x w₁ x₁ : List ℕ} → Perm (table_names s n w) (table_names s₁ n w₁) → Perm (table_edges s n m w x) (table_edges s₁ n m w₁ x₁)
-      → AlikeCalls s s₁ (Built n m) w x (Built n m) w₁ x₁
+      → AlikeCalls s s₁ (Ok (n, m)) w x (Ok (n, m)) w₁ x₁
 
 -- ---- the demand; whatever a slice of bytes lends fulfils AllBytes
 
 pub record BytesDemand3 (mode : Mode) : Type 0 where
-  pub right : (s b : List ℕ) (k : Lengths) (n m : ℕ) → AllBytes s → (graphed mode s b k).answer ≡ Built n m
+  pub right : (s b : List ℕ) (k : Lengths) (n m : ℕ) → AllBytes s → (graphed mode s b k).answer ≡ Ok (n, m)
       → RightGraph mode (text_of b) (plain_at s) n m (names s (graphed mode s b k)) (graphed mode s b k).rows
   -- the same of the tables that a call leaves: n₁ with the nodes, e₁ with the edges
   pub called : (s b n e d f g l : List ℕ) (i j : ℕ) {n₁ e₁ d₁ f₁ g₁ l₁ : List ℕ} → AllBytes s
-      → Graphs mode s b n e d f g l (Built i j) n₁ e₁ d₁ f₁ g₁ l₁ → RightGraph mode (text_of b) (plain_at s) i j (table_names s i n₁) (rows_in j e₁)
+      → Graphs mode s b n e d f g l (Ok (i, j)) n₁ e₁ d₁ f₁ g₁ l₁ → RightGraph mode (text_of b) (plain_at s) i j (table_names s i n₁) (rows_in j e₁)
   -- the same modules and import-only modules in other sets and another order
   pub permuted : (s s₁ b : List ℕ) (k : Lengths) → WellFormed s → WellFormed s₁ → Permuted (plain_at s) (plain_at s₁) → Once (plain_at s)
       → Alike s s₁ (graphed mode s b k) (graphed mode s₁ b k)
@@ -109,5 +108,5 @@ pub record BytesDemand3 (mode : Mode) : Type 0 where
   -- and with either of these the tables that two calls leave are alike too, whatever they held, if the same lengths are lent; the second call has an accent
   pub called_alike : (s s₁ b n e d f g l n' e' d' f' g' l' : List ℕ) → lengths_of n e d f g l ≡ lengths_of n' e' d' f' g' l' → WellFormed s → WellFormed s₁
       → Alike s s₁ (graphed mode s b (lengths_of n e d f g l)) (graphed mode s₁ b (lengths_of n e d f g l))
-      → {r r' : Graphed} {n₁ e₁ d₁ f₁ g₁ l₁ n₁' e₁' d₁' f₁' g₁' l₁' : List ℕ} → Graphs mode s b n e d f g l r n₁ e₁ d₁ f₁ g₁ l₁
+      → {r r' : Answer (ℕ × ℕ) GraphRefusal} {n₁ e₁ d₁ f₁ g₁ l₁ n₁' e₁' d₁' f₁' g₁' l₁' : List ℕ} → Graphs mode s b n e d f g l r n₁ e₁ d₁ f₁ g₁ l₁
       → Graphs mode s₁ b n' e' d' f' g' l' r' n₁' e₁' d₁' f₁' g₁' l₁' → AlikeCalls s s₁ r n₁ e₁ r' n₁' e₁'

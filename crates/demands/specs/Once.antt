@@ -1,7 +1,7 @@
 -- Request 2026-10 from bytes: the walk that remembers each text draws what the plain walk draws, reads no text twice, and reads no more texts than there are
 -- nodes. That a call answers as before is no statement of its own: its promise (yanglib/ToGraph) is the same to the letter, and is about the plain walk.
 -- Assumes nothing.
-use Rattle.std.specs.Prelude.{ℕ, ◌≤◌, ◌≡◌, length}
+use Rattle.std.specs.Prelude.{ℕ, ◌≤◌, ◌≡◌, length, Ok}
 use mathlib.Core.List.{List, [], ◌∷◌, map, Nodup}
 use Rattle.graph.specs.Graph.{entries, world, walk_of}
 use Rattle.graph.specs.Limits.{most_edges}
@@ -10,7 +10,6 @@ use Rattle.graph.specs.Numbers.{Codes, EntryCode, codes_at, entry_code, numbered
 use Rattle.graph.specs.Once.{nothing_read, draw_once, entries_read, OnceDemand}
 use Rattle.graph_nodes.specs.Adding.{plain_at}
 use Rattle.graph_texts.specs.Texts.{text_of}
-use Rattle.graph_build.specs.declared.Graphed.TheVariants.{Built}
 use Rattle.yanglib.specs.ToGraph.{graphed}
 use Rattle.demands.specs.Demand3.{WellFormed}
 use Rattle.demands.specs.Demand3Needs.{lent, full_first, includes}
@@ -40,4 +39,4 @@ pub record BytesOnce (mode : Mode) : Type 0 where
 -- not empty: m, whose text includes s, is a module of two sets and so two entries; the graph is built, and each of the two texts is read once
 pub record ReadOnce : Type 0 where
   pub read : texts_read pass_over full_first includes ≡ 0 ∷ 1 ∷ []
-  pub built : (graphed pass_over full_first includes lent).answer ≡ Built 2 1
+  pub built : (graphed pass_over full_first includes lent).answer ≡ Ok (2, 1)

@@ -2,7 +2,7 @@
 -- an equation has it by `equal`; one that speaks of a view of the answer by `viewed`, since no view loses anything (`Views`); one that is a record of
 -- equations has a field of `OneOutcome`. docs/PROMISES.md says for every public function which of these it is.
 -- Assumes nothing.
-use Rattle.std.specs.Prelude.{ℕ, ◌≡◌, Bool, List, length}
+use Rattle.std.specs.Prelude.{ℕ, ◌≡◌, Bool, List, length, Result}
 use Rattle.text.specs.declared.Cursor.{Cursor}
 use Rattle.library_form.specs.Form.{number_seen, name_seen}
 use Rattle.library_image.specs.Image.{image_broken}
@@ -14,7 +14,7 @@ use Rattle.graph.specs.declared.NodeIndex.{NodeIndex}
 use Rattle.graph_marks.specs.Marks.{resolved_code, included_code}
 use Rattle.graph_tables.specs.Tables.{Named}
 use Rattle.yangparser.specs.Promises as Dependencies
-use Rattle.yangparser.specs.declared.Parsed.{Parsed}
+use Rattle.yangparser.specs.declared.Rows.{Rows}
 use Rattle.scan_line.specs.Wrote.{Wrote}
 use Rattle.scan_page.specs.Page.{Prints}
 use Rattle.scan_page.specs.declared.Page.{Page}
@@ -27,10 +27,11 @@ use Rattle.nuvaleta.specs.Finds.{Told}
 use Rattle.nuvaleta.specs.Graphs.{GraphAnswered}
 use Rattle.yanglib.specs.ToGraph.{Graphs}
 use Rattle.graph_tables.specs.Lengths.{lengths_of}
-use Rattle.graph_build.specs.declared.Graphed.{Graphed}
+use Rattle.graph_build.specs.declared.GraphRefusal.{GraphRefusal}
 use Rattle.order.specs.declared.Ordered.{Ordered}
 use Rattle.order.specs.Order.{Orders}
 use Rattle.nuvaleta.specs.Orders.{OrderAnswered, CheckAnswered}
+use Rattle.text.specs.declared.Refusal.{Refusal}
 
 -- ---- equations
 
@@ -63,10 +64,10 @@ pub record OneOutcome : Type 1 where
   pub views : Views
   -- scan_lent, and with nothing else too short extract_yang_dependencies; whole: the mode
   pub dependencies : (whole : Bool) (s : List ℕ) (short : Bool) (d t u d' t' u' : List ℕ) → length d ≡ length d' → length t ≡ length t' → length u ≡ length u'
-      → {r r' : Parsed} {e f g e' f' g' : List ℕ} → Dependencies.Extracts whole s short d t u r e f g → Dependencies.Extracts whole s short d' t' u' r' e' f' g'
+      → {r r' : Result Rows Refusal} {e f g e' f' g' : List ℕ} → Dependencies.Extracts whole s short d t u r e f g → Dependencies.Extracts whole s short d' t' u' r' e' f' g'
       → (r ≡ r') × (e ≡ e') × (f ≡ f') × (g ≡ g')
   -- scan_over, which clears nothing: what it leaves depends on what was there
-  pub over : (whole : Bool) (s : List ℕ) (short : Bool) (d t u : List ℕ) {r r' : Parsed} {e f g e' f' g' : List ℕ}
+  pub over : (whole : Bool) (s : List ℕ) (short : Bool) (d t u : List ℕ) {r r' : Result Rows Refusal} {e f g e' f' g' : List ℕ}
       → Dependencies.Scans whole s short d t u r e f g → Dependencies.Scans whole s short d t u r' e' f' g' → (r ≡ r') × (e ≡ e') × (f ≡ f') × (g ≡ g')
   -- put and put_number; d: the page at entry, bs: the bytes that are written from a place on
   pub wrote : (d : List ℕ) (at : ℕ) (bs : List ℕ) {e e' : List ℕ} {r r' : ℕ} → Wrote d at bs e r → Wrote d at bs e' r' → (e ≡ e') × (r ≡ r')
@@ -101,7 +102,7 @@ pub record OneOutcome : Type 1 where
   -- to_graph; nuvaleta_graph and nuvaleta_graph_complete; s: image, b: bundle; x₁ to x₆: node table, edge table, value store, import table, include table,
   -- levels; y: at exit
   pub graph : (mode : Mode) (s b x₁ x₂ x₃ x₄ x₅ x₆ x₁' x₂' x₃' x₄' x₅' x₆' : List ℕ) → lengths_of x₁ x₂ x₃ x₄ x₅ x₆ ≡ lengths_of x₁' x₂' x₃' x₄' x₅' x₆'
-      → {r r' : Graphed} {y₁ y₂ y₃ y₄ y₅ y₆ y₁' y₂' y₃' y₄' y₅' y₆' : List ℕ}
+      → {r r' : Result (ℕ × ℕ) GraphRefusal} {y₁ y₂ y₃ y₄ y₅ y₆ y₁' y₂' y₃' y₄' y₅' y₆' : List ℕ}
       → Graphs mode s b x₁ x₂ x₃ x₄ x₅ x₆ r y₁ y₂ y₃ y₄ y₅ y₆ → Graphs mode s b x₁' x₂' x₃' x₄' x₅' x₆' r' y₁' y₂' y₃' y₄' y₅' y₆'
       → (r ≡ r') × (y₁ ≡ y₁') × (y₂ ≡ y₂') × (y₃ ≡ y₃') × (y₄ ≡ y₄') × (y₅ ≡ y₅') × (y₆ ≡ y₆')
   pub host_graph : (mode : Mode) (s b x₁ x₂ x₃ x₄ x₅ x₆ x₁' x₂' x₃' x₄' x₅' x₆' : List ℕ) → lengths_of x₁ x₂ x₃ x₄ x₅ x₆ ≡ lengths_of x₁' x₂' x₃' x₄' x₅' x₆'

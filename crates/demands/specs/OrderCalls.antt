@@ -1,7 +1,7 @@
 -- What `order` and `order_check` answer, and when, over the definitions that the calls promise (crate order); what an order, a chain and a wrong place
 -- are is in crate demands_order (Order). And what it means for a graph that to_graph built: its tables fit, and no schema comes before one that it needs.
 -- Assumes nothing.
-use Rattle.std.specs.Prelude.{ℕ, ◌≤◌, ◌<◌, ◌≡◌, true, false, ◌↔◌, List, [], length, get_or, take}
+use Rattle.std.specs.Prelude.{ℕ, ◌≤◌, ◌<◌, ◌≡◌, true, false, ◌↔◌, List, [], length, get_or, take, Ok}
 use Rattle.library_form.specs.Writer.{AllBytes}
 use Rattle.graph.specs.Nodes.{Mode}
 use Rattle.graph.specs.Meaning.{IsEdge}
@@ -9,7 +9,6 @@ use Rattle.graph_edges.specs.Edges.{rows_in}
 use Rattle.graph_nodes.specs.Adding.{plain_at}
 use Rattle.graph_texts.specs.Texts.{text_of}
 use Rattle.yanglib.specs.ToGraph.{Graphs}
-use Rattle.graph_build.specs.declared.Graphed.TheVariants.{Built}
 use Rattle.order_tables.specs.Tables.{fits}
 use Rattle.order_tables.specs.Free.{mem}
 use Rattle.order_take.specs.Taking.{taken}
@@ -51,9 +50,9 @@ pub record OrderCalls : Type 0 where
       → (check_of nodes n edges m list ≡ checked k p) ↔ CheckCause nodes n edges m list k p
   -- the tables that to_graph leaves fit: 43 never comes for a built graph; n₁ with the nodes, e₁ with the edges
   pub tables_fit : (mode : Mode) (s b n e d f g l : List ℕ) (i j : ℕ) {n₁ e₁ d₁ f₁ g₁ l₁ : List ℕ} → AllBytes s
-      → Graphs mode s b n e d f g l (Built i j) n₁ e₁ d₁ f₁ g₁ l₁ → fits (length n₁) i e₁ j ≡ true
+      → Graphs mode s b n e d f g l (Ok (i, j)) n₁ e₁ d₁ f₁ g₁ l₁ → fits (length n₁) i e₁ j ≡ true
   -- and where they are ordered, a schema that must be registered before another is: u stands in the order before v
   pub registered : (mode : Mode) (s b n e d f g l : List ℕ) (i j table : ℕ) {n₁ e₁ d₁ f₁ g₁ l₁ : List ℕ} → AllBytes s
-      → Graphs mode s b n e d f g l (Built i j) n₁ e₁ d₁ f₁ g₁ l₁ → (order_of (length n₁) i e₁ j table).number ≡ 0 → (u v : ℕ) → u < i → v < i
+      → Graphs mode s b n e d f g l (Ok (i, j)) n₁ e₁ d₁ f₁ g₁ l₁ → (order_of (length n₁) i e₁ j table).number ≡ 0 → (u v : ℕ) → u < i → v < i
       → IsEdge (text_of b) (plain_at s) (named (table_names s i n₁) u) (named (table_names s i n₁) v)
       → mem u (until v (order_of (length n₁) i e₁ j table).nodes) ≡ true

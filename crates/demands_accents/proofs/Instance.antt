@@ -1,6 +1,7 @@
 -- The theorem at work: a text with an accent in each kind of quotes. Whatever is lent, if it is long enough, the call answers one import, whose name and prefix
 -- are these accents. And what it rules out: a character's first byte alone is not valid, and a text that holds it so has it for a value.
 -- Assumes nothing.
+use Rattle.std.specs.Prelude.{Ok, Result}
 use Prim.Native.Nat.{ℕ}
 use native.Mathlib.Omega.{arith}
 use mathlib.Core.Path.{◌≡◌, refl, ap, subst, ◌∙◌}
@@ -34,12 +35,12 @@ use Rattle.scan_head.specs.Head.{last_at, or_head, head_at}
 use Rattle.yangparser.specs.Dependencies.{import_words_of, joined, import_step, include_step, unless_full, import_here, include_here, moved_to, after_token, head_step}
 use Rattle.yangparser.specs.Dependencies.{step_here, step_at, good, after_step, scan_turn, scan_from, scanned, if_fit, dependencies, parsed_of, Dependencies, kept_of}
 use Rattle.yangparser.specs.Promises.{Extracts}
-use Rattle.yangparser.specs.declared.Parsed.{Parsed}
-use Rattle.yangparser.specs.declared.Parsed.TheVariants.{Good}
+use Rattle.yangparser.specs.declared.Rows.{Rows}
 use Rattle.demands_accents.specs.Valid.{Valid}
 use Rattle.demands_accents.specs.ValuesValid.{ImportValid, RowsValid}
 use Rattle.demands_accents.proofs.StoreValid.{store_valid}
 use Rattle.demands_accents.proofs.ValuesValid.{values_valid}
+use Rattle.text.specs.declared.Refusal.{Refusal}
 
 -- import "é"{prefix 'ü';}
 abbrev text : List ℕ
@@ -68,12 +69,12 @@ unfolding joined import_step include_step unless_full import_here include_here m
 scan = refl
 
 -- what the call answers and leaves
-module _ (d t u : List ℕ) (long : is_too_short false (length text) (length d) (length t) (length u) ≡ false) {r : Parsed} {e f g : List ℕ}
+module _ (d t u : List ℕ) (long : is_too_short false (length text) (length d) (length t) (length u) ≡ false) {r : Result Rows Refusal} {e f g : List ℕ}
     (l : Extracts false text false d t u r e f g) where
   called : dependencies false text (is_too_short false (length text) (length d) (length t) (length u)) ≡ good read
   called = ap (dependencies false text) long ∙ scan
 
-  answered : r ≡ Good 1 0 4
+  answered : r ≡ Ok (record { imports = 1; includes = 0; used = 4 })
   unfolding parsed_of
   answered = l.answer ∙ ap parsed_of called
 

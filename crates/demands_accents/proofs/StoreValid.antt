@@ -1,5 +1,6 @@
 -- What a call leaves in the store is what its scan stored, and that is characters.
 -- Assumes nothing.
+use Rattle.std.specs.Prelude.{Ok, Err, Result}
 use mathlib.Core.Path.{◌≡◌, refl, sym, ap, subst, ◌∙◌}
 use mathlib.Core.Bool.{Bool, false}
 use mathlib.Core.List.{List, [], ◌++◌, append-nil}
@@ -10,14 +11,11 @@ use lib.ListN.{length, get_or, take}
 use lib.Seq.{sets, sets-eq, take-append_seam}
 use Rattle.text_lent.specs.Lent.{lent_at}
 use Rattle.text_lent.specs.Padded.{padded}
-use Rattle.text_lent.specs.declared.Lent.{Lent}
-use Rattle.text_lent.specs.declared.Lent.TheVariants.{Fit, Unfit}
 use Rattle.scan_rows.specs.Short.{is_too_short}
 use Rattle.scan_rows.proofs.ShortLaws.{long_enough}
 use Rattle.yangparser.specs.Dependencies.{Dependencies, good, dependencies, parsed_of, read_of, kept_of, page_short}
 use Rattle.yangparser.specs.Promises.{Leaves, Parses, lent_scan}
-use Rattle.yangparser.specs.declared.Parsed.{Parsed}
-use Rattle.yangparser.specs.declared.Parsed.TheVariants.{Good, Refused}
+use Rattle.yangparser.specs.declared.Rows.{Rows}
 use Rattle.yangparser.proofs.KeptLaws.{entry_good, parsed_good}
 use Rattle.scan_page.proofs.PageLaws.{good_sound}
 use Rattle.scan_metadata.specs.Metadata as Metadata
@@ -29,6 +27,7 @@ use Rattle.demands_scans.proofs.ScanNumbers.{LentIs, lent_is}
 use Rattle.demands_accents.proofs.Good.{good_text}
 use Rattle.demands_accents.proofs.Stored.{scan_chars, metadata_chars}
 use Rattle.demands_accents.proofs.ValuesValid.{used_valid}
+use Rattle.text.specs.declared.Refusal.{Refusal}
 
 -- ---- dependencies
 
@@ -38,7 +37,7 @@ module _ (mode : Bool) (s : List ℕ) (z : Bool) where
   good_chars x h = subst (λ y. Chars (read_of y).bytes) (entry_good mode s z x h).0 (scan_chars mode (chars s (good_text mode s z x h)))
 
   module _ (d t u : List ℕ) {e f g : List ℕ} where
-    left_stored : {r : Parsed} → Leaves (dependencies mode s z) d t u r e f g → (i j n : ℕ) → r ≡ Good i j n → Valid (take n e)
+    left_stored : {r : Result Rows Refusal} → Leaves (dependencies mode s z) d t u r e f g → (i j n : ℕ) → r ≡ Ok (record { imports = i; includes = j; used = n }) → Valid (take n e)
     unfolding kept_of
     left_stored l i j n h =
         let k = parsed_good (dependencies mode s z) i j n (sym l.answer ∙ h) in
@@ -51,13 +50,13 @@ module _ (mode : Bool) (s : List ℕ) (z : Bool) where
     unfolding answer_words
     told_stored l more h = subst (λ w. Valid (take (get_or w 5 0) e)) (sym h) (of (parsed_of (dependencies mode s z)) refl)
       where
-        of : (p : Parsed) → parsed_of (dependencies mode s z) ≡ p → Valid (take (get_or (answer_words p ++ more) 5 0) e)
-        of (Good i j n) q = left_stored l i j n q
-        of (Refused y) q = valid none
+        of : (p : Result Rows Refusal) → parsed_of (dependencies mode s z) ≡ p → Valid (take (get_or (answer_words p ++ more) 5 0) e)
+        of (Ok x) q = left_stored l x.imports x.includes x.used q
+        of (Err y) q = valid none
 
 -- scan_over writes over what the buffers held
-over_stored : (mode : Bool) (s : List ℕ) (short : Bool) (d t u : List ℕ) {r : Parsed} {e f g : List ℕ}
-    → Parses (lent_scan mode s short d t u) d t u r e f g → (i j n : ℕ) → r ≡ Good i j n → Valid (take n e)
+over_stored : (mode : Bool) (s : List ℕ) (short : Bool) (d t u : List ℕ) {r : Result Rows Refusal} {e f g : List ℕ}
+    → Parses (lent_scan mode s short d t u) d t u r e f g → (i j n : ℕ) → r ≡ Ok (record { imports = i; includes = j; used = n }) → Valid (take n e)
 unfolding read_of
 over_stored mode s short d t u {e = e} l i j n h =
     let z = is_too_short short (length s) (length d) (length t) (length u) in
@@ -76,10 +75,10 @@ module _ (mode : Bool) (s : List ℕ) (z : Bool) where
   unfolding Metadata.metadata Metadata.if_fit Metadata.kept_of Metadata.stored_of
   kept_chars = of (lent_at s z) (lent_is s z) (Metadata.scanned mode s) (λ v. metadata_chars mode (chars s v))
     where
-      of : (l : Lent) → LentIs s z l → (x : Metadata.Scan) → (Valid s → Chars (Metadata.stored_of x)) → Chars (Metadata.kept_of (Metadata.if_fit l x))
-      of Fit f (Metadata.good m) k = k f.utf8
-      of Fit f (Metadata.bad r bs) k = none
-      of (Unfit r) f x k = none
+      of : (l : Result (Unit {0}) Refusal) → LentIs s z l → (x : Metadata.Scan) → (Valid s → Chars (Metadata.stored_of x)) → Chars (Metadata.kept_of (Metadata.if_fit l x))
+      of (Ok tt) f (Metadata.good m) k = k f.utf8
+      of (Ok tt) f (Metadata.bad r bs) k = none
+      of (Err r) f x k = none
 
   -- the answer counts them
   kept_used : (Metadata.answer_of (Metadata.metadata mode s z)).used ≡ length (Metadata.kept_of (Metadata.metadata mode s z))

@@ -1,5 +1,6 @@
 -- All that a scan stores of valid UTF-8 is valid UTF-8, also the values that later ones take the place of: it is values one behind the other.
 -- Assumes nothing.
+use Rattle.std.specs.Prelude.{Ok, Err, Some, None, Result, Option}
 use mathlib.Core.Bool.{Bool, cond}
 use mathlib.Core.List.{List, ◌++◌}
 use Prim.Native.Nat.{ℕ, suc, ◌+◌}
@@ -10,27 +11,17 @@ use Rattle.text.specs.Scan.{gap_end}
 use Rattle.text.proofs.Here.{by_test}
 use Rattle.text_value.specs.Value.{value_at, value_bytes}
 use Rattle.text_value.specs.Argument.{argument_at, line_at}
-use Rattle.text_value.specs.declared.Argument.{Argument}
-use Rattle.text_value.specs.declared.Argument.TheVariants.{Read, Refused as NoValue}
 use Rattle.scan_block.specs.Block.{line_kind, after_kind, inside_here, inside_at, Stored, after_inside, block_turn, block_from, block_at}
 use Rattle.scan_block.specs.Left.{Left}
 use Rattle.scan_block.specs.declared.Body.{Body}
 use Rattle.scan_block.specs.declared.Inside.{Inside}
-use Rattle.scan_block.specs.declared.Inside.TheVariants.{On as Goes, Closed, Refused as NotInside}
-use Rattle.scan_block.specs.declared.Line.{Line}
-use Rattle.scan_block.specs.declared.Line.TheVariants.{Value, Other}
+use Rattle.scan_block.specs.declared.Inside.TheVariants.{On, Closed}
 use Rattle.scan_imports.specs.Statement.{with_name, after_name, import_at, block_of, open_or_plain, after_value, include_at}
-use Rattle.scan_imports.specs.declared.ParsedImport.{ParsedImport}
-use Rattle.scan_imports.specs.declared.ParsedImport.TheVariants.{Import as ReadImport, NoImport}
-use Rattle.scan_imports.specs.declared.ParsedInclude.{ParsedInclude}
-use Rattle.scan_imports.specs.declared.ParsedInclude.TheVariants.{Include as ReadInclude, NoInclude}
 use Rattle.scan_head.specs.Head.{head_at}
 use Rattle.scan_head.specs.declared.Head.{Head}
 use Rattle.scan_head.specs.declared.Head.TheVariants.{Import, Include, Last, Other as Token}
 use Rattle.yangparser.specs.Dependencies.{Dependencies, joined, import_step, include_step, unless_full, import_here, include_here, head_step, step_here, step_at}
 use Rattle.yangparser.specs.Dependencies.{Scanning, Scan, good, after_step, scan_turn, scan_from, scanned, none, Step, read_of}
-use Rattle.yangparser.specs.declared.Next.{Next}
-use Rattle.yangparser.specs.declared.Next.TheVariants.{On, Done, Stop}
 use Rattle.yangparser.specs.declared.Sofar.{Sofar}
 use Rattle.text.specs.Words.{belongs_to_keyword, namespace_keyword, prefix_keyword, revision_keyword, yang_version_keyword}
 use Rattle.scan_rows.specs.declared.Span.{Span}
@@ -39,13 +30,17 @@ use Rattle.scan_tag.specs.declared.Tag.{Tag}
 use Rattle.scan_tag.specs.declared.Tag.TheVariants.{Statement, Last as Final, Other as Unnamed}
 use Rattle.scan_header.specs.Header.{Said, field_at, later_prefix, statement_said, tag_said, said_here, said_at}
 use Rattle.scan_header.specs.declared.Heard.{Heard}
-use Rattle.scan_header.specs.declared.Heard.TheVariants.{Value as Told, Passed, Done as Ended, Refused as NotHeard}
+use Rattle.scan_header.specs.declared.Heard.TheVariants.{Value, Passed, Done}
 use Rattle.scan_metadata.specs.Metadata as Metadata
 use Rattle.scan_metadata.specs.Metadata.{Metadata, told}
 use Rattle.demands_accents.proofs.Chars as C
 use Rattle.demands_accents.proofs.Chars.{Chars}
 use Rattle.demands_accents.proofs.Kept.{Keeps, turns_kept}
 use Rattle.demands_accents.proofs.Values.{append_chars, value_chars}
+use Rattle.text.specs.declared.Cursor.{Cursor}
+use Rattle.scan_rows.specs.declared.YangImport.{YangImport}
+use Rattle.scan_rows.specs.declared.YangInclude.{YangInclude}
+use Rattle.text.specs.declared.Refusal.{Refusal}
 
 -- ---- a test leaves characters either way
 
@@ -61,23 +56,23 @@ module _ (whole : Bool) {s : List ℕ} (c : Chars s) where
   abbrev AllLeft : {A : Type 0} → Left A → Type 0
   AllLeft x = Chars x.bytes
 
-  kind_chars : (at : ℕ) (b : Body) (l : Line) → AllLeft (after_kind whole s at b l)
+  kind_chars : (at : ℕ) (b : Body) (l : Option (ℕ × Cursor)) → AllLeft (after_kind whole s at b l)
   unfolding after_kind
-  kind_chars at b (Value j n) = value_chars c n.at
-  kind_chars at b Other = C.none
+  kind_chars at b (Some (j, n)) = value_chars c n.at
+  kind_chars at b None = C.none
 
   inside_chars : (k : ℕ) (b : Body) → AllLeft (inside_at whole s k b)
   unfolding inside_at inside_here
   inside_chars k b =
       let at = gap_end s b.at in
-      test_chars (λ (x : Left Inside). x.bytes) (eqb (look s at) 256) _ _ C.none
-      (test_chars (λ (x : Left Inside). x.bytes) (eqb (look s at) 125) _ _ C.none (kind_chars at b (line_kind s at k)))
+      test_chars (λ (x : Left (Result Inside Refusal)). x.bytes) (eqb (look s at) 256) _ _ C.none
+      (test_chars (λ (x : Left (Result Inside Refusal)). x.bytes) (eqb (look s at) 125) _ _ C.none (kind_chars at b (line_kind s at k)))
 
-  after_chars : (bs : List ℕ) → Chars bs → (x : Inside) → Keeps AllStored AllLeft (after_inside bs x)
+  after_chars : (bs : List ℕ) → Chars bs → (x : Result Inside Refusal) → Keeps AllStored AllLeft (after_inside bs x)
   unfolding after_inside
-  after_chars bs k (Goes b) = k
-  after_chars bs k (Closed b) = k
-  after_chars bs k (NotInside r) = k
+  after_chars bs k (Ok (On b)) = k
+  after_chars bs k (Ok (Closed b)) = k
+  after_chars bs k (Err r) = k
 
   block_chars : (at u k : ℕ) → AllLeft (block_at whole s at u k)
   unfolding block_at block_from block_turn
@@ -92,19 +87,19 @@ module _ (whole : Bool) {s : List ℕ} (c : Chars s) where
   unfolding import_at after_name with_name
   import_chars at u = of (line_at whole s at u 8 123)
     where
-      of : (x : Argument) → AllLeft (after_name whole s u (value_bytes (value_at s at)) x)
-      of (Read n m) = append_chars (value_chars c at) (block_chars n.at m 8)
-      of (NoValue r) = value_chars c at
+      of : (x : Result (Cursor × ℕ) Refusal) → AllLeft (after_name whole s u (value_bytes (value_at s at)) x)
+      of (Ok (n, m)) = append_chars (value_chars c at) (block_chars n.at m 8)
+      of (Err r) = value_chars c at
 
   include_chars : (at u : ℕ) → AllLeft (include_at whole s at u)
   unfolding include_at after_value open_or_plain block_of
   include_chars at u = of (argument_at whole s at u 9)
     where
-      of : (x : Argument) → AllLeft (after_value whole s u (value_bytes (value_at s at)) x)
-      of (Read n m) =
-          test_chars (λ (x : Left ParsedInclude). x.bytes) (eqb (look s (gap_end s n.at)) 123) _ _
+      of : (x : Result (Cursor × ℕ) Refusal) → AllLeft (after_value whole s u (value_bytes (value_at s at)) x)
+      of (Ok (n, m)) =
+          test_chars (λ (x : Left (Result (Cursor × ℕ × YangInclude) Refusal)). x.bytes) (eqb (look s (gap_end s n.at)) 123) _ _
           (append_chars (value_chars c at) (block_chars (gap_end s n.at + 1) m 9)) (value_chars c at)
-      of (NoValue r) = value_chars c at
+      of (Err r) = value_chars c at
 
   -- ---- dependencies
 
@@ -117,15 +112,15 @@ module _ (whole : Bool) {s : List ℕ} (c : Chars s) where
   abbrev AllAdded : Step → Type 0
   AllAdded x = Chars x.adds.bytes
 
-  import_adds : (far : Sofar) (bs : List ℕ) → Chars bs → (x : ParsedImport) → AllAdded (import_step far bs x)
+  import_adds : (far : Sofar) (bs : List ℕ) → Chars bs → (x : Result (Cursor × ℕ × YangImport) Refusal) → AllAdded (import_step far bs x)
   unfolding import_step
-  import_adds far bs k (ReadImport n m i) = k
-  import_adds far bs k (NoImport r) = k
+  import_adds far bs k (Ok (n, m, i)) = k
+  import_adds far bs k (Err r) = k
 
-  include_adds : (far : Sofar) (bs : List ℕ) → Chars bs → (x : ParsedInclude) → AllAdded (include_step far bs x)
+  include_adds : (far : Sofar) (bs : List ℕ) → Chars bs → (x : Result (Cursor × ℕ × YangInclude) Refusal) → AllAdded (include_step far bs x)
   unfolding include_step
-  include_adds far bs k (ReadInclude n m i) = k
-  include_adds far bs k (NoInclude r) = k
+  include_adds far bs k (Ok (n, m, i)) = k
+  include_adds far bs k (Err r) = k
 
   head_chars : (far : Sofar) (at : ℕ) (h : Head) → AllAdded (head_step whole s far at h)
   unfolding head_step import_here include_here unless_full
@@ -142,11 +137,11 @@ module _ (whole : Bool) {s : List ℕ} (c : Chars s) where
       let at = gap_end s far.at in
       test_chars (λ (x : Step). x.adds.bytes) (leb (length s) at) _ _ C.none (head_chars far at (head_at s at))
 
-  next_chars : (d : Dependencies) → Chars d.bytes → (x : Next) → Keeps AllScanning AllRead (after_step d x)
+  next_chars : (d : Dependencies) → Chars d.bytes → (x : Result (Option Sofar) Refusal) → Keeps AllScanning AllRead (after_step d x)
   unfolding after_step read_of
-  next_chars d k (On far) = k
-  next_chars d k Done = k
-  next_chars d k (Stop r) = k
+  next_chars d k (Ok (Some far)) = k
+  next_chars d k (Ok None) = k
+  next_chars d k (Err r) = k
 
   pub scan_chars : AllRead (scanned whole s)
   unfolding scanned scan_from scan_turn joined read_of
@@ -187,12 +182,12 @@ module _ (whole : Bool) {s : List ℕ} (c : Chars s) where
       (test_chars (λ (z : Metadata). z.bytes) (eqb k belongs_to_keyword) _ _ l
       (test_chars (λ (z : Metadata). z.bytes) (eqb k namespace_keyword) _ _ l (test_chars (λ (z : Metadata). z.bytes) (eqb k prefix_keyword) _ _ l l)))
 
-  heard_chars : (m : Metadata) (bs : List ℕ) → Chars m.bytes → Chars bs → (h : Heard) → Keeps AllReading AllKept (Metadata.after_heard m bs h)
+  heard_chars : (m : Metadata) (bs : List ℕ) → Chars m.bytes → Chars bs → (h : Result Heard Refusal) → Keeps AllReading AllKept (Metadata.after_heard m bs h)
   unfolding Metadata.after_heard Metadata.ended Metadata.stored_of
-  heard_chars m bs k l (Told j x n u) = told_chars m j x bs (append_chars k l)
-  heard_chars m bs k l (Passed n) = k
-  heard_chars m bs k l (Ended n) = test_chars Metadata.stored_of m.name.present _ _ k k
-  heard_chars m bs k l (NotHeard r) = append_chars k l
+  heard_chars m bs k l (Ok (Value j x n u)) = told_chars m j x bs (append_chars k l)
+  heard_chars m bs k l (Ok (Passed n)) = k
+  heard_chars m bs k l (Ok (Done n)) = test_chars Metadata.stored_of m.name.present _ _ k k
+  heard_chars m bs k l (Err r) = append_chars k l
 
   pub metadata_chars : AllKept (Metadata.scanned whole s)
   unfolding Metadata.scanned Metadata.scan_from Metadata.metadata_turn Metadata.stored_of

@@ -1,5 +1,6 @@
 -- values-valid at the calls: the values are those that demand 2 tells of, and the page holds their lines.
 -- Assumes nothing.
+use Rattle.std.specs.Prelude.{Ok, Err, Result}
 use mathlib.Core.Path.{◌≡◌, refl, sym, ap, subst, ◌∙◌}
 use mathlib.Core.Bool.{Bool, false}
 use mathlib.Core.List.{List, [], ◌∷◌, ◌++◌, append-nil}
@@ -12,8 +13,7 @@ use Rattle.scan_rows.specs.Rows.{rows_of, marked_at}
 use Rattle.scan_rows.specs.Short.{is_too_short}
 use Rattle.yangparser.specs.Dependencies.{dependencies, parsed_of, page_short}
 use Rattle.yangparser.specs.Promises.{Leaves, Extracts}
-use Rattle.yangparser.specs.declared.Parsed.{Parsed}
-use Rattle.yangparser.specs.declared.Parsed.TheVariants.{Good, Refused}
+use Rattle.yangparser.specs.declared.Rows.{Rows}
 use Rattle.yangparser.proofs.KeptLaws.{parsed_refused}
 use Rattle.scan_page.specs.Page.{page_of}
 use Rattle.scan_page.proofs.PageLaws.{rows_are}
@@ -27,6 +27,7 @@ use Rattle.demands_accents.specs.ValuesValid.{RowsValid, RecordValid, ValuesVali
 use Rattle.demands_accents.proofs.Chars.{Chars, none, valid}
 use Rattle.demands_accents.proofs.Good.{good_valid, metadata_valid}
 use Rattle.demands_accents.proofs.Rows.{no_rows, no_values_lem, read_valid, behind_valid, rows_valid, record_valid, rows_chars}
+use Rattle.text.specs.declared.Refusal.{Refusal}
 
 -- ---- the page
 
@@ -39,29 +40,32 @@ pub used_valid : (n k : ℕ) (xs : List ℕ) {q : List ℕ} → q ≡ padded n x
 used_valid n k xs e h c = valid (subst Chars (sym (used n k xs e h)) c)
 
 -- of a scan whose rows are valid where it is good
-module _ (mode : Bool) (s : List ℕ) (z : Bool) (d t u : List ℕ) {r : Parsed} {e f g : List ℕ} (l : Leaves (dependencies mode s z) d t u r e f g) where
-  pub page_chars : ((i j n : ℕ) → r ≡ Good i j n → RowsValid e f i g j) → Chars (page_of (dependencies mode s z))
+module _ (mode : Bool) (s : List ℕ) (z : Bool) (d t u : List ℕ) {r : Result Rows Refusal} {e f g : List ℕ} (l : Leaves (dependencies mode s z) d t u r e f g) where
+  pub page_chars : ((i j n : ℕ) → r ≡ Ok (record { imports = i; includes = j; used = n }) → RowsValid e f i g j) → Chars (page_of (dependencies mode s z))
   unfolding page_of
   page_chars rows = of r refl
     where
-      of : (p : Parsed) → r ≡ p → Chars (page_of (dependencies mode s z))
-      of (Good i j n) h = subst Chars (rows_are mode s z d t u l i j n h) (rows_chars e f i g j (rows i j n h))
-      of (Refused y) h = subst Chars (sym (ap page_of (parsed_refused (dependencies mode s z) y (sym l.answer ∙ h)).1)) none
+      of : (p : Result Rows Refusal) → r ≡ p → Chars (page_of (dependencies mode s z))
+      of (Ok x) h =
+          let i = x.imports in
+          let j = x.includes in
+          subst Chars (rows_are mode s z d t u l i j x.used h) (rows_chars e f i g j (rows i j x.used h))
+      of (Err y) h = subst Chars (sym (ap page_of (parsed_refused (dependencies mode s z) y (sym l.answer ∙ h)).1)) none
 
 -- ---- a host's words
 
 -- the rows that an answer counts, with more words behind; a refusal counts none
-told_rows : (p : Parsed) (more : List ℕ) {e f g a : List ℕ} → a ≡ answer_words p ++ more → ((i j n : ℕ) → p ≡ Good i j n → RowsValid e f i g j)
+told_rows : (p : Result Rows Refusal) (more : List ℕ) {e f g a : List ℕ} → a ≡ answer_words p ++ more → ((i j n : ℕ) → p ≡ Ok (record { imports = i; includes = j; used = n }) → RowsValid e f i g j)
     → RowsValid e f (get_or a 3 0) g (get_or a 4 0)
 unfolding answer_words
-told_rows (Good i j n) more {e} {f} {g} h rows = subst (λ w. RowsValid e f (get_or w 3 0) g (get_or w 4 0)) (sym h) (rows i j n refl)
-told_rows (Refused r) more {e} {f} {g} h rows = subst (λ w. RowsValid e f (get_or w 3 0) g (get_or w 4 0)) (sym h) (no_rows e f g)
+told_rows (Ok r) more {e} {f} {g} h rows = let record { imports = i; includes = j; used = n } = r in subst (λ w. RowsValid e f (get_or w 3 0) g (get_or w 4 0)) (sym h) (rows i j n refl)
+told_rows (Err r) more {e} {f} {g} h rows = subst (λ w. RowsValid e f (get_or w 3 0) g (get_or w 4 0)) (sym h) (no_rows e f g)
 
 -- the seventh word of an answer
-seventh : (p : Parsed) (k : ℕ) {a : List ℕ} → a ≡ answer_words p ++ (k ∷ []) → get_or a 6 0 ≡ k
+seventh : (p : Result Rows Refusal) (k : ℕ) {a : List ℕ} → a ≡ answer_words p ++ (k ∷ []) → get_or a 6 0 ≡ k
 unfolding answer_words
-seventh (Good i j n) k h = ap (λ w. get_or w 6 0) h
-seventh (Refused r) k h = ap (λ w. get_or w 6 0) h
+seventh (Ok r) k h = let record { imports = i; includes = j; used = n } = r in ap (λ w. get_or w 6 0) h
+seventh (Err r) k h = ap (λ w. get_or w 6 0) h
 
 -- ---- metadata
 
@@ -97,8 +101,8 @@ abbrev short_page : List ℕ → List ℕ → List ℕ → List ℕ → List ℕ
 short_page s d t u p = short s (page_short (length s) (length p)) d t u
 
 -- the rows of a good scan; b: whether something else is too short
-rows_of_lem : (mode : Bool) (s : List ℕ) (b : Bool) (d t u : List ℕ) {r : Parsed} {e f g : List ℕ} → Extracts mode s b d t u r e f g
-    → (i j n : ℕ) → r ≡ Good i j n → RowsValid e f i g j
+rows_of_lem : (mode : Bool) (s : List ℕ) (b : Bool) (d t u : List ℕ) {r : Result Rows Refusal} {e f g : List ℕ} → Extracts mode s b d t u r e f g
+    → (i j n : ℕ) → r ≡ Ok (record { imports = i; includes = j; used = n }) → RowsValid e f i g j
 rows_of_lem mode s b d t u l i j n h =
     rows_valid s (good_valid mode s (short s b d t u) l.answer i j n h) _ _ i _ j (demand2.dependencies mode s b d t u l i j n h)
 

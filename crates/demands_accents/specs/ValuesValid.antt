@@ -1,7 +1,7 @@
 -- 2026-01: values-valid. Of every good call of a scan: each value of a row or record is valid UTF-8 as it stands in the store at exit, and so are the bytes of
 -- the page that are used. A value that is missing is empty, and no bytes are valid too; a refusal leaves no row, no value and no page.
 -- Assumes nothing.
-use Rattle.std.specs.Prelude.{ℕ, ◌*◌, ◌<◌, ◌≡◌, Bool, List, get_or, take}
+use Rattle.std.specs.Prelude.{ℕ, ◌*◌, ◌<◌, ◌≡◌, Bool, List, get_or, take, Ok, Result}
 use Rattle.text_value.specs.Value.{value_at, value_bytes}
 use Rattle.scan_rows.specs.Rows.{import_size, include_size, import_at, include_at}
 use Rattle.scan_rows.specs.Span.{missing, value_in}
@@ -10,8 +10,7 @@ use Rattle.scan_rows.specs.declared.YangImport.{YangImport}
 use Rattle.scan_rows.specs.declared.YangInclude.{YangInclude}
 use Rattle.scan_printed.specs.Printed.{printed_rows}
 use Rattle.yangparser.specs.Promises as Dependencies
-use Rattle.yangparser.specs.declared.Parsed.{Parsed}
-use Rattle.yangparser.specs.declared.Parsed.TheVariants.{Good}
+use Rattle.yangparser.specs.declared.Rows.{Rows}
 use Rattle.scan_page.specs.Page.{Prints}
 use Rattle.scan_page.specs.declared.Page.{Page}
 use Rattle.scan_metadata.specs.Promises as Metadata
@@ -22,6 +21,7 @@ use Rattle.nuvaleta.specs.Record.{MetadataAnswered}
 use Rattle.demands_values.specs.Behind.{Behind, RecordRead}
 use Rattle.demands_values.specs.Demand2.{RowsRead, record_in}
 use Rattle.demands_accents.specs.Valid.{Valid}
+use Rattle.text.specs.declared.Refusal.{Refusal}
 
 -- ---- the values of a row or record, in the store
 
@@ -59,14 +59,14 @@ pub record ValuesValid : Type 0 where
   -- the printed form of rows whose values are valid
   pub lines : (store f : List ℕ) (i : ℕ) (g : List ℕ) (j : ℕ) → RowsValid store f i g j → Valid (printed_rows store f i g j)
   -- scan_lent, and with nothing else too short extract_yang_dependencies
-  pub dependencies : (mode : Bool) (s : List ℕ) (short : Bool) (d t u : List ℕ) {r : Parsed} {e f g : List ℕ}
-      → Dependencies.Extracts mode s short d t u r e f g → (i j n : ℕ) → r ≡ Good i j n → RowsValid e f i g j
+  pub dependencies : (mode : Bool) (s : List ℕ) (short : Bool) (d t u : List ℕ) {r : Result Rows Refusal} {e f g : List ℕ}
+      → Dependencies.Extracts mode s short d t u r e f g → (i j n : ℕ) → r ≡ Ok (record { imports = i; includes = j; used = n }) → RowsValid e f i g j
   -- scan_over
-  pub over : (mode : Bool) (s : List ℕ) (short : Bool) (d t u : List ℕ) {r : Parsed} {e f g : List ℕ} → Dependencies.Scans mode s short d t u r e f g
-      → (i j n : ℕ) → r ≡ Good i j n → RowsValid e f i g j
+  pub over : (mode : Bool) (s : List ℕ) (short : Bool) (d t u : List ℕ) {r : Result Rows Refusal} {e f g : List ℕ} → Dependencies.Scans mode s short d t u r e f g
+      → (i j n : ℕ) → r ≡ Ok (record { imports = i; includes = j; used = n }) → RowsValid e f i g j
   -- print_yang_dependencies, and what is used of its page
   pub printed : (mode : Bool) (s d t u p : List ℕ) {r : Page} {e f g q : List ℕ} → Prints mode s d t u p r e f g q
-      → (i j n : ℕ) → r.parsed ≡ Good i j n → RowsValid e f i g j
+      → (i j n : ℕ) → r.parsed ≡ Ok (record { imports = i; includes = j; used = n }) → RowsValid e f i g j
   pub page : (mode : Bool) (s d t u p : List ℕ) {r : Page} {e f g q : List ℕ} → Prints mode s d t u p r e f g q → Valid (take r.length q)
   -- extract_yang_metadata
   pub metadata : (mode : Bool) (s d : List ℕ) {r : YangModuleMetadata} {e : List ℕ} → Metadata.Extracts mode s d r e → RecordValid e r.values

@@ -1,5 +1,6 @@
 -- The check goes along the list: the answer from a place on is the answer from the start, as long as each place before it is good.
 -- Assumes nothing.
+use Rattle.std.specs.Prelude.{Ok, Err, Result}
 use Prim.Native.Nat.{ℕ, ◌≤◌, ◌<◌}
 use mathlib.Core.Path.{◌≡◌, refl, sym, ◌∙◌, ap, subst}
 use mathlib.Core.Logic.{⊎_elim}
@@ -17,20 +18,19 @@ use Rattle.order_tables.specs.Free.{mem, free}
 use Rattle.order_tables.proofs.Ready.{Awaited, unready, ready_edge, ready_all}
 use Rattle.order_take.proofs.Taken.{InTurn, start, then_one, free_below, free_new, free_ready}
 use Rattle.order_places.specs.Places.{place_from, place_of}
-use Rattle.order_places.specs.declared.Verdict.TheVariants.{Right, WrongAt}
 use Rattle.demands_order.specs.Order.{Valid, Good, Fault, no_node, there_already, from_later, WrongHere, at_place, at_end, FirstWrong}
 use Rattle.demands_order.proofs.OrderValid.{valid_free, valid_length}
 
-same_place : {i j : ℕ} → WrongAt i ≡ WrongAt j → i ≡ j
+same_place : {i j : ℕ} → ◌≡◌ {A = Result (Unit {0}) ℕ} (Err i) (Err j) → i ≡ j
 same_place e = cc
 
-wrong_not_right : {i : ℕ} → WrongAt i ≡ Right → ⊥
+wrong_not_right : {i : ℕ} → ◌≡◌ {A = Result (Unit {0}) ℕ} (Err i) (Ok tt) → ⊥
 wrong_not_right e = let z : ◌≡◌ {A = ℕ} 0 1 = cc in omega arith
 
 module _ (n : ℕ) (es : List Row) where
   -- ---- a list is accepted
 
-  right_turn : (rest done : List ℕ) → InTurn n es done → place_from n es done rest ≡ Right → InTurn n es (done ++ rest) × (n ≤ length (done ++ rest))
+  right_turn : (rest done : List ℕ) → InTurn n es done → place_from n es done rest ≡ Ok tt → InTurn n es (done ++ rest) × (n ≤ length (done ++ rest))
   unfolding place_from
   right_turn [] done t h = by_test (ltb (length done) n)
       (λ k. absurd (wrong_not_right (rw k at h)))
@@ -39,10 +39,10 @@ module _ (n : ℕ) (es : List Row) where
       (λ k. rw (append_snoc done x xs) at (right_turn xs (done ++ (x ∷ [])) (then_one done x t k) (rw k at h)))
       (λ k. absurd (wrong_not_right (rw k at h)))
 
-  pub right_in_turn : (xs : List ℕ) → place_of n es xs ≡ Right → InTurn n es xs × (n ≤ length xs)
+  pub right_in_turn : (xs : List ℕ) → place_of n es xs ≡ Ok tt → InTurn n es xs × (n ≤ length xs)
   right_in_turn xs h = right_turn xs [] start h
 
-  valid_right_from : (rest done : List ℕ) → Valid n es (done ++ rest) → place_from n es done rest ≡ Right
+  valid_right_from : (rest done : List ℕ) → Valid n es (done ++ rest) → place_from n es done rest ≡ Ok tt
   unfolding place_from
   valid_right_from [] done v =
       let l : length (done ++ []) ≡ n = valid_length n es (done ++ []) v in
@@ -50,7 +50,7 @@ module _ (n : ℕ) (es : List Row) where
       rw (le-ltb (length done) n (omega arith))
   valid_right_from (x ∷ xs) done v = rw (valid_free n es done x xs v) (valid_right_from xs (done ++ (x ∷ [])) (rw (append_snoc done x xs) v))
 
-  pub valid_right : (xs : List ℕ) → Valid n es xs → place_of n es xs ≡ Right
+  pub valid_right : (xs : List ℕ) → Valid n es xs → place_of n es xs ≡ Ok tt
   valid_right xs v = valid_right_from xs [] v
 
   -- ---- good places and faults
@@ -95,7 +95,7 @@ module _ (n : ℕ) (es : List Row) where
     step_is = append_snoc done x xs ∙ e
 
   wrong_from : (rest done list : List ℕ) (i : ℕ) → done ++ rest ≡ list → ((j : ℕ) → j < length done → Good n es (take j list) (get_or list j 0))
-      → place_from n es done rest ≡ WrongAt i → FirstWrong n es list i
+      → place_from n es done rest ≡ Err i → FirstWrong n es list i
   unfolding place_from
   wrong_from [] done list i e g h =
       let m : length list ≡ length done = ap length (sym e ∙ append-nil done) in
@@ -120,30 +120,30 @@ module _ (n : ℕ) (es : List Row) where
           (g j)
           (eq-or-lt_of_le {n = j} {m = length done} (omega (arith, length-append done (x ∷ []))))
 
-  pub wrong_first_wrong : (xs : List ℕ) (i : ℕ) → place_of n es xs ≡ WrongAt i → FirstWrong n es xs i
+  pub wrong_first_wrong : (xs : List ℕ) (i : ℕ) → place_of n es xs ≡ Err i → FirstWrong n es xs i
   wrong_first_wrong xs i h = wrong_from xs [] xs i refl (λ j l. absurd (omega arith)) h
 
-  first_from : (rest done list : List ℕ) (i : ℕ) → done ++ rest ≡ list → length done ≤ i → FirstWrong n es list i → place_from n es done rest ≡ WrongAt i
+  first_from : (rest done list : List ℕ) (i : ℕ) → done ++ rest ≡ list → length done ≤ i → FirstWrong n es list i → place_from n es done rest ≡ Err i
   unfolding place_from
   first_from [] done list i e l w = go w.wrong
     where
       m : length list ≡ length done
       m = ap length (sym e ∙ append-nil done)
 
-      go : WrongHere n es list i → place_from n es done [] ≡ WrongAt i
+      go : WrongHere n es list i → place_from n es done [] ≡ Err i
       go (at_place k f) = absurd (omega (arith, m))
-      go (at_end q k) = rw (lt-ltb (length done) n (omega (arith, m))) (ap WrongAt (omega (arith, m)))
+      go (at_end q k) = rw (lt-ltb (length done) n (omega (arith, m))) (ap Err (omega (arith, m)))
   first_from (x ∷ xs) done list i e l w = ⊎_elim
       (λ q. go q w.wrong)
       (λ k. rw (good_free done x (rw (front_is done x xs list e, here_is done x xs list e) at (w.good_before (length done) k)))
       (first_from xs (done ++ (x ∷ [])) list i (step_is done x xs list e) (omega (arith, length-append done (x ∷ []))) w))
       (eq-or-lt_of_le {n = length done} {m = i} l)
     where
-      go : length done ≡ i → WrongHere n es list i → place_from n es done (x ∷ xs) ≡ WrongAt i
+      go : length done ≡ i → WrongHere n es list i → place_from n es done (x ∷ xs) ≡ Err i
       go q (at_place k f) =
           let f' : Fault n es done x = rw (← q, front_is done x xs list e, here_is done x xs list e) at f in
-          rw (fault_unfree done x f') (ap WrongAt q)
+          rw (fault_unfree done x f') (ap Err q)
       go q (at_end r k) = absurd (omega (arith, place_in done x xs list e))
 
-  pub first_wrong_wrong : (xs : List ℕ) (i : ℕ) → FirstWrong n es xs i → place_of n es xs ≡ WrongAt i
+  pub first_wrong_wrong : (xs : List ℕ) (i : ℕ) → FirstWrong n es xs i → place_of n es xs ≡ Err i
   first_wrong_wrong xs i w = first_from xs [] xs i refl (omega arith) w

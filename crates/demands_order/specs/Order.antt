@@ -2,7 +2,7 @@
 -- What is computed is defined where code promises it: `taken` the order (crate order_take), `ring_of` the cycle that is written out (crate order_ring),
 -- `place_of` the answer of the check (crate order_places). Here stands what these are, said by edges alone.
 -- Assumes nothing.
-use Rattle.std.specs.Prelude.{ℕ, zero, suc, ◌+◌, ◌-◌, ◌≤◌, ◌<◌, ◌≡◌, true, false, length, get_or, take}
+use Rattle.std.specs.Prelude.{ℕ, zero, suc, ◌+◌, ◌-◌, ◌≤◌, ◌<◌, ◌≡◌, true, false, length, get_or, take, Ok, Err}
 use mathlib.Core.List.{List, [], ◌∷◌, ◌++◌, Nodup, Perm}
 use Rattle.graph.specs.Numbers.{Row, row, mem_r}
 use Rattle.order_tables.specs.Free.{mem}
@@ -10,7 +10,6 @@ use Rattle.order_tables.specs.Tables.{all_within}
 use Rattle.order_take.specs.Taking.{taken}
 use Rattle.order_ring.specs.Ring.{until, ring_of}
 use Rattle.order_places.specs.Places.{place_of}
-use Rattle.order_places.specs.declared.Verdict.TheVariants.{Right, WrongAt}
 
 -- ---- edges and chains of edges
 
@@ -137,12 +136,12 @@ pub record RightOrder (n : ℕ) (es : List Row) : Type 0 where
   pub ring : length (taken n es) < n → BackCycle n es (taken n es) (ring_of n es (taken n es))
   pub only_ring : length (taken n es) < n → (xs : List ℕ) → BackCycle n es (taken n es) xs → xs ≡ ring_of n es (taken n es)
   -- "a small check accepts a list of node numbers exactly if it holds each node once and breaks no edge"
-  pub accepts : (xs : List ℕ) → place_of n es xs ≡ Right → Valid n es xs
-  pub accepted : (xs : List ℕ) → Valid n es xs → place_of n es xs ≡ Right
-  pub accepts_own : length (taken n es) ≡ n → place_of n es (taken n es) ≡ Right
+  pub accepts : (xs : List ℕ) → place_of n es xs ≡ Ok tt → Valid n es xs
+  pub accepted : (xs : List ℕ) → Valid n es xs → place_of n es xs ≡ Ok tt
+  pub accepts_own : length (taken n es) ≡ n → place_of n es (taken n es) ≡ Ok tt
   -- "42 list wrong, at the first place .."
-  pub first_wrong : (xs : List ℕ) (i : ℕ) → place_of n es xs ≡ WrongAt i → FirstWrong n es xs i
-  pub wrong_first : (xs : List ℕ) (i : ℕ) → FirstWrong n es xs i → place_of n es xs ≡ WrongAt i
+  pub first_wrong : (xs : List ℕ) (i : ℕ) → place_of n es xs ≡ Err i → FirstWrong n es xs i
+  pub wrong_first : (xs : List ℕ) (i : ℕ) → FirstWrong n es xs i → place_of n es xs ≡ Err i
 
 -- of all graphs whose edges are between their nodes; others are refused before (43)
 abbrev pub OrderDemand : Type 0

@@ -1,6 +1,7 @@
 -- Where the conditions hold of our reading the RFC finds its pieces and they pass: our gap ends where neither white space nor a comment
 -- stands, so the RFC's ends there too, and a string that closes for us closes for the RFC.
 -- Assumes nothing.
+use Rattle.std.specs.Prelude.{Some, None, Option}
 use mathlib.Core.Path.{◌≡◌, refl, sym, ap, ◌∙◌}
 use mathlib.Core.Bool.{Bool, true, false, ◌&&◌, and-false}
 use mathlib.Core.List.{List, [], ◌∷◌}
@@ -21,8 +22,6 @@ use Rattle.text.proofs.Here.{by_test, never, both}
 use Rattle.text.proofs.Laws.{run_from, block_from, comment_line, comment_block, gap_stop, gap_more, gap_on}
 use Rattle.text_string.specs.Str.{is_quote, escapes, str_end, str_bytes, whole, closed_by, str_at}
 use Rattle.text_string.proofs.StrLaws.{at_is, closed_end, str_size}
-use Rattle.text_string.specs.declared.Close.{Close}
-use Rattle.text_string.specs.declared.Close.TheVariants.{At, Open}
 use Rattle.demands_rfc.specs.Rfc.{is_blank, are_at, to_line_end, comment_close, past_comment, separator, past_gap, Read, reads, with, first, Piece, double}
 use Rattle.demands_rfc.specs.Rfc.{single, gap, single_body, double_body, column_of, string_at, gap_to, gap_at, gap_and_string, plus_and_string, more_strings}
 use Rattle.demands_rfc.specs.Rfc.{pieces_at}
@@ -161,14 +160,14 @@ gap_passes s at f =
 
 -- ---- a string
 
-whole_close : (s : List ℕ) (at q end : ℕ) (bs : List ℕ) → get_or s at 256 ≡ q → str_at s at ≡ whole bs end → str_end q false (drop (at + 1) s) (at + 1) ≡ At end
+whole_close : (s : List ℕ) (at q end : ℕ) (bs : List ℕ) → get_or s at 256 ≡ q → str_at s at ≡ whole bs end → str_end q false (drop (at + 1) s) (at + 1) ≡ Some end
 unfolding str_at
 whole_close s at q end bs e h =
     (closed_end (str_bytes q false (drop (at + 1) s)) (str_end q false (drop (at + 1) s) (at + 1)) bs end
     (ap (λ c. closed_by (str_bytes c false (drop (at + 1) s)) (str_end c false (drop (at + 1) s) (at + 1))) (sym e) ∙ h)
     ).0
 
-open_not : {k : Close} {a : ℕ} → k ≡ Open → k ≡ At a → ⊥
+open_not : {k : Option ℕ} {a : ℕ} → k ≡ None → k ≡ Some a → ⊥
 open_not e f = let z : ◌≡◌ {A = ℕ} 0 1 = cc in omega arith
 
 take_more : (b : ℕ) (xs : List ℕ) (n at : ℕ) → at < n → b ∷ take (n - (at + 1)) xs ≡ take (n - at) (b ∷ xs)
@@ -183,7 +182,7 @@ put b xs end at l h = ap (with (b ∷◌)) h ∙ ap (λ (ys : List ℕ). reads y
 none_taken : (b : ℕ) (xs : List ℕ) (end at : ℕ) → at + 1 ≡ end → reads [] (at + 1) ≡ reads (take (end - 1 - at) (b ∷ xs)) end
 none_taken b xs end at h = let e : end - 1 - at ≡ 0 = omega arith in rw e (ap (reads []) h)
 
-double_raw : (e : Bool) (xs : List ℕ) (at end : ℕ) → str_end 34 e xs at ≡ At end → double_body e xs at ≡ reads (take (end - 1 - at) xs) end
+double_raw : (e : Bool) (xs : List ℕ) (at end : ℕ) → str_end 34 e xs at ≡ Some end → double_body e xs at ≡ reads (take (end - 1 - at) xs) end
 unfolding str_end double_body escapes
 double_raw e [] at end h = absurd (open_not refl h)
 double_raw true (b ∷ xs) at end h = put b xs end at (omega (arith, str_size 34 false xs (at + 1) end h)) (double_raw false xs (at + 1) end h)
@@ -192,7 +191,7 @@ double_raw false (b ∷ xs) at end h =
     (λ q. rw q (none_taken b xs end at (at_is (at + 1) end refl (rw q at h))))
     (λ q. let k = rw q at h in rw q (put b xs end at (omega (arith, str_size 34 (eqb b 92) xs (at + 1) end k)) (double_raw (eqb b 92) xs (at + 1) end k)))
 
-single_raw : (xs : List ℕ) (at end : ℕ) → str_end 39 false xs at ≡ At end → single_body xs at ≡ reads (take (end - 1 - at) xs) end
+single_raw : (xs : List ℕ) (at end : ℕ) → str_end 39 false xs at ≡ Some end → single_body xs at ≡ reads (take (end - 1 - at) xs) end
 unfolding str_end single_body escapes
 single_raw [] at end h = absurd (open_not refl h)
 single_raw (b ∷ xs) at end h =

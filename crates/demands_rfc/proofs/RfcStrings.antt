@@ -1,6 +1,7 @@
 -- One quoted string: where the RFC's has a meaning and no line break in double quotes, ours closes at the same place with the same bytes.
 -- Both go over the same bytes with the same mark for an escape, and the four escapes give what ours give.
 -- Assumes nothing.
+use Rattle.std.specs.Prelude.{Some}
 use mathlib.Core.Path.{◌≡◌, refl, sym, ap, ◌∙◌}
 use mathlib.Core.Bool.{Bool, true, false}
 use mathlib.Core.List.{List, [], ◌∷◌, ◌++◌}
@@ -12,7 +13,6 @@ use lib.Dec.{eqb}
 use borrow.Author.Tests.{eqb-true}
 use Rattle.text.proofs.Here.{by_test}
 use Rattle.text_string.specs.Str.{is_quote, escaped, escapes, str_end, str_bytes, whole, closed_by, str_at}
-use Rattle.text_string.specs.declared.Close.TheVariants.{At}
 use Rattle.demands_rfc.specs.Rfc.{Read, reads, nothing, with, Piece, double, single, single_body, double_body, column_of, string_at, escape, joining}
 use Rattle.demands_rfc.specs.Rfc.{unescaped, meaning}
 use Rattle.demands_rfc.specs.RfcDomain.{plain}
@@ -81,7 +81,7 @@ put_byte {c} {bs} {cs} {ds} e f g = ap (c ∷◌) g ∙ ap (◌++ ds) (sym e) �
 
 -- our string whose bytes xs start at a place closes at a place with these bytes
 abbrev Same : ℕ → Bool → List ℕ → ℕ → ℕ → List ℕ → Type 0
-Same q e xs at end bs = (str_end q e xs at ≡ At end) × (str_bytes q e xs ≡ bs)
+Same q e xs at end bs = (str_end q e xs at ≡ Some end) × (str_bytes q e xs ≡ bs)
 
 double_same : (e : Bool) (xs : List ℕ) (at : ℕ) (raw : List ℕ) (end : ℕ) (bs : List ℕ)
     → double_body e xs at ≡ reads raw end → unescaped e raw ≡ some bs → Same 34 e xs at end bs
@@ -96,7 +96,7 @@ double_same true (b ∷ xs) at raw end bs h k =
 double_same false (b ∷ xs) at raw end bs h k =
     by_test (eqb b 34)
     (λ q. let r = read_is [] raw (at + 1) end refl (rw q at h) in
-    rw q (ap At r.1, some_is [] bs refl (ap (unescaped false) r.0 ∙ k)))
+    rw q (ap Some r.1, some_is [] bs refl (ap (unescaped false) r.0 ∙ k)))
     (λ q. let n = rw q at h in
     by_test (eqb b 92)
     (λ s. let w = with_reads (b ∷◌) (double_body true xs (at + 1)) raw end (rw s at n) in
@@ -114,7 +114,7 @@ unfolding single_body str_end str_bytes escapes
 single_same [] at raw end h = absurd (nothing_read refl h)
 single_same (b ∷ xs) at raw end h =
     by_test (eqb b 39)
-    (λ q. let r = read_is [] raw (at + 1) end refl (rw q at h) in rw q (ap At r.1, r.0))
+    (λ q. let r = read_is [] raw (at + 1) end refl (rw q at h) in rw q (ap Some r.1, r.0))
     (λ q. let w = with_reads (b ∷◌) (single_body xs (at + 1)) raw end (rw q at h) in
     let m = single_same xs (at + 1) w.0 end w.1 in
     rw q (m.0, ap (b ∷◌) m.1 ∙ w.2))

@@ -1,6 +1,7 @@
 -- The refusals of the metadata scan, by number and keyword: a value that is missing has 4, a byte that is due 5 or 6, each with the statement's keyword;
 -- yang-version needs no value, and after belongs-to no byte is due.
 -- Assumes nothing.
+use Rattle.std.specs.Prelude.{Some, None, Ok, Err, Option, Result}
 use Prim.Native.Nat.{ℕ, suc}
 use mathlib.Core.Path.{◌≡◌, refl, ap, subst}
 use mathlib.Core.Bool.{Bool, true, false}
@@ -12,29 +13,21 @@ use Rattle.text.specs.Bytes.{look}
 use Rattle.text.specs.Due.{due_at}
 use Rattle.text.specs.Scan.{gap_end}
 use Rattle.text.specs.Turns.{stop}
-use Rattle.text.specs.declared.Due.{Due}
-use Rattle.text.specs.declared.Due.TheVariants.{After, Not}
-use Rattle.text.specs.declared.Match.{Match}
-use Rattle.text.specs.declared.Match.TheVariants.{After as Matched, Not as Unmatched}
 use Rattle.text.specs.declared.Refusal.{Refusal}
 use Rattle.text.specs.declared.Cursor.{Cursor}
 use Rattle.text.proofs.Here.{by_test, never}
 use Rattle.text_value.specs.Argument.{argument_at}
-use Rattle.text_value.specs.declared.Argument.{Argument}
-use Rattle.text_value.specs.declared.Argument.TheVariants.{Read, Refused as NoArgument}
 use Rattle.text_skip.specs.Skip.{token_at, past_token, skipped_at, past_value}
 use Rattle.text_statement.specs.Statement.{statement_at, past_statement}
 use Rattle.text_skip.proofs.PassLaws.{skipped_refused}
 use Rattle.text_skip.proofs.SkipLaws.{token_refused}
 use Rattle.text_statement.proofs.StatementLaws.{statement_refused}
 use Rattle.text_lent.specs.Lent.{lent_at}
-use Rattle.text_lent.specs.declared.Lent.{Lent}
-use Rattle.text_lent.specs.declared.Lent.TheVariants.{Fit, Unfit}
 use Rattle.scan_header.specs.Header.{due_for, after_revision, after_value, passed, kept, with_rest, field_at, after_skipped, later_prefix}
 use Rattle.scan_header.specs.Header.{statement_said, tag_said, said_here, said_at}
 use Rattle.scan_tag.specs.Tag.{last_tag, or_tag, data_at, tag_at}
 use Rattle.scan_header.specs.declared.Heard.{Heard}
-use Rattle.scan_header.specs.declared.Heard.TheVariants.{Value, Passed, Done, Refused}
+use Rattle.scan_header.specs.declared.Heard.TheVariants.{Value, Passed, Done}
 use Rattle.scan_tag.specs.declared.Tag.{Tag}
 use Rattle.scan_tag.specs.declared.Tag.TheVariants.{Statement}
 use Rattle.scan_metadata.specs.Metadata.{Metadata, nothing, Scan, good, bad, ended, after_heard, metadata_turn, scan_from, scanned, if_fit, metadata}
@@ -83,32 +76,32 @@ module _ (s : List ℕ) where
 
 -- ---- a statement
 
-abbrev pub HeardIs : (Refusal → Type 0) → Heard → Type 0
-HeardIs P (Value k x c n) = Unit {0}
-HeardIs P (Passed c) = Unit {0}
-HeardIs P (Done c) = Unit {0}
-HeardIs P (Refused r) = P r
+abbrev pub HeardIs : (Refusal → Type 0) → Result Heard Refusal → Type 0
+HeardIs P (Ok (Value k x c n)) = Unit {0}
+HeardIs P (Ok (Passed c)) = Unit {0}
+HeardIs P (Ok (Done c)) = Unit {0}
+HeardIs P (Err r) = P r
 
-passed_is : (P : Refusal → Type 0) (d : Due) → DueIs P d → HeardIs P (passed d)
+passed_is : (P : Refusal → Type 0) (d : Result Cursor Refusal) → DueIs P d → HeardIs P (passed d)
 unfolding passed
-passed_is P (After c) h = tt
-passed_is P (Not r) h = h
+passed_is P (Ok c) h = tt
+passed_is P (Err r) h = h
 
-kept_is : (P : Refusal → Type 0) (k u n : ℕ) (d : Due) → DueIs P d → HeardIs P (kept k u n d)
+kept_is : (P : Refusal → Type 0) (k u n : ℕ) (d : Result Cursor Refusal) → DueIs P d → HeardIs P (kept k u n d)
 unfolding kept
-kept_is P k u n (After c) h = tt
-kept_is P k u n (Not r) h = h
+kept_is P k u n (Ok c) h = tt
+kept_is P k u n (Err r) h = h
 
 module _ (s : List ℕ) (k : ℕ) (after : eqb k 3 ≡ false → is_one k (1 ∷ 2 ∷ 4 ∷ 5 ∷ 6 ∷ 7 ∷ []) ≡ true) where
-  with_is : (u : ℕ) (a : Argument) → ArgumentIs (M s) a → HeardIs (M s) (with_rest false s k u a)
+  with_is : (u : ℕ) (a : Result (Cursor × ℕ) Refusal) → ArgumentIs (M s) a → HeardIs (M s) (with_rest false s k u a)
   unfolding with_rest
-  with_is u (Read c n) h = kept_is (M s) k u n (after_value false s c.at k) (rest_is s c.at k after)
-  with_is u (NoArgument r) h = h
+  with_is u (Ok (c, n)) h = kept_is (M s) k u n (after_value false s c.at k) (rest_is s c.at k after)
+  with_is u (Err r) h = h
 
-  skipped_is : (d : Due) → DueIs (M s) d → HeardIs (M s) (after_skipped false s k d)
+  skipped_is : (d : Result Cursor Refusal) → DueIs (M s) d → HeardIs (M s) (after_skipped false s k d)
   unfolding after_skipped
-  skipped_is (After c) h = passed_is (M s) (after_value false s c.at k) (rest_is s c.at k after)
-  skipped_is (Not r) h = h
+  skipped_is (Ok c) h = passed_is (M s) (after_value false s c.at k) (rest_is s c.at k after)
+  skipped_is (Err r) h = h
 
   statement_is : (eqb k 6 ≡ false → is_one k (1 ∷ 2 ∷ 3 ∷ 4 ∷ 5 ∷ 7 ∷ []) ≡ true) → (at u : ℕ) (p : Bool)
       → HeardIs (M s) (statement_said false s at k u p).answer
@@ -127,15 +120,15 @@ module _ (s : List ℕ) (at u : ℕ) (p : Bool) where
   abbrev TagIs : Tag → Type 0
   TagIs t = HeardIs (M s) (tag_said false s at u p t).answer
 
-  or_is : (k : ℕ) → ((c : Cursor) → TagIs (Statement k c)) → (m : Match) (t : Tag) → TagIs t → TagIs (or_tag k m t)
+  or_is : (k : ℕ) → ((c : Cursor) → TagIs (Statement k c)) → (m : Option Cursor) (t : Tag) → TagIs t → TagIs (or_tag k m t)
   unfolding or_tag
-  or_is k f (Matched c) t h = f c
-  or_is k f Unmatched t h = h
+  or_is k f (Some c) t h = f c
+  or_is k f None t h = h
 
-  last_is : (m : Match) → TagIs (last_tag m)
+  last_is : (m : Option Cursor) → TagIs (last_tag m)
   unfolding last_tag tag_said past_token
-  last_is (Matched c) = tt
-  last_is Unmatched = passed_is (M s) (past_token false s at) (past_is s HeaderRefusal (length s) (token_at s at) (token_refused s at))
+  last_is (Some c) = tt
+  last_is None = passed_is (M s) (past_token false s at) (past_is s HeaderRefusal (length s) (token_at s at) (token_refused s at))
 
   tag_is : TagIs (tag_at s at)
   unfolding tag_at tag_said is_one
@@ -167,12 +160,12 @@ module _ (s : List ℕ) where
   of_header r (high m) = high m
   of_header r (other h) = other (header h)
 
-  turn_is : (m : Metadata) (bs : List ℕ) (x : Heard) (r : Scan) → HeardIs (M s) x → after_heard m bs x ≡ stop r → ScanIs r
+  turn_is : (m : Metadata) (bs : List ℕ) (x : Result Heard Refusal) (r : Scan) → HeardIs (M s) x → after_heard m bs x ≡ stop r → ScanIs r
   unfolding after_heard
-  turn_is m bs (Value k y c n) r h e = let z : ◌≡◌ {A = ℕ} 0 1 = cc in absurd (omega arith)
-  turn_is m bs (Passed c) r h e = let z : ◌≡◌ {A = ℕ} 0 1 = cc in absurd (omega arith)
-  turn_is m bs (Done c) r h e = let q : ended m c.at ≡ r = cc in subst ScanIs q (ended_is m c.at)
-  turn_is m bs (Refused x) r h e = let q : bad x (m.bytes ++ bs) ≡ r = cc in subst ScanIs q (of_header x h)
+  turn_is m bs (Ok (Value k y c n)) r h e = let z : ◌≡◌ {A = ℕ} 0 1 = cc in absurd (omega arith)
+  turn_is m bs (Ok (Passed c)) r h e = let z : ◌≡◌ {A = ℕ} 0 1 = cc in absurd (omega arith)
+  turn_is m bs (Ok (Done c)) r h e = let q : ended m c.at ≡ r = cc in subst ScanIs q (ended_is m c.at)
+  turn_is m bs (Err x) r h e = let q : bad x (m.bytes ++ bs) ≡ r = cc in subst ScanIs q (of_header x h)
 
   pub scanned_is : ScanIs (scanned false s)
   unfolding scanned scan_from metadata_turn
@@ -196,9 +189,9 @@ module _ (s : List ℕ) (short : Bool) where
       scan (good m) f h = tt
       scan (bad q bs) f h = read f h
 
-      go : (x : Lent) → LentIs s short x → EntryIs (if_fit x (scanned false s))
-      go Fit h = scan (scanned false s) h (scanned_is s)
-      go (Unfit q) h = first h
+      go : (x : Result (Unit {0}) Refusal) → LentIs s short x → EntryIs (if_fit x (scanned false s))
+      go (Ok tt) h = scan (scanned false s) h (scanned_is s)
+      go (Err q) h = first h
 
   pub metadata_first : (whole : Bool) (r : Refusal) → FirstRefusal s short r → metadata whole s short ≡ bad r []
   unfolding metadata if_fit

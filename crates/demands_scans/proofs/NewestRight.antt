@@ -1,5 +1,6 @@
 -- The newest revision of every good metadata scan is the right one: each revision is stored as it was read, and the laws of newest hold for any such list.
 -- Assumes nothing.
+use Rattle.std.specs.Prelude.{Ok, Err, Result}
 use mathlib.Core.Path.{◌≡◌, refl, ap, ◌∙◌}
 use mathlib.Core.Bool.{Bool}
 use mathlib.Core.List.{List, [], ◌∷◌}
@@ -11,11 +12,10 @@ use Rattle.scan_newest.specs.Newest.{Revision, Read, newest, First}
 use Rattle.scan_newest.proofs.NewestLaws.{newest_none, newest_present, newest_greatest, newest_first, newest_valued}
 use native.Mathlib.Omega.{arith}
 use Rattle.text_lent.specs.Lent.{lent_at}
-use Rattle.text_lent.specs.declared.Lent.{Lent}
-use Rattle.text_lent.specs.declared.Lent.TheVariants.{Fit, Unfit}
 use Rattle.scan_metadata.specs.Metadata.{Metadata, Scan, good, scanned, if_fit, metadata}
 use Rattle.scan_metadata.proofs.ScanLaws.{Kept, scan_placed}
 use Rattle.demands_scans.specs.Newest.{NewestIsRight, NewestRight}
+use Rattle.text.specs.declared.Refusal.{Refusal}
 
 some_present : (rs : List Revision) → Each Read rs → (rs ≡ [] → ⊥) → Read (newest rs)
 some_present [] h n = absurd (n refl)
@@ -39,10 +39,10 @@ of_scanned whole s m h =
     }
 
 -- a good scan is one that fits
-fitted : (l : Lent) (x : Scan) (m : Metadata) → if_fit l x ≡ good m → x ≡ good m
+fitted : (l : Result (Unit {0}) Refusal) (x : Scan) (m : Metadata) → if_fit l x ≡ good m → x ≡ good m
 unfolding if_fit
-fitted Fit x m h = h
-fitted (Unfit r) x m h = let z : ◌≡◌ {A = ℕ} 0 1 = cc in absurd (omega arith)
+fitted (Ok tt) x m h = h
+fitted (Err r) x m h = let z : ◌≡◌ {A = ℕ} 0 1 = cc in absurd (omega arith)
 
 pub newest_is_right : NewestRight
 unfolding metadata

@@ -1,6 +1,7 @@
 -- The refusals of a scan in the old mode, by number and keyword: each comes from a place in the definitions that has both, and nothing on the way changes them.
 -- A block ends before its turns do.
 -- Assumes nothing.
+use Rattle.std.specs.Prelude.{Some, None, Ok, Err, Option, Result}
 use Prim.Native.Nat.{ℕ, suc, ◌+◌, ◌-◌, ◌≤◌}
 use mathlib.Core.Path.{◌≡◌, refl, sym, ap, ◌∙◌, subst}
 use mathlib.Core.Bool.{Bool, true, false, cond, ◌&&◌}
@@ -18,60 +19,44 @@ use Rattle.text.specs.Refusal.{MetHigh, refused_at}
 use Rattle.text.specs.Scan.{gap_end}
 use Rattle.text.specs.Turns.{stop}
 use Rattle.text.specs.Words.{prefix_word, revision_date_word}
-use Rattle.text.specs.declared.Due.{Due}
-use Rattle.text.specs.declared.Due.TheVariants.{After, Not}
-use Rattle.text.specs.declared.Match.{Match}
-use Rattle.text.specs.declared.Match.TheVariants.{After as Matched, Not as Unmatched}
 use Rattle.text.specs.declared.Refusal.{Refusal}
 use Rattle.text.proofs.Here.{by_test, both}
 use Rattle.text.proofs.HighLaws.{refused_met}
 use Rattle.text.proofs.Turns.{turns_rule}
 use Rattle.text_value.specs.Argument.{argument_of, breaks_off, argument_at, after_due, after_argument, line_at}
 use Rattle.text_value.specs.Value.{Val, value, none, value_at}
-use Rattle.text_value.specs.declared.Argument.{Argument}
-use Rattle.text_value.specs.declared.Argument.TheVariants.{Read, Refused as NoArgument}
 use Rattle.text_past.specs.Past.{past_of}
 use Rattle.text_skip.specs.Skip.{token_at, past_token}
 use Rattle.text_statement.specs.Statement.{statement_at, past_statement}
-use Rattle.text_past.specs.declared.Skipped.{Skipped}
-use Rattle.text_past.specs.declared.Skipped.TheVariants.{Past, Refused as NoSkip}
 use Rattle.text_skip.proofs.SkipLaws.{token_refused}
 use Rattle.text_statement.proofs.StatementLaws.{statement_refused}
 use Rattle.text_utf8.specs.Utf8.{wrong_from}
 use Rattle.text_utf8.proofs.Utf8Laws.{wrong_within}
 use Rattle.text_lent.specs.Lent.{lent_at}
 use Rattle.text_lent.proofs.LentLaws.{lent_long, lent_short, lent_wrong, lent_fit}
-use Rattle.text_lent.specs.declared.Lent.{Lent}
-use Rattle.text_lent.specs.declared.Lent.TheVariants.{Fit, Unfit}
 use Rattle.scan_rows.specs.declared.Span.{Span}
 use Rattle.scan_block.specs.Left.{Left, nothing}
 use Rattle.scan_block.specs.Block.{or_line, revision_line, line_kind, with_value, with_skipped, after_kind, inside_here, inside_at, after_inside, block_turn, block_from}
 use Rattle.scan_block.specs.Block.{begun, block_at}
 use Rattle.scan_imports.specs.Statement.{of_body, import_of, with_name, after_name, import_at, include_of, plain_of, block_of, open_or_plain, after_value, include_at}
-use Rattle.scan_block.specs.declared.Block.{Block}
-use Rattle.scan_block.specs.declared.Block.TheVariants.{Whole, Broken}
 use Rattle.scan_block.specs.declared.Body.{Body}
 use Rattle.scan_block.specs.declared.Inside.{Inside}
-use Rattle.scan_block.specs.declared.Inside.TheVariants.{On as OnInside, Closed, Refused as RefusedInside}
-use Rattle.scan_block.specs.declared.Line.{Line}
-use Rattle.scan_block.specs.declared.Line.TheVariants.{Value as ValueLine, Other as OtherLine}
-use Rattle.scan_imports.specs.declared.ParsedImport.{ParsedImport}
-use Rattle.scan_imports.specs.declared.ParsedImport.TheVariants.{Import as ReadImport, NoImport}
-use Rattle.scan_imports.specs.declared.ParsedInclude.{ParsedInclude}
-use Rattle.scan_imports.specs.declared.ParsedInclude.TheVariants.{Include as ReadInclude, NoInclude}
+use Rattle.scan_block.specs.declared.Inside.TheVariants.{On, Closed}
 use Rattle.scan_block.proofs.BlockLaws.{block_falls}
 use Rattle.yangparser.specs.Dependencies as Deps
 use Rattle.yangparser.specs.Dependencies.{Step, import_step, include_step, unless_full, import_here, include_here, after_token, head_step, step_here, step_at, after_step}
 use Rattle.yangparser.specs.Dependencies.{scan_turn}
 use Rattle.scan_head.specs.Head.{head_at}
-use Rattle.yangparser.specs.declared.Next.{Next}
-use Rattle.yangparser.specs.declared.Next.TheVariants.{On, Done, Stop}
 use Rattle.yangparser.specs.declared.Sofar.{Sofar}
 use Rattle.scan_head.specs.declared.Head.{Head}
 use Rattle.scan_head.specs.declared.Head.TheVariants.{Import, Include, Last, Other}
 use Rattle.demands_scans.specs.Refusals.{OneOf, FirstRefusal, too_long, too_little, not_utf8, Fits, RefusedAs, first, read, StatementRefusal, argument}
 use Rattle.demands_scans.specs.Refusals.{prefix, no_prefix, block, DependenciesRefusal, import, include, rows, MetRefusal, high, other}
 use Rattle.demands_scans.proofs.Loops.{turns_all}
+use Rattle.text.specs.declared.Cursor.{Cursor}
+use Rattle.text_past.specs.declared.How.{How}
+use Rattle.scan_rows.specs.declared.YangImport.{YangImport}
+use Rattle.scan_rows.specs.declared.YangInclude.{YangInclude}
 
 -- ---- membership of numerals, by test
 
@@ -122,13 +107,13 @@ of numbers keywords n k at h i = record { number = one_of n numbers h; keyword =
 -- ---- what is refused for a value and the byte due after it has the keyword, and 4, 5 or 6; or it is a byte of 128 or more
 
 module _ (P : Refusal → Type 0) where
-  abbrev pub DueIs : Due → Type 0
-  DueIs (After c) = Unit {0}
-  DueIs (Not r) = P r
+  abbrev pub DueIs : Result Cursor Refusal → Type 0
+  DueIs (Ok c) = Unit {0}
+  DueIs (Err r) = P r
 
-  abbrev pub ArgumentIs : Argument → Type 0
-  ArgumentIs (Read c n) = Unit {0}
-  ArgumentIs (NoArgument r) = P r
+  abbrev pub ArgumentIs : Result (Cursor × ℕ) Refusal → Type 0
+  ArgumentIs (Ok (c, n)) = Unit {0}
+  ArgumentIs (Err r) = P r
 
 -- or it is 3; Q: what is known of the others
 module _ (s : List ℕ) (Q : Refusal → Type 0) where
@@ -156,9 +141,9 @@ module _ (s : List ℕ) (Q : Refusal → Type 0) where
       unfolding line_at argument_at breaks_off after_due after_argument argument_of
       line_is four at u b = go (value_at s at)
         where
-          behind : (n : ℕ) (d : Due) → DueIs Met d → ArgumentIs Met (after_due n d)
-          behind n (After c) h = tt
-          behind n (Not r) h = h
+          behind : (n : ℕ) (d : Result Cursor Refusal) → DueIs Met d → ArgumentIs Met (after_due n d)
+          behind n (Ok c) h = tt
+          behind n (Err r) h = h
 
           go : (v : Val) → ArgumentIs Met (after_argument s k b (argument_of s u k v))
           go (value bs e) = behind (u + length bs) (due_at s e b k) (due_is e b)
@@ -173,10 +158,10 @@ module _ (s : List ℕ) (Q : Refusal → Type 0) where
         go (none e) = refused_is 4 k e (four e)
 
   -- a skip refuses nothing else
-  pub past_is : (m : ℕ) (x : Skipped) → ((r : Refusal) → x ≡ NoSkip r → MetHigh s r) → DueIs Met (past_of false m x)
+  pub past_is : (m : ℕ) (x : Result (Cursor × How) Refusal) → ((r : Refusal) → x ≡ Err r → MetHigh s r) → DueIs Met (past_of false m x)
   unfolding past_of
-  past_is m (Past c h) n = tt
-  past_is m (NoSkip r) n = high (n r refl)
+  past_is m (Ok (c, h)) n = tt
+  past_is m (Err r) n = high (n r refl)
 
 -- ---- dependencies
 
@@ -215,45 +200,45 @@ module _ (s : List ℕ) (k : ℕ) where
   unfolding is_one
   argument_is j f = line_is s (StatementRefusal k) j (f 5 refl) (f 6 refl) (f 4 refl)
 
-  abbrev InsideIs : Inside → Type 0
-  InsideIs (OnInside b) = Unit {0}
-  InsideIs (Closed b) = Unit {0}
-  InsideIs (RefusedInside r) = Stated r
+  abbrev InsideIs : Result Inside Refusal → Type 0
+  InsideIs (Ok (On b)) = Unit {0}
+  InsideIs (Ok (Closed b)) = Unit {0}
+  InsideIs (Err r) = Stated r
 
-  abbrev BlockIs : Block → Type 0
-  BlockIs (Whole b) = Unit {0}
-  BlockIs (Broken r) = Stated r
+  abbrev BlockIs : Result Body Refusal → Type 0
+  BlockIs (Ok b) = Unit {0}
+  BlockIs (Err r) = Stated r
 
-  with_value_is : (b : Body) (j : ℕ) (a : Argument) → ArgumentIs Stated a → InsideIs (with_value b j a)
+  with_value_is : (b : Body) (j : ℕ) (a : Result (Cursor × ℕ) Refusal) → ArgumentIs Stated a → InsideIs (with_value b j a)
   unfolding with_value
-  with_value_is b j (Read c n) h = tt
-  with_value_is b j (NoArgument r) h = h
+  with_value_is b j (Ok (c, n)) h = tt
+  with_value_is b j (Err r) h = h
 
-  with_skipped_is : (b : Body) (d : Due) → DueIs Stated d → InsideIs (with_skipped b d)
+  with_skipped_is : (b : Body) (d : Result Cursor Refusal) → DueIs Stated d → InsideIs (with_skipped b d)
   unfolding with_skipped
-  with_skipped_is b (After c) h = tt
-  with_skipped_is b (Not r) h = h
+  with_skipped_is b (Ok c) h = tt
+  with_skipped_is b (Err r) h = h
 
-  abbrev LineIs : Line → Type 0
-  LineIs (ValueLine j c) = Refusable k j
-  LineIs OtherLine = Unit {0}
+  abbrev LineIs : Option (ℕ × Cursor) → Type 0
+  LineIs (Some (j, c)) = Refusable k j
+  LineIs None = Unit {0}
 
-  or_line_is : (j : ℕ) → Refusable k j → (m : Match) (l : Line) → LineIs l → LineIs (or_line j m l)
+  or_line_is : (j : ℕ) → Refusable k j → (m : Option Cursor) (l : Option (ℕ × Cursor)) → LineIs l → LineIs (or_line j m l)
   unfolding or_line
-  or_line_is j h (Matched c) l i = h
-  or_line_is j h Unmatched l i = i
+  or_line_is j h (Some c) l i = h
+  or_line_is j h None l i = i
 
   line_kind_is : (at : ℕ) → LineIs (line_kind s at k)
   unfolding line_kind
   line_kind_is at =
-      let revision = or_line_is 10 (revision_refusable k) (match_at s at revision_date_word) OtherLine tt in
+      let revision = or_line_is 10 (revision_refusable k) (match_at s at revision_date_word) None tt in
       by_test (eqb k 8)
       (λ t. rw t (or_line_is 5 (prefix_refusable k (eqb-true k 8 t)) (match_at s at prefix_word) (revision_line s at) revision)) (λ t. rw t revision)
 
-  kind_is : (at : ℕ) (b : Body) (x : Line) → LineIs x → InsideIs (after_kind false s at b x).answer
+  kind_is : (at : ℕ) (b : Body) (x : Option (ℕ × Cursor)) → LineIs x → InsideIs (after_kind false s at b x).answer
   unfolding after_kind past_statement
-  kind_is at b (ValueLine j c) h = with_value_is b j (line_at false s c.at b.used j 59) (argument_is j h c.at b.used 59)
-  kind_is at b OtherLine h =
+  kind_is at b (Some (j, c)) h = with_value_is b j (line_at false s c.at b.used j 59) (argument_is j h c.at b.used 59)
+  kind_is at b None h =
       with_skipped_is b (past_statement false s at) (past_is s (StatementRefusal k) (length s) (statement_at s at) (statement_refused s at))
 
   inside_is : (b : Body) → InsideIs (inside_at false s k b).answer
@@ -263,51 +248,51 @@ module _ (s : List ℕ) (k : ℕ) where
       by_test (eqb (look s g) 256) (λ t. rw t (other (block (record { number = Memᴰ.head refl; keyword = Memᴰ.head refl }))))
       (λ t. rw t (by_test (eqb (look s g) 125) (λ v. rw v tt) (λ v. rw v (kind_is g b (line_kind s g k) (line_kind_is g)))))
 
-  stop_is : (bs : List ℕ) (i : Inside) (r : Left Block) → InsideIs i → after_inside bs i ≡ stop r → BlockIs r.answer
+  stop_is : (bs : List ℕ) (i : Result Inside Refusal) (r : Left (Result Body Refusal)) → InsideIs i → after_inside bs i ≡ stop r → BlockIs r.answer
   unfolding after_inside
-  stop_is bs (OnInside b) r h e = let z : ◌≡◌ {A = ℕ} 0 1 = cc in absurd (omega arith)
-  stop_is bs (Closed b) r h e =
-      let q : ◌≡◌ {A = Left Block} (record { answer = Whole b; bytes = bs }) r = cc in subst (λ (x : Left Block). BlockIs x.answer) q tt
-  stop_is bs (RefusedInside d) r h e =
-      let q : ◌≡◌ {A = Left Block} (record { answer = Broken d; bytes = bs }) r = cc in subst (λ (x : Left Block). BlockIs x.answer) q h
+  stop_is bs (Ok (On b)) r h e = let z : ◌≡◌ {A = ℕ} 0 1 = cc in absurd (omega arith)
+  stop_is bs (Ok (Closed b)) r h e =
+      let q : ◌≡◌ {A = Left (Result Body Refusal)} (record { answer = Ok b; bytes = bs }) r = cc in subst (λ (x : Left (Result Body Refusal)). BlockIs x.answer) q tt
+  stop_is bs (Err d) r h e =
+      let q : ◌≡◌ {A = Left (Result Body Refusal)} (record { answer = Err d; bytes = bs }) r = cc in subst (λ (x : Left (Result Body Refusal)). BlockIs x.answer) q h
 
   block_is : (at u : ℕ) → BlockIs (block_at false s at u k).answer
   unfolding block_at block_from block_turn
   block_is at u =
-      turns_rule (block_turn false s k) (nothing (Broken (refusal 0 0 0))) (λ b. length s - b.body.at) (block_falls false s k)
+      turns_rule (block_turn false s k) (nothing (Err (refusal 0 0 0))) (λ b. length s - b.body.at) (block_falls false s k)
       (λ a r. BlockIs r.answer)
       (λ a r e. stop_is (a.bytes ++ (inside_at false s k a.body).bytes) (inside_at false s k a.body).answer r (inside_is a.body) e)
       (λ a b r e h. h) (suc (length s)) (record { body = begun at u; bytes = [] }) (omega arith)
 
-abbrev pub ImportedIs : (Refusal → Type 0) → ParsedImport → Type 0
-ImportedIs P (ReadImport c n i) = Unit {0}
-ImportedIs P (NoImport r) = P r
+abbrev pub ImportedIs : (Refusal → Type 0) → Result (Cursor × ℕ × YangImport) Refusal → Type 0
+ImportedIs P (Ok (c, n, i)) = Unit {0}
+ImportedIs P (Err r) = P r
 
-abbrev pub IncludedIs : (Refusal → Type 0) → ParsedInclude → Type 0
-IncludedIs P (ReadInclude c n i) = Unit {0}
-IncludedIs P (NoInclude r) = P r
+abbrev pub IncludedIs : (Refusal → Type 0) → Result (Cursor × ℕ × YangInclude) Refusal → Type 0
+IncludedIs P (Ok (c, n, i)) = Unit {0}
+IncludedIs P (Err r) = P r
 
 module _ (s : List ℕ) where
-  body_is : (name : Span) (b : Block) → BlockIs s 8 b → ImportedIs (Stated s 8) (import_of name b)
+  body_is : (name : Span) (b : Result Body Refusal) → BlockIs s 8 b → ImportedIs (Stated s 8) (import_of name b)
   unfolding import_of of_body is_one
-  body_is name (Whole b) h =
+  body_is name (Ok b) h =
       by_test b.prefix.present (λ t. rw t tt) (λ t. rw t (other (no_prefix refl (of (7 ∷ []) (8 ∷ []) 7 8 b.at refl refl))))
-  body_is name (Broken r) h = h
+  body_is name (Err r) h = h
 
-  included_is : (name : Span) (b : Block) → BlockIs s 9 b → IncludedIs (Stated s 9) (include_of name b)
+  included_is : (name : Span) (b : Result Body Refusal) → BlockIs s 9 b → IncludedIs (Stated s 9) (include_of name b)
   unfolding include_of
-  included_is name (Whole b) h = tt
-  included_is name (Broken r) h = h
+  included_is name (Ok b) h = tt
+  included_is name (Err r) h = h
 
-  plain_is : (name : Span) (n : ℕ) (d : Due) → DueIs (Stated s 9) d → IncludedIs (Stated s 9) (plain_of name n d)
+  plain_is : (name : Span) (n : ℕ) (d : Result Cursor Refusal) → DueIs (Stated s 9) d → IncludedIs (Stated s 9) (plain_of name n d)
   unfolding plain_of
-  plain_is name n (After c) h = tt
-  plain_is name n (Not r) h = h
+  plain_is name n (Ok c) h = tt
+  plain_is name n (Err r) h = h
 
-  name_is : (u : ℕ) (bytes : List ℕ) (a : Argument) → ArgumentIs (Stated s 8) a → ImportedIs (Stated s 8) (after_name false s u bytes a).answer
+  name_is : (u : ℕ) (bytes : List ℕ) (a : Result (Cursor × ℕ) Refusal) → ArgumentIs (Stated s 8) a → ImportedIs (Stated s 8) (after_name false s u bytes a).answer
   unfolding after_name with_name
-  name_is u bytes (Read c n) h = body_is _ (block_at false s c.at n 8).answer (block_is s 8 c.at n)
-  name_is u bytes (NoArgument r) h = h
+  name_is u bytes (Ok (c, n)) h = body_is _ (block_at false s c.at n 8).answer (block_is s 8 c.at n)
+  name_is u bytes (Err r) h = h
 
   pub import_is : (at u : ℕ) → ImportedIs (Stated s 8) (import_at false s at u).answer
   unfolding import_at
@@ -320,11 +305,11 @@ module _ (s : List ℕ) where
       (λ t. let f = name_refusable 9 in
       rw t (plain_is name n (due_here s at 59 9) (due_here_is s (StatementRefusal 9) 9 (f 5 refl) (f 6 refl) at 59)))
 
-  value_read_is : (u : ℕ) (bytes : List ℕ) (a : Argument) → ArgumentIs (Stated s 9) a
+  value_read_is : (u : ℕ) (bytes : List ℕ) (a : Result (Cursor × ℕ) Refusal) → ArgumentIs (Stated s 9) a
       → IncludedIs (Stated s 9) (after_value false s u bytes a).answer
   unfolding after_value
-  value_read_is u bytes (Read c n) h = rest_is (gap_end s c.at) n _ bytes
-  value_read_is u bytes (NoArgument r) h = h
+  value_read_is u bytes (Ok (c, n)) h = rest_is (gap_end s c.at) n _ bytes
+  value_read_is u bytes (Err r) h = h
 
   pub include_is : (at u : ℕ) → IncludedIs (Stated s 9) (include_at false s at u).answer
   unfolding include_at is_one
@@ -341,30 +326,30 @@ module _ (s : List ℕ) where
   of_statement k r f (high m) = high m
   of_statement k r f (other h) = other (f h)
 
-  abbrev NextIs : Next → Type 0
-  NextIs (On far) = Unit {0}
-  NextIs Done = Unit {0}
-  NextIs (Stop r) = Met_here r
+  abbrev NextIs : Result (Option Sofar) Refusal → Type 0
+  NextIs (Ok (Some far)) = Unit {0}
+  NextIs (Ok None) = Unit {0}
+  NextIs (Err r) = Met_here r
 
   full_is : (n k at : ℕ) (x : Step) → is_one k (8 ∷ 9 ∷ []) ≡ true → NextIs x.answer → NextIs (unless_full n k at x).answer
   unfolding unless_full is_one
   full_is n k at x own h =
       by_test (leb 256 n) (λ t. rw t (other (rows (of (10 ∷ []) (8 ∷ 9 ∷ []) 10 k at refl own)))) (λ t. rw t h)
 
-  import_step_is : (far : Sofar) (bs : List ℕ) (i : ParsedImport) → ImportedIs (Stated s 8) i → NextIs (import_step far bs i).answer
+  import_step_is : (far : Sofar) (bs : List ℕ) (i : Result (Cursor × ℕ × YangImport) Refusal) → ImportedIs (Stated s 8) i → NextIs (import_step far bs i).answer
   unfolding import_step
-  import_step_is far bs (ReadImport c n i) h = tt
-  import_step_is far bs (NoImport r) h = of_statement 8 r import h
+  import_step_is far bs (Ok (c, n, i)) h = tt
+  import_step_is far bs (Err r) h = of_statement 8 r import h
 
-  include_step_is : (far : Sofar) (bs : List ℕ) (i : ParsedInclude) → IncludedIs (Stated s 9) i → NextIs (include_step far bs i).answer
+  include_step_is : (far : Sofar) (bs : List ℕ) (i : Result (Cursor × ℕ × YangInclude) Refusal) → IncludedIs (Stated s 9) i → NextIs (include_step far bs i).answer
   unfolding include_step
-  include_step_is far bs (ReadInclude c n i) h = tt
-  include_step_is far bs (NoInclude r) h = of_statement 9 r include h
+  include_step_is far bs (Ok (c, n, i)) h = tt
+  include_step_is far bs (Err r) h = of_statement 9 r include h
 
-  token_is : (far : Sofar) (d : Due) → DueIs Met_here d → NextIs (after_token far d)
+  token_is : (far : Sofar) (d : Result Cursor Refusal) → DueIs Met_here d → NextIs (after_token far d)
   unfolding after_token
-  token_is far (After c) h = tt
-  token_is far (Not r) h = h
+  token_is far (Ok c) h = tt
+  token_is far (Err r) h = h
 
   head_is : (far : Sofar) (at : ℕ) (w : Head) → NextIs (head_step false s far at w).answer
   unfolding head_step import_here include_here is_one past_token
@@ -385,11 +370,11 @@ module _ (s : List ℕ) where
   ScanIs (Deps.good d) = Unit {0}
   ScanIs (Deps.bad r d) = Met_here r
 
-  turn_is : (d : Deps.Dependencies) (x : Next) (r : Deps.Scan) → NextIs x → after_step d x ≡ stop r → ScanIs r
+  turn_is : (d : Deps.Dependencies) (x : Result (Option Sofar) Refusal) (r : Deps.Scan) → NextIs x → after_step d x ≡ stop r → ScanIs r
   unfolding after_step
-  turn_is d (On far) r h e = let z : ◌≡◌ {A = ℕ} 0 1 = cc in absurd (omega arith)
-  turn_is d Done r h e = let q : Deps.good d ≡ r = cc in subst ScanIs q tt
-  turn_is d (Stop x) r h e = let q : Deps.bad x d ≡ r = cc in subst ScanIs q h
+  turn_is d (Ok (Some far)) r h e = let z : ◌≡◌ {A = ℕ} 0 1 = cc in absurd (omega arith)
+  turn_is d (Ok None) r h e = let q : Deps.good d ≡ r = cc in subst ScanIs q tt
+  turn_is d (Err x) r h e = let q : Deps.bad x d ≡ r = cc in subst ScanIs q h
 
   pub scanned_is : ScanIs (Deps.scanned false s)
   unfolding Deps.scanned Deps.scan_from scan_turn
@@ -400,9 +385,9 @@ module _ (s : List ℕ) where
 -- ---- what comes first
 
 module _ (s : List ℕ) (short : Bool) where
-  abbrev pub LentIs : Lent → Type 0
-  LentIs Fit = Fits s short
-  LentIs (Unfit r) = FirstRefusal s short r
+  abbrev pub LentIs : Result (Unit {0}) Refusal → Type 0
+  LentIs (Ok tt) = Fits s short
+  LentIs (Err r) = FirstRefusal s short r
 
   pub lent_is : LentIs (lent_at s short)
   lent_is =
@@ -416,10 +401,10 @@ module _ (s : List ℕ) (short : Bool) where
       let e : at ≡ length s = omega (arith, wrong_within s 0 (omega arith)) in
       subst LentIs (lent_fit s short f v refl h) (record { few = f; enough = v; utf8 = e }))))
 
-  pub first_unfit : (r : Refusal) → FirstRefusal s short r → lent_at s short ≡ Unfit r
-  first_unfit r (too_long h e) = sym (lent_long s short h) ∙ ap Unfit (sym e)
-  first_unfit r (too_little f h e) = sym (lent_short s short f h) ∙ ap Unfit (sym e)
-  first_unfit r (not_utf8 f v h e) = sym (lent_wrong s short f v refl h) ∙ ap Unfit (sym e)
+  pub first_unfit : (r : Refusal) → FirstRefusal s short r → lent_at s short ≡ Err r
+  first_unfit r (too_long h e) = sym (lent_long s short h) ∙ ap Err (sym e)
+  first_unfit r (too_little f h e) = sym (lent_short s short f h) ∙ ap Err (sym e)
+  first_unfit r (not_utf8 f v h e) = sym (lent_wrong s short f v refl h) ∙ ap Err (sym e)
 
   pub first_number : (r : Refusal) → FirstRefusal s short r → r.number ≡ 0 → ⊥
   first_number r (too_long h e) z = omega (arith, z, ap (λ q. q.number) e)
@@ -438,9 +423,9 @@ module _ (s : List ℕ) (short : Bool) where
       scan (Deps.good k) f h = tt
       scan (Deps.bad q k) f h = read f h
 
-      go : (x : Lent) → LentIs x → EntryIs (Deps.if_fit x (Deps.scanned false s))
-      go Fit h = scan (Deps.scanned false s) h (scanned_is s)
-      go (Unfit q) h = first h
+      go : (x : Result (Unit {0}) Refusal) → LentIs x → EntryIs (Deps.if_fit x (Deps.scanned false s))
+      go (Ok tt) h = scan (Deps.scanned false s) h (scanned_is s)
+      go (Err q) h = first h
 
   pub dependencies_first : (whole : Bool) (r : Refusal) → FirstRefusal s short r → Deps.dependencies whole s short ≡ Deps.bad r Deps.none
   unfolding Deps.dependencies Deps.if_fit

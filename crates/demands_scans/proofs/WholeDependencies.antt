@@ -1,6 +1,7 @@
 -- The dependency scan in the whole-text mode and in the old one, side by side: where they part, the one is 11 and the other stands at the text's end, so that
 -- it is refused there by 4, 6 or 8, or ends.
 -- Assumes nothing.
+use Rattle.std.specs.Prelude.{Ok, Err, Some, None, Result, Option}
 use Prim.Native.Nat.{ℕ, ◌+◌, ◌-◌, ◌<◌, ◌≤◌}
 use mathlib.Core.Path.{◌≡◌, refl, sym, ap, ap₂, subst, ◌∙◌}
 use mathlib.Core.Bool.{Bool, true, false}
@@ -14,15 +15,11 @@ use Rattle.text.specs.Due.{due_here, due_at}
 use Rattle.text.specs.Refusal.{cut_at, no_refusal}
 use Rattle.text.specs.Scan.{gap_end}
 use Rattle.text.specs.declared.Cursor.{Cursor}
-use Rattle.text.specs.declared.Due.{Due}
-use Rattle.text.specs.declared.Due.TheVariants.{After, Not}
 use Rattle.text.specs.declared.Refusal.{Refusal}
 use Rattle.text.proofs.Here.{by_test, here, past}
 use Rattle.text.proofs.Laws.{gap_from, gap_twice}
 use Rattle.text_value.specs.Argument.{argument_at, line_at}
 use Rattle.text_value.specs.Value.{value_at, value_bytes}
-use Rattle.text_value.specs.declared.Argument.{Argument}
-use Rattle.text_value.specs.declared.Argument.TheVariants.{Read, Refused as NoArgument}
 use Rattle.text_value.proofs.ArgumentLaws.{FourOrSix, argument_modes, argument_open, line_modes, due_past}
 use Rattle.text_skip.specs.Skip.{past_token}
 use Rattle.text_past.proofs.PastLaws.{SameOrCut}
@@ -30,27 +27,17 @@ use Rattle.text_skip.proofs.PastLaws.{token_modes}
 use Rattle.text_statement.specs.Statement.{past_statement}
 use Rattle.text_statement.proofs.PastLaws.{statement_modes}
 use Rattle.text_lent.specs.Lent.{lent_at}
-use Rattle.text_lent.specs.declared.Lent.{Lent}
-use Rattle.text_lent.specs.declared.Lent.TheVariants.{Fit, Unfit}
 use Rattle.scan_rows.specs.Span.{held}
 use Rattle.scan_rows.specs.declared.Span.{Span}
 use Rattle.scan_block.specs.Left.{Left}
 use Rattle.scan_block.specs.Block.{line_kind, with_value, with_skipped, moved, after_kind, inside_at, Stored, block_from, begun, block_at}
-use Rattle.scan_block.specs.declared.Block.{Block}
-use Rattle.scan_block.specs.declared.Block.TheVariants.{Whole, Broken}
 use Rattle.scan_block.specs.declared.Body.{Body}
 use Rattle.scan_block.specs.declared.Inside.{Inside}
-use Rattle.scan_block.specs.declared.Inside.TheVariants.{On as OnInside, Closed, Refused as RefusedInside}
-use Rattle.scan_block.specs.declared.Line.{Line}
-use Rattle.scan_block.specs.declared.Line.TheVariants.{Value as ValueLine, Other as OtherLine}
+use Rattle.scan_block.specs.declared.Inside.TheVariants.{On, Closed}
 use Rattle.scan_block.proofs.InsideLaws.{inside_end, inside_close, inside_kind}
 use Rattle.scan_block.proofs.FarLaws.{Went, inside_went}
 use Rattle.scan_block.proofs.BlockLaws.{block_on, block_close, block_broken}
 use Rattle.scan_imports.specs.Statement.{import_of, with_name, after_name, import_at, include_of, plain_of, block_of, open_or_plain, after_value, include_at}
-use Rattle.scan_imports.specs.declared.ParsedImport.{ParsedImport}
-use Rattle.scan_imports.specs.declared.ParsedImport.TheVariants.{NoImport}
-use Rattle.scan_imports.specs.declared.ParsedInclude.{ParsedInclude}
-use Rattle.scan_imports.specs.declared.ParsedInclude.TheVariants.{NoInclude}
 use Rattle.scan_head.specs.Head.{head_at}
 use Rattle.scan_head.specs.declared.Head.{Head}
 use Rattle.scan_head.specs.declared.Head.TheVariants.{Import, Include, Last, Other}
@@ -58,8 +45,6 @@ use Rattle.yangparser.specs.Dependencies as Deps
 use Rattle.yangparser.specs.Dependencies.{Step, adding, import_step, include_step, full, unless_full, import_here, include_here, moved_to, after_token, head_step}
 use Rattle.yangparser.specs.Dependencies.{step_at}
 use Rattle.yangparser.specs.Dependencies.{Scanning, scan_from}
-use Rattle.yangparser.specs.declared.Next.{Next}
-use Rattle.yangparser.specs.declared.Next.TheVariants.{On, Done, Stop}
 use Rattle.yangparser.specs.declared.Sofar.{Sofar}
 use Rattle.yangparser.proofs.AddLaws.{full_is, room_is}
 use Rattle.yangparser.proofs.StepLaws.{step_past, step_head}
@@ -67,6 +52,8 @@ use Rattle.yangparser.proofs.FarLaws.{Went as StepWent, step_said}
 use Rattle.yangparser.proofs.ScanLaws.{scan_on, scan_done, scan_stop}
 use Rattle.demands_scans.specs.Whole.{told_dependencies, WholeOrOld, same, cut, DependenciesWhole, old_dependencies}
 use Rattle.demands_scans.proofs.Loops.{by_falling}
+use Rattle.scan_rows.specs.declared.YangImport.{YangImport}
+use Rattle.scan_rows.specs.declared.YangInclude.{YangInclude}
 
 -- ---- the old mode's refusals
 
@@ -80,34 +67,34 @@ four_or_six r (inr e) = Memᴰ.tail (Memᴰ.head e)
 -- ---- one statement of a block
 
 -- what the old mode answers where the other is 11: it goes on at the text's end, or it is refused there
-abbrev pub OldInside : List ℕ → Inside → Type 0
-OldInside s (OnInside y) = y.at ≡ length s
-OldInside s (Closed y) = ⊥
-OldInside s (RefusedInside r) = FourOrSix r
+abbrev pub OldInside : List ℕ → Result Inside Refusal → Type 0
+OldInside s (Ok (On y)) = y.at ≡ length s
+OldInside s (Ok (Closed y)) = ⊥
+OldInside s (Err r) = FourOrSix r
 
-abbrev pub InsideModes : List ℕ → Left Inside → Left Inside → Type 0
-InsideModes s x y = (x ≡ y) ⊎ ((x.answer ≡ RefusedInside (cut_at (length s))) × OldInside s y.answer)
+abbrev pub InsideModes : List ℕ → Left (Result Inside Refusal) → Left (Result Inside Refusal) → Type 0
+InsideModes s x y = (x ≡ y) ⊎ ((x.answer ≡ Err (cut_at (length s))) × OldInside s y.answer)
 
-skipped_modes : (s : List ℕ) (b : Body) (x y : Due) → SameOrCut (length s) x y
+skipped_modes : (s : List ℕ) (b : Body) (x y : Result Cursor Refusal) → SameOrCut (length s) x y
     → InsideModes s (record { answer = with_skipped b x; bytes = [] }) (record { answer = with_skipped b y; bytes = [] })
 unfolding with_skipped
 skipped_modes s b x y (inl e) = inl (ap (λ d. record { answer = with_skipped b d; bytes = [] }) e)
 skipped_modes s b x y (inr e) =
     inr (ap (with_skipped b) e.0, subst (λ d. OldInside s (with_skipped b d)) (sym e.2) e.3)
 
-value_modes : (s : List ℕ) (b : Body) (j : ℕ) (bs : List ℕ) (x y : Argument)
-    → (x ≡ y) ⊎ ((x ≡ NoArgument (cut_at (length s))) × (r : Refusal) × (y ≡ NoArgument r) × FourOrSix r)
+value_modes : (s : List ℕ) (b : Body) (j : ℕ) (bs : List ℕ) (x y : Result (Cursor × ℕ) Refusal)
+    → (x ≡ y) ⊎ ((x ≡ Err (cut_at (length s))) × (r : Refusal) × (y ≡ Err r) × FourOrSix r)
     → InsideModes s (record { answer = with_value b j x; bytes = bs }) (record { answer = with_value b j y; bytes = bs })
 unfolding with_value
 value_modes s b j bs x y (inl e) = inl (ap (λ a. record { answer = with_value b j a; bytes = bs }) e)
 value_modes s b j bs x y (inr e) = inr (ap (with_value b j) e.0, subst (λ a. OldInside s (with_value b j a)) (sym e.2) e.3)
 
-kind_modes : (s : List ℕ) (g : ℕ) (b : Body) (l : Line) → g ≤ length s → InsideModes s (after_kind true s g b l) (after_kind false s g b l)
+kind_modes : (s : List ℕ) (g : ℕ) (b : Body) (l : Option (ℕ × Cursor)) → g ≤ length s → InsideModes s (after_kind true s g b l) (after_kind false s g b l)
 unfolding after_kind
-kind_modes s g b (ValueLine j c) i =
+kind_modes s g b (Some (j, c)) i =
     value_modes s b j (value_bytes (value_at s c.at)) (line_at true s c.at b.used j 59) (line_at false s c.at b.used j 59)
     (line_modes s c.at b.used j 59 (omega arith))
-kind_modes s g b OtherLine i = skipped_modes s b (past_statement true s g) (past_statement false s g) (statement_modes s g i)
+kind_modes s g b None i = skipped_modes s b (past_statement true s g) (past_statement false s g) (statement_modes s g i)
 
 inside_modes : (s : List ℕ) (k : ℕ) (b : Body) → InsideModes s (inside_at true s k b) (inside_at false s k b)
 inside_modes s k b =
@@ -121,17 +108,17 @@ inside_modes s k b =
     let i = here s g n in
     of (inside_kind true s k b refl refl n m refl) (inside_kind false s k b refl refl n m refl) (kind_modes s g b (line_kind s g k) (omega arith))))
   where
-    of : {x y v w : Left Inside} → x ≡ v → y ≡ w → InsideModes s v w → InsideModes s x y
+    of : {x y v w : Left (Result Inside Refusal)} → x ≡ v → y ≡ w → InsideModes s v w → InsideModes s x y
     of {x} p q (inl e) = inl (p ∙ e ∙ sym q)
     of {x} p q (inr e) = inr (ap (λ z. z.answer) p ∙ e.0, subst (λ z. OldInside s z.answer) (sym q) e.1)
 
 -- ---- a block
 
-abbrev pub BlockModes : List ℕ → Left Block → Left Block → Type 0
-BlockModes s x y = (x ≡ y) ⊎ ((x.answer ≡ Broken (cut_at (length s))) × (r : Refusal) × (y.answer ≡ Broken r) × Old r)
+abbrev pub BlockModes : List ℕ → Left (Result Body Refusal) → Left (Result Body Refusal) → Type 0
+BlockModes s x y = (x ≡ y) ⊎ ((x.answer ≡ Err (cut_at (length s))) × (r : Refusal) × (y.answer ≡ Err r) × Old r)
 
 -- at the text's end it is refused by 8
-block_past : (s : List ℕ) (k : ℕ) (g : Stored) → g.body.at ≡ length s → (r : Refusal) × ((block_from false s k g).answer ≡ Broken r) × Old r
+block_past : (s : List ℕ) (k : ℕ) (g : Stored) → g.body.at ≡ length s → (r : Refusal) × ((block_from false s k g).answer ≡ Err r) × Old r
 block_past s k g e =
     let at = gap_end s g.body.at in
     let p : get_or s at 256 ≡ 256 = past s at (omega (arith, gap_from s g.body.at)) in
@@ -147,10 +134,10 @@ module _ (s : List ℕ) (k : ℕ) where
   abbrev next : Stored → Body → Stored
   next g y = record { body = y; bytes = g.bytes ++ (inside_at false s k g.body).bytes }
 
-  module _ (g : Stored) (later : (y : Body) → (inside_at false s k g.body).answer ≡ OnInside y → BothBlocks (next g y)) where
+  module _ (g : Stored) (later : (y : Body) → (inside_at false s k g.body).answer ≡ Ok (On y) → BothBlocks (next g y)) where
     -- both read the same statement
-    block_same : (x : Left Inside) → inside_at true s k g.body ≡ x → inside_at false s k g.body ≡ x → (i : Inside) → x.answer ≡ i → BothBlocks g
-    block_same x p q (OnInside y) h =
+    block_same : (x : Left (Result Inside Refusal)) → inside_at true s k g.body ≡ x → inside_at false s k g.body ≡ x → (i : Result Inside Refusal) → x.answer ≡ i → BothBlocks g
+    block_same x p q (Ok (On y)) h =
         let e : g.bytes ++ (inside_at true s k g.body).bytes ≡ g.bytes ++ (inside_at false s k g.body).bytes
         = ap (λ z. g.bytes ++ z.bytes) (p ∙ sym q) in
         let l = block_on true s k g y (ap (λ z. z.answer) p ∙ h) ∙ ap (λ bs. block_from true s k (record { body = y; bytes = bs })) e in
@@ -158,32 +145,32 @@ module _ (s : List ℕ) (k : ℕ) where
         let r = block_on false s k g y m in
         on l r (later y m)
       where
-        on : {x y v w : Left Block} → x ≡ v → y ≡ w → BlockModes s v w → BlockModes s x y
+        on : {x y v w : Left (Result Body Refusal)} → x ≡ v → y ≡ w → BlockModes s v w → BlockModes s x y
         on p q (inl e) = inl (p ∙ e ∙ sym q)
         on p q (inr e) = inr (ap (λ z. z.answer) p ∙ e.0, e.1, ap (λ z. z.answer) q ∙ e.2, e.3)
-    block_same x p q (Closed y) h =
+    block_same x p q (Ok (Closed y)) h =
         inl (block_close true s k g y (ap (λ z. z.answer) p ∙ h)
-        ∙ ap (λ z. record { answer = Whole y; bytes = g.bytes ++ z.bytes }) (p ∙ sym q)
+        ∙ ap (λ z. record { answer = Ok y; bytes = g.bytes ++ z.bytes }) (p ∙ sym q)
         ∙ sym (block_close false s k g y (ap (λ z. z.answer) q ∙ h)))
-    block_same x p q (RefusedInside r) h =
+    block_same x p q (Err r) h =
         inl (block_broken true s k g r (ap (λ z. z.answer) p ∙ h)
-        ∙ ap (λ z. record { answer = Broken r; bytes = g.bytes ++ z.bytes }) (p ∙ sym q)
+        ∙ ap (λ z. record { answer = Err r; bytes = g.bytes ++ z.bytes }) (p ∙ sym q)
         ∙ sym (block_broken false s k g r (ap (λ z. z.answer) q ∙ h)))
 
     -- the whole-text mode is 11
-    block_cut : (inside_at true s k g.body).answer ≡ RefusedInside (cut_at (length s)) → (i : Inside) → (inside_at false s k g.body).answer ≡ i
+    block_cut : (inside_at true s k g.body).answer ≡ Err (cut_at (length s)) → (i : Result Inside Refusal) → (inside_at false s k g.body).answer ≡ i
         → OldInside s i → BothBlocks g
     block_cut c i h o =
         let e = ap (λ x. x.answer) (block_broken true s k g (cut_at (length s)) c) in
         let q = old i h o in
         inr (e, q.0, q.1, q.2)
       where
-        old : (i : Inside) → (inside_at false s k g.body).answer ≡ i → OldInside s i → (r : Refusal) × ((block_from false s k g).answer ≡ Broken r) × Old r
-        old (OnInside y) h o =
+        old : (i : Result Inside Refusal) → (inside_at false s k g.body).answer ≡ i → OldInside s i → (r : Refusal) × ((block_from false s k g).answer ≡ Err r) × Old r
+        old (Ok (On y)) h o =
             let z = block_past s k (next g y) o in
             (z.0, ap (λ x. x.answer) (block_on false s k g y h) ∙ z.1, z.2)
-        old (Closed y) h o = absurd o
-        old (RefusedInside r) h o = (r, ap (λ x. x.answer) (block_broken false s k g r h), four_or_six r o)
+        old (Ok (Closed y)) h o = absurd o
+        old (Err r) h o = (r, ap (λ x. x.answer) (block_broken false s k g r h), four_or_six r o)
 
     block_one : BothBlocks g
     block_one =
@@ -204,10 +191,10 @@ block_begun s at u k = block_modes s k (record { body = begun at u; bytes = [] }
 
 -- ---- an import and an include
 
-abbrev pub ImportModes : List ℕ → Left ParsedImport → Left ParsedImport → Type 0
-ImportModes s x y = (x ≡ y) ⊎ ((x.answer ≡ NoImport (cut_at (length s))) × (r : Refusal) × (y.answer ≡ NoImport r) × Old r)
+abbrev pub ImportModes : List ℕ → Left (Result (Cursor × ℕ × YangImport) Refusal) → Left (Result (Cursor × ℕ × YangImport) Refusal) → Type 0
+ImportModes s x y = (x ≡ y) ⊎ ((x.answer ≡ Err (cut_at (length s))) × (r : Refusal) × (y.answer ≡ Err r) × Old r)
 
-import_block : (s : List ℕ) (name : Span) (bs : List ℕ) (x y : Left Block) → BlockModes s x y → ImportModes s (with_name name bs x) (with_name name bs y)
+import_block : (s : List ℕ) (name : Span) (bs : List ℕ) (x y : Left (Result Body Refusal)) → BlockModes s x y → ImportModes s (with_name name bs x) (with_name name bs y)
 unfolding with_name import_of
 import_block s name bs x y (inl e) = inl (ap (with_name name bs) e)
 import_block s name bs x y (inr e) = inr (ap (import_of name) e.0, e.1, ap (import_of name) e.2, e.3)
@@ -220,20 +207,20 @@ import_modes s at u =
     inr (ap (λ a. (after_name true s u bs a).answer) e.0, e.1, ap (λ a. (after_name false s u bs a).answer) e.2, four_or_six e.1 e.3))
     (line_modes s at u 8 123 (omega arith))
   where
-    by_name : (a : Argument) → ImportModes s (after_name true s u (value_bytes (value_at s at)) a) (after_name false s u (value_bytes (value_at s at)) a)
-    by_name (Read c n) =
+    by_name : (a : Result (Cursor × ℕ) Refusal) → ImportModes s (after_name true s u (value_bytes (value_at s at)) a) (after_name false s u (value_bytes (value_at s at)) a)
+    by_name (Ok (c, n)) =
         import_block s (held u (n - u)) (value_bytes (value_at s at)) (block_at true s c.at n 8) (block_at false s c.at n 8)
         (block_begun s c.at n 8)
-    by_name (NoArgument r) = inl refl
+    by_name (Err r) = inl refl
 
-    named : (a : Argument) → line_at true s at u 8 123 ≡ a → ImportModes s (import_at true s at u) (after_name false s u (value_bytes (value_at s at)) a)
+    named : (a : Result (Cursor × ℕ) Refusal) → line_at true s at u 8 123 ≡ a → ImportModes s (import_at true s at u) (after_name false s u (value_bytes (value_at s at)) a)
     named a e = subst (λ z. ImportModes s (after_name true s u (value_bytes (value_at s at)) z) (after_name false s u (value_bytes (value_at s at)) a)) (sym e)
         (by_name a)
 
-abbrev pub IncludeModes : List ℕ → Left ParsedInclude → Left ParsedInclude → Type 0
-IncludeModes s x y = (x ≡ y) ⊎ ((x.answer ≡ NoInclude (cut_at (length s))) × (r : Refusal) × (y.answer ≡ NoInclude r) × Old r)
+abbrev pub IncludeModes : List ℕ → Left (Result (Cursor × ℕ × YangInclude) Refusal) → Left (Result (Cursor × ℕ × YangInclude) Refusal) → Type 0
+IncludeModes s x y = (x ≡ y) ⊎ ((x.answer ≡ Err (cut_at (length s))) × (r : Refusal) × (y.answer ≡ Err r) × Old r)
 
-include_block : (s : List ℕ) (name : Span) (bs : List ℕ) (x y : Left Block) → BlockModes s x y → IncludeModes s (block_of name bs x) (block_of name bs y)
+include_block : (s : List ℕ) (name : Span) (bs : List ℕ) (x y : Left (Result Body Refusal)) → BlockModes s x y → IncludeModes s (block_of name bs x) (block_of name bs y)
 unfolding block_of include_of
 include_block s name bs x y (inl e) = inl (ap (block_of name bs) e)
 include_block s name bs x y (inr e) = inr (ap (include_of name) e.0, e.1, ap (include_of name) e.2, e.3)
@@ -247,7 +234,7 @@ open_modes s g n name bs =
 
 -- behind a name at the text's end
 plain_past : (s : List ℕ) (c : Cursor) (n : ℕ) (name : Span) (bs : List ℕ) → c.at ≡ length s
-    → (open_or_plain false s (gap_end s c.at) n name bs).answer ≡ NoInclude (record { number = 6; keyword = 9; at = gap_end s c.at })
+    → (open_or_plain false s (gap_end s c.at) n name bs).answer ≡ Err (record { number = 6; keyword = 9; at = gap_end s c.at })
 unfolding open_or_plain plain_of due_at
 plain_past s c n name bs e =
     let g = gap_end s c.at in
@@ -263,13 +250,13 @@ include_modes s at u =
     (λ e. let q = old (argument_open s at u 9 e.1) in inr (ap (λ a. (after_value true s u bs a).answer) e.0, q.0, q.1, q.2))
     (argument_modes s at u 9)
   where
-    by_name : (a : Argument) → IncludeModes s (after_value true s u (value_bytes (value_at s at)) a) (after_value false s u (value_bytes (value_at s at)) a)
-    by_name (Read c n) = open_modes s (gap_end s c.at) n (held u (n - u)) (value_bytes (value_at s at))
-    by_name (NoArgument r) = inl refl
+    by_name : (a : Result (Cursor × ℕ) Refusal) → IncludeModes s (after_value true s u (value_bytes (value_at s at)) a) (after_value false s u (value_bytes (value_at s at)) a)
+    by_name (Ok (c, n)) = open_modes s (gap_end s c.at) n (held u (n - u)) (value_bytes (value_at s at))
+    by_name (Err r) = inl refl
 
-    old : (argument_at false s at u 9 ≡ NoArgument (record { number = 4; keyword = 9; at = length s }))
-        ⊎ ((c : Cursor) × (n : ℕ) × (argument_at false s at u 9 ≡ Read c n) × (c.at ≡ length s))
-        → (r : Refusal) × ((after_value false s u (value_bytes (value_at s at)) (argument_at false s at u 9)).answer ≡ NoInclude r) × Old r
+    old : (argument_at false s at u 9 ≡ Err (record { number = 4; keyword = 9; at = length s }))
+        ⊎ ((c : Cursor) × (n : ℕ) × (argument_at false s at u 9 ≡ Ok (c, n)) × (c.at ≡ length s))
+        → (r : Refusal) × ((after_value false s u (value_bytes (value_at s at)) (argument_at false s at u 9)).answer ≡ Err r) × Old r
     old (inl e) =
         let r : Refusal = record { number = 4; keyword = 9; at = length s } in
         (r, ap (λ a. (after_value false s u (value_bytes (value_at s at)) a).answer) e, Memᴰ.head refl)
@@ -283,22 +270,22 @@ include_modes s at u =
 
 -- ---- a step
 
-abbrev OldNext : List ℕ → Next → Type 0
-OldNext s (On far) = far.at ≡ length s
-OldNext s Done = ⊥
-OldNext s (Stop r) = Old r
+abbrev OldNext : List ℕ → Result (Option Sofar) Refusal → Type 0
+OldNext s (Ok (Some far)) = far.at ≡ length s
+OldNext s (Ok None) = ⊥
+OldNext s (Err r) = Old r
 
 abbrev StepModes : List ℕ → Step → Step → Type 0
-StepModes s x y = (x ≡ y) ⊎ ((x.answer ≡ Stop (cut_at (length s))) × OldNext s y.answer)
+StepModes s x y = (x ≡ y) ⊎ ((x.answer ≡ Err (cut_at (length s))) × OldNext s y.answer)
 
-import_step_lem : (s : List ℕ) (far : Sofar) (x y : Left ParsedImport) → ImportModes s x y
+import_step_lem : (s : List ℕ) (far : Sofar) (x y : Left (Result (Cursor × ℕ × YangImport) Refusal)) → ImportModes s x y
     → StepModes s (import_step far x.bytes x.answer) (import_step far y.bytes y.answer)
 unfolding import_step
 import_step_lem s far x y (inl e) = inl (ap (λ z. import_step far z.bytes z.answer) e)
 import_step_lem s far x y (inr e) =
     inr (ap (λ a. (import_step far x.bytes a).answer) e.0, subst (λ a. OldNext s (import_step far y.bytes a).answer) (sym e.2) e.3)
 
-include_step_lem : (s : List ℕ) (far : Sofar) (x y : Left ParsedInclude) → IncludeModes s x y
+include_step_lem : (s : List ℕ) (far : Sofar) (x y : Left (Result (Cursor × ℕ × YangInclude) Refusal)) → IncludeModes s x y
     → StepModes s (include_step far x.bytes x.answer) (include_step far y.bytes y.answer)
 unfolding include_step
 include_step_lem s far x y (inl e) = inl (ap (λ z. include_step far z.bytes z.answer) e)
@@ -310,7 +297,7 @@ full_modes : (s : List ℕ) (rows k at : ℕ) (x y : Step) → StepModes s x y �
 unfolding unless_full
 full_modes s rows k at x y m = by_test (leb 256 rows) (λ t. inl (rw t refl)) (λ t. rw t m)
 
-token_step : (s : List ℕ) (far : Sofar) (x y : Due) → SameOrCut (length s) x y
+token_step : (s : List ℕ) (far : Sofar) (x y : Result Cursor Refusal) → SameOrCut (length s) x y
     → StepModes s (adding (after_token far x) Deps.none) (adding (after_token far y) Deps.none)
 unfolding after_token moved_to
 token_step s far x y (inl e) = inl (ap (λ d. adding (after_token far d) Deps.none) e)
@@ -361,29 +348,29 @@ module _ (s : List ℕ) where
       let h = ap (λ x. x.answer) (step_past false s g.far refl (omega (arith, gap_from s g.far.at))) in
       ap told_dependencies (scan_done false s g h)
 
-  module _ (g : Scanning) (later : (n : Sofar) → (step_at false s g.far).answer ≡ On n → BothScans (after g n)) where
-    scan_same : (x : Step) → step_at true s g.far ≡ x → step_at false s g.far ≡ x → (r : Next) → x.answer ≡ r → BothScans g
-    scan_same x p q (On n) h =
+  module _ (g : Scanning) (later : (n : Sofar) → (step_at false s g.far).answer ≡ Ok (Some n) → BothScans (after g n)) where
+    scan_same : (x : Step) → step_at true s g.far ≡ x → step_at false s g.far ≡ x → (r : Result (Option Sofar) Refusal) → x.answer ≡ r → BothScans g
+    scan_same x p q (Ok (Some n)) h =
         let m = ap (λ z. z.answer) q ∙ h in
         scans_are
         (scan_on true s g n (ap (λ z. z.answer) p ∙ h)
         ∙ ap (λ z. scan_from true s (record { far = n; read = Deps.joined g.read z.adds })) (p ∙ sym q))
         (scan_on false s g n m) (later n m)
-    scan_same x p q Done h =
+    scan_same x p q (Ok None) h =
         same (scan_done true s g (ap (λ z. z.answer) p ∙ h)
         ∙ ap (λ z. Deps.good (Deps.joined g.read z.adds)) (p ∙ sym q)
         ∙ sym (scan_done false s g (ap (λ z. z.answer) q ∙ h)))
-    scan_same x p q (Stop r) h =
+    scan_same x p q (Err r) h =
         same (scan_stop true s g r (ap (λ z. z.answer) p ∙ h)
         ∙ ap (λ z. Deps.bad r (Deps.joined g.read z.adds)) (p ∙ sym q)
         ∙ sym (scan_stop false s g r (ap (λ z. z.answer) q ∙ h)))
 
-    scan_cut : (step_at true s g.far).answer ≡ Stop (cut_at (length s)) → (r : Next) → (step_at false s g.far).answer ≡ r → OldNext s r → BothScans g
-    scan_cut c (On n) h o =
+    scan_cut : (step_at true s g.far).answer ≡ Err (cut_at (length s)) → (r : Result (Option Sofar) Refusal) → (step_at false s g.far).answer ≡ r → OldNext s r → BothScans g
+    scan_cut c (Ok (Some n)) h o =
         cut (ap told_dependencies (scan_stop true s g (cut_at (length s)) c))
         (Memᴰ.head (ap (λ x. x.number) (ap told_dependencies (scan_on false s g n h) ∙ scan_past (after g n) o)))
-    scan_cut c Done h o = absurd o
-    scan_cut c (Stop r) h o =
+    scan_cut c (Ok None) h o = absurd o
+    scan_cut c (Err r) h o =
         cut (ap told_dependencies (scan_stop true s g (cut_at (length s)) c))
         (subst (λ z. Memᴰ (told_dependencies z).number old_dependencies) (sym (scan_stop false s g r h)) (Memᴰ.tail o))
 
@@ -407,6 +394,6 @@ pub dependencies_whole : DependenciesWhole
 unfolding Deps.dependencies Deps.if_fit
 dependencies_whole s short = go (lent_at s short)
   where
-    go : (l : Lent) → WholeOrOld told_dependencies old_dependencies s (Deps.if_fit l (Deps.scanned true s)) (Deps.if_fit l (Deps.scanned false s))
-    go Fit = scanned_whole s
-    go (Unfit r) = same refl
+    go : (l : Result (Unit {0}) Refusal) → WholeOrOld told_dependencies old_dependencies s (Deps.if_fit l (Deps.scanned true s)) (Deps.if_fit l (Deps.scanned false s))
+    go (Ok tt) = scanned_whole s
+    go (Err r) = same refl

@@ -1,6 +1,7 @@
 -- The metadata scan in the whole-text mode and in the old one, side by side: where they part, the one is 11 and the other stands at the text's end, so that it
 -- is refused there by 4 or 6, or ends, good or with 9.
 -- Assumes nothing.
+use Rattle.std.specs.Prelude.{Ok, Err, Result}
 use Prim.Native.Nat.{ℕ, ◌-◌, ◌<◌, ◌≤◌}
 use mathlib.Core.Path.{◌≡◌, refl, sym, ap, subst, ◌∙◌}
 use mathlib.Core.Bool.{Bool, true, false, cond, ◌||◌}
@@ -13,34 +14,26 @@ use borrow.Author.Tests.{leb-true, leb-false}
 use Rattle.text.specs.Refusal.{cut_at}
 use Rattle.text.specs.Scan.{gap_end}
 use Rattle.text.specs.declared.Cursor.{Cursor}
-use Rattle.text.specs.declared.Due.{Due}
-use Rattle.text.specs.declared.Due.TheVariants.{After, Not}
 use Rattle.text.specs.declared.Refusal.{Refusal}
 use Rattle.text.proofs.Here.{by_test, past}
 use Rattle.text.proofs.HighLaws.{met_within}
 use Rattle.text.proofs.Laws.{gap_from, gap_within}
 use Rattle.text_value.specs.Argument.{argument_at}
 use Rattle.text_value.specs.Value.{value_at, value_bytes}
-use Rattle.text_value.specs.declared.Argument.{Argument}
-use Rattle.text_value.specs.declared.Argument.TheVariants.{Read, Refused as NoArgument}
 use Rattle.text_value.proofs.ArgumentLaws.{FourOrSix, argument_far, argument_modes, argument_open, due_past}
 use Rattle.text_past.specs.Past.{past_of}
 use Rattle.text_skip.specs.Skip.{past_token, past_value}
-use Rattle.text_past.specs.declared.Skipped.{Skipped}
-use Rattle.text_past.specs.declared.Skipped.TheVariants.{Past, Refused as NoSkip}
 use Rattle.text_past.proofs.PastLaws.{SameOrCut}
 use Rattle.text_skip.proofs.PastLaws.{past_value_far, token_modes, value_modes}
 use Rattle.text_statement.specs.Statement.{statement_at, past_statement}
 use Rattle.text_statement.proofs.PastLaws.{statement_modes}
 use Rattle.text_statement.proofs.StatementLaws.{statement_far, statement_refused, statement_refused_from}
 use Rattle.text_lent.specs.Lent.{lent_at}
-use Rattle.text_lent.specs.declared.Lent.{Lent}
-use Rattle.text_lent.specs.declared.Lent.TheVariants.{Fit, Unfit}
 use Rattle.scan_rows.specs.declared.Span.{Span}
 use Rattle.scan_header.specs.Header.{due_for, after_revision, after_value, Said, said, passed, kept, with_rest, field_at, after_skipped, later_prefix, statement_said}
 use Rattle.scan_header.specs.Header.{tag_said, said_here, said_at}
 use Rattle.scan_header.specs.declared.Heard.{Heard}
-use Rattle.scan_header.specs.declared.Heard.TheVariants.{Value, Passed, Done, Refused}
+use Rattle.scan_header.specs.declared.Heard.TheVariants.{Value, Passed, Done}
 use Rattle.scan_tag.specs.Tag.{tag_at}
 use Rattle.scan_tag.specs.declared.Tag.{Tag}
 use Rattle.scan_tag.specs.declared.Tag.TheVariants.{Statement, Last, Other}
@@ -50,6 +43,7 @@ use Rattle.scan_metadata.specs.Metadata.{Metadata, told, Reading, ended, scan_fr
 use Rattle.scan_metadata.proofs.ScanLaws.{heard, told_nearer, passed_nearer, scan_value, scan_passed, scan_done, scan_refused_lem}
 use Rattle.demands_scans.specs.Whole.{told_metadata, WholeOrOld, same, cut, MetadataWhole, old_metadata}
 use Rattle.demands_scans.proofs.Loops.{by_falling}
+use Rattle.text_past.specs.declared.How.{How}
 
 -- ---- what follows a value
 
@@ -64,17 +58,17 @@ after_modes s at k l =
     (λ t. rw t (by_test (eqb k 7) (λ v. rw v (revision_modes s (gap_end s at) (gap_within s at l))) (λ v. inl (rw v refl))))
 
 -- in the old mode, behind a value that ends at the text's end: a skipped statement of no bytes, or 6
-abbrev OldDue : List ℕ → Due → Type 0
-OldDue s (After c) = c.at ≡ length s
-OldDue s (Not r) = r.number ≡ 6
+abbrev OldDue : List ℕ → Result Cursor Refusal → Type 0
+OldDue s (Ok c) = c.at ≡ length s
+OldDue s (Err r) = r.number ≡ 6
 
 statement_past : (s : List ℕ) (at : ℕ) → at ≡ length s → OldDue s (past_statement false s at)
 unfolding past_statement past_of
 statement_past s at e = of (statement_at s at) refl
   where
-    of : (k : Skipped) → statement_at s at ≡ k → OldDue s (past_of false (length s) k)
-    of (Past c h) q = omega (arith, e, statement_far s at (omega arith) c h q)
-    of (NoSkip r) q = absurd (omega (arith, e, statement_refused_from s at r q, met_within s r (statement_refused s at r q)))
+    of : (k : Result (Cursor × How) Refusal) → statement_at s at ≡ k → OldDue s (past_of false (length s) k)
+    of (Ok (c, h)) q = omega (arith, e, statement_far s at (omega arith) c h q)
+    of (Err r) q = absurd (omega (arith, e, statement_refused_from s at r q, met_within s r (statement_refused s at r q)))
 
 due_small : (k : ℕ) → due_for k < 256
 unfolding due_for
@@ -98,35 +92,35 @@ after_past s at k e =
 -- ---- a statement or token
 
 -- what the old mode answers where the other is 11: it goes on at the text's end, or it is refused there
-abbrev pub OldHeard : List ℕ → Heard → Type 0
-OldHeard s (Value k x c n) = c.at ≡ length s
-OldHeard s (Passed c) = c.at ≡ length s
-OldHeard s (Done c) = ⊥
-OldHeard s (Refused r) = FourOrSix r
+abbrev pub OldHeard : List ℕ → Result Heard Refusal → Type 0
+OldHeard s (Ok (Value k x c n)) = c.at ≡ length s
+OldHeard s (Ok (Passed c)) = c.at ≡ length s
+OldHeard s (Ok (Done c)) = ⊥
+OldHeard s (Err r) = FourOrSix r
 
 abbrev pub SaidModes : List ℕ → Said → Said → Type 0
-SaidModes s x y = (x ≡ y) ⊎ ((x.answer ≡ Refused (cut_at (length s))) × OldHeard s y.answer)
+SaidModes s x y = (x ≡ y) ⊎ ((x.answer ≡ Err (cut_at (length s))) × OldHeard s y.answer)
 
-passed_modes : (s : List ℕ) (x y : Due) → SameOrCut (length s) x y → SaidModes s (said (passed x)) (said (passed y))
+passed_modes : (s : List ℕ) (x y : Result Cursor Refusal) → SameOrCut (length s) x y → SaidModes s (said (passed x)) (said (passed y))
 unfolding passed
 passed_modes s x y (inl e) = inl (ap (λ d. said (passed d)) e)
 passed_modes s x y (inr e) = inr (ap passed e.0, subst (λ d. OldHeard s (passed d)) (sym e.2) e.3)
 
-passed_past : (s : List ℕ) (d : Due) → OldDue s d → OldHeard s (passed d)
+passed_past : (s : List ℕ) (d : Result Cursor Refusal) → OldDue s d → OldHeard s (passed d)
 unfolding passed
-passed_past s (After c) o = o
-passed_past s (Not r) o = inr o
+passed_past s (Ok c) o = o
+passed_past s (Err r) o = inr o
 
-kept_modes : (s : List ℕ) (k u n : ℕ) (bs : List ℕ) (x y : Due) → SameOrCut (length s) x y
+kept_modes : (s : List ℕ) (k u n : ℕ) (bs : List ℕ) (x y : Result Cursor Refusal) → SameOrCut (length s) x y
     → SaidModes s (record { answer = kept k u n x; bytes = bs }) (record { answer = kept k u n y; bytes = bs })
 unfolding kept
 kept_modes s k u n bs x y (inl e) = inl (ap (λ d. record { answer = kept k u n d; bytes = bs }) e)
 kept_modes s k u n bs x y (inr e) = inr (ap (kept k u n) e.0, subst (λ d. OldHeard s (kept k u n d)) (sym e.2) e.3)
 
-kept_past : (s : List ℕ) (k u n : ℕ) (d : Due) → OldDue s d → OldHeard s (kept k u n d)
+kept_past : (s : List ℕ) (k u n : ℕ) (d : Result Cursor Refusal) → OldDue s d → OldHeard s (kept k u n d)
 unfolding kept
-kept_past s k u n (After c) o = o
-kept_past s k u n (Not r) o = inr o
+kept_past s k u n (Ok c) o = o
+kept_past s k u n (Err r) o = inr o
 
 field_modes : (s : List ℕ) (at k u : ℕ) → SaidModes s (field_at true s at k u) (field_at false s at k u)
 unfolding field_at with_rest
@@ -137,16 +131,16 @@ field_modes s at k u =
     (by_value (argument_at false s at u k) refl))
     (λ e. inr (ap (with_rest true s k u) e.0, old (argument_open s at u k e.1))) (argument_modes s at u k)
   where
-    by_value : (a : Argument) → argument_at false s at u k ≡ a
+    by_value : (a : Result (Cursor × ℕ) Refusal) → argument_at false s at u k ≡ a
         → SaidModes s (record { answer = with_rest true s k u a; bytes = value_bytes (value_at s at) })
         (record { answer = with_rest false s k u a; bytes = value_bytes (value_at s at) })
-    by_value (Read c n) e =
+    by_value (Ok (c, n)) e =
         kept_modes s k u n (value_bytes (value_at s at)) (after_value true s c.at k) (after_value false s c.at k)
         (after_modes s c.at k (argument_far false s at u k c n e).2)
-    by_value (NoArgument r) e = inl refl
+    by_value (Err r) e = inl refl
 
-    old : (argument_at false s at u k ≡ NoArgument (record { number = 4; keyword = k; at = length s }))
-        ⊎ ((c : Cursor) × (n : ℕ) × (argument_at false s at u k ≡ Read c n) × (c.at ≡ length s))
+    old : (argument_at false s at u k ≡ Err (record { number = 4; keyword = k; at = length s }))
+        ⊎ ((c : Cursor) × (n : ℕ) × (argument_at false s at u k ≡ Ok (c, n)) × (c.at ≡ length s))
         → OldHeard s (with_rest false s k u (argument_at false s at u k))
     old (inl e) = subst (λ a. OldHeard s (with_rest false s k u a)) (sym e) (inl refl)
     old (inr e) =
@@ -167,10 +161,10 @@ skip_modes s at k l =
     ))
     (value_modes s at)
   where
-    by_value : (d : Due) → past_value false s at ≡ d → SaidModes s (said (after_skipped true s k d)) (said (after_skipped false s k d))
-    by_value (After c) e =
+    by_value : (d : Result Cursor Refusal) → past_value false s at ≡ d → SaidModes s (said (after_skipped true s k d)) (said (after_skipped false s k d))
+    by_value (Ok c) e =
         passed_modes s (after_value true s c.at k) (after_value false s c.at k) (after_modes s c.at k (past_value_far false s at l c e).1)
-    by_value (Not r) e = inl refl
+    by_value (Err r) e = inl refl
 
 said_modes_of : (s : List ℕ) (at k u : ℕ) (p : Bool) → at ≤ length s → SaidModes s (statement_said true s at k u p) (statement_said false s at k u p)
 unfolding statement_said
@@ -193,7 +187,7 @@ said_modes s at u p =
     by_test (leb (length s) g) (λ t. inl (rw t refl)) (λ t. rw t (tag_modes s g u p (tag_at s g) (leb-false (length s) g t) refl))
 
 -- at the text's end nothing is read
-said_past : (s : List ℕ) (at u : ℕ) (p : Bool) → at ≡ length s → (said_at false s at u p).answer ≡ Done (record { at = gap_end s at })
+said_past : (s : List ℕ) (at u : ℕ) (p : Bool) → at ≡ length s → (said_at false s at u p).answer ≡ Ok (Done (record { at = gap_end s at }))
 unfolding said_at said_here
 said_past s at u p e =
     by_test (leb (length s) (gap_end s at)) (λ t. rw t refl) (λ t. let h = leb-false (length s) (gap_end s at) t in absurd (omega (arith, gap_from s at)))
@@ -228,30 +222,30 @@ module _ (s : List ℕ) where
       subst Among (sym (scan_done false s g c (said_past s g.at (length g.read.bytes) g.read.prefix.present e))) (ended_number g.read c.at)
 
   module _ (g : Reading) (later : (h : Reading) → length s - h.at < length s - g.at → BothScans h) where
-    scan_same : (x : Said) → heard true s g ≡ x → heard false s g ≡ x → (r : Heard) → x.answer ≡ r → BothScans g
-    scan_same x p q (Value k y c n) h =
+    scan_same : (x : Said) → heard true s g ≡ x → heard false s g ≡ x → (r : Result Heard Refusal) → x.answer ≡ r → BothScans g
+    scan_same x p q (Ok (Value k y c n)) h =
         let m = ap (λ z. z.answer) q ∙ h in
         scans_are
         (scan_value true s g k y c n (ap (λ z. z.answer) p ∙ h)
         ∙ ap (λ z. scan_from true s (record { at = c.at; read = told g.read k y z.bytes })) (p ∙ sym q))
         (scan_value false s g k y c n m) (later _ (told_nearer false s g k y c n m))
-    scan_same x p q (Passed c) h =
+    scan_same x p q (Ok (Passed c)) h =
         let m = ap (λ z. z.answer) q ∙ h in
         scans_are (scan_passed true s g c (ap (λ z. z.answer) p ∙ h)) (scan_passed false s g c m) (later _ (passed_nearer false s g c m))
-    scan_same x p q (Done c) h = same (scan_done true s g c (ap (λ z. z.answer) p ∙ h) ∙ sym (scan_done false s g c (ap (λ z. z.answer) q ∙ h)))
-    scan_same x p q (Refused r) h =
+    scan_same x p q (Ok (Done c)) h = same (scan_done true s g c (ap (λ z. z.answer) p ∙ h) ∙ sym (scan_done false s g c (ap (λ z. z.answer) q ∙ h)))
+    scan_same x p q (Err r) h =
         same (scan_refused_lem true s g r (ap (λ z. z.answer) p ∙ h)
         ∙ ap (λ z. Meta.bad r (g.read.bytes ++ z.bytes)) (p ∙ sym q)
         ∙ sym (scan_refused_lem false s g r (ap (λ z. z.answer) q ∙ h)))
 
-    scan_cut : (heard true s g).answer ≡ Refused (cut_at (length s)) → (r : Heard) → (heard false s g).answer ≡ r → OldHeard s r → BothScans g
+    scan_cut : (heard true s g).answer ≡ Err (cut_at (length s)) → (r : Result Heard Refusal) → (heard false s g).answer ≡ r → OldHeard s r → BothScans g
     scan_cut c r h o = cut (ap told_metadata (scan_refused_lem true s g (cut_at (length s)) c)) (old r h o)
       where
-        old : (r : Heard) → (heard false s g).answer ≡ r → OldHeard s r → Among (scan_from false s g)
-        old (Value k y c n) h o = subst Among (sym (scan_value false s g k y c n h)) (scan_past _ o)
-        old (Passed c) h o = subst Among (sym (scan_passed false s g c h)) (scan_past _ o)
-        old (Done c) h o = absurd o
-        old (Refused q) h o = subst Among (sym (scan_refused_lem false s g q h)) (number o)
+        old : (r : Result Heard Refusal) → (heard false s g).answer ≡ r → OldHeard s r → Among (scan_from false s g)
+        old (Ok (Value k y c n)) h o = subst Among (sym (scan_value false s g k y c n h)) (scan_past _ o)
+        old (Ok (Passed c)) h o = subst Among (sym (scan_passed false s g c h)) (scan_past _ o)
+        old (Ok (Done c)) h o = absurd o
+        old (Err q) h o = subst Among (sym (scan_refused_lem false s g q h)) (number o)
           where
             number : FourOrSix q → Memᴰ q.number old_metadata
             number (inl e) = Memᴰ.tail (Memᴰ.head e)
@@ -274,6 +268,6 @@ pub metadata_whole : MetadataWhole
 unfolding Meta.metadata Meta.if_fit
 metadata_whole s short = go (lent_at s short)
   where
-    go : (l : Lent) → WholeOrOld told_metadata old_metadata s (Meta.if_fit l (Meta.scanned true s)) (Meta.if_fit l (Meta.scanned false s))
-    go Fit = scanned_whole s
-    go (Unfit r) = same refl
+    go : (l : Result (Unit {0}) Refusal) → WholeOrOld told_metadata old_metadata s (Meta.if_fit l (Meta.scanned true s)) (Meta.if_fit l (Meta.scanned false s))
+    go (Ok tt) = scanned_whole s
+    go (Err r) = same refl

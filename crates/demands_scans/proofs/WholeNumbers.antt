@@ -1,5 +1,6 @@
 -- The refusals of a scan in both modes, by number and keyword: in the whole-text mode a scan is 11 or the old mode's, so its refusals are 11 and the old ones.
 -- Assumes nothing.
+use Rattle.std.specs.Prelude.{Ok, Err, Result}
 use mathlib.Core.Path.{◌≡◌, refl, sym, ap, subst, ◌∙◌}
 use mathlib.Core.Bool.{Bool, true, false}
 use mathlib.Core.Logic.{⊎_elim}
@@ -12,16 +13,10 @@ use Rattle.text.specs.declared.Refusal.{Refusal}
 use Rattle.text_value.specs.Argument.{breaks_off, argument_at}
 use Rattle.text_past.specs.Past.{past_of}
 use Rattle.text_lent.specs.Lent.{lent_at}
-use Rattle.text_lent.specs.declared.Lent.{Lent}
-use Rattle.text_lent.specs.declared.Lent.TheVariants.{Fit, Unfit}
 use Rattle.scan_imports.specs.Statement.{import_at, include_at}
-use Rattle.scan_imports.specs.declared.ParsedImport.{ParsedImport}
-use Rattle.scan_imports.specs.declared.ParsedImport.TheVariants.{Import, NoImport}
-use Rattle.scan_imports.specs.declared.ParsedInclude.{ParsedInclude}
-use Rattle.scan_imports.specs.declared.ParsedInclude.TheVariants.{Include, NoInclude}
 use Rattle.scan_header.specs.Header.{said_at}
 use Rattle.scan_header.specs.declared.Heard.{Heard}
-use Rattle.scan_header.specs.declared.Heard.TheVariants.{Value, Passed, Done, Refused}
+use Rattle.scan_header.specs.declared.Heard.TheVariants.{Value, Passed, Done}
 use Rattle.yangparser.specs.Dependencies as Deps
 use Rattle.scan_metadata.specs.Metadata as Meta
 use Rattle.demands_scans.specs.Refusals.{FirstRefusal, RefusedAs, first, read, StatementRefusal, DependenciesRefusal, HeaderRefusal, MetadataRefusal}
@@ -35,6 +30,9 @@ use Rattle.demands_scans.proofs.WholeDependencies.{import_modes, include_modes}
 use Rattle.demands_scans.proofs.WholeDependencies as Dependencies
 use Rattle.demands_scans.proofs.WholeMetadata.{said_modes}
 use Rattle.demands_scans.proofs.WholeMetadata as Metadata
+use Rattle.text.specs.declared.Cursor.{Cursor}
+use Rattle.scan_rows.specs.declared.YangImport.{YangImport}
+use Rattle.scan_rows.specs.declared.YangInclude.{YangInclude}
 
 -- the old mode is what it was
 pub old_mode : OldMode
@@ -55,19 +53,19 @@ mode_number f s false q h z = met_number f s q h z
 
 -- ---- one statement
 
-import_before : (s : List ℕ) (x : ParsedImport) → ImportedIs (Stated s 8) x → ImportedIs (WholeRefusal (Stated s 8) s) x
-import_before s (Import c n i) h = tt
-import_before s (NoImport r) h = as_before h
+import_before : (s : List ℕ) (x : Result (Cursor × ℕ × YangImport) Refusal) → ImportedIs (Stated s 8) x → ImportedIs (WholeRefusal (Stated s 8) s) x
+import_before s (Ok (c, n, i)) h = tt
+import_before s (Err r) h = as_before h
 
-include_before : (s : List ℕ) (x : ParsedInclude) → IncludedIs (Stated s 9) x → IncludedIs (WholeRefusal (Stated s 9) s) x
-include_before s (Include c n i) h = tt
-include_before s (NoInclude r) h = as_before h
+include_before : (s : List ℕ) (x : Result (Cursor × ℕ × YangInclude) Refusal) → IncludedIs (Stated s 9) x → IncludedIs (WholeRefusal (Stated s 9) s) x
+include_before s (Ok (c, n, i)) h = tt
+include_before s (Err r) h = as_before h
 
-heard_before : (s : List ℕ) (x : Heard) → HeardIs (M s) x → HeardIs (WholeRefusal (M s) s) x
-heard_before s (Value k v c n) h = tt
-heard_before s (Passed c) h = tt
-heard_before s (Done c) h = tt
-heard_before s (Refused r) h = as_before h
+heard_before : (s : List ℕ) (x : Result Heard Refusal) → HeardIs (M s) x → HeardIs (WholeRefusal (M s) s) x
+heard_before s (Ok (Value k v c n)) h = tt
+heard_before s (Ok (Passed c)) h = tt
+heard_before s (Ok (Done c)) h = tt
+heard_before s (Err r) h = as_before h
 
 module _ (s : List ℕ) (at u : ℕ) where
   pub import_mode : (whole : Bool) → ImportedIs (ModeRefusal whole (StatementRefusal 8) s) (import_at whole s at u).answer
@@ -106,9 +104,9 @@ module _ (s : List ℕ) (short : Bool) where
     unfolding Deps.dependencies Deps.if_fit
     dependencies_whole_refused h = go (lent_at s short) (lent_is s short) h
       where
-        go : (x : Lent) → LentIs s short x → Deps.if_fit x (Deps.scanned true s) ≡ Deps.bad r d → RefusedAs (WholeRefusal (MetRefusal DependenciesRefusal s) s) s short r
-        go Fit f h = read f (scan_read (Deps.scanned true s) (Dependencies.scanned_whole s) h)
-        go (Unfit q) f h = let e : q ≡ r = cc in first (subst (FirstRefusal s short) e f)
+        go : (x : Result (Unit {0}) Refusal) → LentIs s short x → Deps.if_fit x (Deps.scanned true s) ≡ Deps.bad r d → RefusedAs (WholeRefusal (MetRefusal DependenciesRefusal s) s) s short r
+        go (Ok tt) f h = read f (scan_read (Deps.scanned true s) (Dependencies.scanned_whole s) h)
+        go (Err q) f h = let e : q ≡ r = cc in first (subst (FirstRefusal s short) e f)
 
     -- in either mode
     pub dependencies_mode_refused : (whole : Bool) → Deps.dependencies whole s short ≡ Deps.bad r d
@@ -125,9 +123,9 @@ module _ (s : List ℕ) (short : Bool) where
     unfolding Meta.metadata Meta.if_fit
     metadata_whole_refused h = go (lent_at s short) (lent_is s short) h
       where
-        go : (x : Lent) → LentIs s short x → Meta.if_fit x (Meta.scanned true s) ≡ Meta.bad r bs → RefusedAs (WholeRefusal (MetRefusal MetadataRefusal s) s) s short r
-        go Fit f h = read f (header_read (Meta.scanned true s) (Metadata.scanned_whole s) h)
-        go (Unfit q) f h = let e : q ≡ r = cc in first (subst (FirstRefusal s short) e f)
+        go : (x : Result (Unit {0}) Refusal) → LentIs s short x → Meta.if_fit x (Meta.scanned true s) ≡ Meta.bad r bs → RefusedAs (WholeRefusal (MetRefusal MetadataRefusal s) s) s short r
+        go (Ok tt) f h = read f (header_read (Meta.scanned true s) (Metadata.scanned_whole s) h)
+        go (Err q) f h = let e : q ≡ r = cc in first (subst (FirstRefusal s short) e f)
 
     pub metadata_mode_refused : (whole : Bool) → Meta.metadata whole s short ≡ Meta.bad r bs → RefusedAs (ModeRefusal whole MetadataRefusal s) s short r
     metadata_mode_refused true h = metadata_whole_refused h

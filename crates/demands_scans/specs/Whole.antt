@@ -1,24 +1,22 @@
 -- 2026-07: "In a whole-text mode beside the old one the first such end is a refusal, also where demand 2 would have accepted. The old mode keeps every answer.
 -- Refusals: 11 in the new mode only, keyword 0, position at the text's end, before 4, 6, 8 and 9 where both apply."
 -- Assumes nothing.
-use Rattle.std.specs.Prelude.{◌≡◌, Bool, true, false, ℕ, length}
+use Rattle.std.specs.Prelude.{◌≡◌, Bool, true, false, ℕ, length, Ok}
 use mathlib.Core.List.{List, [], ◌∷◌, Memᴰ}
 use Rattle.text.specs.Refusal.{no_refusal, cut_at}
 use Rattle.text.specs.declared.Cursor.{Cursor}
-use Rattle.text.specs.declared.Due.TheVariants.{After}
 use Rattle.text.specs.declared.Refusal.{Refusal}
 use Rattle.text_value.specs.Argument.{argument_of, argument_at}
 use Rattle.text_value.specs.Value.{value_at}
 use Rattle.text_past.specs.Past.{past_of}
 use Rattle.text_past.specs.declared.How.{How}
-use Rattle.text_past.specs.declared.Skipped.TheVariants.{Past}
 use Rattle.yangparser.specs.Dependencies as Deps
 use Rattle.scan_metadata.specs.Metadata as Meta
 
 -- ---- the old mode: what was skipped goes on from where it ended, however that was, and a value is as it always was
 
 pub record OldMode : Type 0 where
-  pub skipped : (n : ℕ) (c : Cursor) (h : How) → past_of false n (Past c h) ≡ After c
+  pub skipped : (n : ℕ) (c : Cursor) (h : How) → past_of false n (Ok (c, h)) ≡ Ok c
   pub value : (s : List ℕ) (at u k : ℕ) → argument_at false s at u k ≡ argument_of s u k (value_at s at)
 
 -- ---- the whole-text mode

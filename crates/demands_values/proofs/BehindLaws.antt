@@ -1,5 +1,6 @@
 -- A value behind its keyword: it is written behind the bytes stored so far, and more bytes behind it change nothing.
 -- Assumes nothing.
+use Rattle.std.specs.Prelude.{Some, None, Ok, Err, Option, Result}
 use Prim.Native.Nat.{ℕ, ◌+◌, ◌-◌, ◌<◌}
 use mathlib.Core.Path.{◌≡◌, refl, sym, ap, ap₂, ◌∙◌}
 use mathlib.Core.Logic.{◌⊎◌, inl, inr, ⊎_elim}
@@ -12,55 +13,52 @@ use Rattle.text.specs.Due.{due_at}
 use Rattle.text.specs.Keyword.{match_at}
 use Rattle.text.specs.Turns.{Turn, after}
 use Rattle.text.specs.declared.Cursor.{Cursor}
-use Rattle.text.specs.declared.Due.{Due}
-use Rattle.text.specs.declared.Due.TheVariants.{After as Stands, Not as NotDue}
-use Rattle.text.specs.declared.Match.{Match}
-use Rattle.text.specs.declared.Match.TheVariants.{After, Not}
+use Rattle.text.proofs.Here.{ok_pair_parts}
 use Rattle.text.proofs.KeywordLaws.{match_one}
 use Rattle.text_value.specs.Argument.{argument_of, breaks_off, argument_at, after_due, after_argument, line_at}
 use Rattle.text_value.specs.Value.{Val, value, none, value_at, value_bytes}
-use Rattle.text_value.specs.declared.Argument.TheVariants.{Read}
 use Rattle.scan_rows.specs.Span.{held, value_in}
 use Rattle.scan_rows.specs.declared.Span.{Span}
 use Rattle.scan_rows.proofs.Values.{value_more}
 use Rattle.scan_metadata.proofs.ScanLaws.{within_new, value_new}
 use Rattle.demands_values.specs.Behind.{Behind, Either, Met, MetFirst, MetLast, InBlock}
+use Rattle.text.specs.declared.Refusal.{Refusal}
 
 -- ---- a keyword's value, and the byte that is due behind it
 
 module _ (s : List ℕ) (at u k : ℕ) where
-  value_of : (w : Val) (c : Cursor) (n : ℕ) → argument_of s u k w ≡ Read c n → w ≡ value (value_bytes w) c.at
+  value_of : (w : Val) (c : Cursor) (n : ℕ) → argument_of s u k w ≡ Ok (c, n) → w ≡ value (value_bytes w) c.at
   unfolding argument_of value_bytes
-  value_of (value bs e) c n h = let q : e ≡ c.at = cc in ap (value bs) q
+  value_of (value bs e) c n h = let q = ok_pair_parts (record { at = e }) c (u + length bs) n h in ap (value bs) (ap (λ z. z.at) q.0)
   value_of (none e) c n h = let z : ◌≡◌ {A = ℕ} 0 1 = cc in absurd (omega arith)
 
-  pub argument_value : (c : Cursor) (n : ℕ) → argument_at false s at u k ≡ Read c n → value_at s at ≡ value (value_bytes (value_at s at)) c.at
+  pub argument_value : (c : Cursor) (n : ℕ) → argument_at false s at u k ≡ Ok (c, n) → value_at s at ≡ value (value_bytes (value_at s at)) c.at
   unfolding argument_at breaks_off
   argument_value c n h = value_of (value_at s at) c n h
 
   module _ (b : ℕ) (c : Cursor) (n : ℕ) where
-    due_of : (m : ℕ) (d : Due) → after_due m d ≡ Read c n → d ≡ Stands c
+    due_of : (m : ℕ) (d : Result Cursor Refusal) → after_due m d ≡ Ok (c, n) → d ≡ Ok c
     unfolding after_due
-    due_of m (Stands e) h = let q : e ≡ c = cc in ap Stands q
-    due_of m (NotDue r) h = let z : ◌≡◌ {A = ℕ} 0 1 = cc in absurd (omega arith)
+    due_of m (Ok e) h = ap Ok (ok_pair_parts e c m n h).0
+    due_of m (Err r) h = let z : ◌≡◌ {A = ℕ} 0 1 = cc in absurd (omega arith)
 
-    line_of : (w : Val) → after_argument s k b (argument_of s u k w) ≡ Read c n → (e : ℕ) × (w ≡ value (value_bytes w) e) × (due_at s e b k ≡ Stands c)
+    line_of : (w : Val) → after_argument s k b (argument_of s u k w) ≡ Ok (c, n) → (e : ℕ) × (w ≡ value (value_bytes w) e) × (due_at s e b k ≡ Ok c)
     unfolding argument_of after_argument value_bytes
     line_of (value bs e) h = (e, refl, due_of (u + length bs) (due_at s e b k) h)
     line_of (none e) h = let z : ◌≡◌ {A = ℕ} 0 1 = cc in absurd (omega arith)
 
-    pub line_value : line_at false s at u k b ≡ Read c n → (e : ℕ) × (value_at s at ≡ value (value_bytes (value_at s at)) e) × (due_at s e b k ≡ Stands c)
+    pub line_value : line_at false s at u k b ≡ Ok (c, n) → (e : ℕ) × (value_at s at ≡ value (value_bytes (value_at s at)) e) × (due_at s e b k ≡ Ok c)
     unfolding line_at argument_at breaks_off
     line_value h = line_of (value_at s at) h
 
 -- ---- at one place no other keyword matches
 
-pub other_not : (s : List ℕ) (p : ℕ) (v w : List ℕ) {c : Cursor} → match_at s p v ≡ After c → (v ≡ w → ⊥) → match_at s p w ≡ Not
+pub other_not : (s : List ℕ) (p : ℕ) (v w : List ℕ) {c : Cursor} → match_at s p v ≡ Some c → (v ≡ w → ⊥) → match_at s p w ≡ None
 other_not s p v w {c} m other = of (match_at s p w) refl
   where
-    of : (x : Match) → match_at s p w ≡ x → x ≡ Not
-    of (After d) e = absurd (other (match_one s p v w c d m e))
-    of Not e = refl
+    of : (x : Option Cursor) → match_at s p w ≡ x → x ≡ None
+    of (Some d) e = absurd (other (match_one s p v w c d m e))
+    of None e = refl
 
 -- ---- more bytes behind
 
@@ -97,7 +95,7 @@ module _ {s : List ℕ} (bytes zs : List ℕ) {word : List ℕ} {x : Span} where
 pub held_new : (bytes bs : List ℕ) {u n : ℕ} → u ≡ length bytes → n ≡ u + length bs → held u (n - u) ≡ held (length bytes) (length bs)
 held_new bytes bs h k = ap₂ held h (omega (arith, h, k))
 
-abbrev pub behind_new : {s word : List ℕ} {p : ℕ} (bytes bs : List ℕ) {c : Cursor} {e : ℕ} (x : Span) → match_at s p word ≡ After c
+abbrev pub behind_new : {s word : List ℕ} {p : ℕ} (bytes bs : List ℕ) {c : Cursor} {e : ℕ} (x : Span) → match_at s p word ≡ Some c
     → value_at s c.at ≡ value bs e → x ≡ held (length bytes) (length bs) → Behind s word p (bytes ++ bs) x
 behind_new bytes bs {c} {e} x m h q = record {
   after = c;
@@ -122,7 +120,7 @@ module _ (s word : List ℕ) (p : ℕ) (store : List ℕ) where
       = sym b.read ∙ ap (λ (z : Cursor). value_at s z.at) e ∙ c.read in
       cc
     where
-      one_after : {a b : Cursor} → After a ≡ After b → a ≡ b
+      one_after : {a b : Cursor} → Some a ≡ Some b → a ≡ b
       one_after h = cc
 
   pub shorter_refused : (x : Span) → Behind s word p store x → 0 < x.size → Behind s word p store (held x.start (x.size - 1)) → ⊥

@@ -1,5 +1,6 @@
 -- Demand 2 at the calls: what a scan read stands at the beginning of the store at exit, and the rows and records that a call leaves read back as they were.
 -- Assumes nothing.
+use Rattle.std.specs.Prelude.{Ok, Err, Result}
 use Prim.Native.Nat.{ℕ, ◌+◌, ◌-◌}
 use native.Mathlib.Omega.{arith}
 use mathlib.Core.Path.{◌≡◌, refl, sym, ap, subst, ◌∙◌}
@@ -14,8 +15,6 @@ use Rattle.text.specs.declared.Refusal.{Refusal}
 use Rattle.text.proofs.Here.{never}
 use Rattle.text_lent.specs.Lent.{lent_at}
 use Rattle.text_lent.specs.Padded.{padded, zeros}
-use Rattle.text_lent.specs.declared.Lent.{Lent}
-use Rattle.text_lent.specs.declared.Lent.TheVariants.{Fit, Unfit}
 use Rattle.text_value.specs.Value.{value, value_at}
 use Rattle.scan_rows.specs.Rows.{import_at, include_at, marked_at, span_at, rows_of, imports_in, includes_in, Each}
 use Rattle.scan_rows.specs.Short.{is_too_short}
@@ -27,8 +26,7 @@ use Rattle.scan_newest.specs.Newest.{Revision, Read as Present, newest}
 use Rattle.scan_newest.proofs.NewestLaws.{newest_keeps, newest_none, newest_present}
 use Rattle.yangparser.specs.Dependencies.{Dependencies, import_words_of, include_words_of, Scan, good, scanned, dependencies, parsed_of, read_of, kept_of, page_short}
 use Rattle.yangparser.specs.Promises.{Holds, Leaves, Parses, lent_scan}
-use Rattle.yangparser.specs.declared.Parsed.{Parsed}
-use Rattle.yangparser.specs.declared.Parsed.TheVariants.{Good, Refused}
+use Rattle.yangparser.specs.declared.Rows.{Rows}
 use Rattle.yangparser.proofs.KeptLaws.{entry_good, parsed_good, parsed_refused, held_imports, held_includes, padded_imports, padded_includes}
 use Rattle.yangparser.proofs.ScanLaws.{Sound, scan_sound}
 use Rattle.scan_metadata.specs.Metadata as Metadata
@@ -89,7 +87,7 @@ module _ (mode : Bool) (s : List ℕ) (short : Bool) where
   unfolding read_of
   sound_good x h = subst (λ z. Sound s (read_of z)) h (scan_sound false s)
 
-  module _ (d t u : List ℕ) {r : Parsed} {e f g : List ℕ} (i j n : ℕ) (h : r ≡ Good i j n) where
+  module _ (d t u : List ℕ) {r : Result Rows Refusal} {e f g : List ℕ} (i j n : ℕ) (h : r ≡ Ok (record { imports = i; includes = j; used = n })) where
     -- the counts are those of what was read
     counted : (x : Dependencies) → i ≡ length x.imports → j ≡ length x.includes → RowsRead s e f (length x.imports) g (length x.includes)
         → RowsRead s e f i g j
@@ -110,8 +108,8 @@ module _ (mode : Bool) (s : List ℕ) (short : Bool) where
         ∙ padded_includes x sound (length u)))
 
 -- scan_over writes over what the buffers held
-over_rows : (mode : Bool) (s : List ℕ) (short : Bool) (d t u : List ℕ) {r : Parsed} {e f g : List ℕ} → Parses (lent_scan mode s short d t u) d t u r e f g
-    → (i j n : ℕ) → r ≡ Good i j n → RowsRead s e f i g j
+over_rows : (mode : Bool) (s : List ℕ) (short : Bool) (d t u : List ℕ) {r : Result Rows Refusal} {e f g : List ℕ} → Parses (lent_scan mode s short d t u) d t u r e f g
+    → (i j n : ℕ) → r ≡ Ok (record { imports = i; includes = j; used = n }) → RowsRead s e f i g j
 unfolding read_of
 over_rows mode s short d t u {r} {e} {f} {g} l i j n h =
     let long = is_too_short short (length s) (length d) (length t) (length u) in
@@ -140,10 +138,10 @@ module _ (mode : Bool) (s : List ℕ) (short : Bool) (d t u : List ℕ) {e f g :
   unfolding answer_words number_of
   told_rows ne z more {a} h = subst (λ w. RowsRead s e f (get_or w 3 0) g (get_or w 4 0)) (sym h) (of (parsed_of (dependencies mode s short)) refl (sym ne ∙ z))
     where
-      of : (p : Parsed) → parsed_of (dependencies mode s short) ≡ p → number_of p ≡ 0
+      of : (p : Result Rows Refusal) → parsed_of (dependencies mode s short) ≡ p → number_of p ≡ 0
           → RowsRead s e f (get_or (answer_words p ++ more) 3 0) g (get_or (answer_words p ++ more) 4 0)
-      of (Good i j n) q z = left_rows mode s short d t u i j n q l
-      of (Refused r) q z =
+      of (Ok x) q z = left_rows mode s short d t u x.imports x.includes x.used q l
+      of (Err r) q z =
           let k = parsed_refused (dependencies mode s short) r q in
           absurd (refused_number (mode_number dependencies_number s mode) (dependencies_mode_refused s short r k.0 mode k.1) z)
 
@@ -242,9 +240,9 @@ metadata_good : (mode : Bool) (s : List ℕ) (short : Bool) (m : Metadata) → m
 unfolding metadata Metadata.if_fit
 metadata_good mode s short m h = of (lent_at s short) (metadata_old mode s short m h)
   where
-    of : (x : Lent) → Metadata.if_fit x (Metadata.scanned false s) ≡ Metadata.good m → Metadata.scanned false s ≡ Metadata.good m
-    of Fit h = h
-    of (Unfit r) h = let z : ◌≡◌ {A = ℕ} 0 1 = cc in absurd (omega arith)
+    of : (x : Result (Unit {0}) Refusal) → Metadata.if_fit x (Metadata.scanned false s) ≡ Metadata.good m → Metadata.scanned false s ≡ Metadata.good m
+    of (Ok tt) h = h
+    of (Err r) h = let z : ◌≡◌ {A = ℕ} 0 1 = cc in absurd (omega arith)
 
 -- what a good scan leaves in a store of length n, as spans and as words
 module _ (mode : Bool) (s : List ℕ) (short : Bool) (n : ℕ) where

@@ -1,6 +1,7 @@
 -- The values of the metadata scan: each stands in the store as it stands behind its keyword; of the statements with the keyword the last one counts, of prefix
 -- and revision the first.
 -- Assumes nothing.
+use Rattle.std.specs.Prelude.{None, Ok, Err, Result}
 use Prim.Native.Nat.{ℕ, zero, suc, ◌+◌, ◌-◌, ◌<◌}
 use mathlib.Core.Path.{◌≡◌, refl, sym, ap, subst, ◌∙◌}
 use mathlib.Core.Logic.{◌⊎◌, inl, inr, ⊎_elim}
@@ -13,14 +14,13 @@ use Rattle.text.specs.Keyword.{match_at}
 use Rattle.text.specs.Scan.{gap_end}
 use Rattle.text.specs.Turns.{stop, on}
 use Rattle.text.specs.Words.{module_word, submodule_word, belongs_to_word, namespace_word, prefix_word, revision_word}
-use Rattle.text.specs.declared.Match.TheVariants.{Not}
 use Rattle.text.specs.declared.Refusal.{Refusal}
 use Rattle.scan_rows.specs.Rows.{Each}
 use Rattle.scan_rows.specs.declared.Span.{Span}
 use Rattle.scan_rows.proofs.Laws.{each_of}
 use Rattle.scan_newest.specs.Newest.{Revision}
 use Rattle.scan_header.specs.declared.Heard.{Heard}
-use Rattle.scan_header.specs.declared.Heard.TheVariants.{Value, Passed, Done, Refused}
+use Rattle.scan_header.specs.declared.Heard.TheVariants.{Value, Passed, Done}
 use Rattle.scan_metadata.specs.Metadata.{Metadata, told, Reading, Scan, good, bad, ended, after_heard, metadata_turn, scan_from, scanned}
 use Rattle.scan_metadata.proofs.ScanLaws.{heard, turn_falls, scan_value, scan_passed, scan_done, scan_refused_lem}
 use Rattle.demands_values.specs.Behind.{Behind, begin, Unmet, Met, MetFirst, NameRead}
@@ -64,7 +64,7 @@ module _ (s : List ℕ) where
   ends_stop : (g : Reading) (x : Scan) → metadata_turn false s g ≡ stop x → Frees s (gap_end s g.at) → Ends g.read g
   unfolding Revised
   ends_stop g x t f =
-      let unmet : (word : List ℕ) → match_at s (gap_end s g.at) word ≡ Not → WordUnmet word g
+      let unmet : (word : List ℕ) → match_at s (gap_end s g.at) word ≡ None → WordUnmet word g
       = λ word. unmet_stop (metadata_turn false s) (λ b. b.at) forward s word t in
       record {
         rest = [];
@@ -82,7 +82,7 @@ module _ (s : List ℕ) where
   -- over a turn from g to h
   module _ (d : Metadata) (g h : Reading) (t : metadata_turn false s g ≡ on h) (has : Turns s g h.read) (ends : Ends d h) where
     abbrev Free : List ℕ → Type 0
-    Free word = match_at s (gap_end s g.at) word ≡ Not
+    Free word = match_at s (gap_end s g.at) word ≡ None
 
     unmet : (word : List ℕ) → Free word → WordUnmet word h → WordUnmet word g
     unmet word = unmet_on (metadata_turn false s) (λ b. b.at) forward s word t
@@ -198,20 +198,20 @@ module _ (s : List ℕ) where
   from_ends d zero g l e = absurd (not-suc-le-zero l)
   from_ends d (suc m) g l e = of (heard false s g).answer refl (said_has s g (length g.read.bytes) refl) (from_ends d m)
     where
-      of : (r : Heard) → (heard false s g).answer ≡ r → HeardHas s g (heard false s g).bytes r
+      of : (r : Result Heard Refusal) → (heard false s g).answer ≡ r → HeardHas s g (heard false s g).bytes r
           → ((h : Reading) → length s - h.at < m → scan_from false s h ≡ good d → Ends d h) → Ends d g
-      of (Value k x c n) q has go =
+      of (Ok (Value k x c n)) q has go =
           let h : Reading = record { at = c.at; read = told g.read k x (heard false s g).bytes } in
           let t : metadata_turn false s g ≡ on h = ap (after_heard g.read (heard false s g).bytes) q in
           ends_on d g h t has (go h (omega (arith, turn_falls false s g h t)) (sym (scan_value false s g k x c n q) ∙ e))
-      of (Passed c) q has go =
+      of (Ok (Passed c)) q has go =
           let h : Reading = record { at = c.at; read = g.read } in
           let t : metadata_turn false s g ≡ on h = ap (after_heard g.read (heard false s g).bytes) q in
           ends_on d g h t has (go h (omega (arith, turn_falls false s g h t)) (sym (scan_passed false s g c q) ∙ e))
-      of (Done c) q has go =
+      of (Ok (Done c)) q has go =
           let k = ended_good g.read d c.at (sym (scan_done false s g c q) ∙ e) in
           subst (λ z. Ends z g) k (ends_stop g (ended g.read c.at) (ap (after_heard g.read (heard false s g).bytes) q) has)
-      of (Refused r) q has go = good_bad (sym e ∙ scan_refused_lem false s g r q)
+      of (Err r) q has go = good_bad (sym e ∙ scan_refused_lem false s g r q)
 
   pub scan_ends : (d : Metadata) → scanned false s ≡ good d → Ends d begin
   unfolding scanned

@@ -2,6 +2,7 @@
 -- the call answers one row of each kind, and each value is the one that stands in the text. A row whose name is one byte shorter is refused, and so is one with
 -- the first of two prefixes.
 -- Assumes nothing.
+use Rattle.std.specs.Prelude.{Some, None, Ok, Result}
 use Prim.Native.Nat.{ℕ, ◌+◌, ◌-◌}
 use mathlib.Core.Path.{◌≡◌, refl, sym, ap, subst, ◌∙◌}
 use mathlib.Core.Bool.{false, ◌||◌}
@@ -19,8 +20,6 @@ use Rattle.text.specs.Scan.{in_ident, in_run, span, run_end, pair_at, closing, b
 use Rattle.text.specs.Turns.{on, turns}
 use Rattle.text.specs.Words.{import_word, prefix_word}
 use Rattle.text.specs.declared.Cursor.{Cursor}
-use Rattle.text.specs.declared.Due.TheVariants.{After as Stands}
-use Rattle.text.specs.declared.Match.TheVariants.{After, Not}
 use Rattle.text.proofs.Here.{by_test}
 use Rattle.text.proofs.Laws.{gap_from}
 use Rattle.text_value.specs.Argument.{argument_of, breaks_off, argument_at, after_due, after_argument, line_at}
@@ -47,8 +46,7 @@ use Rattle.yangparser.specs.Dependencies.{import_words_of, include_words_of, joi
 use Rattle.yangparser.specs.Dependencies.{after_token, head_step, step_here, step_at, good, after_step, scan_turn, scan_from, scanned, if_fit, dependencies, parsed_of}
 use Rattle.yangparser.specs.Dependencies.{Dependencies, kept_of}
 use Rattle.yangparser.specs.Promises.{Extracts}
-use Rattle.yangparser.specs.declared.Parsed.{Parsed}
-use Rattle.yangparser.specs.declared.Parsed.TheVariants.{Good}
+use Rattle.yangparser.specs.declared.Rows.{Rows}
 use Rattle.scan_head.specs.Head.{last_at, or_head, head_at}
 use Rattle.demands_rfc.specs.Rfc.{reads, rfc_value}
 use Rattle.demands_rfc.specs.RfcDomain.{one_line, legal}
@@ -57,6 +55,7 @@ use Rattle.demands_values.specs.Behind.{Behind, Reaches, first, next, ImportRead
 use Rattle.demands_values.specs.Demand2.{RowsRead}
 use Rattle.demands_values.proofs.Demand2.{demand2}
 use Rattle.demands_values.proofs.Once.{below, unmatched, met_where}
+use Rattle.text.specs.declared.Refusal.{Refusal}
 
 -- import "a"+'b'{prefix o;prefix p;revision-date 1;}include c{revision-date 2;}
 abbrev text : List ℕ
@@ -92,12 +91,12 @@ unfolding joined import_step include_step unless_full import_here include_here m
 scan = refl
 
 -- what the call answers and leaves
-module _ (d t u : List ℕ) (long : is_too_short false (length text) (length d) (length t) (length u) ≡ false) {r : Parsed} {e f g : List ℕ}
+module _ (d t u : List ℕ) (long : is_too_short false (length text) (length d) (length t) (length u) ≡ false) {r : Result Rows Refusal} {e f g : List ℕ}
     (l : Extracts false text false d t u r e f g) where
   called : dependencies false text (is_too_short false (length text) (length d) (length t) (length u)) ≡ good read
   called = ap (dependencies false text) long ∙ scan
 
-  answered : r ≡ Good 1 1 7
+  answered : r ≡ Ok (record { imports = 1; includes = 1; used = 7 })
   unfolding parsed_of
   answered = l.answer ∙ ap parsed_of called
 
@@ -127,11 +126,11 @@ module _ (d t u : List ℕ) (long : is_too_short false (length text) (length d) 
 
 -- ---- the name
 
-import_once : (p : ℕ) (c : Cursor) → match_at text p import_word ≡ After c → c.at ≡ 6
+import_once : (p : ℕ) (c : Cursor) → match_at text p import_word ≡ Some c → c.at ≡ 6
 unfolding below unmatched starts_ident ends_keyword same part keyword_at match_at run_end span in_run in_ident class_of
 import_once p c m =
     let e : p ≡ 0 = eqb-true p 0 (met_where text import_word (λ p. eqb p 0) refl p c m) in
-    let q : After (record { at = 6 }) ≡ After c = ap (λ z. match_at text z import_word) (sym e) ∙ m in
+    let q : Some (record { at = 6 }) ≡ Some c = ap (λ z. match_at text z import_word) (sym e) ∙ m in
     cc
 
 -- it is read up to the place 14, whatever the span and the store
@@ -149,7 +148,7 @@ short_refused r = omega (arith, ap length (name_read r.name).0)
 
 -- ---- a row with the first prefix
 
-prefix_twice : (p : ℕ) (c : Cursor) → match_at text p prefix_word ≡ After c → (p ≡ 15) ⊎ (p ≡ 24)
+prefix_twice : (p : ℕ) (c : Cursor) → match_at text p prefix_word ≡ Some c → (p ≡ 15) ⊎ (p ≡ 24)
 unfolding below unmatched starts_ident ends_keyword same part keyword_at match_at run_end span in_run in_ident class_of
 prefix_twice p c m =
     let f = met_where text prefix_word (λ p. eqb p 15 || eqb p 24) refl p c m in
@@ -159,7 +158,7 @@ second_read : {store : List ℕ} {x : Span} → Behind text prefix_word 24 store
 unfolding value_at value_here is_quote starts_name part gap_end gap_turn after_white comment_end block_end closing pair_at run_end span in_run in_ident class_of turns
     starts_ident ends_keyword same keyword_at match_at
 second_read {store} {x} b =
-    let e : After (record { at = 30 }) ≡ After b.after = b.matched in
+    let e : Some (record { at = 30 }) ≡ Some b.after = b.matched in
     let at : 30 ≡ b.after.at = cc in
     let q : value (112 ∷ []) 32 ≡ value (value_in store x) b.end = ap (value_at text) at ∙ b.read in
     cc
@@ -168,9 +167,9 @@ second_read {store} {x} b =
 abbrev second : ℕ → Stored
 second u = record { body = record { at = 24; used = u + 1; prefix = held u (u + 1 - u); revision = missing }; bytes = 111 ∷ [] }
 
-block_opens : {end : ℕ} {c : Cursor} → end ≡ 14 → due_at text end 123 8 ≡ Stands c → c.at ≡ 15
+block_opens : {end : ℕ} {c : Cursor} → end ≡ 14 → due_at text end 123 8 ≡ Ok c → c.at ≡ 15
 unfolding due_at due_here gap_end gap_turn after_white comment_end block_end closing pair_at run_end span in_run in_ident class_of turns refused_at is_high
-block_opens {c = c} e h = let q : Stands (record { at = 15 }) ≡ Stands c = ap (λ z. due_at text z 123 8) (sym e) ∙ h in cc
+block_opens {c = c} e h = let q : Ok (record { at = 15 }) ≡ Ok c = ap (λ z. due_at text z 123 8) (sym e) ∙ h in cc
 
 block_turn_lem : (u : ℕ) → block_turn false text 8 (record { body = begun 15 u; bytes = [] }) ≡ on (second u)
 unfolding or_line line_kind with_value kept after_kind inside_here inside_at after_inside block_turn argument_of breaks_off argument_at after_due after_argument line_at
@@ -178,7 +177,7 @@ unfolding or_line line_kind with_value kept after_kind inside_here inside_at aft
     comment_end block_end closing pair_at run_end span in_run in_ident class_of turns refused_at is_high
 block_turn_lem u = refl
 
-second_met : match_at text (gap_end text 24) prefix_word ≡ After (record { at = 30 })
+second_met : match_at text (gap_end text 24) prefix_word ≡ Some (record { at = 30 })
 unfolding starts_ident ends_keyword same part keyword_at match_at gap_end gap_turn after_white comment_end block_end closing pair_at run_end span in_run in_ident
     class_of turns
 second_met = refl
@@ -194,7 +193,7 @@ first_refused r =
     (next first (block_turn_lem o.used)) in
     ⊎_elim
     (λ e. let not = o.holds.1 (second o.used) reached (omega (arith, e, gap_from text m.state.body.at)) in
-    let q : After (record { at = 30 }) ≡ Not = sym second_met ∙ not in
+    let q : Some (record { at = 30 }) ≡ None = sym second_met ∙ not in
     let z : ◌≡◌ {A = ℕ} 0 1 = cc in omega arith)
     (λ e. omega (arith, ap (λ l. get_or l 0 0) (second_read (subst (λ z. Behind text prefix_word z stored (held 2 1)) e m.value))))
     (prefix_twice p m.value.after m.value.matched)
@@ -214,7 +213,7 @@ quoted =
           (last {at = 14} (done refl) refl);
     }
 
-module _ (d t u : List ℕ) (long : is_too_short false (length text) (length d) (length t) (length u) ≡ false) {r : Parsed} {e f g : List ℕ}
+module _ (d t u : List ℕ) (long : is_too_short false (length text) (length d) (length t) (length u) ≡ false) {r : Result Rows Refusal} {e f g : List ℕ}
     (l : Extracts false text false d t u r e f g) where
   rfc_name : rfc_value text 6 ≡ reads (value_in e (held 0 2)) 14
   rfc_name =

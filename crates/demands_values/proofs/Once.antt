@@ -1,5 +1,6 @@
 -- The places where a keyword matches: of a text that is given, they are computed.
 -- Assumes nothing.
+use Rattle.std.specs.Prelude.{Some, None, Option}
 use Prim.Native.Nat.{ℕ, zero, suc, ◌<◌}
 use mathlib.Core.Path.{◌≡◌, sym, ap, ◌∙◌}
 use mathlib.Core.Bool.{Bool, true, false, ◌&&◌, ◌||◌}
@@ -11,14 +12,12 @@ use lib.ListN.{length}
 use borrow.Author.Tests.{eqb-true, eqb-false}
 use Rattle.text.specs.Keyword.{match_at}
 use Rattle.text.specs.declared.Cursor.{Cursor}
-use Rattle.text.specs.declared.Match.{Match}
-use Rattle.text.specs.declared.Match.TheVariants.{After, Not}
 use Rattle.text.proofs.Here.{by_test, both}
 use Rattle.text.proofs.KeywordLaws.{match_far}
 
-unfoldable pub unmatched : Match → Bool
-unmatched (After c) = false
-unmatched Not = true
+unfoldable pub unmatched : Option Cursor → Bool
+unmatched (Some c) = false
+unmatched None = true
 
 -- f holds of each number below n
 unfoldable pub below : (ℕ → Bool) → ℕ → Bool
@@ -35,7 +34,7 @@ below_all f (suc n) k h l =
 
 -- the test f holds of each place where the word matches
 pub met_where : (s word : List ℕ) (f : ℕ → Bool) → below (λ p. unmatched (match_at s p word) || f p) (length s) ≡ true
-    → (p : ℕ) (c : Cursor) → match_at s p word ≡ After c → f p ≡ true
+    → (p : ℕ) (c : Cursor) → match_at s p word ≡ Some c → f p ≡ true
 unfolding unmatched
 met_where s word f h p c m =
     let w = below_all (λ p. unmatched (match_at s p word) || f p) (length s) p h (omega (arith, match_far s p word c m)) in

@@ -1,6 +1,7 @@
 -- The theorem at work on metadata: a text with all six values. Whatever store is lent, if it is long enough, each value of the record is the one that stands
 -- in the text. A record whose name is one byte shorter is refused.
 -- Assumes nothing.
+use Rattle.std.specs.Prelude.{Some}
 use Prim.Native.Nat.{ℕ}
 use mathlib.Core.Path.{◌≡◌, refl, sym, ap, subst, ◌∙◌}
 use mathlib.Core.Bool.{false}
@@ -18,7 +19,6 @@ use Rattle.text.specs.Scan.{in_ident, in_run, span, run_end, pair_at, closing, b
 use Rattle.text.specs.Turns.{turns}
 use Rattle.text.specs.Words.{module_word, submodule_word}
 use Rattle.text.specs.declared.Cursor.{Cursor}
-use Rattle.text.specs.declared.Match.TheVariants.{After}
 use Rattle.text.proofs.Here.{never}
 use Rattle.text_value.specs.Argument.{argument_of, breaks_off, argument_at}
 use Rattle.text_string.specs.Str.{is_quote}
@@ -106,14 +106,14 @@ module _ (d : List ℕ) (long : ltb (length d) (length text) ≡ false) {n : ℕ
 
 -- ---- a record whose name is one byte shorter
 
-module_once : (p : ℕ) (c : Cursor) → match_at text p module_word ≡ After c → c.at ≡ 6
+module_once : (p : ℕ) (c : Cursor) → match_at text p module_word ≡ Some c → c.at ≡ 6
 unfolding below unmatched starts_ident ends_keyword same part keyword_at match_at run_end span in_run in_ident class_of
 module_once p c m =
     let e : p ≡ 0 = eqb-true p 0 (met_where text module_word (λ p. eqb p 0) refl p c m) in
-    let q : After (record { at = 6 }) ≡ After c = ap (λ z. match_at text z module_word) (sym e) ∙ m in
+    let q : Some (record { at = 6 }) ≡ Some c = ap (λ z. match_at text z module_word) (sym e) ∙ m in
     cc
 
-submodule_never : (p : ℕ) (c : Cursor) → match_at text p submodule_word ≡ After c → ⊥
+submodule_never : (p : ℕ) (c : Cursor) → match_at text p submodule_word ≡ Some c → ⊥
 unfolding below unmatched starts_ident ends_keyword same part keyword_at match_at run_end span in_run in_ident class_of
 submodule_never p c m = never refl (met_where text submodule_word (λ p. false) refl p c m)
 

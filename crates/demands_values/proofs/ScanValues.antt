@@ -1,5 +1,6 @@
 -- The rows of the dependency scan: each is added where its keyword stands, with its values behind it; what is stored later changes nothing of that.
 -- Assumes nothing.
+use Rattle.std.specs.Prelude.{Some, None, Ok, Err, Option, Result}
 use Prim.Native.Nat.{ℕ, suc, ◌+◌}
 use mathlib.Core.Path.{◌≡◌, refl, subst, ◌∙◌}
 use mathlib.Core.Bool.{false}
@@ -12,8 +13,6 @@ use Rattle.text.specs.Scan.{gap_end}
 use Rattle.text.specs.Turns.{stop, on}
 use Rattle.text.specs.Words.{import_word, include_word, revision_date_word}
 use Rattle.text.specs.declared.Cursor.{Cursor}
-use Rattle.text.specs.declared.Match.{Match}
-use Rattle.text.specs.declared.Match.TheVariants.{After, Not}
 use Rattle.text.proofs.Here.{by_test}
 use Rattle.scan_rows.specs.declared.Span.{Span}
 use Rattle.scan_rows.specs.declared.YangImport.{YangImport}
@@ -22,14 +21,8 @@ use Rattle.scan_head.specs.Head.{last_at, or_head, head_at}
 use Rattle.scan_head.specs.declared.Head.{Head}
 use Rattle.scan_head.specs.declared.Head.TheVariants.{Import, Include, Last, Other}
 use Rattle.scan_imports.specs.Statement.{import_at, include_at}
-use Rattle.scan_imports.specs.declared.ParsedImport.{ParsedImport}
-use Rattle.scan_imports.specs.declared.ParsedImport.TheVariants.{Import as ReadImport, NoImport}
-use Rattle.scan_imports.specs.declared.ParsedInclude.{ParsedInclude}
-use Rattle.scan_imports.specs.declared.ParsedInclude.TheVariants.{Include as ReadInclude, NoInclude}
 use Rattle.yangparser.specs.Dependencies.{Dependencies, none, joined, Step, import_step, include_step, unless_full, import_here, include_here, head_step, step_here}
 use Rattle.yangparser.specs.Dependencies.{step_at, Scanning, Scan, good, bad, after_step, scan_turn, scan_from, start, scanned}
-use Rattle.yangparser.specs.declared.Next.{Next}
-use Rattle.yangparser.specs.declared.Next.TheVariants.{On, Done, Stop}
 use Rattle.yangparser.specs.declared.Sofar.{Sofar}
 use Rattle.yangparser.proofs.FarLaws.{step_said}
 use Rattle.yangparser.proofs.ScanLaws.{Stands, stands_first, stands_step}
@@ -38,20 +31,21 @@ use Rattle.demands_values.proofs.BehindLaws.{either_map, behind_more, block_more
 use Rattle.demands_scans.proofs.Loops.{turns_keep}
 use Rattle.demands_values.proofs.RowLaws.{EachFrom, from_of, from_append}
 use Rattle.demands_values.proofs.StatementValues.{ImportHas, import_has, NoRevision, IncludeHas, include_has}
+use Rattle.text.specs.declared.Refusal.{Refusal}
 
 -- ---- which keyword matched
 
 module _ (s : List ℕ) (at : ℕ) where
   abbrev HeadIs : Head → Type 0
-  HeadIs (Import c) = match_at s at import_word ≡ After c
-  HeadIs (Include c) = match_at s at include_word ≡ After c
+  HeadIs (Import c) = match_at s at import_word ≡ Some c
+  HeadIs (Include c) = match_at s at include_word ≡ Some c
   HeadIs (Last c) = Unit {0}
   HeadIs Other = Unit {0}
 
-  or_is : (f : Cursor → Head) (m : Match) (w : Head) → ((c : Cursor) → m ≡ After c → HeadIs (f c)) → HeadIs w → HeadIs (or_head f m w)
+  or_is : (f : Cursor → Head) (m : Option Cursor) (w : Head) → ((c : Cursor) → m ≡ Some c → HeadIs (f c)) → HeadIs w → HeadIs (or_head f m w)
   unfolding or_head
-  or_is f (After c) w k h = k c refl
-  or_is f Not w k h = h
+  or_is f (Some c) w k h = k c refl
+  or_is f None w k h = h
 
   head_is : HeadIs (head_at s at)
   unfolding head_at
@@ -102,16 +96,16 @@ module _ (s : List ℕ) (g : Scanning) (reached : Reaches (scan_turn false s) (r
   unfolding unless_full
   unless_adds rows k at x h = by_test (leb 256 rows) (λ t. rw t adds_none) (λ t. rw t h)
 
-  import_adds : (bs : List ℕ) (x : ParsedImport) → ImportHas s (gap_end s g.far.at) (g.read.bytes ++ bs) x → Adds (import_step g.far bs x).adds
+  import_adds : (bs : List ℕ) (x : Result (Cursor × ℕ × YangImport) Refusal) → ImportHas s (gap_end s g.far.at) (g.read.bytes ++ bs) x → Adds (import_step g.far bs x).adds
   unfolding import_step EachFrom
-  import_adds bs (ReadImport c n i) h =
+  import_adds bs (Ok (c, n, i)) h =
       ((record { state = g; reached = reached; before = refl; name = h.0; prefix = h.1; revision = h.2 }, tt), tt)
-  import_adds bs (NoImport r) h = (tt, tt)
+  import_adds bs (Err r) h = (tt, tt)
 
-  include_adds : (bs : List ℕ) (x : ParsedInclude) → IncludeHas s (gap_end s g.far.at) (g.read.bytes ++ bs) x → Adds (include_step g.far bs x).adds
+  include_adds : (bs : List ℕ) (x : Result (Cursor × ℕ × YangInclude) Refusal) → IncludeHas s (gap_end s g.far.at) (g.read.bytes ++ bs) x → Adds (include_step g.far bs x).adds
   unfolding include_step EachFrom
-  include_adds bs (ReadInclude c n i) h = (tt, (record { state = g; reached = reached; before = refl; name = h.0; revision = h.1 }, tt))
-  include_adds bs (NoInclude r) h = (tt, tt)
+  include_adds bs (Ok (c, n, i)) h = (tt, (record { state = g; reached = reached; before = refl; name = h.0; revision = h.1 }, tt))
+  include_adds bs (Err r) h = (tt, tt)
 
   head_adds : (w : Head) → HeadIs s (gap_end s g.far.at) w → Adds (head_step false s g.far (gap_end s g.far.at) w).adds
   unfolding head_step import_here include_here
@@ -161,18 +155,18 @@ module _ (s : List ℕ) where
 
   -- the state that a turn goes on from
   pub turn_is : (g h : Scanning) → scan_turn false s g ≡ on h
-      → (n : Sofar) × ((step_at false s g.far).answer ≡ On n) × (record { far = n; read = joined g.read (step_at false s g.far).adds } ≡ h)
+      → (n : Sofar) × ((step_at false s g.far).answer ≡ Ok (Some n)) × (record { far = n; read = joined g.read (step_at false s g.far).adds } ≡ h)
   unfolding scan_turn after_step
   turn_is g h t = of (step_at false s g.far).answer refl t
     where
       d : Dependencies
       d = joined g.read (step_at false s g.far).adds
 
-      of : (r : Next) → (step_at false s g.far).answer ≡ r → after_step d r ≡ on h
-          → (n : Sofar) × ((step_at false s g.far).answer ≡ On n) × (record { far = n; read = d } ≡ h)
-      of (On n) e t = (n, e, cc)
-      of Done e t = let z : ◌≡◌ {A = ℕ} 0 1 = cc in absurd (omega arith)
-      of (Stop r) e t = let z : ◌≡◌ {A = ℕ} 0 1 = cc in absurd (omega arith)
+      of : (r : Result (Option Sofar) Refusal) → (step_at false s g.far).answer ≡ r → after_step d r ≡ on h
+          → (n : Sofar) × ((step_at false s g.far).answer ≡ Ok (Some n)) × (record { far = n; read = d } ≡ h)
+      of (Ok (Some n)) e t = (n, e, cc)
+      of (Ok None) e t = let z : ◌≡◌ {A = ℕ} 0 1 = cc in absurd (omega arith)
+      of (Err r) e t = let z : ◌≡◌ {A = ℕ} 0 1 = cc in absurd (omega arith)
 
   abbrev Stays : Scanning → Type 0
   Stays g = Reaches (scan_turn false s) (record { far = start; read = none }) g × Stands s g × Rows s g.read
@@ -198,10 +192,10 @@ module _ (s : List ℕ) where
         d : Dependencies
         d = joined g.read (step_at false s g.far).adds
 
-        of : (r : Next) → after_step d r ≡ stop x → ScanHas x
-        of (On n) t = let z : ◌≡◌ {A = ℕ} 0 1 = cc in absurd (omega arith)
-        of Done t = let q : good d ≡ x = cc in subst ScanHas q step_rows
-        of (Stop r) t = let q : bad r d ≡ x = cc in subst ScanHas q tt
+        of : (r : Result (Option Sofar) Refusal) → after_step d r ≡ stop x → ScanHas x
+        of (Ok (Some n)) t = let z : ◌≡◌ {A = ℕ} 0 1 = cc in absurd (omega arith)
+        of (Ok None) t = let q : good d ≡ x = cc in subst ScanHas q step_rows
+        of (Err r) t = let q : bad r d ≡ x = cc in subst ScanHas q tt
 
   rows_none : Rows s none
   unfolding EachFrom

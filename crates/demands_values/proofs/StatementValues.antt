@@ -1,5 +1,6 @@
 -- The values of an import and of an include: the name is read behind the keyword, the others in the block behind the name.
 -- Assumes nothing.
+use Rattle.std.specs.Prelude.{Some, Ok, Err, Result}
 use Prim.Native.Nat.{ℕ, ◌+◌, ◌-◌, ◌<◌, ◌≤◌}
 use mathlib.Core.Path.{◌≡◌, refl, ap, subst}
 use mathlib.Core.Logic.{◌⊎◌, inl, inr, ⊎_elim}
@@ -14,32 +15,25 @@ use Rattle.text.specs.Keyword.{match_at}
 use Rattle.text.specs.Scan.{gap_end}
 use Rattle.text.specs.Words.{import_word, include_word, prefix_word, revision_date_word}
 use Rattle.text.specs.declared.Cursor.{Cursor}
-use Rattle.text.specs.declared.Due.{Due}
-use Rattle.text.specs.declared.Due.TheVariants.{After as Stands, Not}
-use Rattle.text.specs.declared.Match.TheVariants.{After}
 use Rattle.text.proofs.Here.{by_test, never}
 use Rattle.text_value.specs.Argument.{argument_at, line_at}
 use Rattle.text_value.specs.Value.{value_at, value_bytes}
-use Rattle.text_value.specs.declared.Argument.{Argument}
-use Rattle.text_value.specs.declared.Argument.TheVariants.{Read, Refused as NoArgument}
 use Rattle.text_value.proofs.ArgumentLaws.{argument_far, line_far}
 use Rattle.scan_rows.specs.Span.{held, missing}
 use Rattle.scan_rows.specs.declared.Span.{Span}
 use Rattle.scan_block.specs.Block.{Stored, block_turn, begun, block_at}
-use Rattle.scan_block.specs.declared.Block.{Block}
-use Rattle.scan_block.specs.declared.Block.TheVariants.{Whole, Broken}
 use Rattle.scan_imports.specs.Statement.{import_of, with_name, after_name, import_at, include_of, plain_of, block_of, open_or_plain, after_value, include_at}
-use Rattle.scan_imports.specs.declared.ParsedImport.{ParsedImport}
-use Rattle.scan_imports.specs.declared.ParsedImport.TheVariants.{Import, NoImport}
-use Rattle.scan_imports.specs.declared.ParsedInclude.{ParsedInclude}
-use Rattle.scan_imports.specs.declared.ParsedInclude.TheVariants.{Include, NoInclude}
 use Rattle.scan_imports.proofs.StatementLaws.{of_prefixed, of_bare}
 use Rattle.demands_values.specs.Behind.{Behind, Either, Unmet, MetLast, Opened, Ended, InBlock, NotInBlock}
 use Rattle.demands_values.proofs.BehindLaws.{argument_value, line_value, behind_more, held_new, behind_new}
 use Rattle.demands_values.proofs.BlockValues.{LineWon, BlockHas, block_has}
+use Rattle.scan_block.specs.declared.Body.{Body}
+use Rattle.scan_rows.specs.declared.YangImport.{YangImport}
+use Rattle.scan_rows.specs.declared.YangInclude.{YangInclude}
+use Rattle.text.specs.declared.Refusal.{Refusal}
 
 -- what is said of the first state of the block that opens at c; u: the store's place there
-module _ (s : List ℕ) (k end : ℕ) (c : Cursor) (brace : due_at s end 123 k ≡ Stands c) (u : ℕ) where
+module _ (s : List ℕ) (k end : ℕ) (c : Cursor) (brace : due_at s end 123 k ≡ Ok c) (u : ℕ) where
   abbrev begin : Stored
   begin = record { body = begun c.at u; bytes = [] }
 
@@ -65,19 +59,19 @@ module _ (s : List ℕ) (k end : ℕ) (c : Cursor) (brace : due_at s end 123 k �
 
 -- ---- an import; p: its keyword's place, which ends at c
 
-abbrev pub ImportHas : List ℕ → ℕ → List ℕ → ParsedImport → Type 0
-ImportHas s p store (Import c n i) =
+abbrev pub ImportHas : List ℕ → ℕ → List ℕ → Result (Cursor × ℕ × YangImport) Refusal → Type 0
+ImportHas s p store (Ok (c, n, i)) =
     (name : Behind s import_word p store i.module_name) × InBlock s 8 name.end prefix_word store i.prefix
     × Either (NotInBlock s 8 name.end revision_date_word) (InBlock s 8 name.end revision_date_word store) i.revision_date
-ImportHas s p store (NoImport r) = Unit {0}
+ImportHas s p store (Err r) = Unit {0}
 
 -- pre: the bytes stored before it
-module _ (s : List ℕ) (p : ℕ) (c : Cursor) (m : match_at s p import_word ≡ After c) (u : ℕ) (pre : List ℕ) (count : u ≡ length pre) where
-  name_has : (a : Argument) → line_at false s c.at u 8 123 ≡ a
+module _ (s : List ℕ) (p : ℕ) (c : Cursor) (m : match_at s p import_word ≡ Some c) (u : ℕ) (pre : List ℕ) (count : u ≡ length pre) where
+  name_has : (a : Result (Cursor × ℕ) Refusal) → line_at false s c.at u 8 123 ≡ a
       → ImportHas s p (pre ++ (after_name false s u (value_bytes (value_at s c.at)) a).bytes) (after_name false s u (value_bytes (value_at s c.at)) a).answer
   unfolding after_name with_name import_of
-  name_has (NoArgument r) h = tt
-  name_has (Read d n) h =
+  name_has (Err r) h = tt
+  name_has (Ok (d, n)) h =
       let b = block_at false s d.at n 8 in
       let at : n ≡ length (pre ++ bs) = omega (arith, count, f.2, length-append pre bs) in
       subst (λ l. ImportHas s p l (import_of (held u (n - u)) b.answer)) (append_assoc pre bs b.bytes)
@@ -89,10 +83,10 @@ module _ (s : List ℕ) (p : ℕ) (c : Cursor) (m : match_at s p import_word ≡
       f : (c.at + length bs < d.at) × (d.at ≤ length s) × (n ≡ u + length bs)
       f = line_far false s c.at u 8 123 d n (omega arith) h
 
-      of : (cs : List ℕ) (b : Block) → BlockHas s 8 (pre ++ bs) (record { body = begun d.at n; bytes = [] }) cs b
+      of : (cs : List ℕ) (b : Result Body Refusal) → BlockHas s 8 (pre ++ bs) (record { body = begun d.at n; bytes = [] }) cs b
           → ImportHas s p (pre ++ bs ++ cs) (import_of (held u (n - u)) b)
-      of cs (Broken r) w = tt
-      of cs (Whole y) w =
+      of cs (Err r) w = tt
+      of cs (Ok y) w =
           let v = line_value s c.at u 8 123 d n h in
           let name = behind_more (pre ++ bs) cs (behind_new pre bs (held u (n - u)) m v.1 (held_new pre bs count f.2)) in
           let e = v.0 in
@@ -114,37 +108,37 @@ module _ (s : List ℕ) (p : ℕ) (c : Cursor) (m : match_at s p import_word ≡
 abbrev pub NoRevision : List ℕ → ℕ → Type 0
 NoRevision s end = Ended s 9 end ⊎ NotInBlock s 9 end revision_date_word
 
-abbrev pub IncludeHas : List ℕ → ℕ → List ℕ → ParsedInclude → Type 0
-IncludeHas s p store (Include c n i) =
+abbrev pub IncludeHas : List ℕ → ℕ → List ℕ → Result (Cursor × ℕ × YangInclude) Refusal → Type 0
+IncludeHas s p store (Ok (c, n, i)) =
     (name : Behind s include_word p store i.submodule_name)
     × Either (NoRevision s name.end) (InBlock s 9 name.end revision_date_word store) i.revision_date
-IncludeHas s p store (NoInclude r) = Unit {0}
+IncludeHas s p store (Err r) = Unit {0}
 
-opens : (s : List ℕ) (at : ℕ) → eqb (look s (gap_end s at)) 123 ≡ true → due_at s at 123 9 ≡ Stands (record { at = gap_end s at + 1 })
+opens : (s : List ℕ) (at : ℕ) → eqb (look s (gap_end s at)) 123 ≡ true → due_at s at 123 9 ≡ Ok (record { at = gap_end s at + 1 })
 unfolding due_at due_here
 opens s at t = rw t refl
 
 -- x: the name, n: the store's place behind it
 module _ (s : List ℕ) (p : ℕ) (store : List ℕ) (x : Span) (n : ℕ) (count : n ≡ length store) (name : Behind s include_word p store x) where
-  block_included : (c : Cursor) → due_at s name.end 123 9 ≡ Stands c → (cs : List ℕ) (b : Block)
+  block_included : (c : Cursor) → due_at s name.end 123 9 ≡ Ok c → (cs : List ℕ) (b : Result Body Refusal)
       → BlockHas s 9 store (record { body = begun c.at n; bytes = [] }) cs b → IncludeHas s p (store ++ cs) (include_of x b)
   unfolding include_of
-  block_included c h cs (Whole y) w =
+  block_included c h cs (Ok y) w =
       let revision = either_in s 9 name.end c h n store revision_date_word (store ++ cs) y.revision w.revision in
       (behind_more store cs name, ⊎_elim (λ e. inl (e.0, inr e.1)) (λ l. inr l) revision)
-  block_included c h cs (Broken r) w = tt
+  block_included c h cs (Err r) w = tt
 
-  plain_included : (d : Due) → due_at s name.end 59 9 ≡ d → IncludeHas s p store (plain_of x n d)
+  plain_included : (d : Result Cursor Refusal) → due_at s name.end 59 9 ≡ d → IncludeHas s p store (plain_of x n d)
   unfolding plain_of
-  plain_included (Stands c) h = (name, inl (refl, inl (c, h)))
-  plain_included (Not r) h = tt
+  plain_included (Ok c) h = (name, inl (refl, inl (c, h)))
+  plain_included (Err r) h = tt
 
-module _ (s : List ℕ) (p : ℕ) (c : Cursor) (m : match_at s p include_word ≡ After c) (u : ℕ) (pre : List ℕ) (count : u ≡ length pre) where
-  value_has : (a : Argument) → argument_at false s c.at u 9 ≡ a
+module _ (s : List ℕ) (p : ℕ) (c : Cursor) (m : match_at s p include_word ≡ Some c) (u : ℕ) (pre : List ℕ) (count : u ≡ length pre) where
+  value_has : (a : Result (Cursor × ℕ) Refusal) → argument_at false s c.at u 9 ≡ a
       → IncludeHas s p (pre ++ (after_value false s u (value_bytes (value_at s c.at)) a).bytes) (after_value false s u (value_bytes (value_at s c.at)) a).answer
   unfolding after_value open_or_plain block_of due_at
-  value_has (NoArgument r) h = tt
-  value_has (Read d n) h =
+  value_has (Err r) h = tt
+  value_has (Ok (d, n)) h =
       let bs = value_bytes (value_at s c.at) in
       let f = argument_far false s c.at u 9 d n h in
       let x = held u (n - u) in

@@ -1,5 +1,6 @@
 -- Where a scan stands: over each turn and at its end, what was met from there on, and which place was the first and which the last.
 -- Assumes nothing.
+use Rattle.std.specs.Prelude.{None}
 use Prim.Native.Nat.{ℕ, ◌<◌, ◌≤◌}
 use mathlib.Core.Path.{◌≡◌, refl, sym, ap, subst, ◌∙◌}
 use mathlib.Core.Logic.{◌⊎◌, inl, inr, ⊎_elim}
@@ -8,7 +9,6 @@ use native.Mathlib.Omega.{arith}
 use Rattle.text.specs.Keyword.{match_at}
 use Rattle.text.specs.Scan.{gap_end}
 use Rattle.text.specs.Turns.{Turn, stop, on}
-use Rattle.text.specs.declared.Match.TheVariants.{Not}
 use Rattle.scan_rows.specs.declared.Span.{Span}
 use Rattle.demands_values.specs.Behind.{Behind, Reaches, first, next, Unmet, UnmetBefore, UnmetBehind, Met, MetFirst, MetLast}
 use Rattle.demands_values.proofs.BehindLaws.{behind_more}
@@ -49,7 +49,7 @@ module _ {A R : Type 0} (step : A → Turn A R) (at : A → ℕ) (s word : List 
 
   -- a turn's statement has the keyword and gives y, or it has not and x stays
   abbrev pub Gives : A → List ℕ → Span → Span → Type 0
-  Gives g part x y = Behind s word (gap_end s (at g)) part y ⊎ ((match_at s (gap_end s (at g)) word ≡ Not) × (y ≡ x))
+  Gives g part x y = Behind s word (gap_end s (at g)) part y ⊎ ((match_at s (gap_end s (at g)) word ≡ None) × (y ≡ x))
 
 -- ---- a scan, which goes forward with each turn
 
@@ -60,7 +60,7 @@ module _ {A R : Type 0} (step : A → Turn A R) (at : A → ℕ) (forward : (a b
 
   module _ (s word : List ℕ) where
     abbrev Free : A → Type 0
-    Free b = match_at s (gap_end s (at b)) word ≡ Not
+    Free b = match_at s (gap_end s (at b)) word ≡ None
 
     -- nothing is met where it stops; over a turn
     pub unmet_stop : {g : A} {r : R} → step g ≡ stop r → Free g → Unmet step at s word g

@@ -1,7 +1,7 @@
 -- Starts refer to the lent value store. What this means of one value: its keyword stands in the text at a place where the scan stands, and the bytes of the
 -- store from its start on, as many as its length, are the value that is read behind the keyword.
 -- Assumes nothing.
-use Rattle.std.specs.Prelude.{ℕ, ◌<◌, ◌≡◌, true, false, ◌⊎◌, List, [], length, get_or}
+use Rattle.std.specs.Prelude.{ℕ, ◌<◌, ◌≡◌, true, false, ◌⊎◌, List, [], length, get_or, Some, None, Ok}
 use Rattle.text.specs.Bytes.{open_brace, semicolon}
 use Rattle.text.specs.Due.{due_at}
 use Rattle.text.specs.Keyword.{match_at}
@@ -10,8 +10,6 @@ use Rattle.text.specs.Turns.{Turn, on}
 use Rattle.text.specs.Words.{import_word, include_word, prefix_word, revision_date_word, import_keyword, include_keyword, module_word, submodule_word}
 use Rattle.text.specs.Words.{namespace_word, revision_word, belongs_to_word}
 use Rattle.text.specs.declared.Cursor.{Cursor}
-use Rattle.text.specs.declared.Due.TheVariants.{After as Stands}
-use Rattle.text.specs.declared.Match.TheVariants.{After, Not}
 use Rattle.text_value.specs.Value.{value, value_at}
 use Rattle.scan_rows.specs.Span.{missing, value_in, Within}
 use Rattle.scan_rows.specs.declared.Span.{Span}
@@ -25,7 +23,7 @@ use Rattle.scan_metadata.specs.Values.{name_value, namespace_value, prefix_value
 -- x is present and lies in the store, and its bytes are the value behind the keyword `word` at the place p of the text s
 pub record Behind (s word : List ℕ) (p : ℕ) (store : List ℕ) (x : Span) : Type 0 where
   pub after : Cursor
-  pub matched : match_at s p word ≡ After after
+  pub matched : match_at s p word ≡ Some after
   pub end : ℕ
   pub read : value_at s after.at ≡ value (value_in store x) end
   pub present : x.present ≡ true
@@ -46,13 +44,13 @@ pub data Reaches {A R : Type 0} (step : A → Turn A R) (a : A) : A → Type 0 w
 module _ {A R : Type 0} (step : A → Turn A R) (at : A → ℕ) (s word : List ℕ) where
   -- it stands at the keyword nowhere; nowhere before the place p; nowhere behind it
   abbrev pub Unmet : A → Type 0
-  Unmet g = (b : A) → Reaches step g b → match_at s (gap_end s (at b)) word ≡ Not
+  Unmet g = (b : A) → Reaches step g b → match_at s (gap_end s (at b)) word ≡ None
 
   abbrev pub UnmetBefore : A → ℕ → Type 0
-  UnmetBefore g p = (b : A) → Reaches step g b → at b < p → match_at s (gap_end s (at b)) word ≡ Not
+  UnmetBefore g p = (b : A) → Reaches step g b → at b < p → match_at s (gap_end s (at b)) word ≡ None
 
   abbrev pub UnmetBehind : A → ℕ → Type 0
-  UnmetBehind g p = (b : A) → Reaches step g b → p < at b → match_at s (gap_end s (at b)) word ≡ Not
+  UnmetBehind g p = (b : A) → Reaches step g b → p < at b → match_at s (gap_end s (at b)) word ≡ None
 
   -- it stands at the keyword, and x is the value behind it
   pub record Met (store : List ℕ) (g : A) (x : Span) : Type 0 where
@@ -72,13 +70,13 @@ module _ {A R : Type 0} (step : A → Turn A R) (at : A → ℕ) (s word : List 
 -- P holds of its first state, behind its `{`, which follows at the place `end`
 pub record Opened (s : List ℕ) (k end : ℕ) (P : Stored → Type 0) : Type 0 where
   pub opens : Cursor
-  pub brace : due_at s end open_brace k ≡ Stands opens
+  pub brace : due_at s end open_brace k ≡ Ok opens
   pub used : ℕ
   pub holds : P (record { body = begun opens.at used; bytes = [] })
 
 -- or `;` follows, and there is no block
 abbrev pub Ended : List ℕ → ℕ → ℕ → Type 0
-Ended s k end = (c : Cursor) × (due_at s end semicolon k ≡ Stands c)
+Ended s k end = (c : Cursor) × (due_at s end semicolon k ≡ Ok c)
 
 -- `prefix` value `;`, `revision-date` value `;`, any other statement skipped. Last one read wins.
 abbrev pub InBlock : List ℕ → ℕ → ℕ → List ℕ → List ℕ → Span → Type 0
