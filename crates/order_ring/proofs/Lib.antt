@@ -5,3 +5,4 @@ pub mod Parts
 pub mod Rings
 pub mod Round
 pub mod Trails
+pub mod Copying

@@ -24,7 +24,7 @@ slice_snoc : (f t : ℕ) (l : List ℕ) → f ≤ t → t < length l → slice f
 slice_snoc f t l h k =
     rw (add-one t, take-suc l t 0 k) (drop-append-le f (take t l) (get_or l t 0 ∷ []) (omega (arith, length-take-le t l (omega arith))))
 
-slice_more : (f t : ℕ) (l : List ℕ) → f < t → t ≤ length l → slice f t l ≡ get_or l f 0 ∷ slice (f + 1) t l
+pub slice_more : (f t : ℕ) (l : List ℕ) → f < t → t ≤ length l → slice f t l ≡ get_or l f 0 ∷ slice (f + 1) t l
 slice_more f t l h k = slice-cons f t l 0 h k ∙ rw (← add-one f)
 
 -- ---- the loop of `behind`
@@ -170,15 +170,3 @@ module _ (trail : List ℕ) (at end p : ℕ) (k : end ≤ length trail) where
           same = rw all (rw (m, ← all)
               (rw (since_at (get_or trail p 0) refl b (p - at) at d other, until_at (get_or trail p 0) refl b (p - at) at d other)));
         }
-
--- ---- what `copy` leaves
-
-pub copied : (trail : List ℕ) (from to : ℕ) (table : List ℕ) (at : ℕ) → from ≤ to → to ≤ length trail → at + (to - from) ≤ length table
-    → {k : ℕ} → k ≡ to - from → {part : List ℕ} → part ≡ take (to - from) (drop from trail)
-    → take at table ++ (part ++ drop k (drop at table)) ≡ sets table at (slice from to trail)
-copied trail from to table at a b c {k} q {part} p =
-    let all : from + (to - from) ≡ to = omega arith in
-    let e : part ≡ slice from to trail = p ∙ sym (drop-take from (to - from) trail) ∙ rw all in
-    let n : length (slice from to trail) ≡ to - from = length-slice from to trail b in
-    rw (e, q, drop-drop (to - from) at table)
-    (sym (sets-eq (slice from to trail) table at (omega arith) ∙ rw n (append_assoc (take at table) (slice from to trail) (drop (at + (to - from)) table))))

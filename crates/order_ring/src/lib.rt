@@ -124,11 +124,18 @@ fn lowest_place(trail: &[u32], at: usize, end: usize) -> usize
 }
 
 // Copies the words from `from` up to `to` of the trail into the table, from `at` on.
+// By a loop: `copy_from_slice` calls memmove, and include/nuvaleta.h promises that of the C library only memcpy and memset are needed.
 fn copy(trail: &[u32], from: usize, to: usize, table: &mut [u32], at: usize)
     requires { (from ≤ to) × (to ≤ length trail.now) × (at + (to - from) ≤ length table.old) }
     ensures { table.new ≡ sets table.old at (slice from to trail.now) }
 {
-    table[at..at + (to - from)].copy_from_slice(&trail[from..to]);
+    let mut i = from;
+    let mut j = at;
+    while i < to {
+        table[j] = trail[i];
+        i += 1;
+        j += 1;
+    }
 }
 
 // Writes the ring over the `count` nodes that were taken, behind which all is zero. Answers how many nodes it has.

@@ -11,14 +11,6 @@ use borrow.Rule.Slice.PartMut.{put_mid}
 use Rattle.text.proofs.Writing.{Writing, begun, said, written, counted, sets_append}
 use Rattle.scan_line.specs.Wrote.{Wrote}
 
--- bytes copied at once: k of the page's were from `at` on, and the page holds ys there now
-pub copied : (d : List ℕ) (at : ℕ) (bytes : List ℕ) {ys : List ℕ} {k : ℕ} → ys ≡ bytes → k ≡ length bytes → at + length bytes ≤ length d
-    → Wrote d at bytes (put_mid at k d ys) (at + length bytes)
-copied d at bytes {ys} {k} ye ke room = record {
-  left = rw (ye, ke, sets-eq bytes d at room, drop-drop (length bytes) at d) (sym (append_assoc (take at d) bytes _));
-  next = refl;
-}
-
 -- the page was d, `all` is to stand there from u on, the page is e now, and the pieces are still to be written from n on
 pub record Going (d : List ℕ) (u : ℕ) (all : List ℕ) (e : List ℕ) (n : ℕ) (ps : List (List ℕ)) : Type 0 where
   pub is : Writing d u all e n (flatten ps)

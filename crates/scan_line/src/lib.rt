@@ -11,13 +11,19 @@ ghost use Rattle.scan_line.specs.Wrote.{Wrote};
 use text::Refusal;
 
 // These bytes.
+// By a loop: `copy_from_slice` calls memmove, and include/nuvaleta.h promises that of the C library only memcpy and memset are needed.
 pub fn put(page: &mut [u8], at: usize, bytes: &[u8]) -> usize
     requires { at + length bytes.now ≤ length page.old }
     ensures { Wrote page.old at bytes.now page.new result }
 {
-    let end = at + bytes.len();
-    page[at..end].copy_from_slice(bytes);
-    end
+    let mut i = 0;
+    let mut n = at;
+    while i < bytes.len() {
+        page[n] = bytes[i];
+        n += 1;
+        i += 1;
+    }
+    n
 }
 
 // A digit's byte.

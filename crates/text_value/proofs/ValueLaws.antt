@@ -24,10 +24,6 @@ pub part_length : (s : List ℕ) (i end : ℕ) → i ≤ end → end ≤ length 
 unfolding part
 part_length s i end h k = simp (length-take, length-drop) (omega arith)
 
--- written over the part of a store from u on, whose bytes were as many
-pub put_part : (d : List ℕ) (u : ℕ) (xs ys : List ℕ) {k : ℕ} → u + length xs ≤ length d → k ≡ length xs → ys ≡ xs → put_mid u k d ys ≡ sets d u xs
-put_part d u xs ys {k} h e q = rw (q, e, sets-eq xs d u h, drop-drop (length xs) u d, append_assoc) refl
-
 -- ---- what follows a string
 
 -- what reading the string answered says what is added

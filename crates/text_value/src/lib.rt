@@ -103,14 +103,20 @@ pub fn starts_name(classes: &ByteClasses, b: u16) -> bool
 }
 
 // Stores the bytes from a place up to another, from the store's place `used` on, and answers the place after them.
+// By a loop: `copy_from_slice` calls memmove, and include/nuvaleta.h promises that of the C library only memcpy and memset are needed.
 fn copy_part(s: &[u8], at: usize, end: usize, store: &mut [u8], used: usize) -> usize
     requires { (at ≤ end) × (end ≤ length s.now) × (used + (end - at) ≤ length store.old) }
     ensures { (result ≡ used + length (part s.now at end))
         × (store.new ≡ sets store.old used (part s.now at end)) }
 {
-    let next = used + (end - at);
-    store[used..next].copy_from_slice(&s[at..end]);
-    next
+    let mut i = at;
+    let mut n = used;
+    while i < end {
+        store[n] = s[i];
+        n += 1;
+        i += 1;
+    }
+    n
 }
 
 // Reads the value that stands after a gap. Where there is none, nothing is stored.

@@ -1,10 +1,17 @@
--- `order_ring::copy`. One law of Parts.
--- Assumes nothing.
-use Rattle.std.proofs.Common.{arith}
-use Rattle.order_ring.proofs.Parts.{copied}
+use Rattle.order_ring.proofs.Copying.{copy_begun, copy_kept, copy_in, copy_more, copy_done}
 use Rattle.order_ring.proofs.copy.Goals as goal
 
+pub loop-i-init : goal.loop-i-init
+loop-i-init c = search copy_begun
+
+pub bounds-table-j : goal.bounds-table-j
+bounds-table-j c = search copy_in
+
+pub loop-i-preserved : goal.loop-i-preserved
+loop-i-preserved c = search copy_more
+
+pub shape_of-table : goal.shape_of-table
+shape_of-table c = search copy_kept
+
 pub returns : goal.returns
-returns c =
-    copied c.args.trail.now c.args.from c.args.to c.args.table.now c.args.at c.requires.0 c.requires.1 c.requires.2
-    (omega arith) c.copy_from_slice.ensures.after
+returns c = search copy_done
