@@ -50,7 +50,7 @@ pub record Views : Type 0 where
   pub known : LosesNothing resolved_code
   pub included : LosesNothing included_code
   pub node : LosesNothing (λ (v : NodeIndex). v.0)
-  -- skip_whitespace_and_comments, value_end
+  -- skip_whitespace_and_comments
   pub cursor : LosesNothing (λ (c : Cursor). c.at)
 
 -- ---- all promises; of what is lent to an entry or to a host's call only the lengths enter: equal lengths, equal outcomes. What scan_over and the inner

@@ -7,7 +7,7 @@ use Rattle.text.specs.Bytes.{close_brace, semicolon, the_end, look}
 use Rattle.text.specs.Keyword.{match_at}
 use Rattle.text.specs.Scan.{gap_end}
 use Rattle.text.specs.Turns.{Turn, stop, on, turns}
-use Rattle.text.specs.Refusal.{no_refusal}
+use Rattle.text.specs.Refusal.{no_refusal, refusal_of}
 use Rattle.text.specs.Words.{prefix_word, revision_date_word, prefix_keyword, import_keyword, revision_date_keyword}
 use Rattle.text.specs.declared.Refusal.{Refusal}
 use Rattle.text_value.specs.Value.{value_at, value_bytes}
@@ -104,5 +104,4 @@ block_at whole s at u k = block_from whole s k (record { body = begun at u; byte
 
 -- its refusal, or none
 unfoldable pub block_refusal : Result Body Refusal → Refusal
-block_refusal (Ok b) = no_refusal
-block_refusal (Err r) = r
+block_refusal x = refusal_of x

@@ -5,7 +5,7 @@
 use Rattle.std.specs.Prelude.{ℕ, ◌-◌, Bool, cond, ◌&&◌, ◌||◌, List, [], eqb, leb, length, Ok, Err, Result}
 use Rattle.text.specs.Bytes.{semicolon, open_brace, look}
 use Rattle.text.specs.Due.{due_at}
-use Rattle.text.specs.Refusal.{no_refusal}
+use Rattle.text.specs.Refusal.{refusal_of}
 use Rattle.text.specs.Scan.{gap_end}
 use Rattle.text.specs.Words.{module_keyword, submodule_keyword, belongs_to_keyword, prefix_keyword, yang_version_keyword, revision_keyword}
 use Rattle.text.specs.declared.Refusal.{Refusal}
@@ -92,7 +92,4 @@ said_at whole s at u hasPrefix = said_here whole s (gap_end s at) u hasPrefix
 
 -- its refusal, or none
 unfoldable pub heard_refusal : Result Heard Refusal → Refusal
-heard_refusal (Ok (Value k x c n)) = no_refusal
-heard_refusal (Ok (Passed c)) = no_refusal
-heard_refusal (Ok (Done c)) = no_refusal
-heard_refusal (Err r) = r
+heard_refusal x = refusal_of x

@@ -4,7 +4,7 @@
 use Rattle.std.specs.Prelude.{ℕ, ◌+◌, ◌-◌, Bool, cond, List, ◌++◌, eqb, Ok, Err, Result}
 use Rattle.text.specs.Bytes.{open_brace, semicolon, look}
 use Rattle.text.specs.Due.{due_here}
-use Rattle.text.specs.Refusal.{no_refusal}
+use Rattle.text.specs.Refusal.{refusal_of}
 use Rattle.text.specs.Scan.{gap_end}
 use Rattle.text.specs.Words.{import_keyword, include_keyword}
 use Rattle.text.specs.declared.Refusal.{Refusal}
@@ -47,8 +47,7 @@ import_at whole s at u = after_name whole s u (value_bytes (value_at s at)) (lin
 
 -- its refusal, or none
 unfoldable pub import_refusal : Result (Cursor × ℕ × YangImport) Refusal → Refusal
-import_refusal (Ok (c, n, i)) = no_refusal
-import_refusal (Err r) = r
+import_refusal x = refusal_of x
 
 -- ---- an include
 
@@ -79,5 +78,4 @@ include_at whole s at u = after_value whole s u (value_bytes (value_at s at)) (a
 
 -- its refusal, or none
 unfoldable pub include_refusal : Result (Cursor × ℕ × YangInclude) Refusal → Refusal
-include_refusal (Ok (c, n, i)) = no_refusal
-include_refusal (Err r) = r
+include_refusal x = refusal_of x

@@ -332,6 +332,12 @@ unfolding or_match
 or_match_far s at (Some d) n p q c h = p c h
 or_match_far s at None n p q c h = q c h
 
+-- it takes just its own bytes
+pub match_end : (s : List ℕ) (at : ℕ) (word : List ℕ) (c : Cursor) → match_at s at word ≡ Some c → c.at ≡ at + length word
+match_end s at word c h =
+    let g = match_given s at word c h in
+    g.1 ∙ (keyword_gives s at word g.0).1
+
 -- no two keywords stand at one place
 pub match_one : (s : List ℕ) (at : ℕ) (v w : List ℕ) (c d : Cursor) → match_at s at v ≡ Some c → match_at s at w ≡ Some d → v ≡ w
 match_one s at v w c d h k = sym (keyword_word s at v (match_given s at v c h).0) ∙ keyword_word s at w (match_given s at w d k).0

@@ -3,7 +3,7 @@
 -- 2026-01: valid bytes above 127 are allowed inside quoted strings and comments. Elsewhere they are refused at the place the scan meets them: 3 in reading
 -- order, before 4 and 5 at one place. 12: not UTF-8, at the start of the first wrong sequence, keyword 0.
 -- Assumes nothing.
-use Rattle.std.specs.Prelude.{ℕ, Bool, true, cond, not, ◌&&◌, eqb, leb, ◌≡◌, List}
+use Rattle.std.specs.Prelude.{ℕ, Bool, true, cond, not, ◌&&◌, eqb, leb, ◌≡◌, List, Ok, Err, Result}
 use Rattle.text.specs.Bytes.{high_byte, the_end, look}
 use Rattle.text.specs.declared.Refusal.{Refusal}
 
@@ -61,3 +61,8 @@ cut_at n = record { number = cut_short; keyword = 0; at = n }
 -- number, keyword and place are 0 where nothing is refused
 abbrev pub no_refusal : Refusal
 no_refusal = record { number = 0; keyword = 0; at = 0 }
+
+-- the refusal that an answer is, or none
+abbrev pub refusal_of : {A : Type 0} → Result A Refusal → Refusal
+refusal_of (Ok x) = no_refusal
+refusal_of (Err r) = r

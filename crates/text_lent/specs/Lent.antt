@@ -2,7 +2,7 @@
 -- first wrong sequence).
 -- Assumes nothing.
 use Rattle.std.specs.Prelude.{ℕ, Bool, cond, List, ltb, length, Ok, Err, Result}
-use Rattle.text.specs.Refusal.{no_refusal, text_too_long, lent_too_short, not_utf8}
+use Rattle.text.specs.Refusal.{refusal_of, text_too_long, lent_too_short, not_utf8}
 use Rattle.text.specs.declared.Refusal.{Refusal}
 use Rattle.text_utf8.specs.Utf8.{wrong_from}
 
@@ -18,5 +18,4 @@ lent_at s short =
 
 -- its refusal, or none
 unfoldable pub lent_refusal : Result (Unit {0}) Refusal → Refusal
-lent_refusal (Ok tt) = no_refusal
-lent_refusal (Err r) = r
+lent_refusal x = refusal_of x

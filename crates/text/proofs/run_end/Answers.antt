@@ -1,5 +1,4 @@
-use Rattle.text.proofs.Laws.{run_more, run_stop, run_past, max_end}
-use Rattle.text.specs.Scan.{run_end}
+use Rattle.text.proofs.Laws.{run_more, run_stop, run_past}
 use Rattle.text.proofs.Here.{inside}
 use mathlib.Core.Path.{sym, ◌∙◌}
 use Rattle.text.proofs.run_end.Goals as goal
@@ -19,5 +18,4 @@ loop-i-preserved c =
 pub returns : goal.returns
 returns c =
     let a = c.args in
-    let l = c.loop-i in
-    c.max.ensures ∙ max_end a.s.now (run_end a.k a.s.now) a.at l.i (run_past a.k a.s.now) c.loop-i-test.false l.auto.i-end l.invariant
+    sym (run_past a.k a.s.now c.loop-i.i c.loop-i-test.false) ∙ c.loop-i.invariant
