@@ -28,7 +28,7 @@ use Rattle.library_items.specs.Items.{ItemOf, items_at}
 use Rattle.library_items.specs.Table.{item_in, item_word, items_in, Itemized}
 use Rattle.library_items.specs.declared.Item.{Item}
 use Rattle.library_items.specs.declared.Kind.{Kind}
-use Rattle.library_items.specs.declared.Kind.TheVariants.{Module, Submodule, Augmenting, Deviation, ImportOnly, FirstSub, LaterSub}
+use Rattle.library_items.specs.declared.Kind.TheVariants.{Module, Submodule, Augmenting, Deviation, ImportOnly, FirstSub, LaterSub, NoName}
 use Rattle.graph.specs.Limits.{most_nodes}
 use Rattle.graph.proofs.Tests.{same_refl, both_bools, or_left, or_right}
 use Rattle.text_lent.proofs.Zeros.{zeros_zero}
@@ -111,6 +111,7 @@ no_entry_sub Deviation e = refl
 no_entry_sub ImportOnly e = refl
 no_entry_sub FirstSub e = refl
 no_entry_sub LaterSub e = refl
+no_entry_sub NoName e = refl
 
 module _ (s table tab marks : List ℕ) (i n : ℕ) (m : Marking s table i tab n marks) {x : Item} (e : x ≡ item_in table i) where
   abbrev it : ItemOf PlacedName

@@ -16,7 +16,7 @@ use Rattle.library_form.specs.Form.{bad, name_at, name_seen}
 use Rattle.library_form.proofs.Bounds.{spanned}
 use Rattle.library_items.specs.Items.{number_of, kind_of}
 use Rattle.library_items.specs.declared.Kind.{Kind}
-use Rattle.library_items.specs.declared.Kind.TheVariants.{Module, Submodule, Augmenting, Deviation, ImportOnly, FirstSub, LaterSub}
+use Rattle.library_items.specs.declared.Kind.TheVariants.{Module, Submodule, Augmenting, Deviation, ImportOnly, FirstSub, LaterSub, NoName}
 use Rattle.library_items.specs.Table.{item_in, item_word, items_in, Items, name_read, Reads, ItemFits, Puts, Laid, Room, Gained}
 use Rattle.library_items.specs.declared.Item.{Item}
 
@@ -39,6 +39,7 @@ kind_back Deviation = (omega arith, refl)
 kind_back ImportOnly = (omega arith, refl)
 kind_back FirstSub = (omega arith, refl)
 kind_back LaterSub = (omega arith, refl)
+kind_back NoName = (omega arith, refl)
 
 module _ (tab : List ℕ) (n : ℕ) (x : Item) (p : Puts tab n x) where
   abbrev word : ℕ

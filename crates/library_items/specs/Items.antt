@@ -7,7 +7,7 @@ use Rattle.library_image.specs.Library.{ModuleOf, ImportOnlyOf, SetOf, LibraryOf
 use Rattle.library_image.specs.Image.{image_at}
 use Rattle.library_lists.specs.Lists.{on_ans}
 use Rattle.library_items.specs.declared.Kind.{Kind}
-use Rattle.library_items.specs.declared.Kind.TheVariants.{Module, Submodule, Augmenting, Deviation, ImportOnly, FirstSub, LaterSub}
+use Rattle.library_items.specs.declared.Kind.TheVariants.{Module, Submodule, Augmenting, Deviation, ImportOnly, FirstSub, LaterSub, NoName}
 
 -- ---- what a name is
 
@@ -33,7 +33,8 @@ first_sub_kind = FirstSub
 abbrev pub later_sub_kind : Kind
 later_sub_kind = LaterSub
 
--- its number in a table, and the kind that a number stands for
+-- its number in a table, and the kind that a number stands for: each of the eight numbers has its own, so that a word tells its kind and a kind its word. No
+-- name is of the last kind
 abbrev pub number_of : Kind → ℕ
 number_of Module = 0
 number_of Submodule = 1
@@ -42,6 +43,7 @@ number_of Deviation = 3
 number_of ImportOnly = 4
 number_of FirstSub = 5
 number_of LaterSub = 6
+number_of NoName = 7
 
 abbrev pub kind_of : ℕ → Kind
 kind_of k =
@@ -50,7 +52,8 @@ kind_of k =
     (cond (eqb k 2) Augmenting
     (cond (eqb k 3) Deviation
     (cond (eqb k 4) ImportOnly
-    (cond (eqb k 5) FirstSub LaterSub)))))
+    (cond (eqb k 5) FirstSub
+    (cond (eqb k 6) LaterSub NoName))))))
 
 pub record ItemOf (A : Type 0) : Type 0 where
   pub kind : Kind

@@ -9,7 +9,8 @@ ghost use Rattle.library_items.specs.Table.{Puts, Laid, Room, Gained, Itemized};
 
 use library_form::ImageCursor;
 
-// What a name is. Of an import-only module's submodules, those of its first revision are told from those of a later one.
+// What a name is. Of an import-only module's submodules, those of its first revision are told from those of a later one. No name is the last kind: it stands
+// for the one number left of the eight that a word can hold, so that each number has a kind of its own.
 #[derive(Clone, Copy)]
 pub enum Kind {
     Module,
@@ -19,6 +20,7 @@ pub enum Kind {
     ImportOnly,
     FirstSub,
     LaterSub,
+    NoName,
 }
 
 // A name's length and kind share a word: the length times this, and the kind.
@@ -60,7 +62,8 @@ fn kind_of(number: usize) -> Kind
         3 => Kind::Deviation,
         4 => Kind::ImportOnly,
         5 => Kind::FirstSub,
-        _ => Kind::LaterSub,
+        6 => Kind::LaterSub,
+        _ => Kind::NoName,
     }
 }
 
