@@ -11,12 +11,11 @@ use native.Mathlib.Numerals.{sub-one, add-one}
 use lib.ListN.{length, get_or, take, drop, length-append}
 use lib.Seq.{drop-cons, drop-length}
 use lib.Dec.{eqb}
-use lib.Pointwise.{pointwise}
 use mir.Syntax.{w64}
 use mir.Val.{Fits}
 use borrow.Author.Tests.{eqb-true, eqb-false}
 use Rattle.library_form.specs.Form.{PlacedName}
-use Rattle.library_form.proofs.Bounds.{part_word, by_eq}
+use Rattle.library_form.proofs.Bounds.{part_word}
 use Rattle.text.specs.Keyword.{same}
 use Rattle.text.proofs.KeywordLaws.{same_yes, same_no}
 use Rattle.text.proofs.Here.{never}
@@ -168,15 +167,15 @@ module _ (s tab : List ℕ) where
           part = part_word s place len ∙ ap₂ (λ (p z : ℕ). take z (drop p s)) p z
 
           -- b is what the comparison answers
-          module _ {b : Bool} (k : b ≡ pointwise eqb Part t) where
+          module _ {b : Bool} (k : (b ≡ true → Part ≡ t) × (Part ≡ t → b ≡ true)) where
             pub chain_hit : b ≡ true → Some (j - 1) ≡ Among n
             chain_hit y =
-                let e : (name_in_row s tab (j - 1)).text ≡ t = sym part ∙ (by_eq Part t k).0 y in
+                let e : (name_in_row s tab (j - 1)).text ≡ t = sym part ∙ k.0 y in
                 let d : Among (j - 1) ≡ None = rw (← e) (a.indexed.differ (j - 1) (omega (arith, g.low))) in
                 sym (g.same ∙ ap Among here ∙ one_more (j - 1) ∙ rw (d, same_yes (name_in_row s tab (j - 1)).text t e))
 
             other : b ≡ false → same (name_in_row s tab (j - 1)).text t ≡ false
-            other y = same_no (name_in_row s tab (j - 1)).text t (λ e. never y ((by_eq Part t k).1 (part ∙ e)))
+            other y = same_no (name_in_row s tab (j - 1)).text t (λ e. never y (k.1 (part ∙ e)))
 
             pub chain_on : {next : ℕ} → next ≡ get_or tab (2048 + (j - 1) * 3 + 2) 0 → b ≡ false → Chained n next
             chain_on q y = record {

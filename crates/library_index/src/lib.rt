@@ -52,7 +52,8 @@ pub fn length_of(tab: &[u32], i: usize) -> usize
     tab[BUCKETS + i * ROW + 1] as usize
 }
 
-// Goes through the names of the bucket `h`, which is that of `name`, to the one with its bytes.
+// Goes through the names of the bucket `h`, which is that of `name`, to the one with its bytes. By `check::same`: with `==` of slices, which goes by groups of
+// bytes, a graph of many short names took a tenth more instructions.
 fn seek(s: &[u8], tab: &[u32], count: usize, h: usize, name: &[u8]) -> Option<usize>
     requires { Sought s.now tab.now count h name.now }
     ensures { result ≡ first_of name.now (names_in s.now tab.now count) }
@@ -63,7 +64,7 @@ fn seek(s: &[u8], tab: &[u32], count: usize, h: usize, name: &[u8]) -> Option<us
         let row = BUCKETS + i * ROW;
         let place = tab[row] as usize;
         let len = tab[row + 1] as usize;
-        if &s[place..place + len] == name {
+        if check::same(&s[place..place + len], name) {
             return Some(i);
         }
         j = tab[row + 2] as usize;
