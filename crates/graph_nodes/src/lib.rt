@@ -8,13 +8,25 @@ ghost use Rattle.library_items.specs.Table.{item_in, item_word, Itemized};
 ghost use Rattle.graph.specs.Nodes.{mode_of};
 ghost use Rattle.graph.specs.Numbers.{number_of};
 ghost use Rattle.graph_nodes.specs.Adding.{node_table, is_entry, is_sub, so, add_name, add_item, names_held, Adds, AddsItem, Grew, Constructed, Stands};
-ghost use Rattle.graph_nodes.specs.Adding.{Numbered};
+ghost use Rattle.graph_nodes.specs.Adding.{nodes_number, Numbered};
 
-use graph::NodeIndex;
+use graph::{NoGraph, NodeIndex};
 use library_items::Kind;
+use text::Reason;
 
 // How many words the index of nodes has, with room for one too many.
 pub const NODE_TABLE: usize = 5123;
+
+// Of the nodes that were made, if they were not too many: the number of the refusal, or 0.
+#[tactic(auto, unfolding(crate::specs::Adding::nodes_number))]
+pub fn nodes_number(made: Option<usize>) -> u32
+    ensures { result ≡ nodes_number made }
+{
+    match made {
+        Some(_) => Reason::Nothing as u32,
+        None => NoGraph::TooManyNodes as u32,
+    }
+}
 
 // A module or an import-only module.
 pub fn is_entry(kind: Kind) -> bool

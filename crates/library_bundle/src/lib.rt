@@ -21,11 +21,15 @@ pub const MOST_TEXTS: usize = 2048;
 pub const TABLE: usize = 8192;
 
 // Reads the text at `at` and puts its name into the table, behind `i` others, none of which may have that name. A text cut short is wrong at its length.
+// A `match` and no `?` here and in `find_text`: so an edit can change the answer to what is wrong and keep all else, and is refused by the contract alone.
 fn file(s: &[u8], tab: &mut [u32], i: usize, at: usize) -> Result<usize, WrongAt>
     requires { Space s.now tab.old i }
     ensures { FiledAs s.now tab.old i at result tab.new }
 {
-    let (word, len) = library_index::take_name(s, tab, i, at)?;
+    let (word, len) = match library_index::take_name(s, tab, i, at) {
+        Ok(named) => named,
+        Err(p) => return Err(p),
+    };
     let end = word + len;
     let (size, body) = ImageCursor { at: end }.number(s)?;
     if s.len() - body.at < size {
@@ -130,6 +134,8 @@ pub fn find_text(bundle: &[u8], name: &[u8]) -> Result<Option<(usize, usize)>, W
     ensures { result ≡ look_up bundle.now name.now }
 {
     let mut tab: [u32; TABLE] = [0; TABLE];
-    let count = open(bundle, &mut tab)?;
-    Ok(find(bundle, &tab, count, name))
+    match open(bundle, &mut tab) {
+        Ok(count) => Ok(find(bundle, &tab, count, name)),
+        Err(p) => Err(p),
+    }
 }

@@ -4,20 +4,20 @@ use Rattle.library_form.proofs.Handed.{handed}
 use Rattle.library_bundle.proofs.Filing.{no_name, end_fits, no_length, body_in, cut, entered}
 use Rattle.library_bundle.proofs.file.Goals as goal
 
-pub returns-in_err-word : goal.returns-in_err-word
-returns-in_err-word c = rw (handed _ c.from_residual.ensures.1) (search (no_name, c.in_err-word.ensures))
+pub returns-in-Err : goal.returns-in-Err
+returns-in-Err c = search (no_name, c.in-Err.ensures)
 
 pub overflow_add-end : goal.overflow_add-end
-overflow_add-end c = search (end_fits, c.in_ok-word.ensures)
+overflow_add-end c = search (end_fits, c.in-Ok.ensures)
 
 pub returns-in_err-size : goal.returns-in_err-size
-returns-in_err-size c = rw (handed _ c.from_residual-in_err-size.ensures.1) (search (no_length, c.in_ok-word.ensures, c.in_err-size.ensures))
+returns-in_err-size c = rw (handed _ c.from_residual.ensures.1) (search (no_length, c.in-Ok.ensures, c.in_err-size.ensures))
 
 pub overflow_sub-s : goal.overflow_sub-s
-overflow_sub-s c = search (body_in, c.in_ok-word.ensures, c.in_ok-size.ensures)
+overflow_sub-s c = search (body_in, c.in-Ok.ensures, c.in_ok-size.ensures)
 
 pub returns-then-s-body : goal.returns-then-s-body
-returns-then-s-body c = search (cut, c.in_ok-word.ensures, c.in_ok-size.ensures)
+returns-then-s-body c = search (cut, c.in-Ok.ensures, c.in_ok-size.ensures)
 
 pub returns : goal.returns
-returns c = search (entered, c.in_ok-word.ensures, c.in_ok-size.ensures)
+returns c = search (entered, c.in-Ok.ensures, c.in_ok-size.ensures)
