@@ -159,9 +159,11 @@ fn lists_checked<R: Print>(rt: &R) -> io::Result<()> {
 
 fn main(rt: HostRuntime) -> io::Result<()> {
     // A record has three fields.
-    let run = replay::replay_file(&rt, b"orders.vec", |data, at| {
+    let mut space = [0u8; 131072];
+    let n = replay::read_file(&rt, b"orders.vec", &mut space)?;
+    let run = replay::replay_all(&space[..n], |data, at| {
         (record_agrees(data, at), replay::after_fields(data, at, 3))
-    })?;
+    });
     run.say(&rt, b" orders")?;
     lowest_free_first(&rt)?;
     ring_along_the_edges(&rt)?;

@@ -71,6 +71,9 @@ fn find_prefix(from: Cursor, classes: &ByteClasses, s: &[u8]) -> Option<Cursor> 
     let mut at = from;
     for _ in 0..s.len() {
         let here = at.skip_whitespace_and_comments(classes, s);
+        if s.len() <= here.at {
+            return None;
+        }
         if let Some(c) = here.match_keyword(classes, s, b"prefix") {
             return Some(c);
         }
