@@ -28,6 +28,10 @@ TOPICS = [
     ("what an order is, by edges alone", set(), ["demands_order/Order", "demands/OrderCalls"]),
     ("document 01's starred examples", set(), ["demands/Starred"]),
 ]
+# A type of the code with an `impl Model`: contracts see it by definitions, which the impl names. `Own` is the type as a file of definitions uses it.
+MODEL = re.compile(r"^impl(?:<[^>]*>)? Model for (\w+)[^\n]*\n(.*?)^\}", re.M | re.S)
+GHOST = re.compile(r"\s*ghost use Rattle\.([a-z_0-9]+)\.specs\.(\w+)\.\{([^}]*)\};$")
+OWN = re.compile(r"use Rattle\.([a-z_0-9]+)\.specs\.declared\.(\w+)\.\{\2\}$")
 USE = re.compile(r"use Rattle\.([a-z_0-9]+)\.specs\.(\w+)(?:\.\{([^}]*)\}| as (\w+))$")
 DEFINED = re.compile(r"\s*(?:(?:abbrev |unfoldable )*(?:pub )?(\S+) :|(?:pub )?(?:record|data|module) (\S+))")
 TOKEN = re.compile(r"[^\s(){};,]+")
@@ -39,11 +43,14 @@ class File:
     def __init__(self, name):
         crate, stem = name.split("/")
         parts = re.split(r"\n{2,}", (CRATES / crate / "specs" / f"{stem}.antt").read_text().strip())
-        self.parts, self.owner, self.imported, self.alias = {}, {}, {}, {}
+        self.parts, self.owner, self.imported, self.alias, self.seen = {}, {}, {}, {}, {}
         for line in parts[0].split("\n"):
             hit = USE.match(line)
             if hit and (CRATES / hit[1]).is_dir():  # else it is the kit's
                 self.take(*hit.groups())
+            own = OWN.match(line)
+            if own and (CRATES / own[1]).is_dir():
+                self.seen[own[2]] = views(own[1]).get(own[2], [])
         for at, part in enumerate(parts[1:], 1):
             lines = [line for line in part.split("\n") if not line.startswith("--")]
             if not lines:
@@ -67,10 +74,26 @@ class File:
                 yield self.alias[head], rest
                 continue
             for name in {token, head}:  # a name, or one whose field is taken
+                yield from self.seen.get(name, [])
                 if name in self.imported:
                     yield self.imported[name]
                 elif name in self.owner:
                     yield None, name
+
+
+VIEWS = {}
+
+
+def views(crate):
+    """What contracts see of the crate's types, each by the definitions that its impl names."""
+    if crate not in VIEWS:
+        VIEWS[crate] = {}
+        for source in sorted((CRATES / crate / "src").glob("*.rt")):
+            for kind, body in MODEL.findall(source.read_text()):
+                named = [(f"{use[1]}/{use[2]}", word.strip()) for line in body.split("\n") for use in [GHOST.match(line)] if use and (CRATES / use[1]).is_dir()
+                         for word in use[3].split(",")]
+                VIEWS[crate][kind] = named
+    return VIEWS[crate]
 
 
 FILES = {}
