@@ -6,4 +6,3 @@ pub mod Once
 pub mod Meaning
 pub mod Demand3
 pub mod Complete
-pub mod Why

@@ -7,7 +7,6 @@ ghost use Rattle.std.specs.Prelude.{◌≡◌};
 ghost use Rattle.graph_draw.specs.Draw.{BothRead, Lent};
 ghost use Rattle.graph_build.specs.Result.{draw_result, refused_at};
 ghost use Rattle.graph_build.specs.Between.{LentNodes, Holds};
-ghost use Rattle.graph.specs.Why.{why_number};
 
 use graph::NoGraph;
 use std::marker::Model;
@@ -37,7 +36,7 @@ impl Model for GraphRefusal {
 
 // A graph that is refused for this reason at this place, by no entry and no scan.
 pub fn refused_at(reason: NoGraph, place: usize) -> GraphRefusal
-    ensures { result ≡ refused_at (why_number reason) place }
+    ensures { result ≡ refused_at reason.0 place }
 {
     GraphRefusal {
         reason,
@@ -72,7 +71,7 @@ pub fn draw(
     let count = library_items::list_items(image, &mut table);
     let mut ntab: [u32; graph_nodes::NODE_TABLE] = [0; graph_nodes::NODE_TABLE];
     let made = graph_nodes::construct_nodes(image, complete, &table, count, &mut ntab);
-    let n = made.ok_or(refused_at(NoGraph::TooManyNodes, 0))?;
+    let n = made.ok_or(refused_at(NoGraph::TOO_MANY_NODES, 0))?;
     let m = graph_draw::draw_edges(
         image, bundle, btab, texts, &ntab, n, &table, count, edges, store, imports, includes,
         levels,

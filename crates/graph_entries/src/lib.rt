@@ -32,7 +32,7 @@ fn next_entry(kind: Kind, entry: usize) -> usize
     requires { entry < most_items }
     ensures { result ≡ cond (is_entry kind) (entry + 1) entry }
 {
-    if graph_nodes::is_entry(kind) {
+    if graph_nodes::is_entry(kind.number()) {
         entry + 1
     } else {
         entry
@@ -44,7 +44,7 @@ fn next_node(image: &[u8], ntab: &[u32], n: usize, x: Item, v: NodeIndex) -> Nod
     requires { Next image.now ntab.now n x v.0 }
     ensures { (result.0 ≡ next_node (names_held image.now ntab.now n) (item_word image.now x) v.0) × (result.0 < n) }
 {
-    if graph_nodes::is_entry(x.kind) {
+    if graph_nodes::is_entry(x.kind.number()) {
         graph_nodes::node_at(image, ntab, n, x.place, x.size)
     } else {
         v
@@ -80,10 +80,10 @@ fn walk_item(
         (names_held ground.entry.nodes.image.now ground.entry.nodes.ntab.now ground.entry.nodes.count))
         result levels.new edges.new }
 {
-    if graph_nodes::is_entry(x.kind) {
+    if graph_nodes::is_entry(x.kind.number()) {
         let spot = Spot {
             left: DEEPEST,
-            absent: NoGraph::NoEntryText,
+            absent: NoGraph::NO_ENTRY_TEXT,
             node: v,
             count,
         };

@@ -8,7 +8,6 @@ ghost use Rattle.graph_edges.specs.Edges.{rows_in, Filed};
 ghost use Rattle.graph_nodes.specs.Adding.{names_held};
 ghost use Rattle.graph_marks.specs.Marks.{known_at, included_code, IncludedNode};
 ghost use Rattle.graph_link.specs.Link.{stopped_at, either_code, import_codes, include_codes, ImportRows, IncludeRows, Drew, Saved, Stepped};
-ghost use Rattle.graph.specs.Why.{why_number};
 
 use graph::{NoGraph, NodeIndex};
 use graph_marks::{Included, MarkedNodes};
@@ -36,7 +35,7 @@ impl Model for Stopped {
 
 // A walk that ends for this reason, where no scan refuses.
 pub fn stop_with(reason: NoGraph) -> Stopped
-    ensures { result ≡ stopped_at (why_number reason) }
+    ensures { result ≡ stopped_at reason.0 }
 {
     Stopped {
         reason,
@@ -59,9 +58,9 @@ pub fn link_known(
         (rows_in count edges.old))
         edges.old chains.old result edges.new chains.new }
 {
-    let u = graph_marks::find_known(nodes, name).ok_or(stop_with(NoGraph::UnknownModule))?;
+    let u = graph_marks::find_known(nodes, name).ok_or(stop_with(NoGraph::UNKNOWN_MODULE))?;
     let (from, to) = if given { (v, u) } else { (u, v) };
-    graph_edges::add_edge(edges, chains, count, from, to).ok_or(stop_with(NoGraph::TooManyEdges))
+    graph_edges::add_edge(edges, chains, count, from, to).ok_or(stop_with(NoGraph::TOO_MANY_EDGES))
 }
 
 // The edges of a text's imports.
@@ -138,17 +137,17 @@ pub fn step(
         chains.new }
 {
     if word == 0 {
-        return Err(stop_with(NoGraph::UnknownSubmodule));
+        return Err(stop_with(NoGraph::UNKNOWN_SUBMODULE));
     }
     if word == 1 {
-        return Err(stop_with(NoGraph::NoNode));
+        return Err(stop_with(NoGraph::NO_NODE));
     }
     let u = graph::node_of(word as usize - 2);
     let m = graph_edges::add_edge(edges, chains, count, u, v).ok_or(stop_with(
-        NoGraph::TooManyEdges,
+        NoGraph::TOO_MANY_EDGES,
     ))?;
     if left == 0 {
-        return Err(stop_with(NoGraph::TooDeep));
+        return Err(stop_with(NoGraph::TOO_DEEP));
     }
     Ok((u, m))
 }

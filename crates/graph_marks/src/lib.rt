@@ -34,7 +34,7 @@ fn mark_item(s: &[u8], table: &[u32], i: usize, tab: &[u32], n: usize, marks: &m
         return;
     };
     let at = graph::pair_row(graph::node_of(k));
-    if graph_nodes::is_entry(x.kind) {
+    if graph_nodes::is_entry(x.kind.number()) {
         marks[at] = 1;
     } else if is_submodule(x.kind) {
         marks[at + 1] = 1;

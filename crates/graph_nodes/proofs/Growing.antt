@@ -15,9 +15,11 @@ use Rattle.library_index.specs.Names.{among, names_in, Cleared, Added}
 use Rattle.library_index.proofs.First.{not_among, is_among}
 use Rattle.library_index.proofs.Chain.{length_names}
 use Rattle.library_index.proofs.Insert.{none_yet}
-use Rattle.library_items.specs.Items.{ItemOf, library_of}
+use Rattle.library_items.specs.Items.{ItemOf, library_of, kind_of, number_of as kind_number}
 use Rattle.library_items.specs.Table.{item_in, item_word, items_in, items_from, Itemized}
 use Rattle.library_items.specs.declared.Item.{Item}
+use Rattle.library_items.specs.declared.Kind.{Kind}
+use Rattle.library_items.proofs.OfNumber.{kind_back}
 use Rattle.library_items.proofs.Through.{items_from_lem}
 use Rattle.graph.specs.Limits.{most_nodes}
 use Rattle.graph.specs.Nodes.{mode_of}
@@ -66,6 +68,10 @@ module _ (s tab after : List ℕ) (n place size : ℕ) (there : Bool) where
       record { answer = subst (λ (x : Adding). GrownAs (Some ((n + 1), true)) s after x) (sym (is_new q a)) (k, refl); kept = a.kept }
 
 -- ---- an item
+
+-- an entry, by the number of its kind
+pub entry_told : {b : Bool} {m : ℕ} (k : Kind) → b ≡ is_entry (kind_of m) → m ≡ kind_number k → b ≡ is_entry k
+entry_told k e z = e ∙ ap (λ j. is_entry (kind_of j)) z ∙ ap is_entry (kind_back k)
 
 pub item_asks : (s table tab : List ℕ) (i n : ℕ) {x : Item} → x ≡ item_in table i → AddsItem s table i tab n → Adds s tab n x.place x.size
 item_asks s table tab i n {x} e h = subst (λ (y : Item). Adds s tab n y.place y.size) (sym e)

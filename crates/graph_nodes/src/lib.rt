@@ -4,6 +4,7 @@
 ghost use Rattle.std.specs.Prelude.{◌≡◌, false, [], ◌+◌, ◌≤◌, ◌<◌, length, get_or};
 ghost use Rattle.library_form.specs.Form.{word_at};
 ghost use Rattle.library_index.specs.Names.{names_in};
+ghost use Rattle.library_items.specs.Items.{kind_of};
 ghost use Rattle.library_items.specs.Table.{item_in, item_word, Itemized};
 ghost use Rattle.graph.specs.Nodes.{mode_of};
 ghost use Rattle.graph.specs.Numbers.{number_of};
@@ -23,16 +24,16 @@ pub fn nodes_number(made: Option<usize>) -> u32
     ensures { result ≡ nodes_number made }
 {
     match made {
-        Some(_) => Reason::Nothing as u32,
-        None => NoGraph::TooManyNodes as u32,
+        Some(_) => Reason::NOTHING.0,
+        None => NoGraph::TOO_MANY_NODES.0,
     }
 }
 
-// A module or an import-only module.
-pub fn is_entry(kind: Kind) -> bool
-    ensures { result ≡ is_entry kind }
+// A module or an import-only module, by the number of its kind. Any other number gives false.
+pub fn is_entry(kind: usize) -> bool
+    ensures { result ≡ is_entry (kind_of kind) }
 {
-    matches!(kind, Kind::Module | Kind::ImportOnly)
+    kind == Kind::Module.number() || kind == Kind::ImportOnly.number()
 }
 
 // A submodule that becomes a node with its module; that of a later revision only if `complete`.
@@ -85,7 +86,7 @@ fn add_item(
         result tab.new }
 {
     let x = library_items::get_item(table, i);
-    if is_entry(x.kind) {
+    if is_entry(x.kind.number()) {
         return add_name(s, tab, n, complete, x.place, x.size);
     }
     if adding && is_sub(complete, x.kind) {

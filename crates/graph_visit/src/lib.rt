@@ -9,7 +9,6 @@ ghost use Rattle.graph_nodes.specs.Adding.{names_held};
 ghost use Rattle.graph_memory.specs.Memory.{remembered};
 ghost use Rattle.graph_link.specs.Link.{level_at};
 ghost use Rattle.graph_visit.specs.Visit.{codes_here, HoldsTexts, Room, Kept, Called, visited, met_here};
-ghost use Rattle.graph.specs.Why.{why_number};
 
 use graph::{NoGraph, NodeIndex};
 use graph_link::Stopped;
@@ -58,7 +57,7 @@ pub fn visit(
         × (remembered levels.old spot.node.0 ≡ unread) }
     ensures { Called (visited (codes_here ground.entry.nodes.image.now ground.entry.bundle.now
         (names_held ground.entry.nodes.image.now ground.entry.nodes.ntab.now ground.entry.nodes.count))
-        (why_number spot.absent) spot.node.0 (rows_in spot.count edges.old) levels.old)
+        spot.absent.0 spot.node.0 (rows_in spot.count edges.old) levels.old)
         ground.entry.nodes.count spot.left spot.node.0 spot.count
         edges.old chains.old result levels.new edges.new chains.new
         × Kept (level_at (spot.left + 1)) store.old imports.old includes.old levels.old
@@ -81,7 +80,7 @@ pub fn visit(
         Ok(Some(rows)) => rows,
         Ok(None) => return Err(graph_link::stop_with(spot.absent)),
         Err(scan) => return Err(Stopped {
-            reason: NoGraph::ScanRefused,
+            reason: NoGraph::SCAN_REFUSED,
             scan,
         }),
     };
@@ -114,14 +113,14 @@ pub fn meet(
         × (spot.node.0 < ground.nodes.count) }
     ensures { Called (met_here (codes_here ground.entry.nodes.image.now ground.entry.bundle.now
         (names_held ground.entry.nodes.image.now ground.entry.nodes.ntab.now ground.entry.nodes.count))
-        spot.left (why_number spot.absent) spot.node.0 (rows_in spot.count edges.old) levels.old)
+        spot.left spot.absent.0 spot.node.0 (rows_in spot.count edges.old) levels.old)
         ground.entry.nodes.count spot.left spot.node.0 spot.count
         edges.old chains.old result levels.new edges.new chains.new
         × Kept (level_at (spot.left + 1)) store.old imports.old includes.old levels.old
         store.new imports.new includes.new levels.new }
 {
     match graph_memory::recall(levels, spot.left, spot.node) {
-        Recalled::TooDeep => Err(graph_link::stop_with(NoGraph::TooDeep)),
+        Recalled::TooDeep => Err(graph_link::stop_with(NoGraph::TOO_DEEP)),
         Recalled::Known => Ok(None),
         Recalled::Unread => visit(
             ground, store, imports, includes, levels, edges, chains, spot,

@@ -11,7 +11,6 @@ ghost use Rattle.graph_memory.specs.Memory.{remembered};
 ghost use Rattle.graph_link.specs.Link.{level_at};
 ghost use Rattle.graph_visit.specs.Visit.{codes_here, Room, Kept};
 ghost use Rattle.graph_walk.specs.Walk.{Through};
-ghost use Rattle.graph.specs.Why.{why_number};
 
 use graph::NoGraph;
 use graph_link::Stopped;
@@ -33,7 +32,7 @@ pub fn walk(
     ensures { Through (walk_once
         (codes_here ground.entry.nodes.image.now ground.entry.bundle.now
         (names_held ground.entry.nodes.image.now ground.entry.nodes.ntab.now ground.entry.nodes.count))
-        most_edges spot.left (why_number spot.absent) spot.node.0 (rows_in spot.count edges.old) (remembered levels.old))
+        most_edges spot.left spot.absent.0 spot.node.0 (rows_in spot.count edges.old) (remembered levels.old))
         spot.left spot.node.0 edges.old chains.old result levels.new edges.new chains.new
         × Kept (level_at (spot.left + 1)) store.old imports.old includes.old levels.old
         store.new imports.new includes.new levels.new }
@@ -53,7 +52,7 @@ pub fn walk(
         let (u, m) = graph_link::step(levels[base + i], left, edges, chains, v, total)?;
         let child = Spot {
             left: left - 1,
-            absent: NoGraph::NoIncludedText,
+            absent: NoGraph::NO_INCLUDED_TEXT,
             node: u,
             count: m,
         };

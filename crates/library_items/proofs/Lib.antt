@@ -1,3 +1,4 @@
+pub mod OfNumber
 pub mod Storing
 pub mod Ahead
 pub mod Parts

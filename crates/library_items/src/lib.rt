@@ -44,11 +44,13 @@ pub struct Reach {
     pub at: usize,
 }
 
-// The number that stands for a kind in the table.
-fn number_of(kind: Kind) -> usize
-    ensures { result ≡ number_of kind }
-{
-    kind as usize
+impl Kind {
+    // The number that stands for a kind in the table.
+    pub fn number(self) -> usize
+        ensures { result ≡ number_of self }
+    {
+        self as usize
+    }
 }
 
 // The kind that a number stands for.
@@ -86,7 +88,7 @@ fn put_item(tab: &mut [u32], n: usize, x: Item)
     requires { Puts tab.old n x }
     ensures { Laid tab.old n x tab.new }
 {
-    let word = x.size * KINDS + number_of(x.kind);
+    let word = x.size * KINDS + x.kind.number();
     tab[n * 2] = x.place as u32;
     tab[n * 2 + 1] = word as u32;
 }

@@ -20,7 +20,7 @@ fn say_value<R: Print>(rt: &R, label: &[u8], store: &[u8], x: Span) -> io::Resul
 fn say<R: Print>(rt: &R, s: &[u8]) -> io::Result<()> {
     let mut store = [0u8; MOST];
     let read = scan_metadata::extract_yang_metadata(false, s, &mut store);
-    if read.answer.reason != Reason::Nothing {
+    if read.answer.reason != Reason::NOTHING {
         return host_input::say_refused(rt, read.answer);
     }
     let values = read.values;

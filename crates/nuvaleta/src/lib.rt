@@ -44,7 +44,7 @@ fn graph_words(graphed: Result<(usize, usize), GraphRefusal>) -> [u32; 8]
 {
     match graphed {
         Ok((n, m)) => host_words::graph_built_words(n, m),
-        Err(r) => host_words::graph_refused_words(r.reason as u32, r.entry, r.scan, r.place),
+        Err(r) => host_words::graph_refused_words(r.reason.0, r.entry, r.scan, r.place),
     }
 }
 

@@ -94,7 +94,7 @@ fn number_told(recorded: u32, is: u32) -> bool
     ensures { result ≡ number_told_as recorded is }
 {
     match recorded {
-        FIVE_OR_SIX => is == Reason::OtherByte as u32 || is == Reason::EndOfText as u32,
+        FIVE_OR_SIX => is == Reason::OTHER_BYTE.0 || is == Reason::END_OF_TEXT.0,
         _ => recorded == is,
     }
 }

@@ -105,7 +105,7 @@ fn parse_inside(
     let b = text::peek_char(s, here.at);
     if b == text::END {
         return Err(Refusal {
-            reason: Reason::OpenEnded,
+            reason: Reason::OPEN_ENDED,
             keyword,
             at: here.at,
         });

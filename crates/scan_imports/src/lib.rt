@@ -55,7 +55,7 @@ fn import_of(name: Span, body: Body) -> Result<(Cursor, usize, YangImport), Refu
         Ok((Cursor { at: body.at }, body.used, import))
     } else {
         Err(Refusal {
-            reason: Reason::NoPrefix,
+            reason: Reason::NO_PREFIX,
             keyword: text::IMPORT,
             at: body.at,
         })

@@ -56,7 +56,7 @@ fn parse_cleared(
     ensures { Leaves (scanned whole s.now) store.old result store.new }
 {
     let parsed = parse_metadata(classes, whole, s, store);
-    if parsed.answer.reason != Reason::Nothing {
+    if parsed.answer.reason != Reason::NOTHING {
         store.fill(0);
     }
     parsed
@@ -110,7 +110,7 @@ fn ended(values: [Span; 6], used: usize, end: Cursor) -> YangModuleMetadata
         }
     } else {
         refused(Refusal {
-            reason: Reason::NoName,
+            reason: Reason::NO_NAME,
             keyword: 0,
             at: end.at,
         })

@@ -10,7 +10,6 @@ ghost use Rattle.text.specs.Scan.{in_ident, in_run, run_end, block_end, pair_at,
 ghost use Rattle.text.specs.Keyword.{starts_ident, ends_keyword, wordly, begins, match_at, or_match};
 ghost use Rattle.text.specs.Due.{due_here, due_at};
 ghost use Rattle.text.specs.Refusal.{no_refusal, refusal_of, cut_at, is_high, high_at, refused_at};
-ghost use Rattle.text.specs.Reasons.{number_of};
 
 use std::marker::Model;
 
@@ -124,31 +123,46 @@ pub struct Cursor {
     pub at: usize,
 }
 
-// Why a text is refused, by document 01's numbers.
+// Why a text is refused: document 01's number, which is what contracts see, with a name for each. It is no enum: functions that take a refusal take it with any
+// number, and an enum could hold only those that have a name.
 #[derive(Clone, Copy, Debug, PartialEq, Eq)]
-pub enum Reason {
+pub struct Reason(pub u32);
+
+impl Reason {
     // Nothing is refused.
-    Nothing = 0,
-    TextTooLong = 1,
-    LentTooShort = 2,
+    pub const NOTHING: Reason = Reason(0);
+
+    pub const TEXT_TOO_LONG: Reason = Reason(1);
+
+    pub const LENT_TOO_SHORT: Reason = Reason(2);
+
     // A byte of 128 or more outside strings and comments.
-    HighByte = 3,
+    pub const HIGH_BYTE: Reason = Reason(3);
+
     // No value after the keyword.
-    NoValue = 4,
+    pub const NO_VALUE: Reason = Reason(4);
+
     // Another byte than the one required, and the end instead of it.
-    OtherByte = 5,
-    EndOfText = 6,
+    pub const OTHER_BYTE: Reason = Reason(5);
+
+    pub const END_OF_TEXT: Reason = Reason(6);
+
     // An import that its block closes without a prefix.
-    NoPrefix = 7,
+    pub const NO_PREFIX: Reason = Reason(7);
+
     // The end inside a block.
-    OpenEnded = 8,
+    pub const OPEN_ENDED: Reason = Reason(8);
+
     // A module without a name.
-    NoName = 9,
+    pub const NO_NAME: Reason = Reason(9);
+
     // A row too many.
-    TooMany = 10,
+    pub const TOO_MANY: Reason = Reason(10);
+
     // The text breaks off.
-    CutShort = 11,
-    NotUtf8 = 12,
+    pub const CUT_SHORT: Reason = Reason(11);
+
+    pub const NOT_UTF8: Reason = Reason(12);
 }
 
 // A refusal: why, its keyword's number and its place. Contracts see the number of the reason.
@@ -176,7 +190,7 @@ impl Refusal {
     pub fn number(self) -> u32
         ensures { result ≡ self.number }
     {
-        self.reason as u32
+        self.reason.0
     }
 }
 
@@ -206,7 +220,7 @@ pub fn no_refusal() -> Refusal
     ensures { result ≡ no_refusal }
 {
     Refusal {
-        reason: Reason::Nothing,
+        reason: Reason::NOTHING,
         keyword: 0,
         at: 0,
     }
@@ -217,7 +231,7 @@ pub fn cut_short(end: usize) -> Refusal
     ensures { result ≡ cut_at end }
 {
     Refusal {
-        reason: Reason::CutShort,
+        reason: Reason::CUT_SHORT,
         keyword: 0,
         at: end,
     }
@@ -246,7 +260,7 @@ pub fn high_byte(at: usize) -> Refusal
     ensures { result ≡ high_at at }
 {
     Refusal {
-        reason: Reason::HighByte,
+        reason: Reason::HIGH_BYTE,
         keyword: 0,
         at,
     }
@@ -255,7 +269,7 @@ pub fn high_byte(at: usize) -> Refusal
 // The refusal of what stands at a place: of a byte of 128 or more (3), else for this reason with the keyword.
 #[tactic(auto, unfolding(crate::specs::Refusal::refused_at))]
 pub fn refused_at(b: u16, reason: Reason, keyword: u32, at: usize) -> Refusal
-    ensures { result ≡ refused_at b (number_of reason) keyword at }
+    ensures { result ≡ refused_at b reason.0 keyword at }
 {
     if is_high(b) {
         return high_byte(at);
@@ -318,11 +332,11 @@ impl Cursor {
         match peek_char(s, self.at) {
             c if c == b => Ok(Cursor { at: self.at + 1 }),
             END => Err(Refusal {
-                reason: Reason::EndOfText,
+                reason: Reason::END_OF_TEXT,
                 keyword,
                 at: self.at,
             }),
-            c => Err(refused_at(c, Reason::OtherByte, keyword, self.at)),
+            c => Err(refused_at(c, Reason::OTHER_BYTE, keyword, self.at)),
         }
     }
 }

@@ -30,14 +30,14 @@ pub fn check_lent(s: &[u8], short: bool) -> Result<(), Refusal>
 {
     if MOST_TEXT < s.len() {
         return Err(Refusal {
-            reason: Reason::TextTooLong,
+            reason: Reason::TEXT_TOO_LONG,
             keyword: 0,
             at: 0,
         });
     }
     if short {
         return Err(Refusal {
-            reason: Reason::LentTooShort,
+            reason: Reason::LENT_TOO_SHORT,
             keyword: 0,
             at: 0,
         });
@@ -45,7 +45,7 @@ pub fn check_lent(s: &[u8], short: bool) -> Result<(), Refusal>
     let at = text_utf8::utf8_end(s);
     if at < s.len() {
         return Err(Refusal {
-            reason: Reason::NotUtf8,
+            reason: Reason::NOT_UTF8,
             keyword: 0,
             at,
         });

@@ -40,7 +40,7 @@ pub fn read_value(
     }
     let at = got.end.at;
     let Some(n) = got.used else {
-        return Err(text::refused_at(text::peek_char(s, at), Reason::NoValue, keyword, at));
+        return Err(text::refused_at(text::peek_char(s, at), Reason::NO_VALUE, keyword, at));
     };
     Ok((got.end, n))
 }

@@ -29,10 +29,10 @@ fn read_and_draw(
         nodes.old edges.old store.old imports.old includes.old levels.old result
         nodes.new edges.new store.new imports.new includes.new levels.new }
 {
-    library_read::read_image(image).map_err(|p| graph_build::refused_at(NoGraph::ImageBroken, p))?;
+    library_read::read_image(image).map_err(|p| graph_build::refused_at(NoGraph::IMAGE_BROKEN, p))?;
     let mut btab: [u32; library_bundle::TABLE] = [0; library_bundle::TABLE];
     let texts = library_bundle::open(bundle, &mut btab).map_err(|p| graph_build::refused_at(
-        NoGraph::BundleBroken,
+        NoGraph::BUNDLE_BROKEN,
         p,
     ))?;
     let longest = library_bundle::longest(bundle, &btab, texts);
@@ -45,7 +45,7 @@ fn read_and_draw(
         includes.len(),
         levels.len(),
     ) {
-        return Err(graph_build::refused_at(NoGraph::LentTooShort, 0));
+        return Err(graph_build::refused_at(NoGraph::LENT_TOO_SHORT, 0));
     }
     graph_build::draw(
         image, bundle, complete, &btab, texts, nodes, edges, store, imports, includes, levels,

@@ -60,7 +60,7 @@ fn graph_agrees(
         Ok((n, m)) => {
             replay::word(answer, 0) == 0 && tables_agree(data, nodes_at, &nodes, n, &edges, m)
         }
-        Err(r) => refusal_agrees(answer, r.reason as u32, r.scan),
+        Err(r) => refusal_agrees(answer, r.reason.0, r.scan),
     }
 }
 

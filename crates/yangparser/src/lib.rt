@@ -191,7 +191,7 @@ fn full(keyword: u32, here: Cursor) -> Result<Option<Sofar>, Refusal>
     ensures { result ≡ full keyword here.at }
 {
     Err(Refusal {
-        reason: Reason::TooMany,
+        reason: Reason::TOO_MANY,
         keyword,
         at: here.at,
     })

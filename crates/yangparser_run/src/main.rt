@@ -121,7 +121,7 @@ fn dependencies_agree(whole: bool, s: &[u8], answer: &[u8], data: &[u8], values_
 fn metadata_agrees(whole: bool, s: &[u8], answer: &[u8], data: &[u8], values_at: usize) -> bool {
     let mut store = [0u8; 4096];
     let read = scan_metadata::extract_yang_metadata(whole, s, &mut store);
-    if read.answer.reason != Reason::Nothing {
+    if read.answer.reason != Reason::NOTHING {
         return replay::refusal_agrees(answer, 0, read.answer);
     }
     replay::word(answer, 0) == 0

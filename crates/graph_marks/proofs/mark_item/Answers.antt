@@ -1,5 +1,6 @@
 -- `graph_marks::mark_item`. Each way out is one law of Setting.
 -- Assumes nothing.
+use Rattle.graph_nodes.proofs.Growing.{entry_told}
 use Rattle.graph_marks.proofs.Setting.{end_in, end_fits, row_low, node_low, at_bytes, at_in, next_fits, next_bytes, next_in, mark_nowhere, mark_other}
 use Rattle.graph_marks.proofs.Setting.{mark_entry, mark_sub}
 use borrow.Author.Rules.{rules}
@@ -28,10 +29,10 @@ pub bounds-marks-at : goal.bounds-marks-at
 bounds-marks-at c = search at_in
 
 pub returns-then-is_entry : goal.returns-then-is_entry
-returns-then-is_entry c = (search mark_entry, search rules)
+returns-then-is_entry c = (search (mark_entry, entry_told), search rules)
 
 pub returns-else-is_submodule : goal.returns-else-is_submodule
-returns-else-is_submodule c = (search mark_other, refl)
+returns-else-is_submodule c = (search (mark_other, entry_told), refl)
 
 pub overflow_add-marks : goal.overflow_add-marks
 overflow_add-marks c = search next_fits
@@ -43,4 +44,4 @@ pub bounds-marks-at-then-is_submodule : goal.bounds-marks-at-then-is_submodule
 bounds-marks-at-then-is_submodule c = search next_in
 
 pub returns-then-is_submodule : goal.returns-then-is_submodule
-returns-then-is_submodule c = (search mark_sub, search rules)
+returns-then-is_submodule c = (search (mark_sub, entry_told), search rules)

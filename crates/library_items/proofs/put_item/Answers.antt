@@ -9,4 +9,4 @@ pub bounds-tab-n-2 : goal.bounds-tab-n-2
 bounds-tab-n-2 c = simp length-set (omega arith)
 
 pub returns : goal.returns
-returns c = rw c.number_of.ensures (search laid)
+returns c = rw c.number.ensures (search laid)
