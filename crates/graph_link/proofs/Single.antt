@@ -21,7 +21,6 @@ use Rattle.graph.specs.Limits.{most_edges, most_nodes}
 use Rattle.graph_marks.specs.Marks.{Desk, known_at, resolved_code, included_code, ResolvedNode, IncludedNode}
 use Rattle.graph_marks.specs.declared.Included.{Included}
 use Rattle.graph_marks.specs.declared.Included.TheVariants.{Node as Among}
-use Rattle.graph_link.proofs.Handing.{was_none}
 use Rattle.graph_link.specs.Link.{stopped_at, either_code, Drew, Stepped}
 use Rattle.graph_link.specs.declared.Stopped.{Stopped}
 
@@ -39,17 +38,26 @@ module _ (r : Included) (v : NodeIndex) (row : ℕ) (e : r ≡ Among v) (z : row
 
 -- ---- an edge
 
-drew : (x : Option ℕ) (rs : List Row) (r : Row) (edges chains edges₁ chains₁ : List ℕ) (y : Stopped) (w : Result ℕ Stopped)
-    → Linked rs r edges chains x edges₁ chains₁
-    → y ≡ stopped_at 31 → w ≡ ok_or x y → Drew (add_row most_edges rs r) edges chains w edges₁ chains₁
-drew (Some n) rs r edges chains edges₁ chains₁ y w l z e = record {
+-- what an edge more comes to
+abbrev linked : Option ℕ → Result ℕ Stopped
+linked x = ok_or x (stopped_at 31)
+
+pub one_more : {x : Option ℕ} {n : ℕ} → x ≡ Some n → Ok n ≡ linked x
+one_more e = sym (ap linked e)
+
+pub full : {x : Option ℕ} {y : Stopped} → x ≡ None → y ≡ stopped_at 31 → Err y ≡ linked x
+full e z = ap Err z ∙ sym (ap linked e)
+
+drew : (x : Option ℕ) (rs : List Row) (r : Row) (edges chains edges₁ chains₁ : List ℕ) (w : Result ℕ Stopped) → Linked rs r edges chains x edges₁ chains₁
+    → w ≡ linked x → Drew (add_row most_edges rs r) edges chains w edges₁ chains₁
+drew (Some n) rs r edges chains edges₁ chains₁ w l e = record {
   seen = rw e l.seen;
   filed = rw e l.filed;
   kept_edges = l.kept_edges;
   kept_chains = l.kept_chains;
 }
-drew None rs r edges chains edges₁ chains₁ y w l z e =
-    record { seen = rw (e, z) l.seen; filed = rw e tt; kept_edges = l.kept_edges; kept_chains = l.kept_chains }
+drew None rs r edges chains edges₁ chains₁ w l e =
+    record { seen = rw e l.seen; filed = rw e tt; kept_edges = l.kept_edges; kept_chains = l.kept_chains }
 
 module _ (s tab : List ℕ) (n : ℕ) (marks : List ℕ) (d : Desk s tab n marks) where
   pub known_low : (r : Option NodeIndex) (u : NodeIndex) → r ≡ Some u → ResolvedNode r n → u.0 < most_nodes
@@ -60,28 +68,25 @@ module _ (s tab : List ℕ) (n : ℕ) (marks : List ℕ) (d : Desk s tab n marks
 
 module _ (s : List ℕ) (ns : List Name) (u : Name) (r : Option NodeIndex) (k : resolved_code r ≡ known_at s ns u) (given : Bool) (v : NodeIndex) (rs : List Row)
     (edges chains : List ℕ) where
-  pub unknown : {q : Result NodeIndex Stopped} {y z : Stopped} → q ≡ ok_or r y → q ≡ Err z → y ≡ stopped_at 26
-      → Drew (either_code given v.0 (known_at s ns u) rs) edges chains (Err z) edges chains
-  unknown {y = y} {z = z} e f g =
-      let w = was_none r y e f in
-      let h : z ≡ stopped_at 26 = w.1 ∙ g in
-      let p : known_at s ns u ≡ 0 = sym k ∙ ap resolved_code w.0 in
-      record { seen = rw (p, h) (none given); filed = tt; kept_edges = refl; kept_chains = refl }
+  pub unknown : {y : Stopped} → r ≡ None → y ≡ stopped_at 26 → Drew (either_code given v.0 (known_at s ns u) rs) edges chains (Err y) edges chains
+  unknown e z =
+      let p : known_at s ns u ≡ 0 = sym k ∙ ap resolved_code e in
+      record { seen = rw (p, z) (none given); filed = tt; kept_edges = refl; kept_chains = refl }
     where
       none : (b : Bool) → ◌≡◌ {A = Out Row} (refused 26 no_refusal) (cond b (refused 26 no_refusal) (refused 26 no_refusal))
       none true = refl
       none false = refl
 
-  module _ (y : NodeIndex) (e : r ≡ Some y) (edges₁ chains₁ : List ℕ) (x : Option ℕ) (why : Stopped) (w : Result ℕ Stopped) (z : why ≡ stopped_at 31)
-      (o : w ≡ ok_or x why) {p : NodeIndex × NodeIndex} (l : Linked rs (row p.0.0 p.1.0) edges chains x edges₁ chains₁) where
+  module _ (y : NodeIndex) (e : r ≡ Some y) (edges₁ chains₁ : List ℕ) (x : Option ℕ) {w : Result ℕ Stopped} (o : w ≡ linked x)
+      {p : NodeIndex × NodeIndex} (l : Linked rs (row p.0.0 p.1.0) edges chains x edges₁ chains₁) where
     code : known_at s ns u ≡ suc y.0
     code = sym k ∙ ap resolved_code e
 
     pub listed_drew : given ≡ true → p ≡ (v, y) → Drew (either_code given v.0 (known_at s ns u) rs) edges chains w edges₁ chains₁
-    listed_drew g q = rw (g, code) (drew x rs (row v.0 y.0) edges chains edges₁ chains₁ why w (rw q at l) z o)
+    listed_drew g q = rw (g, code) (drew x rs (row v.0 y.0) edges chains edges₁ chains₁ w (rw q at l) o)
 
     pub import_drew : given ≡ false → p ≡ (y, v) → Drew (either_code given v.0 (known_at s ns u) rs) edges chains w edges₁ chains₁
-    import_drew g q = rw (g, code) (drew x rs (row y.0 v.0) edges chains edges₁ chains₁ why w (rw q at l) z o)
+    import_drew g q = rw (g, code) (drew x rs (row y.0 v.0) edges chains edges₁ chains₁ w (rw q at l) o)
 
 -- ---- an include
 
@@ -104,12 +109,9 @@ module _ (word left v : ℕ) (rs : List Row) (edges chains edges₁ chains₁ : 
   l : Linked rs (row (word - 2) v) edges chains x edges₁ chains₁
   l = subst (λ (j : ℕ). Linked rs (row j v) edges chains x edges₁ chains₁) z o
 
-  pub no_room : {q : Result ℕ Stopped} {y z : Stopped} → q ≡ ok_or x y → q ≡ Err z → y ≡ stopped_at 31
-      → Stepped word left v rs edges chains (Err z) edges₁ chains₁
-  no_room {y = y} {z = z} e f g =
-      let w = was_none x y e f in
-      let p : z ≡ stopped_at 31 = w.1 ∙ g in
-      let q : add_row most_edges rs (row (word - 2) v) ≡ refused 31 no_refusal = sym l.seen ∙ ap (λ x. link_seen x edges₁) w.0 in
+  pub no_room : {y : Stopped} → x ≡ None → y ≡ stopped_at 31 → Stepped word left v rs edges chains (Err y) edges₁ chains₁
+  no_room e p =
+      let q : add_row most_edges rs (row (word - 2) v) ≡ refused 31 no_refusal = sym l.seen ∙ ap (λ x. link_seen x edges₁) e in
       record {
         seen = λ at marks. rw p (sym (by_node word v rs (below_once at most_edges left) marks h₀ k ∙ rw q));
         ready = tt;

@@ -43,7 +43,8 @@ pub fn stop_with(reason: NoGraph) -> Stopped
     }
 }
 
-// The edge between v and the module or import-only module of a name: from it to v for an import, from v to it for one that v lists.
+// The edge between v and the module or import-only module of a name: from it to v for an import, from v to it for one that v lists. A refusal is made only
+// where it is answered: `ok_or` makes one each time.
 pub fn link_known(
     nodes: MarkedNodes,
     name: &[u8],
@@ -58,9 +59,14 @@ pub fn link_known(
         (rows_in count edges.old))
         edges.old chains.old result edges.new chains.new }
 {
-    let u = graph_marks::find_known(nodes, name).ok_or(stop_with(NoGraph::UNKNOWN_MODULE))?;
+    let Some(u) = graph_marks::find_known(nodes, name) else {
+        return Err(stop_with(NoGraph::UNKNOWN_MODULE));
+    };
     let (from, to) = if given { (v, u) } else { (u, v) };
-    graph_edges::add_edge(edges, chains, count, from, to).ok_or(stop_with(NoGraph::TOO_MANY_EDGES))
+    match graph_edges::add_edge(edges, chains, count, from, to) {
+        Some(total) => Ok(total),
+        None => Err(stop_with(NoGraph::TOO_MANY_EDGES)),
+    }
 }
 
 // The edges of a text's imports.
@@ -143,9 +149,9 @@ pub fn step(
         return Err(stop_with(NoGraph::NO_NODE));
     }
     let u = graph::node_of(word as usize - 2);
-    let m = graph_edges::add_edge(edges, chains, count, u, v).ok_or(stop_with(
-        NoGraph::TOO_MANY_EDGES,
-    ))?;
+    let Some(m) = graph_edges::add_edge(edges, chains, count, u, v) else {
+        return Err(stop_with(NoGraph::TOO_MANY_EDGES));
+    };
     if left == 0 {
         return Err(stop_with(NoGraph::TOO_DEEP));
     }
